@@ -1,0 +1,19 @@
+-- Maps from texts.
+use Rattle.std.specs.FinMap.{FinMap, code}
+use Rattle.std.specs.Coded.{Coded, coded_list, coded_ℕ}
+use Rattle.std.specs.Prelude.{ℕ, List}
+use Rattle.std.specs.Ordering.{nat_cmp}
+use Rattle.std.specs.Cmp.Lexicographic.{slice_cmp}
+use Rattle.std.specs.declared.cmp.Ordering.{Ordering}
+
+-- the order of texts: by bytes, from the first on
+abbrev pub byte_order : List ℕ → List ℕ → Ordering
+byte_order = slice_cmp nat_cmp
+
+-- A finite map from texts, in byte order. To insert at a key that is there puts the new value in the old one's place.
+abbrev pub TextMap : Type 0 → Type 0
+TextMap V = FinMap byte_order V
+
+-- maps from texts are told apart by their entries
+abbrev pub text_map_code : {V : Type 0} → Coded V → Coded (TextMap V)
+text_map_code v = code (coded_list coded_ℕ) v

@@ -1,0 +1,53 @@
+-- A point, as definitions speak of it, and what holds of each.
+use Rattle.std.specs.Prelude.{ℕ, ℤ, pos, negsuc, ◌*◌, ◌^◌, Bool, true, ◌&&◌, List, [], ◌∷◌, nat_lt, nat_le, IsTrue}
+use Rattle.std.specs.List.{list_all}
+use Rattle.std.specs.Str.{is_utf8}
+use Rattle.std.specs.FinMap.{entries, len}
+use Rattle.std.specs.Ordering.{is_lt}
+use Rattle.kap_base.specs.declared.value.Value.{Value}
+use Rattle.kap_base.specs.declared.value.Value.TheVariants as values
+use Rattle.kap_base.specs.Texts.{is_line, is_name, is_measurement}
+use Rattle.kap_base.specs.Maps.{TextMap, byte_order}
+
+pub record Series : Type 0 where
+  pub db : List ℕ
+  pub rp : List ℕ
+  pub name : List ℕ
+  pub tags : TextMap (List ℕ)
+  pub fields : TextMap Value
+  pub dims : List (List ℕ)
+  pub by_name : Bool
+  pub time : ℤ
+
+-- a time in nanoseconds within plus or minus 9,000,000,000,000,000,000
+abbrev pub is_time : ℤ → Bool
+is_time (pos n) = nat_le n (9 * 10 ^ 18)
+is_time (negsuc n) = nat_lt n (9 * 10 ^ 18)
+
+-- an integer of 64 bits, a truth value, or a text on one line
+abbrev pub is_value : Value → Bool
+is_value (values.Int (pos n)) = nat_lt n (2 ^ 63)
+is_value (values.Int (negsuc n)) = nat_lt n (2 ^ 63)
+is_value (values.Bool b) = true
+is_value (values.Str text) = is_line text
+
+-- each stands below the next one
+abbrev pub rises : List (List ℕ) → Bool
+rises [] = true
+rises (a ∷ []) = true
+rises (a ∷ b ∷ names) = is_lt (byte_order a b) && rises (b ∷ names)
+
+-- names of tags, which need be no name texts: UTF-8, in byte order, each once
+abbrev pub are_dimensions : List (List ℕ) → Bool
+are_dimensions dims = rises dims && list_all is_utf8 dims
+
+-- what holds of each point
+pub record IsPoint (p : Series) : Type 0 where
+  pub db : IsTrue (is_line p.db)
+  pub rp : IsTrue (is_line p.rp)
+  pub name : IsTrue (is_measurement p.name)
+  pub tags : IsTrue (list_all (λ e. is_name e.0 && is_name e.1) (entries p.tags))
+  pub fields : IsTrue (list_all (λ e. is_name e.0 && is_value e.1) (entries p.fields))
+  pub some_field : IsTrue (nat_lt 0 (len p.fields))
+  pub dims : IsTrue (are_dimensions p.dims)
+  pub time : IsTrue (is_time p.time)

@@ -1,0 +1,45 @@
+-- Tests on the bytes of a text.
+use Rattle.std.specs.Prelude.{ℕ, Bool, true, false, not, ◌&&◌, ◌||◌, ◌==◌, List, [], ◌∷◌}
+use Rattle.std.specs.List.{list_any}
+use Rattle.std.specs.Str.{is_utf8}
+
+abbrev pub line_feed : ℕ
+line_feed = 10
+
+abbrev pub number_sign : ℕ
+number_sign = 35
+
+abbrev pub backslash : ℕ
+backslash = 92
+
+-- there are no bytes
+abbrev pub is_empty : List ℕ → Bool
+is_empty [] = true
+is_empty (b ∷ bytes) = false
+
+-- the first byte is this one
+abbrev pub begins_with : ℕ → List ℕ → Bool
+begins_with b [] = false
+begins_with b (x ∷ bytes) = x == b
+
+-- the last byte is this one
+abbrev pub ends_with : ℕ → List ℕ → Bool
+ends_with b [] = false
+ends_with b (x ∷ []) = x == b
+ends_with b (x ∷ y ∷ bytes) = ends_with b (y ∷ bytes)
+
+-- some byte is a line feed
+abbrev pub has_line_feed : List ℕ → Bool
+has_line_feed bytes = list_any (λ b. b == line_feed) bytes
+
+-- UTF-8 without a line feed
+abbrev pub is_line : List ℕ → Bool
+is_line bytes = not (has_line_feed bytes) && is_utf8 bytes
+
+-- a text that can be a key, the value of a tag or a measurement: not empty, on one line, and not ending in a backslash
+abbrev pub is_name : List ℕ → Bool
+is_name bytes = not (is_empty bytes) && not (ends_with backslash bytes) && is_line bytes
+
+-- a name that can be a measurement: a line that begins with a number sign is a comment
+abbrev pub is_measurement : List ℕ → Bool
+is_measurement bytes = not (begins_with number_sign bytes) && is_name bytes

@@ -1,0 +1,116 @@
+ghost use Rattle.std.specs.Prelude.{◌≡◌, IfOk, OnOk, OnErr};
+ghost use Rattle.std.specs.FinMap as map;
+ghost use Rattle.std.specs.Ordering.{nat_cmp, eq_by_cmp};
+ghost use Rattle.std.specs.List.{list_any};
+ghost use Rattle.std.specs.Cmp.Lexicographic.{slice_cmp};
+
+use crate::duplicate::Duplicate;
+use crate::memory::NoMemory;
+use crate::text::Text;
+use std::alloc::Global;
+use std::cmp::Ordering;
+use std::marker::Model;
+
+/// A map from texts, in the byte order of its keys.
+#[derive(Drop)]
+pub struct KeyMap<V> {
+    entries: Vec<(Text, V)>,
+}
+
+impl<V> Model for KeyMap<V> {
+    ghost use Rattle.std.specs.Prelude.{IsTrue};
+    ghost use Rattle.std.specs.FinMap as map;
+    ghost use Rattle.std.specs.Ordering.{nat_cmp};
+    ghost use Rattle.std.specs.Cmp.Lexicographic.{slice_cmp};
+    ghost use Rattle.std.specs.Coded.{coded_list, coded_ℕ};
+
+    ghost Value = { map.FinMap (slice_cmp nat_cmp) V };
+
+    ghost coded = { map.code (coded_list coded_ℕ) V.code };
+
+    ghost view = { λ m. map.from_sorted m.entries.items };
+
+    ghost invariant = { λ m. IsTrue (map.is_sorted (slice_cmp nat_cmp) m.entries.items) };
+}
+
+fn put<V: Drop>(entries: &mut Vec<(Text, V)>, key: Text, value: V) -> Result<(), NoMemory>
+    ensures ok { OnOk result (entries.new.items ≡ map.put (slice_cmp nat_cmp) key value entries.old.items) }
+    ensures err { OnErr result (entries.new.items ≡ entries.old.items) }
+{
+    let mut at = 0;
+    'passing: while at < entries.len() {
+        match key.order(&entries[at].0) {
+            Ordering::Less => break,
+            Ordering::Equal => {
+                entries[at].1 = value;
+                return Ok(());
+            }
+            Ordering::Greater => at += 1,
+        }
+    }
+    entries.insert(at, (key, value))?;
+    Ok(())
+}
+
+fn holds<V>(entries: &[(Text, V)], key: &Text) -> bool
+    ensures { result ≡ list_any (λ e. eq_by_cmp (slice_cmp nat_cmp) key.now e.0) entries.now }
+{
+    entries.iter().any(|entry| key.order(&entry.0).is_eq())
+}
+
+impl<V: Drop> KeyMap<V> {
+    /// The map of nothing.
+    pub fn new(alloc: Global) -> KeyMap<V>
+        ensures { result ≡ map.empty }
+    {
+        KeyMap {
+            entries: Vec::new(alloc),
+        }
+    }
+
+    /// The entries in the byte order of their keys.
+    pub fn entries(&self) -> &[(Text, V)]
+        ensures { result.now ≡ map.entries self.now }
+    {
+        &self.entries
+    }
+
+    /// Whether something stands at the key.
+    pub fn contains_key(&self, key: &Text) -> bool
+        ensures { result ≡ map.contains_key self.now key.now }
+    {
+        holds(&self.entries, key)
+    }
+
+    /// Puts the value at the key, in the place of the one that stands there. An `Err` changes nothing.
+    pub fn insert(&mut self, key: Text, value: V) -> Result<(), NoMemory>
+        ensures ok { OnOk result (self.new ≡ map.insert self.old key value) }
+        ensures err { OnErr result (self.new ≡ self.old) }
+    {
+        put(&mut self.entries, key, value)?;
+        Ok(())
+    }
+}
+
+fn copied<V: Duplicate + Drop>(
+    alloc: Global,
+    entries: &[(Text, V)],
+) -> Result<Vec<(Text, V)>, NoMemory>
+    ensures { IfOk result (λ copies. copies.items ≡ entries.now) }
+{
+    let mut copies = Vec::new(alloc);
+    'copying: for entry in entries {
+        let key = entry.0.copy(alloc)?;
+        let value = entry.1.copy(alloc)?;
+        copies.push((key, value))?;
+    }
+    Ok(copies)
+}
+
+impl<V: Duplicate + Drop> Duplicate for KeyMap<V> {
+    fn copy(&self, alloc: Global) -> Result<KeyMap<V>, NoMemory> {
+        Ok(KeyMap {
+            entries: copied(alloc, &self.entries)?,
+        })
+    }
+}

@@ -1,0 +1,33 @@
+//! The values that every other crate speaks of: texts, maps, points and what they are made of.
+#![tactic(auto)]
+
+mod duplicate;
+mod key_map;
+mod listed;
+mod memory;
+mod point;
+mod text;
+mod value;
+
+pub use duplicate::Duplicate;
+pub use key_map::KeyMap;
+pub use listed::Listed;
+pub use memory::NoMemory;
+pub use point::Point;
+pub use text::{Text, TextFault};
+pub use value::Value;
+
+/// A list of bytes.
+pub type Bytes = Listed<u8>;
+
+/// A list of texts.
+pub type Names = Listed<Text>;
+
+/// A list of points.
+pub type Points = Listed<Point>;
+
+/// The tags of a point: texts under texts, in byte order of the keys (InfluxDB 1.8 line protocol reference: tag set).
+pub type Tags = KeyMap<Text>;
+
+/// The fields of a point: values under texts, in byte order of the keys (InfluxDB 1.8 line protocol reference: field set).
+pub type Fields = KeyMap<Value>;

@@ -1,0 +1,127 @@
+ghost use Rattle.std.specs.Prelude.{◌≡◌, ◌==◌, length, IfOk, IsUtf8, IsErrOf, string_bytes};
+ghost use Rattle.std.specs.Ordering.{nat_cmp};
+ghost use Rattle.std.specs.Cmp.Lexicographic.{slice_cmp};
+ghost use Rattle.kap_base.specs.declared.text.TextFault.TheVariants.{NoMemory as no_memory};
+
+use crate::duplicate::Duplicate;
+use crate::memory::NoMemory;
+use std::alloc::{AllocError, Global};
+use std::cmp::Ordering;
+use std::fmt;
+use std::marker::Model;
+
+/// A list of bytes that is UTF-8, which contracts see as those bytes.
+#[derive(Drop)]
+pub struct Text {
+    string: String,
+}
+
+impl Model for Text {
+    ghost use Rattle.std.specs.Prelude.{List, ℕ, string_bytes};
+
+    ghost Value = { List ℕ };
+
+    ghost view = { λ t. string_bytes t.string };
+}
+
+/// Why bytes are no text.
+#[derive(Clone, Copy, Debug, PartialEq, Eq)]
+pub enum TextFault {
+    /// The bytes aren't UTF-8.
+    NotUtf8,
+    /// Memory ran out.
+    NoMemory,
+}
+
+impl From<AllocError> for TextFault {
+    ghost from_gives = { λ _ e. e ≡ no_memory };
+
+    fn from(_: AllocError) -> Self {
+        TextFault::NoMemory
+    }
+}
+
+impl Text {
+    /// The text of these bytes, `NotUtf8` exactly where they aren't UTF-8.
+    pub fn from_bytes(alloc: Global, bytes: &[u8]) -> Result<Text, TextFault>
+        ensures text { IfOk result (λ t. t ≡ bytes.now) }
+        ensures utf8 { IfOk result (λ t. IsUtf8 t) }
+        ensures not_utf8 { IsErrOf result TextFault.NotUtf8 → ¬ (IsUtf8 bytes.now) }
+    {
+        match str::from_utf8(bytes) {
+            Ok(text) => Ok(Text {
+                string: String::from_str(alloc, text)?,
+            }),
+            Err(_) => Err(TextFault::NotUtf8),
+        }
+    }
+
+    /// The text with these bytes, which are UTF-8.
+    pub fn from_utf8(bytes: Vec<u8>) -> Text
+        requires { IsUtf8 bytes.items }
+        ensures { result ≡ bytes.items }
+    {
+        match String::from_utf8(bytes) {
+            Ok(string) => Text { string },
+            Err(_) => unreachable!(),
+        }
+    }
+
+    /// The text of this `&str`.
+    pub fn from_str(alloc: Global, text: &str) -> Result<Text, NoMemory>
+        ensures { IfOk result (λ t. t ≡ text.now) }
+    {
+        Ok(Text {
+            string: String::from_str(alloc, text)?,
+        })
+    }
+
+    /// The text of this string.
+    pub fn from_string(string: String) -> Text
+        ensures { result ≡ string_bytes string }
+    {
+        Text { string }
+    }
+
+    /// Its bytes.
+    pub fn bytes(&self) -> &[u8]
+        ensures bytes { result.now ≡ self.now }
+        ensures utf8 { IsUtf8 self.now }
+    {
+        let text = self.string.as_str();
+        text.as_bytes()
+    }
+
+    /// Its bytes, as text.
+    pub fn as_str(&self) -> &str
+        ensures { result.now ≡ self.now }
+    {
+        self.string.as_str()
+    }
+
+    /// Whether it has no bytes.
+    pub fn is_empty(&self) -> bool
+        ensures { result ≡ (length self.now == 0) }
+    {
+        self.string.is_empty()
+    }
+
+    /// The order by bytes, from the first on.
+    pub fn order(&self, other: &Text) -> Ordering
+        ensures { result ≡ slice_cmp nat_cmp self.now other.now }
+    {
+        self.string.as_str().cmp(&other.string.as_str())
+    }
+}
+
+impl fmt::Display for Text {
+    fn fmt<W: fmt::Write>(&self, f: &mut fmt::Formatter<W>) -> fmt::Result {
+        f.write_str(self.string.as_str())
+    }
+}
+
+impl Duplicate for Text {
+    fn copy(&self, alloc: Global) -> Result<Text, NoMemory> {
+        Text::from_str(alloc, self.string.as_str())
+    }
+}
