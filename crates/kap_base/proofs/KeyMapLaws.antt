@@ -3,7 +3,7 @@ use Rattle.std.proofs.Common.{◌≡◌, ℕ, ◌+◌, ◌<◌, Bool, true, fals
 use Rattle.std.proofs.Math.ListN.{set}
 use Rattle.std.specs.declared.cmp.Ordering.{Ordering}
 use Rattle.std.specs.declared.cmp.Ordering.TheVariants.{Equal}
-use Rattle.std.specs.FinMap.{FinMap, put, is_sorted, empty, entries, insert, contains_key, from_sorted, same_entries_map, entries-from_sorted, entries-insert, empty_of_len, len-entries, contains_key-keys}
+use Rattle.std.specs.FinMap.{FinMap, put, find, is_sorted, empty, entries, get, get-entries, len, insert, contains_key, from_sorted, same_entries_map, entries-from_sorted, entries-insert, empty_of_len, len-entries, contains_key-keys}
 use Rattle.std.specs.FinMap.Entries.{is_sorted-put}
 use Rattle.std.specs.Ordering.{nat_cmp, eq_by_cmp}
 use Rattle.std.specs.Cmp.Lexicographic.{slice_cmp}
@@ -58,3 +58,9 @@ module _ {X : Type 0} where
 
   pub contains-holds : (es : List (List ℕ × X)) (m : FinMap R X) (k : List ℕ) (b : Bool) → IsTrue (is_sorted R es) → from_sorted es ≡ m → b ≡ list_any (λ e. eq_by_cmp R k e.0) es → b ≡ contains_key m k
   contains-holds es m k b sorted view is = is ∙ sym (contains_key-keys m k ∙ ap (λ l. list_any (eq_by_cmp R k) (map (λ e. e.0) l)) (entries-of es m sorted view) ∙ list_any-keys (eq_by_cmp R k) es)
+
+  pub len-of : (es : List (List ℕ × X)) (m : FinMap R X) → IsTrue (is_sorted R es) → from_sorted es ≡ m → length es ≡ len m
+  len-of es m sorted view = sym (len-entries m ∙ ap length (entries-of es m sorted view))
+
+  pub get-of : (es : List (List ℕ × X)) (m : FinMap R X) (q : List ℕ) → IsTrue (is_sorted R es) → from_sorted es ≡ m → find R q es ≡ get m q
+  get-of es m q sorted view = sym (get-entries m q ∙ ap (find R q) (entries-of es m sorted view))

@@ -1,7 +1,7 @@
 -- Maps from texts.
-use Rattle.std.specs.FinMap.{FinMap, code}
+use Rattle.std.specs.FinMap.{FinMap, code, insert}
 use Rattle.std.specs.Coded.{Coded, coded_list, coded_ℕ}
-use Rattle.std.specs.Prelude.{ℕ, List}
+use Rattle.std.specs.Prelude.{ℕ, List, [], ◌∷◌}
 use Rattle.std.specs.Ordering.{nat_cmp}
 use Rattle.std.specs.Cmp.Lexicographic.{slice_cmp}
 use Rattle.std.specs.declared.cmp.Ordering.{Ordering}
@@ -17,3 +17,8 @@ TextMap V = FinMap byte_order V
 -- maps from texts are told apart by their entries
 abbrev pub text_map_code : {V : Type 0} → Coded V → Coded (TextMap V)
 text_map_code v = code (coded_list coded_ℕ) v
+
+-- a map with these entries, put one after the other: of equal keys the last one counts
+abbrev pub with_entries : {V : Type 0} → TextMap V → List (List ℕ × V) → TextMap V
+with_entries m [] = m
+with_entries m (e ∷ es) = with_entries (insert m e.0 e.1) es

