@@ -30,10 +30,10 @@ module _ {K X : Type 0} (R : K → K → Ordering) where
 abbrev R : List ℕ → List ℕ → Ordering
 R = slice_cmp nat_cmp
 
-holds : (b : Bool) → IsTrue b → T b
+pub holds : (b : Bool) → IsTrue b → T b
 holds b e = subst T (sym e) tt
 
-is_true : (b : Bool) → T b → IsTrue b
+pub is_true : (b : Bool) → T b → IsTrue b
 is_true true h = refl
 is_true false h = absurd h
 

@@ -1,1 +1,2 @@
 pub mod KeyMapLaws
+pub mod ManyLaws

@@ -1,8 +1,8 @@
 -- Maps from texts.
 use Rattle.std.specs.FinMap.{FinMap, code, insert}
 use Rattle.std.specs.Coded.{Coded, coded_list, coded_ℕ}
-use Rattle.std.specs.Prelude.{ℕ, List, [], ◌∷◌}
-use Rattle.std.specs.Ordering.{nat_cmp}
+use Rattle.std.specs.Prelude.{ℕ, Bool, true, List, [], ◌∷◌}
+use Rattle.std.specs.Ordering.{nat_cmp, is_lt}
 use Rattle.std.specs.Cmp.Lexicographic.{slice_cmp}
 use Rattle.std.specs.declared.cmp.Ordering.{Ordering}
 
@@ -22,3 +22,8 @@ text_map_code v = code (coded_list coded_ℕ) v
 abbrev pub with_entries : {V : Type 0} → TextMap V → List (List ℕ × V) → TextMap V
 with_entries m [] = m
 with_entries m (e ∷ es) = with_entries (insert m e.0 e.1) es
+
+-- the key stands below that of the first entry, if there is one
+abbrev pub is_below : {V : Type 0} → List ℕ → List (List ℕ × V) → Bool
+is_below key [] = true
+is_below key (e ∷ es) = is_lt (byte_order key e.0)

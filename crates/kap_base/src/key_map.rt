@@ -1,10 +1,11 @@
-ghost use Rattle.std.specs.Prelude.{◌≡◌, IfOk, OnOk, OnErr};
+ghost use Rattle.std.specs.Prelude.{◌≡◌, length, IfOk, OnOk, OnErr, IsTrue};
 ghost use Rattle.std.specs.FinMap as map;
-ghost use Rattle.std.specs.Ordering.{nat_cmp, eq_by_cmp};
+ghost use Rattle.std.specs.Ordering.{nat_cmp, eq_by_cmp, is_lt};
 ghost use Rattle.std.specs.List.{list_any};
+ghost use Rattle.std.specs.List.Sorted.{IsStableBy};
 ghost use Rattle.std.specs.Cmp.Lexicographic.{slice_cmp};
 ghost use Rattle.std.specs.Option.{option_copied};
-ghost use Rattle.kap_base.specs.Maps.{with_entries};
+ghost use Rattle.kap_base.specs.Maps.{with_entries, is_below};
 
 use crate::duplicate::Duplicate;
 use crate::memory::NoMemory;
@@ -33,6 +34,51 @@ impl<V> Model for KeyMap<V> {
     ghost view = { λ m. map.from_sorted m.entries.items };
 
     ghost invariant = { λ m. IsTrue (map.is_sorted (slice_cmp nat_cmp) m.entries.items) };
+}
+
+/// Whether the key stands below the first of these, if there is one.
+fn is_below<V>(key: &Text, others: &[(Text, V)]) -> bool
+    ensures { result ≡ is_below key.now others.now }
+{
+    match others.first() {
+        Some(next) => key.order(&next.0).is_lt(),
+        None => true,
+    }
+}
+
+/// Whether each key stands below the next one.
+fn rises<V>(entries: &[(Text, V)]) -> bool
+    ensures { result ≡ map.is_sorted (slice_cmp nat_cmp) entries.now }
+{
+    let mut rest = entries;
+    'passing: while let Some((first, others)) = rest.split_first() {
+        if !is_below(&first.0, others) {
+            return false;
+        }
+        rest = others;
+    }
+    true
+}
+
+/// The same entries in the byte order of their keys; those of one key keep their order.
+fn sorted<V: Drop>(mut entries: Vec<(Text, V)>) -> Result<Vec<(Text, V)>, NoMemory>
+    ensures same { IfOk result (λ s. length s.items ≡ length entries.items) }
+    ensures stable { IfOk result (λ s. IsStableBy (λ x y. is_lt (slice_cmp nat_cmp x.0 y.0)) entries.items s.items) }
+{
+    entries.sort_by(|one, other| one.0.order(&other.0))?;
+    Ok(entries)
+}
+
+/// The entries put one after the other.
+fn last_of_each<V: Drop>(alloc: Global, entries: Vec<(Text, V)>) -> Result<Vec<(Text, V)>, NoMemory>
+    ensures rising { IfOk result (λ kept. IsTrue (map.is_sorted (slice_cmp nat_cmp) kept.items)) }
+    ensures same { IfOk result (λ kept. map.from_sorted kept.items ≡ with_entries map.empty entries.items) }
+{
+    let mut kept = Vec::new(alloc);
+    'putting: for (key, value) in entries {
+        put(&mut kept, key, value)?;
+    }
+    Ok(kept)
 }
 
 fn put<V: Drop>(entries: &mut Vec<(Text, V)>, key: Text, value: V) -> Result<(), NoMemory>
@@ -86,9 +132,12 @@ impl<V: Drop> KeyMap<V> {
     pub fn from_entries(alloc: Global, entries: Vec<(Text, V)>) -> Result<KeyMap<V>, NoMemory>
         ensures { IfOk result (λ m. m ≡ with_entries map.empty entries.items) }
     {
-        let _ = entries;
-        let _ = alloc;
-        Err(NoMemory)
+        if rises(&entries) {
+            return Ok(KeyMap { entries });
+        }
+        Ok(KeyMap {
+            entries: last_of_each(alloc, sorted(entries)?)?,
+        })
     }
 
     /// How many keys it has.

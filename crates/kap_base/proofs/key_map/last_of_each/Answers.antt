@@ -1,0 +1,11 @@
+use Rattle.kap_base.proofs.ManyLaws.{put_one}
+use Rattle.kap_base.proofs.KeyMapLaws.{empty-from_sorted}
+use Rattle.kap_base.proofs.key_map.last_of_each.Goals as goal
+
+pub putting-init : goal.putting-init
+putting-init g c = record { rising = rw c.new-kept.ensures.items; same = empty-from_sorted _ c.new-kept.ensures.items }
+
+pub putting-preserved : goal.putting-preserved
+putting-preserved g c =
+    let p = put_one c.putting.kept.items c.put.new.entries.items c.putting.yielded c.in-Some.key c.in-Some.value c.putting.invariant.rising c.putting.invariant.same c.in_ok-put.ensures.ok in
+    record { rising = p.0; same = p.1 }
