@@ -2,3 +2,4 @@ pub mod Words
 pub mod Texts
 pub mod Maps
 pub mod Points
+pub mod Tree

@@ -1,7 +1,8 @@
-//! The values that every other crate speaks of: texts, maps, points and what they are made of.
+//! The values that every other crate speaks of: texts, maps, points and what they are made of, and expressions.
 #![tactic(auto)]
 
 mod duplicate;
+mod expr;
 mod key_map;
 mod listed;
 mod memory;
@@ -10,6 +11,7 @@ mod text;
 mod value;
 
 pub use duplicate::Duplicate;
+pub use expr::{Expr, Exprs, Lit, Op};
 pub use key_map::KeyMap;
 pub use listed::Listed;
 pub use memory::NoMemory;
