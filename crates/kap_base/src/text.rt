@@ -1,6 +1,7 @@
-ghost use Rattle.std.specs.Prelude.{◌≡◌, ◌==◌, length, IfOk, IsUtf8, IsErrOf, string_bytes};
+ghost use Rattle.std.specs.Prelude.{◌≡◌, IfOk, IsUtf8, IsErrOf, string_bytes};
 ghost use Rattle.std.specs.Ordering.{nat_cmp};
 ghost use Rattle.std.specs.Cmp.Lexicographic.{slice_cmp};
+ghost use Rattle.kap_base.specs.Texts.{is_empty};
 ghost use Rattle.kap_base.specs.declared.text.TextFault.TheVariants.{NoMemory as no_memory};
 
 use crate::duplicate::Duplicate;
@@ -69,7 +70,8 @@ impl Text {
 
     /// The text of this `&str`.
     pub fn from_str(alloc: Global, text: &str) -> Result<Text, NoMemory>
-        ensures { IfOk result (λ t. t ≡ text.now) }
+        ensures text { IfOk result (λ t. t ≡ text.now) }
+        ensures utf8 { IfOk result (λ t. IsUtf8 t) }
     {
         Ok(Text {
             string: String::from_str(alloc, text)?,
@@ -101,7 +103,7 @@ impl Text {
 
     /// Whether it has no bytes.
     pub fn is_empty(&self) -> bool
-        ensures { result ≡ (length self.now == 0) }
+        ensures { result ≡ is_empty self.now }
     {
         self.string.is_empty()
     }
@@ -121,7 +123,10 @@ impl fmt::Display for Text {
 }
 
 impl Duplicate for Text {
-    fn copy(&self, alloc: Global) -> Result<Text, NoMemory> {
+    fn copy(&self, alloc: Global) -> Result<Text, NoMemory>
+        ensures copy { IfOk result (λ copy. copy ≡ self.now) }
+        ensures utf8 { IfOk result (λ copy. IsUtf8 copy) }
+    {
         Text::from_str(alloc, self.string.as_str())
     }
 }
