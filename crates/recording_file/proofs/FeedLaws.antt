@@ -1,0 +1,52 @@
+-- Where the first line feed stands, found by a search that begins behind bytes without one.
+use Rattle.std.proofs.Common.{◌≡◌, ◌≢◌, ℕ, ◌+◌, ◌-◌, ◌<◌, ◌≤◌, Bool, true, false, cond, Some, None, List, [], ◌∷◌, ◌++◌, length, get_or, drop, refl, sym, ap, ◌∙◌, subst, arith, length-drop}
+use Rattle.std.proofs.lemmas.Bool.Decides.{nat_tests}
+use Rattle.std.specs.Prelude.{slice_index, nat_lt, ◌==◌}
+use Rattle.std.specs.List.{position_or_len}
+use Rattle.std.proofs.lemmas.List.{get_or-drop}
+use Rattle.std.proofs.lemmas.List.Sums.{position_or_len_is, fails_before_first}
+use Rattle.memchr.specs.Find.{IsFirstByte, is_byte}
+use Rattle.recording_file.specs.Lines.{is_feed, without_return}
+
+no_feed : (b : Bool) → b ≢ true → b ≡ false
+no_feed true not_true = absurd (not_true refl)
+no_feed false not_true = refl
+
+-- no byte before the place s + n is a feed
+none_before : (bytes : List ℕ) (s n : ℕ) → s ≤ position_or_len is_feed bytes → ((k : ℕ) → 0 ≤ k → k < n → is_feed (slice_index (drop s bytes) k) ≢ true) → (k : ℕ) → k < s + n → is_feed (get_or bytes k 0) ≡ false
+none_before bytes s n searched nowhere k lt =
+    elim (nat_lt k s) as (λ b. nat_lt k s ≡ b → is_feed (get_or bytes k 0) ≡ false) [
+      | true ↦ λ e. fails_before_first is_feed bytes k 0 (grind (arith, nat_tests))
+      | false ↦ λ e.
+          let behind : k - s < n = grind (arith, nat_tests) in
+          let place : s + (k - s) ≡ k = grind (arith, nat_tests) in
+          let same : get_or (drop s bytes) (k - s) 0 ≡ get_or bytes k 0 = get_or-drop s bytes (k - s) 0 ∙ ap (λ (i : ℕ). get_or bytes i 0) place in
+          subst (λ (x : ℕ). is_feed x ≡ false) same (no_feed _ (nowhere (k - s) (omega arith) behind))
+    ] refl
+
+pub end_found : (bytes : List ℕ) (s n : ℕ) → s ≤ length bytes → s ≤ position_or_len is_feed bytes → IsFirstByte (is_byte 10) (drop s bytes) (Some n) → s + n ≡ position_or_len is_feed bytes
+end_found bytes s n within searched found =
+    let at_feed : is_feed (get_or bytes (s + n) 0) ≡ true = subst (λ (x : ℕ). is_feed x ≡ true) (get_or-drop s bytes n 0) found.1 in
+    let below : n < length (drop s bytes) = found.0.high in
+    sym (position_or_len_is is_feed bytes (s + n) 0 (omega (arith, length-drop s bytes)) (none_before bytes s n searched found.0.before) (λ _. at_feed))
+
+pub end_missing : (bytes : List ℕ) (s : ℕ) → s ≤ length bytes → s ≤ position_or_len is_feed bytes → IsFirstByte (is_byte 10) (drop s bytes) None → length bytes ≡ position_or_len is_feed bytes
+end_missing bytes s within searched nowhere =
+    let whole : s + length (drop s bytes) ≡ length bytes = omega (arith, length-drop s bytes) in
+    sym (position_or_len_is is_feed bytes (length bytes) 0 (omega arith) (λ k lt. none_before bytes s (length (drop s bytes)) searched nowhere k (omega arith)) (λ lt. absurd (omega arith)))
+
+-- a carriage return at the end isn't part of a line
+pub one_return : (line front : List ℕ) (b : ℕ) → line ≡ front ++ b ∷ [] → b ≡ 13 → without_return line ≡ front
+one_return line front b is return = subst (λ (l : List ℕ). without_return l ≡ front) (sym is) (subst (λ (x : ℕ). without_return (front ++ x ∷ []) ≡ front) (sym return) (go front)) where
+  go : (f : List ℕ) → without_return (f ++ 13 ∷ []) ≡ f
+  go [] = refl
+  go (x ∷ []) = refl
+  go (x ∷ y ∷ f) = ap (λ (l : List ℕ). x ∷ l) (go (y ∷ f))
+
+-- and any other byte is
+pub no_return : (line front : List ℕ) (b : ℕ) → line ≡ front ++ b ∷ [] → (b == 13) ≡ false → without_return line ≡ line
+no_return line front b is other = subst (λ (l : List ℕ). without_return l ≡ l) (sym is) (go front) where
+  go : (f : List ℕ) → without_return (f ++ b ∷ []) ≡ f ++ b ∷ []
+  go [] = ap (λ (t : Bool). cond t [] (b ∷ [])) other
+  go (x ∷ []) = ap (λ (t : Bool). x ∷ cond t [] (b ∷ [])) other
+  go (x ∷ y ∷ f) = ap (λ (l : List ℕ). x ∷ l) (go (y ∷ f))

@@ -1,0 +1,6 @@
+pub mod Causes
+pub mod Lines
+pub mod Recording
+pub mod Reading
+pub mod Finding
+pub mod Steps

@@ -1,0 +1,9 @@
+//! Recordings: points as groups of three lines, read from a source in whatever pieces it gives.
+#![tactic(auto)]
+
+mod fault;
+mod feeds;
+mod lines;
+mod window;
+
+pub use fault::RecFault;
