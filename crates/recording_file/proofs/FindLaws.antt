@@ -1,5 +1,5 @@
 -- What reading on does to the bytes that are ahead.
-use Rattle.std.proofs.Common.{◌≡◌, ℕ, suc, ◌+◌, ◌≤◌, Bool, true, false, cond, not, subst, refl, Option, None, Some, List, [], ◌∷◌, ◌++◌, length, take, drop, sym, ap, ◌∙◌, append_assoc, inl, inr, arith}
+use Rattle.std.proofs.Common.{◌≡◌, ℕ, suc, ◌+◌, ◌<◌, ◌≤◌, Bool, true, false, cond, not, subst, refl, Option, None, Some, List, [], ◌∷◌, ◌++◌, length, take, drop, sym, ap, ◌∙◌, append_assoc, inl, inr, arith}
 use Rattle.std.specs.Prelude.{◌⊎◌, IsTrue}
 use Rattle.std.specs.List.{position_or_len}
 use Rattle.std.specs.Io.KnownBytes.{Consumes, Keeps}
@@ -7,7 +7,7 @@ use Rattle.kap_io.specs.KnownLaws.{keeps_more, consumes_more}
 use Rattle.recording_file.specs.Lines.{is_feed}
 use Rattle.recording_file.specs.Finding.{At, to_come, HasEnded, ReadsOn}
 
-drop_front : (xs ys : List ℕ) → drop (length xs) (xs ++ ys) ≡ ys
+pub drop_front : (xs ys : List ℕ) → drop (length xs) (xs ++ ys) ≡ ys
 drop_front [] ys = refl
 drop_front (x ∷ xs) ys = drop_front xs ys
 
@@ -42,18 +42,25 @@ reads_more a b c s t u p q =
         | inl b_ended ↦ elim (p.ends b_ended) [ inl a_ended ↦ inl a_ended | inr over ↦ inr (ended_kept s t u over (q.quiet b_ended)) ]
         | inr over ↦ inr (ended_later a.ended b.ended s t u one p.more over)
       ];
+      none = λ e. q.none (p.stays e) ∙ p.none e;
       quiet = λ e. keeps_more s t u (p.quiet e) (q.quiet (p.stays e));
     }
 
--- bytes without a line feed have none once others stand behind them
-pub still_none : (old more : List ℕ) → position_or_len is_feed old ≡ length old → length old ≤ position_or_len is_feed (old ++ more)
-still_none [] more none = omega arith
-still_none (b ∷ old) more none =
-    let at : Bool → Type 0 = λ f. cond (not f) (1 + position_or_len is_feed old) 0 ≡ suc (length old) in
-    elim (is_feed b) as (λ f. is_feed b ≡ f → suc (length old) ≤ cond (not f) (1 + position_or_len is_feed (old ++ more)) 0) [
-      | true ↦ λ e. let zero_is : 0 ≡ suc (length old) = subst at e none in absurd (omega arith)
-      | false ↦ λ e.
-          let one_more : 1 + position_or_len is_feed old ≡ suc (length old) = subst at e none in
-          let further = still_none old more (omega arith) in
-          omega arith
+-- the first line feed isn't nearer once other bytes stand behind
+pub pos_more : (bytes more : List ℕ) → position_or_len is_feed bytes ≤ position_or_len is_feed (bytes ++ more)
+pos_more [] more = omega arith
+pos_more (b ∷ bytes) more =
+    elim (is_feed b) as (λ f. cond (not f) (1 + position_or_len is_feed bytes) 0 ≤ cond (not f) (1 + position_or_len is_feed (bytes ++ more)) 0) [
+      | true ↦ omega arith
+      | false ↦ let further = pos_more bytes more in omega arith
+    ]
+
+-- one that stands there stays where it is
+pub pos_there : (bytes more : List ℕ) → position_or_len is_feed bytes < length bytes → position_or_len is_feed (bytes ++ more) ≡ position_or_len is_feed bytes
+pos_there [] more lt = absurd (omega arith)
+pos_there (b ∷ bytes) more lt =
+    let within : Bool → Type 0 = λ f. cond (not f) (1 + position_or_len is_feed bytes) 0 < suc (length bytes) in
+    elim (is_feed b) as (λ f. is_feed b ≡ f → cond (not f) (1 + position_or_len is_feed (bytes ++ more)) 0 ≡ cond (not f) (1 + position_or_len is_feed bytes) 0) [
+      | true ↦ λ e. refl
+      | false ↦ λ e. let one : 1 + position_or_len is_feed bytes < suc (length bytes) = subst within e lt in ap (λ n. 1 + n) (pos_there bytes more (omega arith))
     ] refl

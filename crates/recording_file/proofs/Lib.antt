@@ -1,2 +1,4 @@
 pub mod FeedLaws
 pub mod FindLaws
+pub mod SeenLaws
+pub mod StepLaws

@@ -35,6 +35,7 @@ pub record ReadsOn (old new : At) (before after : Option (List ℕ)) : Type 0 wh
   pub more : Consumes (to_come old.ended before) (to_come new.ended after) (drop (length old.bytes) new.bytes)
   pub stays : IsTrue old.ended → IsTrue new.ended
   pub ends : IsTrue new.ended → IsTrue old.ended ⊎ HasEnded before after
+  pub none : IsTrue old.ended → new.bytes ≡ old.bytes
   pub quiet : IsTrue old.ended → Keeps before after
 
 -- how many bytes may still be given
@@ -71,5 +72,5 @@ abbrev pub FindsNone : At → RecFault → Type 0
 FindsNone at (rec_faults.Line n fault) = (n ≡ at.line) × (fault ≡ faults.Long) × (65537 < min (room at) (position_or_len is_feed at.bytes))
 FindsNone at (rec_faults.Truncated n) = ⊥
 FindsNone at rec_faults.Long = (room at < length at.bytes) × (room at ≤ position_or_len is_feed at.bytes) × (room at ≤ 65537)
-FindsNone at rec_faults.ReadFault = IsUndecided at
+FindsNone at rec_faults.ReadFault = IsUndecided at × (at.ended ≡ false)
 FindsNone at rec_faults.NoMemory = Unit {0}

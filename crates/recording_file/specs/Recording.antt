@@ -58,10 +58,10 @@ abbrev pub groups : (Bool → ℕ → Stop) → ℕ → List (List ℕ) → Read
 groups stop n [] = stopped (stop true n)
 groups stop n (db ∷ []) = further (at_line n (named db)) (λ d. stopped (stop false (n + 1)))
 groups stop n (db ∷ rp ∷ []) =
-    further (at_line n (named db)) (λ d. further (at_line (n + 1) (named rp)) (λ r. stopped (stop false (n + 2))))
+    further (at_line n (named db)) (λ d. further (at_line (n + 1) (named rp)) (λ r. stopped (stop false (n + 1 + 1))))
 groups stop n (db ∷ rp ∷ line ∷ rest) =
     further (at_line n (named db)) (λ d. further (at_line (n + 1) (named rp)) (λ r.
-    further (at_line (n + 2) (pointed d r line)) (λ p. onto p (groups stop (n + 3) rest))))
+    further (at_line (n + 1 + 1) (pointed d r line)) (λ p. onto p (groups stop (n + 1 + 1 + 1) rest))))
 
 -- at the end of the input: an end between two groups, else a line is missing
 abbrev pub at_end : Bool → ℕ → Stop

@@ -11,10 +11,6 @@ use Rattle.recording_file.specs.Recording.{Stop, Faulty, Undecided, Reading, See
 abbrev pub before : List ℕ → Seen → Seen
 before line seen = record { lines = line ∷ seen.lines; stop = seen.stop }
 
--- the line that is missing
-abbrev pub missing : ℕ → Seen → Reading
-missing n seen = stopped (seen.stop false n)
-
 -- what lines behind a database and a policy give
 abbrev pub behind_policy : List ℕ → List ℕ → (Bool → ℕ → Stop) → ℕ → List (List ℕ) → Reading
 behind_policy d r stop n [] = stopped (stop false n)
@@ -37,6 +33,7 @@ pub record GivesLine (old new : At) (s t : Option (List ℕ)) (line : List ℕ) 
   pub got : List ℕ
   pub took : Consumes (to_come old.ended s) (to_come new.ended t) got
   pub stays : IsTrue old.ended → IsTrue new.ended
+  pub none : IsTrue old.ended → got ≡ []
   pub number : new.line ≡ old.line + 1
   pub reads : (more : List ℕ) → (IsTrue new.ended → more ≡ []) → limited (room old) (old.bytes ++ (got ++ more)) ≡ before line (limited (room new) (new.bytes ++ more))
   pub opens : (more : List ℕ) → new.ended ≡ false → front (old.bytes ++ (got ++ more)) ≡ before line (front (new.bytes ++ more))
@@ -46,6 +43,7 @@ pub record GivesPoint (R : ℕ → Seen → Reading) (old new : At) (s t : Optio
   pub got : List ℕ
   pub took : Consumes (to_come old.ended s) (to_come new.ended t) got
   pub stays : IsTrue old.ended → IsTrue new.ended
+  pub none : IsTrue old.ended → got ≡ []
   pub reads : (more : List ℕ) → (IsTrue new.ended → more ≡ []) → R old.line (limited (room old) (old.bytes ++ (got ++ more))) ≡ onto p (read new.line (limited (room new) (new.bytes ++ more)))
   pub opens : (more : List ℕ) → new.ended ≡ false → R old.line (front (old.bytes ++ (got ++ more))) ≡ onto p (read new.line (front (new.bytes ++ more)))
 
