@@ -1,10 +1,11 @@
 -- Where the first line feed stands, found by a search that begins behind bytes without one.
-use Rattle.std.proofs.Common.{◌≡◌, ◌≢◌, ℕ, ◌+◌, ◌-◌, ◌<◌, ◌≤◌, Bool, true, false, cond, Some, None, List, [], ◌∷◌, ◌++◌, length, get_or, drop, refl, sym, ap, ◌∙◌, subst, arith, length-drop}
+use Rattle.std.proofs.Common.{◌≡◌, ◌≢◌, ℕ, ◌+◌, ◌-◌, ◌<◌, ◌≤◌, Bool, true, false, cond, not, ◌||◌, suc, take, Some, None, List, [], ◌∷◌, ◌++◌, length, get_or, drop, refl, sym, ap, ◌∙◌, subst, arith, length-drop}
 use Rattle.std.proofs.lemmas.Bool.Decides.{nat_tests}
 use Rattle.std.specs.Prelude.{slice_index, nat_lt, ◌==◌}
 use Rattle.std.specs.List.{position_or_len}
 use Rattle.std.proofs.lemmas.List.{get_or-drop}
 use Rattle.std.proofs.lemmas.List.Sums.{position_or_len_is, fails_before_first}
+use Rattle.kap_base.specs.Texts.{has_line_feed}
 use Rattle.memchr.specs.Find.{IsFirstByte, is_byte}
 use Rattle.recording_file.specs.Lines.{is_feed, without_return}
 
@@ -50,3 +51,29 @@ no_return line front b is other = subst (λ (l : List ℕ). without_return l ≡
   go [] = ap (λ (t : Bool). cond t [] (b ∷ [])) other
   go (x ∷ []) = ap (λ (t : Bool). x ∷ cond t [] (b ∷ [])) other
   go (x ∷ y ∷ f) = ap (λ (l : List ℕ). x ∷ l) (go (y ∷ f))
+
+any_step : (a b : Bool) → (a || b) ≡ false → b ≡ false
+any_step true b e = cc
+any_step false b e = e
+
+any_first : (a b : Bool) → (a || b) ≡ false → a ≡ false
+any_first true b e = cc
+any_first false b e = refl
+
+return_kept : (line : List ℕ) → has_line_feed line ≡ false → has_line_feed (without_return line) ≡ false
+return_kept [] none = refl
+return_kept (b ∷ []) none = elim (b == 13) as (λ t. has_line_feed (cond t [] (b ∷ [])) ≡ false) [ true ↦ refl | false ↦ none ]
+return_kept (b ∷ c ∷ line) none = ap (λ t. t || has_line_feed (without_return (c ∷ line))) (any_first (is_feed b) _ none) ∙ return_kept (c ∷ line) (any_step (is_feed b) _ none)
+
+front_feedless : (bytes : List ℕ) → has_line_feed (take (position_or_len is_feed bytes) bytes) ≡ false
+front_feedless [] = refl
+front_feedless (b ∷ bytes) = elim (is_feed b) as (λ f. is_feed b ≡ f → has_line_feed (take (cond (not f) (1 + position_or_len is_feed bytes) 0) (b ∷ bytes)) ≡ false) [
+    | true ↦ λ e. refl
+    | false ↦ λ e. let one : 1 + position_or_len is_feed bytes ≡ suc (position_or_len is_feed bytes) = omega arith in
+        rw one (ap (λ t. t || has_line_feed (take (position_or_len is_feed bytes) bytes)) e ∙ front_feedless bytes)
+  ] refl
+
+-- a line has no line feed
+pub feedless : (bytes line : List ℕ) (k : ℕ) → k ≡ position_or_len is_feed bytes → line ≡ without_return (take k bytes) → not (has_line_feed line) ≡ true
+feedless bytes line k is line_is = ap (λ (l : List ℕ). not (has_line_feed l)) line_is
+    ∙ ap not (return_kept (take k bytes) (subst (λ n. has_line_feed (take n bytes) ≡ false) (sym is) (front_feedless bytes)))

@@ -2,3 +2,5 @@ pub mod FeedLaws
 pub mod FindLaws
 pub mod SeenLaws
 pub mod StepLaws
+pub mod HaltLaws
+pub mod PointLaws

@@ -32,7 +32,7 @@ raw_line : (bytes : List ℕ) (k : ℕ) → k ≡ position_or_len is_feed bytes 
 raw_line bytes k is lt = slice_split_first is_feed bytes 0 (subst (λ n. n < length bytes) is lt) ∙ ap (λ n. take n bytes ∷ raw_lines (drop (n + 1) bytes)) (sym is)
 
 -- without a line feed the bytes are one line
-raw_last : (bytes : List ℕ) → position_or_len is_feed bytes ≡ length bytes → raw_lines bytes ≡ bytes ∷ []
+pub raw_last : (bytes : List ℕ) → position_or_len is_feed bytes ≡ length bytes → raw_lines bytes ≡ bytes ∷ []
 raw_last [] none = refl
 raw_last (b ∷ bytes) none =
     let at : Bool → Type 0 = λ f. cond (not f) (1 + position_or_len is_feed bytes) 0 ≡ suc (length bytes) in
@@ -66,7 +66,7 @@ whole_last b bytes none = rw (raw_last (b ∷ bytes) none) refl
 -- ---- bytes of which some may not come
 
 -- a line feed that stands before the limit stands at the same place before it
-place_before : (limit : ℕ) (bytes : List ℕ) → position_or_len is_feed bytes < limit → position_or_len is_feed bytes < length bytes → position_or_len is_feed (take limit bytes) ≡ position_or_len is_feed bytes
+pub place_before : (limit : ℕ) (bytes : List ℕ) → position_or_len is_feed bytes < limit → position_or_len is_feed bytes < length bytes → position_or_len is_feed (take limit bytes) ≡ position_or_len is_feed bytes
 place_before zero bytes low lt = absurd (omega arith)
 place_before (suc limit) [] low lt = absurd (omega arith)
 place_before (suc limit) (b ∷ bytes) low lt =

@@ -92,7 +92,7 @@ gives_line a b c s t size on line last bytes number given ended =
 -- ---- points
 
 -- the rest of a group behind its database is the rest behind its policy
-read_behind : (stop : Bool → ℕ → Stop) (n : ℕ) (db : List ℕ) (rest : List (List ℕ)) → groups stop n (db ∷ rest) ≡ further (at_line n (named db)) (λ d. behind_database d stop (n + 1) rest)
+pub read_behind : (stop : Bool → ℕ → Stop) (n : ℕ) (db : List ℕ) (rest : List (List ℕ)) → groups stop n (db ∷ rest) ≡ further (at_line n (named db)) (λ d. behind_database d stop (n + 1) rest)
 read_behind stop n db [] = refl
 read_behind stop n db (rp ∷ []) = refl
 read_behind stop n db (rp ∷ line ∷ rest) = refl
@@ -100,7 +100,7 @@ read_behind stop n db (rp ∷ line ∷ rest) = refl
 further_ok : {A : Type 0} (n : ℕ) (x : Result A LineFault) (v : A) (k : A → Reading) → x ≡ Ok v → further (at_line n x) k ≡ k v
 further_ok n x v k is = ap (λ y. further (at_line n y) k) is
 
-further_err : {A : Type 0} (n : ℕ) (x : Result A LineFault) (f : LineFault) (k : A → Reading) → x ≡ Err f → further (at_line n x) k ≡ stopped (Faulty (rec_faults.Line n f))
+pub further_err : {A : Type 0} (n : ℕ) (x : Result A LineFault) (f : LineFault) (k : A → Reading) → x ≡ Err f → further (at_line n x) k ≡ stopped (Faulty (rec_faults.Line n f))
 further_err n x f k is = ap (λ y. further (at_line n y) k) is
 
 -- the third line of a group gives its point

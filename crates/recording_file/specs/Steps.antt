@@ -2,6 +2,8 @@
 use Rattle.std.specs.Prelude.{◌≡◌, ◌≢◌, ℕ, ◌+◌, ◌++◌, Bool, false, Option, None, Some, List, [], ◌∷◌, IsTrue, Result, Ok, Err}
 use Rattle.std.specs.Io.KnownBytes.{Consumes}
 use Rattle.kap_base.specs.Points.{Series}
+use Rattle.line_points.specs.declared.fault.LineFault.{LineFault}
+use Rattle.line_points.specs.declared.fault.LineFault.TheVariants as faults
 use Rattle.recording_file.specs.declared.fault.RecFault.{RecFault}
 use Rattle.recording_file.specs.declared.fault.RecFault.TheVariants.{Line, Truncated, Long, ReadFault, NoMemory}
 use Rattle.recording_file.specs.Finding.{At, to_come, room}
@@ -66,3 +68,11 @@ Refuses R old new s t (Truncated n) = StopsSo R old (to_come old.ended s) (Fault
 Refuses R old new s t Long = StopsSo R old (to_come old.ended s) (Faulty Long)
 Refuses R old new s t ReadFault = FailsOpen R old new s t
 Refuses R old new s t NoMemory = Unit {0}
+
+-- the fault is that of what was read from this line
+abbrev pub FaultAt : {A : Type 0} → ℕ → Result A LineFault → RecFault → Type 0
+FaultAt n read (Line m fault) = (m ≡ n) × (fault ≢ faults.NoMemory) × (read ≡ Err fault)
+FaultAt n read (Truncated m) = ⊥
+FaultAt n read Long = ⊥
+FaultAt n read ReadFault = ⊥
+FaultAt n read NoMemory = Unit {0}

@@ -3,6 +3,7 @@
 
 mod fault;
 mod feeds;
+mod group;
 mod lines;
 mod window;
 

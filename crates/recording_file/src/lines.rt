@@ -1,6 +1,7 @@
-ghost use Rattle.std.specs.Prelude.{◌≡◌, false, ◌+◌, ◌-◌, ◌^◌, ◌<◌, ◌≤◌, ◌≢◌, ℕ, List, [], Ok, min, length, take, drop, IsTrue, IfOk, IfErr, IfSome, IfNone, OnOk};
+ghost use Rattle.std.specs.Prelude.{◌≡◌, false, ◌+◌, ◌-◌, ◌^◌, not, ◌<◌, ◌≤◌, ◌≢◌, ℕ, List, [], Ok, min, length, take, drop, IsTrue, IfOk, IfErr, IfSome, IfNone, OnOk};
 ghost use Rattle.std.specs.Bool.{OnTrue, OnFalse};
 ghost use Rattle.std.specs.List.{position_or_len};
+ghost use Rattle.kap_base.specs.Texts.{has_line_feed};
 ghost use Rattle.recording_file.specs.Causes.{HasReadCause};
 ghost use Rattle.recording_file.specs.Lines.{is_feed, without_return};
 ghost use Rattle.recording_file.specs.Finding.{At, ReadsOn, room, taken, IsLine, IsUndecided, FindFault, FindsNone};
@@ -147,9 +148,11 @@ impl Lines {
     }
 
     /// The first line, of this size.
+    #[tactic(auto, using(crate::proofs::FeedLaws::feedless))]
     pub fn text(&self, size: usize) -> &[u8]
         requires { IsLine self.now size }
-        ensures { result.now ≡ without_return (take size self.now.bytes) }
+        ensures text { result.now ≡ without_return (take size self.now.bytes) }
+        ensures one_line { IsTrue (not (has_line_feed result.now)) }
     {
         let (line, _) = self.window.held().split_at(size);
         without_return(line)

@@ -1,0 +1,97 @@
+ghost use Rattle.std.specs.Prelude.{◌≡◌, ◌≢◌, Ok, Err, not, IsTrue, IsOk, IfOk, IfErr, IsUtf8, OnOk};
+ghost use Rattle.std.specs.Bool.{OnTrue};
+ghost use Rattle.kap_base.specs.Words.{Answers};
+ghost use Rattle.kap_base.specs.Texts.{has_line_feed};
+ghost use Rattle.recording_file.specs.Causes.{HasReadCause};
+ghost use Rattle.recording_file.specs.Recording.{named, pointed};
+ghost use Rattle.recording_file.specs.Steps.{read_policy, read_database, GivesPoint, Refuses, FaultAt};
+
+use crate::fault::RecFault;
+use crate::lines::Lines;
+use kap_base::{Point, Text, TextFault};
+use kap_io::Source;
+use line_points::{LineFault, Mode, read_line};
+use std::alloc::Global;
+
+/// The most bytes of a database or a policy.
+const LONGEST_NAME: usize = 65_536;
+
+/// Whether the text has these bytes.
+fn is_text(text: &Text, bytes: &[u8]) -> bool
+    ensures same { OnTrue result (text.now ≡ bytes.now) }
+    ensures utf8 { IsUtf8 text.now }
+{
+    text.bytes() == bytes
+}
+
+/// Keeps the database or the policy that a line gives, where it isn't the one that is kept already.
+fn keep(alloc: Global, line: &[u8], kept: &mut Text) -> Result<(), LineFault>
+    ensures kept { OnOk result ((named line.now ≡ Ok kept.new) × (kept.new ≡ line.now)) }
+    ensures fault { IfErr result (λ f. f ≢ LineFault.NoMemory → named line.now ≡ Err f) }
+{
+    if line.len() > LONGEST_NAME {
+        return Err(LineFault::Long);
+    }
+    if is_text(kept, line) {
+        return Ok(());
+    }
+    match Text::from_bytes(alloc, line) {
+        Ok(text) => {
+            *kept = text;
+            Ok(())
+        }
+        Err(TextFault::NotUtf8) => Err(LineFault::NotUtf8),
+        Err(TextFault::NoMemory) => Err(LineFault::NoMemory),
+    }
+}
+
+/// The point of a line.
+fn point(alloc: Global, line: &[u8], db: &Text, rp: &Text) -> Result<Point, LineFault>
+    requires line { IsTrue (not (has_line_feed line.now)) }
+    requires db { IsTrue (not (has_line_feed db.now)) }
+    requires rp { IsTrue (not (has_line_feed rp.now)) }
+    ensures { Answers LineFault.NoMemory result (pointed db.now rp.now line.now) }
+{
+    match read_line(alloc, line, db, rp, &Mode::Recording) {
+        Ok(Some(point)) => Ok(point),
+        Ok(None) => unreachable!(),
+        Err(fault) => Err(fault),
+    }
+}
+
+/// What a line gives, its fault with its number.
+fn at_line<T: Drop>(line: u64, read: Result<T, LineFault>) -> Result<T, RecFault>
+    ensures ok { IfOk result (λ x. read ≡ Ok x) }
+    ensures fault { IfErr result (FaultAt line read) }
+{
+    match read {
+        Ok(value) => Ok(value),
+        Err(LineFault::NoMemory) => Err(RecFault::NoMemory),
+        Err(fault) => Err(RecFault::Line { line, fault }),
+    }
+}
+
+impl Lines {
+    /// The point of a group whose database and policy were given.
+    pub fn point_behind_policy<S: Source>(
+        &mut self,
+        alloc: Global,
+        source: &mut S,
+        db: &Text,
+        rp: &Text,
+    ) -> Result<Point, RecFault>
+        requires db { IsTrue (not (has_line_feed db.now)) }
+        requires rp { IsTrue (not (has_line_feed rp.now)) }
+        ensures point { IfOk result (GivesPoint (read_policy db.now rp.now) self.old self.new (S.left source.old) (S.left source.new)) }
+        ensures fault { IfErr result (Refuses (read_policy db.now rp.now) self.old self.new (S.left source.old) (S.left source.new)) }
+        ensures stays { IsTrue self.old.ended → IsTrue self.new.ended }
+        ensures cause { HasReadCause (S.faults source.old) (S.faults source.new) result }
+    {
+        let Some(size) = self.find(source)? else {
+            return Err(RecFault::Truncated { line: self.line() });
+        };
+        let point = at_line(self.line(), point(alloc, self.text(size), db, rp))?;
+        self.pass(size);
+        Ok(point)
+    }
+}
