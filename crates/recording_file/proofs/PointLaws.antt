@@ -1,6 +1,6 @@
 -- What the lines of a group give.
 use Rattle.std.proofs.Common.{◌≡◌, ◌≢◌, ℕ, ◌≤◌, Bool, true, false, cond, Option, None, Some, Ok, Err, List, length, refl, sym, ap, ◌∙◌, subst, arith}
-use Rattle.std.specs.Prelude.{Result, IsUtf8, nat_lt}
+use Rattle.std.specs.Prelude.{Result, IsUtf8, OnOk, IfErr, nat_lt}
 use Rattle.std.specs.Str.{is_utf8}
 use Rattle.std.proofs.lemmas.Bool.Decides.{nat_tests}
 use Rattle.std.proofs.lemmas.Str.{IsUtf8-from_is_utf8, is_utf8-from_IsUtf8}
@@ -60,3 +60,9 @@ answers_ok lack (Err e) due x answer is = cc
 pub answers_err : {A E : Type 0} (lack : E) (r due : Result A E) (e : E) → Answers lack r due → e ≢ lack → r ≡ Err e → due ≡ Err e
 answers_err lack (Ok y) due e answer other is = cc
 answers_err {A} {E} lack (Err f) due e answer other is = let same : f ≡ e = cc in answer (λ l. other (sym same ∙ l)) ∙ ap Err same
+
+pub ok_at : {T E : Type 0} (P : Type 0) (r : Result T E) (x : T) → OnOk r P → r ≡ Ok x → P
+ok_at P r x h is = subst (λ s. OnOk s P) is h
+
+pub err_at : {T E : Type 0} (P : E → Type 0) (r : Result T E) (e : E) → IfErr r P → r ≡ Err e → P e
+err_at P r e h is = subst (λ s. IfErr s P) is h

@@ -121,7 +121,7 @@ policy_gives d r a c s t line p g is =
 nothing_more : (e : Bool) (xs more : List ℕ) → xs ≡ [] → more ≡ [] → xs ++ more ≡ []
 nothing_more e xs more p q = ap (λ (l : List ℕ). l ++ more) p ∙ q
 
-not_yet : (b c : Bool) → (b ≡ true → c ≡ true) → c ≡ false → b ≡ false
+pub not_yet : (b c : Bool) → (b ≡ true → c ≡ true) → c ≡ false → b ≡ false
 not_yet true c stays is = sym (stays refl) ∙ is
 not_yet false c stays is = refl
 

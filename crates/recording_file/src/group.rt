@@ -1,10 +1,12 @@
-ghost use Rattle.std.specs.Prelude.{◌≡◌, ◌≢◌, Ok, Err, not, IsTrue, IsOk, IfOk, IfErr, IsUtf8, OnOk};
+ghost use Rattle.std.specs.Prelude.{◌≡◌, ◌≢◌, Ok, Err, not, IsTrue, IsOk, IfOk, IfErr, IfSome, IfNone, IsUtf8, OnOk, ◌⊎◌};
 ghost use Rattle.std.specs.Bool.{OnTrue};
 ghost use Rattle.kap_base.specs.Words.{Answers};
 ghost use Rattle.kap_base.specs.Texts.{has_line_feed};
 ghost use Rattle.recording_file.specs.Causes.{HasReadCause};
-ghost use Rattle.recording_file.specs.Recording.{named, pointed};
-ghost use Rattle.recording_file.specs.Steps.{read_policy, read_database, GivesPoint, Refuses, FaultAt};
+ghost use Rattle.std.specs.Io.KnownBytes.{Keeps};
+ghost use Rattle.recording_file.specs.Recording.{Ended, named, pointed, read};
+ghost use Rattle.recording_file.specs.Finding.{HasEnded, to_come};
+ghost use Rattle.recording_file.specs.Steps.{read_policy, read_database, GivesPoint, StopsSo, Refuses, FaultAt};
 
 use crate::fault::RecFault;
 use crate::lines::Lines;
@@ -85,6 +87,8 @@ impl Lines {
         ensures point { IfOk result (GivesPoint (read_policy db.now rp.now) self.old self.new (S.left source.old) (S.left source.new)) }
         ensures fault { IfErr result (Refuses (read_policy db.now rp.now) self.old self.new (S.left source.old) (S.left source.new)) }
         ensures stays { IsTrue self.old.ended → IsTrue self.new.ended }
+        ensures ends { IsTrue self.new.ended → IsTrue self.old.ended ⊎ HasEnded (S.left source.old) (S.left source.new) }
+        ensures quiet { IsTrue self.old.ended → Keeps (S.left source.old) (S.left source.new) }
         ensures cause { HasReadCause (S.faults source.old) (S.faults source.new) result }
     {
         let Some(size) = self.find(source)? else {
@@ -93,5 +97,56 @@ impl Lines {
         let point = at_line(self.line(), point(alloc, self.text(size), db, rp))?;
         self.pass(size);
         Ok(point)
+    }
+
+    /// The point of a group whose database was given. The policy is kept.
+    fn point_behind_database<S: Source>(
+        &mut self,
+        alloc: Global,
+        source: &mut S,
+        db: &Text,
+        rp: &mut Text,
+    ) -> Result<Point, RecFault>
+        requires db { IsTrue (not (has_line_feed db.now)) }
+        ensures point { IfOk result (GivesPoint (read_database db.now) self.old self.new (S.left source.old) (S.left source.new)) }
+        ensures fault { IfErr result (Refuses (read_database db.now) self.old self.new (S.left source.old) (S.left source.new)) }
+        ensures stays { IsTrue self.old.ended → IsTrue self.new.ended }
+        ensures ends { IsTrue self.new.ended → IsTrue self.old.ended ⊎ HasEnded (S.left source.old) (S.left source.new) }
+        ensures quiet { IsTrue self.old.ended → Keeps (S.left source.old) (S.left source.new) }
+        ensures cause { HasReadCause (S.faults source.old) (S.faults source.new) result }
+    {
+        let Some(size) = self.find(source)? else {
+            return Err(RecFault::Truncated { line: self.line() });
+        };
+        at_line(self.line(), keep(alloc, self.text(size), rp))?;
+        self.pass(size);
+        let point = self.point_behind_policy(alloc, source, db, rp)?;
+        Ok(point)
+    }
+
+    /// The point of the next group, or `None` at the end. The database and the policy are kept.
+    pub fn next_point<S: Source>(
+        &mut self,
+        alloc: Global,
+        source: &mut S,
+        db: &mut Text,
+        rp: &mut Text,
+    ) -> Result<Option<Point>, RecFault>
+        ensures point { IfOk result (λ o. IfSome o (GivesPoint read self.old self.new (S.left source.old) (S.left source.new))) }
+        ensures none { IfOk result (λ o. IfNone o (StopsSo read self.old (to_come self.old.ended (S.left source.old)) Ended)) }
+        ensures done { IfOk result (λ o. IfNone o (IsTrue self.new.ended)) }
+        ensures fault { IfErr result (Refuses read self.old self.new (S.left source.old) (S.left source.new)) }
+        ensures stays { IsTrue self.old.ended → IsTrue self.new.ended }
+        ensures ends { IsTrue self.new.ended → IsTrue self.old.ended ⊎ HasEnded (S.left source.old) (S.left source.new) }
+        ensures quiet { IsTrue self.old.ended → Keeps (S.left source.old) (S.left source.new) }
+        ensures cause { HasReadCause (S.faults source.old) (S.faults source.new) result }
+    {
+        let Some(size) = self.find(source)? else {
+            return Ok(None);
+        };
+        at_line(self.line(), keep(alloc, self.text(size), db))?;
+        self.pass(size);
+        let point = self.point_behind_database(alloc, source, db, rp)?;
+        Ok(Some(point))
     }
 }
