@@ -11,14 +11,14 @@ pub drop_front : (xs ys : List ℕ) → drop (length xs) (xs ++ ys) ≡ ys
 drop_front [] ys = refl
 drop_front (x ∷ xs) ys = drop_front xs ys
 
-ended_kept : (a b c : Option (List ℕ)) → HasEnded a b → Keeps b c → HasEnded a c
+pub ended_kept : (a b c : Option (List ℕ)) → HasEnded a b → Keeps b c → HasEnded a c
 ended_kept None b c p q = tt
 ended_kept (Some x) None c p q = absurd p
 ended_kept (Some x) (Some y) None p q = absurd q
 ended_kept (Some x) (Some y) (Some z) p q = q ∙ p
 
 -- what is to come is told where what is left is
-ended_later : (e f : Bool) (a b c : Option (List ℕ)) (taken : List ℕ) → Consumes (to_come e a) (to_come f b) taken → HasEnded b c → HasEnded a c
+pub ended_later : (e f : Bool) (a b c : Option (List ℕ)) (taken : List ℕ) → Consumes (to_come e a) (to_come f b) taken → HasEnded b c → HasEnded a c
 ended_later e f None b c taken p q = tt
 ended_later true f (Some x) None c taken p q = absurd p
 ended_later false f (Some x) None c taken p q = absurd p

@@ -160,7 +160,7 @@ ended_none : (o : Option (List ℕ)) (y : List ℕ) → to_come true o ≡ Some 
 ended_none None y is = cc
 ended_none (Some x) y is = cc
 
-ended_left : (e : Bool) (o : Option (List ℕ)) (y : List ℕ) → to_come e o ≡ Some y → e ≡ true → y ≡ []
+pub ended_left : (e : Bool) (o : Option (List ℕ)) (y : List ℕ) → to_come e o ≡ Some y → e ≡ true → y ≡ []
 ended_left true o y is ended = ended_none o y is
 ended_left false o y is ended = cc
 

@@ -4,3 +4,4 @@ pub mod SeenLaws
 pub mod StepLaws
 pub mod HaltLaws
 pub mod PointLaws
+pub mod WholeLaws

@@ -118,7 +118,7 @@ policy_gives d r a c s t line p g is =
     }
 
 -- what is still to come behind a source that has ended is nothing
-nothing_more : (e : Bool) (xs more : List ℕ) → xs ≡ [] → more ≡ [] → xs ++ more ≡ []
+pub nothing_more : (e : Bool) (xs more : List ℕ) → xs ≡ [] → more ≡ [] → xs ++ more ≡ []
 nothing_more e xs more p q = ap (λ (l : List ℕ). l ++ more) p ∙ q
 
 pub not_yet : (b c : Bool) → (b ≡ true → c ≡ true) → c ≡ false → b ≡ false

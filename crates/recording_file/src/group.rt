@@ -1,4 +1,4 @@
-ghost use Rattle.std.specs.Prelude.{◌≡◌, ◌≢◌, Ok, Err, not, IsTrue, IsOk, IfOk, IfErr, IfSome, IfNone, IsUtf8, OnOk, ◌⊎◌};
+ghost use Rattle.std.specs.Prelude.{◌≡◌, ◌≢◌, Ok, Err, not, IsTrue, IsOk, IfOk, IfErr, IfSome, IfNone, IsUtf8, OnOk, OnSome, ◌⊎◌, ◌<◌, ◌≤◌, ◌^◌};
 ghost use Rattle.std.specs.Bool.{OnTrue};
 ghost use Rattle.kap_base.specs.Words.{Answers};
 ghost use Rattle.kap_base.specs.Texts.{has_line_feed};
@@ -85,6 +85,7 @@ impl Lines {
         requires db { IsTrue (not (has_line_feed db.now)) }
         requires rp { IsTrue (not (has_line_feed rp.now)) }
         ensures point { IfOk result (GivesPoint (read_policy db.now rp.now) self.old self.new (S.left source.old) (S.left source.new)) }
+        ensures grows { OnOk result ((self.old.given < self.new.given) × (self.new.given ≤ 2 ^ 30)) }
         ensures fault { IfErr result (Refuses (read_policy db.now rp.now) self.old self.new (S.left source.old) (S.left source.new)) }
         ensures stays { IsTrue self.old.ended → IsTrue self.new.ended }
         ensures ends { IsTrue self.new.ended → IsTrue self.old.ended ⊎ HasEnded (S.left source.old) (S.left source.new) }
@@ -109,6 +110,7 @@ impl Lines {
     ) -> Result<Point, RecFault>
         requires db { IsTrue (not (has_line_feed db.now)) }
         ensures point { IfOk result (GivesPoint (read_database db.now) self.old self.new (S.left source.old) (S.left source.new)) }
+        ensures grows { OnOk result ((self.old.given < self.new.given) × (self.new.given ≤ 2 ^ 30)) }
         ensures fault { IfErr result (Refuses (read_database db.now) self.old self.new (S.left source.old) (S.left source.new)) }
         ensures stays { IsTrue self.old.ended → IsTrue self.new.ended }
         ensures ends { IsTrue self.new.ended → IsTrue self.old.ended ⊎ HasEnded (S.left source.old) (S.left source.new) }
@@ -133,6 +135,7 @@ impl Lines {
         rp: &mut Text,
     ) -> Result<Option<Point>, RecFault>
         ensures point { IfOk result (λ o. IfSome o (GivesPoint read self.old self.new (S.left source.old) (S.left source.new))) }
+        ensures grows { IfOk result (λ o. OnSome o ((self.old.given < self.new.given) × (self.new.given ≤ 2 ^ 30))) }
         ensures none { IfOk result (λ o. IfNone o (StopsSo read self.old (to_come self.old.ended (S.left source.old)) Ended)) }
         ensures done { IfOk result (λ o. IfNone o (IsTrue self.new.ended)) }
         ensures fault { IfErr result (Refuses read self.old self.new (S.left source.old) (S.left source.new)) }

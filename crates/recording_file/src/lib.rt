@@ -5,6 +5,10 @@ mod fault;
 mod feeds;
 mod group;
 mod lines;
+mod points;
+mod reader;
 mod window;
 
 pub use fault::RecFault;
+pub use points::read_points;
+pub use reader::Reader;
