@@ -1,0 +1,48 @@
+-- The one canonical spelling of a point.
+use Rattle.std.specs.Prelude.{ℕ, Bool, true, false, List, [], ◌∷◌, ◌++◌, codes, if◌then◌else◌}
+use Rattle.std.specs.List.{flat_map}
+use Rattle.std.specs.Fmt.{signed_decimal}
+use Rattle.std.specs.FinMap.{entries}
+use Rattle.kap_base.specs.declared.value.Value.{Value}
+use Rattle.kap_base.specs.declared.value.Value.TheVariants as values
+use Rattle.kap_base.specs.Texts.{backslash}
+use Rattle.kap_base.specs.Points.{Series}
+use Rattle.line_points.specs.declared.part.Part.{Part}
+use Rattle.line_points.specs.declared.part.Part.TheVariants as parts
+use Rattle.line_points.specs.Parts.{escapes, space, quote, comma, equals}
+use Rattle.line_points.specs.Line.{Tag, Field}
+
+-- a byte, behind a backslash where the part escapes it
+abbrev pub escaped_byte : Part → ℕ → List ℕ
+escaped_byte part b = if escapes part b then backslash ∷ b ∷ [] else b ∷ []
+
+-- a text with each such byte behind a backslash
+abbrev pub escaped : Part → List ℕ → List ℕ
+escaped part text = flat_map (escaped_byte part) text
+
+-- an integer in decimal with 'i', a truth value as its word, a text between quotes
+unfoldable pub value_text : Value → List ℕ
+value_text (values.Int n) = signed_decimal n ++ codes "i"
+value_text (values.Bool true) = codes "true"
+value_text (values.Bool false) = codes "false"
+value_text (values.Str text) = quote ∷ (escaped parts.Quoted text ++ quote ∷ [])
+
+-- a tag behind its comma
+abbrev pub tag_text : Tag → List ℕ
+tag_text tag = comma ∷ (escaped parts.Key tag.0 ++ equals ∷ escaped parts.Key tag.1)
+
+abbrev pub field_text : Field → List ℕ
+field_text field = escaped parts.Key field.0 ++ equals ∷ value_text field.1
+
+-- the fields, with commas between them
+abbrev pub fields_text : List Field → List ℕ
+fields_text [] = []
+fields_text (f ∷ fs) = field_text f ++ flat_map (λ g. comma ∷ field_text g) fs
+
+-- the measurement, the tags and the fields in byte order of their keys, one space before the fields and one before the time
+abbrev pub Print : Series → List ℕ
+Print p = escaped parts.Measurement p.name ++ (flat_map tag_text (entries p.tags) ++ (space ∷ (fields_text (entries p.fields) ++ (space ∷ signed_decimal p.time))))
+
+-- the point without what it is grouped by
+abbrev pub ungrouped : Series → Series
+ungrouped p = record p { dims = []; by_name = false }

@@ -1,0 +1,17 @@
+//! Points in InfluxDB's line protocol, the integer profile: lines are read, bodies of lines are read, points are printed
+//! (InfluxDB 1.8 line protocol reference).
+#![tactic(auto)]
+
+mod body;
+mod fault;
+mod line;
+mod mode;
+mod number;
+mod part;
+mod print;
+
+pub use body::{body_text, read_body};
+pub use fault::{BodyFault, LineFault};
+pub use line::{read_line, read_stored};
+pub use mode::{Mode, Unit};
+pub use print::print_line;
