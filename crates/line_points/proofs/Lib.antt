@@ -1,0 +1,5 @@
+pub mod PlaceLaws
+pub mod PartLaws
+pub mod Utf8Laws
+pub mod NumberLaws
+pub mod WordLaws

@@ -3,12 +3,16 @@
 #![tactic(auto)]
 
 mod body;
+mod bytes;
 mod fault;
 mod line;
 mod mode;
 mod number;
 mod part;
 mod print;
+mod scanner;
+mod time;
+mod word;
 
 pub use body::{body_text, read_body};
 pub use fault::{BodyFault, LineFault};
