@@ -3,3 +3,4 @@ pub mod PartLaws
 pub mod Utf8Laws
 pub mod NumberLaws
 pub mod WordLaws
+pub mod LineLaws

@@ -6,3 +6,4 @@ pub mod Line
 pub mod Grammar
 pub mod Print
 pub mod Body
+pub mod Reading

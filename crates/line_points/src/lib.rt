@@ -10,6 +10,7 @@ mod mode;
 mod number;
 mod part;
 mod print;
+mod reading;
 mod scanner;
 mod time;
 mod word;
