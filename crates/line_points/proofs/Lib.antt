@@ -4,3 +4,4 @@ pub mod Utf8Laws
 pub mod NumberLaws
 pub mod WordLaws
 pub mod LineLaws
+pub mod DifferLaws
