@@ -1,3 +1,4 @@
+pub mod TestLaws
 pub mod PlaceLaws
 pub mod PartLaws
 pub mod Utf8Laws
@@ -5,3 +6,5 @@ pub mod NumberLaws
 pub mod WordLaws
 pub mod LineLaws
 pub mod DifferLaws
+pub mod SpellLaws
+pub mod PrintLaws
