@@ -7,4 +7,5 @@ pub mod WordLaws
 pub mod LineLaws
 pub mod DifferLaws
 pub mod SpellLaws
+pub mod TagLaws
 pub mod PrintLaws
