@@ -8,4 +8,6 @@ pub mod LineLaws
 pub mod DifferLaws
 pub mod SpellLaws
 pub mod TagLaws
+pub mod ValueLaws
+pub mod FieldLaws
 pub mod PrintLaws
