@@ -10,4 +10,6 @@ pub mod SpellLaws
 pub mod TagLaws
 pub mod ValueLaws
 pub mod FieldLaws
+pub mod SpaceLaws
+pub mod TimeLaws
 pub mod PrintLaws
