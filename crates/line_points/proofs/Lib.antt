@@ -12,4 +12,5 @@ pub mod ValueLaws
 pub mod FieldLaws
 pub mod SpaceLaws
 pub mod TimeLaws
+pub mod WholeLaws
 pub mod PrintLaws
