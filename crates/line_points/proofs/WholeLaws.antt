@@ -15,9 +15,9 @@ use Rattle.line_points.specs.declared.fault.LineFault.TheVariants as faults
 use Rattle.line_points.specs.declared.part.Part.{Part}
 use Rattle.line_points.specs.declared.part.Part.TheVariants as parts
 use Rattle.line_points.specs.declared.mode.Mode.{Mode}
-use Rattle.line_points.specs.Parts.{comma, space, begins, is_space, without_spaces, text_at}
+use Rattle.line_points.specs.Parts.{comma, equals, space, begins, is_space, without_spaces, text_at}
 use Rattle.line_points.specs.Line.{Tag, Field, differ, measurement_at, tags_from, tags_at, fields_from, fields_at, time_of, point_of, stored_of, line_of, is_live, is_blank}
-use Rattle.line_points.specs.Grammar.{Spells, no_bytes, plain, behind_backslash, spaces, SpellsTags, SpellsFields, SpellsTime, SpelledFrom, Spelled, IsOf}
+use Rattle.line_points.specs.Grammar.{Spells, no_bytes, plain, behind_backslash, spaces, SpellsTags, SpellsFields, one_field, more_fields, SpellsTime, SpelledFrom, Spelled, IsOf}
 use Rattle.line_points.proofs.TestLaws.{first_of, second_of, first_false, second_false, both, not_true, not_false, ok_is, bind_ok, else_ok, then_ok, unless_ok}
 use Rattle.line_points.proofs.SpellLaws.{ends_here, Taken, Reading, at_end, at_stop, over_escape, over_plain, reading, text_taken, spelling_again}
 use Rattle.line_points.proofs.TagLaws.{is_next, some_behind, TagsTaken, tags_taken, next-tags, tags_again}
@@ -138,3 +138,136 @@ parts_spelled db rp mode line name tags fields time behind_name behind_tags behi
         time_spelled = m.spells;
       };
     }
+
+pub record IsSpelled (database policy : List ℕ) (mode : Mode) (line : List ℕ) (p : Series) : Type 0 where
+  pub spelled : Spelled mode p line
+  pub is_of : IsOf database policy p
+
+moved : (db rp : List ℕ) (mode : Mode) (line : List ℕ) (made p : Series) → made ≡ p → IsSpelled db rp mode line made → IsSpelled db rp mode line p
+moved db rp mode line made p is h = subst (IsSpelled db rp mode line) is h
+
+pub point_spelled : (db rp : List ℕ) (mode : Mode) (line : List ℕ) (p : Series) → point_of db rp mode (without_spaces line) ≡ Ok p → IsSpelled db rp mode line p
+unfolding point_of
+point_spelled db rp mode line p e =
+    let bytes = without_spaces line in
+    let n = bind_ok (measurement_at bytes) (λ name. tags_at name.1 >>= λ tags. fields_at tags.1 >>= λ fields. time_of mode (without_spaces fields.1) >>= λ time. Ok (record { db = db; rp = rp; name = name.0; tags = tags.0; fields = fields.0; dims = []; by_name = false; time = time })) p e in
+    let t = bind_ok (tags_at n.0.1) (λ tags. fields_at tags.1 >>= λ fields. time_of mode (without_spaces fields.1) >>= λ time. Ok (record { db = db; rp = rp; name = n.0.0; tags = tags.0; fields = fields.0; dims = []; by_name = false; time = time })) p n.2 in
+    let f = bind_ok (fields_at t.0.1) (λ fields. time_of mode (without_spaces fields.1) >>= λ time. Ok (record { db = db; rp = rp; name = n.0.0; tags = t.0.0; fields = fields.0; dims = []; by_name = false; time = time })) p t.2 in
+    let m = bind_ok (time_of mode (without_spaces f.0.1)) (λ time. Ok (record { db = db; rp = rp; name = n.0.0; tags = t.0.0; fields = f.0.0; dims = []; by_name = false; time = time })) p f.2 in
+    let made : Series = record { db = db; rp = rp; name = n.0.0; tags = t.0.0; fields = f.0.0; dims = []; by_name = false; time = m.0 } in
+    moved db rp mode line made p (ok_is {E = LineFault} made p m.2) (record {
+      spelled = parts_spelled db rp mode line n.0.0 t.0.0 f.0.0 m.0 n.0.1 t.0.1 f.0.1 n.1 t.1 f.1 m.1;
+      is_of = record { db = refl; rp = refl; dims = refl; by_name = refl };
+    })
+
+pub stored_spelled : (db rp : List ℕ) (mode : Mode) (line : List ℕ) (p : Series) → stored_of db rp mode line ≡ Ok p → IsSpelled db rp mode line p
+unfolding stored_of
+stored_spelled db rp mode line p e =
+    point_spelled db rp mode line p (unless_ok (not (is_utf8 line)) faults.NotUtf8 (point_of db rp mode (without_spaces line)) p e).1
+
+read_point : (a b : Bool) (r : Result Series LineFault) (p : Series) → cond a (Ok None) (cond b (Err faults.Long) (r >>= λ q. Ok (Some q))) ≡ Ok (Some p) → r ≡ Ok p
+read_point true b r p e = absurd cc
+read_point false true r p e = absurd cc
+read_point false false (Ok q) p e = cc
+read_point false false (Err d) p e = absurd cc
+
+pub line_spelled : (db rp : List ℕ) (mode : Mode) (line : List ℕ) (p : Series) → line_of db rp mode line ≡ Ok (Some p) → IsSpelled db rp mode line p
+unfolding line_of
+line_spelled db rp mode line p e =
+    stored_spelled db rp mode line p (read_point (is_live mode && is_blank (without_spaces line)) (ltb 65536 (length line)) (stored_of db rp mode line) p e)
+
+-- ---- a line is read as it is spelled
+
+spelled_first : {name spelling : List ℕ} → Spells parts.Measurement name spelling → (rest : List ℕ) → is_empty name ≡ false → begins is_space (spelling ++ rest) ≡ false
+spelled_first no_bytes rest some = absurd cc
+spelled_first (plain b text bytes h more) rest some = grind (arith, nat_tests)
+spelled_first (behind_backslash b text bytes h more) rest some = refl
+
+spelled_some : {name spelling : List ℕ} → Spells parts.Measurement name spelling → (rest : List ℕ) → is_empty name ≡ false → is_empty (spelling ++ rest) ≡ false
+spelled_some no_bytes rest some = absurd cc
+spelled_some (plain b text bytes h more) rest some = refl
+spelled_some (behind_backslash b text bytes h more) rest some = refl
+
+spelled_no_sign : {name spelling : List ℕ} → Spells parts.Measurement name spelling → (rest : List ℕ) → is_empty name ≡ false → begins_with number_sign name ≡ false → begins_with number_sign (spelling ++ rest) ≡ false
+spelled_no_sign no_bytes rest some none = absurd cc
+spelled_no_sign (plain b text bytes h more) rest some none = none
+spelled_no_sign (behind_backslash b text bytes h more) rest some none = refl
+
+name_again : (name spelling rest : List ℕ) → Spells parts.Measurement name spelling → is_empty name ≡ false → begins_with number_sign name ≡ false → is_next rest ≡ true → measurement_at (spelling ++ rest) ≡ Ok (name, rest)
+unfolding measurement_at
+name_again name spelling rest spells some none next =
+    rw (spelled_no_sign spells rest some none, spelling_again spells rest (next_here rest next), some) refl
+
+tag_map_again : (ts : List Tag) (front rest : List ℕ) → SpellsTags ts front → differ ts ≡ true → is_next rest ≡ true → begins_with comma rest ≡ false → tags_at (front ++ rest) ≡ Ok (with_entries empty ts, rest)
+unfolding tags_at
+tag_map_again ts front rest spells apart next none =
+    rw (tags_again spells (length (front ++ rest)) rest (omega arith) next none, apart) refl
+
+key_first : {k key : List ℕ} → Spells parts.Key k key → (more rest : List ℕ) → is_empty k ≡ false → begins is_space ((key ++ more) ++ rest) ≡ false
+key_first no_bytes more rest some = absurd cc
+key_first (plain b text bytes h spells) more rest some = grind (arith, nat_tests)
+key_first (behind_backslash b text bytes h spells) more rest some = refl
+
+key_some : {k key : List ℕ} → Spells parts.Key k key → (more rest : List ℕ) → is_empty k ≡ false → is_empty ((key ++ more) ++ rest) ≡ false
+key_some no_bytes more rest some = absurd cc
+key_some (plain b text bytes h spells) more rest some = refl
+key_some (behind_backslash b text bytes h spells) more rest some = refl
+
+fields_first : {fs : List Field} {front : List ℕ} → SpellsFields fs front → (rest : List ℕ) → begins is_space (front ++ rest) ≡ false
+fields_first (one_field k v key value some key_spells value_spells) rest = key_first key_spells (equals ∷ value) rest some
+fields_first (more_fields k v key value fs more some key_spells value_spells spells) rest = key_first key_spells (equals ∷ (value ++ (comma ∷ more))) rest some
+
+fields_some : {fs : List Field} {front : List ℕ} → SpellsFields fs front → (rest : List ℕ) → is_empty (front ++ rest) ≡ false
+fields_some (one_field k v key value some key_spells value_spells) rest = key_some key_spells (equals ∷ value) rest some
+fields_some (more_fields k v key value fs more some key_spells value_spells spells) rest = key_some key_spells (equals ∷ (value ++ (comma ∷ more))) rest some
+
+field_map_again : (fs : List Field) (front rest : List ℕ) (between : ℕ) → SpellsFields fs front → is_next rest ≡ true → begins_with comma rest ≡ false → fields_at (space ∷ (spaces between ++ (front ++ rest))) ≡ Ok (with_entries empty fs, rest)
+unfolding fields_at
+field_map_again fs front rest between spells next none =
+    let skipped = spaces_skipped between (front ++ rest) (fields_first spells rest) in
+    rw (skipped, fields_some spells rest, fields_again spells (length (front ++ rest)) rest (omega arith) next none) refl
+
+same_point : (db rp : List ℕ) (p : Series) (ts : List Tag) (fs : List Field) → IsOf db rp p → p.tags ≡ with_entries empty ts → p.fields ≡ with_entries empty fs → ◌≡◌ {A = Series} (record { db = db; rp = rp; name = p.name; tags = with_entries empty ts; fields = with_entries empty fs; dims = []; by_name = false; time = p.time }) p
+same_point db rp p ts fs is tags_are fields_are = rw (← is.db, ← is.rp, ← tags_are, ← fields_are, ← is.dims, ← is.by_name) refl
+
+-- what stands behind the spaces before the measurement
+pub parts_again : (db rp : List ℕ) (mode : Mode) (p : Series) (between behind : ℕ) (name tags fields time : List ℕ) (ts : List Tag) (fs : List Field) → IsOf db rp p → Spells parts.Measurement p.name name → is_empty p.name ≡ false → begins_with number_sign p.name ≡ false → SpellsTags ts tags → differ ts ≡ true → p.tags ≡ with_entries empty ts → SpellsFields fs fields → p.fields ≡ with_entries empty fs → SpellsTime mode p.time time → point_of db rp mode (name ++ (tags ++ (space ∷ (spaces between ++ (fields ++ (time ++ spaces behind)))))) ≡ Ok p
+unfolding point_of
+parts_again db rp mode p between behind name tags fields time ts fs is name_spelled some none tags_spelled apart tags_are fields_spelled fields_are time_spelled =
+    let last = time ++ spaces behind in
+    let middle = space ∷ (spaces between ++ (fields ++ last)) in
+    let n = name_again p.name name (tags ++ middle) name_spelled some none (next-tags tags_spelled middle refl) in
+    let t = tag_map_again ts tags middle tags_spelled apart refl refl in
+    let f = field_map_again fs fields last between fields_spelled (next-time time_spelled behind) (no_comma-time time_spelled behind) in
+    rw (n, t, f, time_again time_spelled behind) (ap (λ (x : Series). Ok x) (same_point db rp p ts fs is tags_are fields_are))
+
+pub spelled_point : (db rp : List ℕ) (mode : Mode) (line : List ℕ) (p : Series) → IsOf db rp p → Spelled mode p line → point_of db rp mode (without_spaces line) ≡ Ok p
+spelled_point db rp mode line p is s =
+    let q = s.parts in
+    let rest = s.tags ++ (space ∷ (spaces s.between ++ (s.fields ++ (s.time ++ spaces s.behind)))) in
+    ap (λ (x : List ℕ). point_of db rp mode (without_spaces x)) q.line_is
+    ∙ ap (point_of db rp mode) (spaces_skipped s.before (s.name ++ rest) (spelled_first q.name_spelled rest q.some_name))
+    ∙ parts_again db rp mode p s.between s.behind s.name s.tags s.fields s.time s.ts s.fs is q.name_spelled q.some_name q.no_comment q.tags_spelled q.keys_differ q.tags_are q.fields_spelled q.fields_are q.time_spelled
+
+pub spelled_stored : (db rp : List ℕ) (mode : Mode) (line : List ℕ) (p : Series) → IsOf db rp p → Spelled mode p line → is_utf8 line ≡ true → stored_of db rp mode line ≡ Ok p
+unfolding stored_of
+spelled_stored db rp mode line p is s valid = rw valid (spelled_point db rp mode line p is s)
+
+never_blank : (mode : Mode) (p : Series) (line : List ℕ) → Spelled mode p line → is_blank (without_spaces line) ≡ false
+never_blank mode p line s =
+    let q = s.parts in
+    let rest = s.tags ++ (space ∷ (spaces s.between ++ (s.fields ++ (s.time ++ spaces s.behind)))) in
+    ap (λ (x : List ℕ). is_blank (without_spaces x)) q.line_is
+    ∙ ap is_blank (spaces_skipped s.before (s.name ++ rest) (spelled_first q.name_spelled rest q.some_name))
+    ∙ rw (spelled_some q.name_spelled rest q.some_name, spelled_no_sign q.name_spelled rest q.some_name q.no_comment) refl
+
+no_matter : (b : Bool) → (b && false) ≡ false
+no_matter true = refl
+no_matter false = refl
+
+pub spelled_line : (db rp : List ℕ) (mode : Mode) (line : List ℕ) (p : Series) → IsOf db rp p → Spelled mode p line → is_utf8 line ≡ true → length line ≤ 65536 → line_of db rp mode line ≡ Ok (Some p)
+unfolding line_of
+spelled_line db rp mode line p is s valid short =
+    let long : ltb 65536 (length line) ≡ false = le-ltb _ _ short in
+    let read = spelled_stored db rp mode line p is s valid in
+    rw (never_blank mode p line s, no_matter (is_live mode), long, read) refl
