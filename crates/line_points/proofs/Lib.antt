@@ -13,4 +13,6 @@ pub mod FieldLaws
 pub mod SpaceLaws
 pub mod TimeLaws
 pub mod WholeLaws
+pub mod CleanLaws
+pub mod EntryLaws
 pub mod PrintLaws
