@@ -15,4 +15,5 @@ pub mod TimeLaws
 pub mod WholeLaws
 pub mod CleanLaws
 pub mod EntryLaws
+pub mod FactLaws
 pub mod PrintLaws
