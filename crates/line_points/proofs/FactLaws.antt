@@ -1,6 +1,7 @@
 -- A line that is clean and spells a point spells one that is a point.
-use Rattle.std.proofs.Common.{◌≡◌, ℕ, zero, suc, ◌*◌, ◌^◌, Bool, true, false, not, cond, ◌&&◌, ◌||◌, List, [], ◌∷◌, ◌++◌, refl, sym, ap, subst, ◌∙◌, append_assoc, arith}
-use Rattle.std.specs.Prelude.{ℤ, nat_le, nat_lt, codes, IsUtf8, IsTrue}
+use Rattle.std.proofs.Common.{◌≡◌, ℕ, zero, suc, ◌*◌, ◌^◌, ◌<◌, ◌≤◌, Bool, true, false, not, cond, ◌&&◌, ◌||◌, List, [], ◌∷◌, ◌++◌, refl, sym, ap, subst, ◌∙◌, append_assoc, Ok, arith}
+use Rattle.std.proofs.lemmas.Bool.{ltb-true, leb-true}
+use Rattle.std.specs.Prelude.{ℤ, pos, negsuc, nat_le, nat_lt, codes, IsUtf8, IsTrue}
 use Rattle.std.specs.List.{list_all}
 use Rattle.std.specs.FinMap.{entries, empty, len}
 use Rattle.std.specs.Str.Parse.{digits_value}
@@ -13,11 +14,15 @@ use Rattle.kap_base.specs.declared.value.Value.TheVariants as values
 use Rattle.line_points.specs.declared.part.Part.TheVariants as parts
 use Rattle.line_points.specs.declared.mode.Mode.{Mode}
 use Rattle.line_points.specs.declared.mode.Mode.TheVariants.{Live, Recording}
-use Rattle.line_points.specs.Parts.{comma, equals, quote, space}
+use Rattle.line_points.specs.Parts.{comma, equals, quote, space, without_spaces}
 use Rattle.line_points.specs.Numbers.{signed, fits}
-use Rattle.line_points.specs.Line.{Tag, Field, has_time}
+use Rattle.line_points.specs.Line.{Tag, Field, measurement_at, tags_at, fields_at, time_of, has_time}
 use Rattle.line_points.specs.Grammar.{Spells, spaces, SpellsValue, integer_word, true_word, false_word, quoted_text, SpellsTags, no_tags, more_tags, SpellsFields, one_field, more_fields, SpellsTime, no_time, some_time, Spelled, IsOf}
-use Rattle.line_points.proofs.TestLaws.{both, not_false}
+use Rattle.std.proofs.lemmas.Int.{to_z-of_z}
+use Rattle.line_points.proofs.TestLaws.{both, not_true, not_false}
+use Rattle.line_points.proofs.WholeLaws.{parts_spelled}
+use mir.Val.{SFits, to_z, of_z}
+use mir.Syntax.{w64}
 use Rattle.line_points.proofs.CleanLaws.{IsClean, clean_line, starts_ascii, cut, behind_ascii, cut_at, behind_clean_spaces, spelled_clean, spelled_name}
 use Rattle.line_points.proofs.EntryLaws.{all-entries, some_entry}
 
@@ -103,3 +108,22 @@ spelled_is_point db rp mode line p is s c db_is rp_is has =
       dims = rw is.dims refl;
       time = time_is q.time_spelled has;
     }
+
+clean_from : (bytes : List ℕ) → not (has_line_feed bytes) ≡ true → IsUtf8 bytes → IsClean bytes
+clean_from bytes one valid = record { one_line = not_true (has_line_feed bytes) one; valid = valid }
+
+pub line_from : (bytes given : List ℕ) → bytes ≡ given → not (has_line_feed given) ≡ true → IsUtf8 bytes → is_line bytes ≡ true
+line_from bytes given is one valid = clean_line bytes (clean_from bytes (ap (λ (x : List ℕ). not (has_line_feed x)) is ∙ one) valid)
+
+time_fits : (t : ℤ) → is_time t ≡ true → SFits w64 t
+time_fits (pos n) h = let le : n ≤ 9 * 10 ^ 18 = leb-true _ _ h in record { sfits = omega arith }
+time_fits (negsuc n) h = let lt : n < 9 * 10 ^ 18 = ltb-true _ _ h in record { sfits = omega arith }
+
+-- what is read makes a point
+pub read_is_point : (db rp : List ℕ) (mode : Mode) (line name : List ℕ) (tags : TextMap (List ℕ)) (fields : TextMap Value) (dims : List (List ℕ)) (time : ℤ) (behind_name behind_tags behind_fields : List ℕ) → not (has_line_feed line) ≡ true → IsUtf8 line → is_line db ≡ true → is_line rp ≡ true → has_time mode ≡ true → measurement_at (without_spaces line) ≡ Ok (name, behind_name) → tags_at behind_name ≡ Ok (tags, behind_tags) → fields_at behind_tags ≡ Ok (fields, behind_fields) → time_of mode (without_spaces behind_fields) ≡ Ok time → dims ≡ [] → IsPoint (record { db = db; rp = rp; name = name; tags = tags; fields = fields; dims = dims; by_name = false; time = to_z w64 (of_z w64 time) })
+read_is_point db rp mode line name tags fields dims time behind_name behind_tags behind_fields one valid db_is rp_is has name_is tags_are fields_are time_is none =
+    let made : Series = record { db = db; rp = rp; name = name; tags = tags; fields = fields; dims = []; by_name = false; time = time } in
+    let s = parts_spelled db rp mode line name tags fields time behind_name behind_tags behind_fields name_is tags_are fields_are time_is in
+    let point = spelled_is_point db rp mode line made (record { db = refl; rp = refl; dims = refl; by_name = refl }) s (clean_from line one valid) db_is rp_is has in
+    let same : to_z w64 (of_z w64 time) ≡ time = to_z-of_z w64 time (time_fits time point.time) in
+    rw (same, none) point

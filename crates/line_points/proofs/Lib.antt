@@ -16,4 +16,5 @@ pub mod WholeLaws
 pub mod CleanLaws
 pub mod EntryLaws
 pub mod FactLaws
+pub mod AnswerLaws
 pub mod PrintLaws

@@ -1,7 +1,11 @@
-ghost use Rattle.std.specs.Prelude.{◌≡◌, ◌≤◌, ◌<◌, length, drop, take, position};
+ghost use Rattle.std.specs.Prelude.{◌≡◌, ◌≤◌, ◌<◌, length, drop, take, position, is_ok, IfOk, IfErr};
+ghost use Rattle.std.specs.Str.{is_utf8};
 ghost use Rattle.std.specs.List.{before_first, position_or_len};
 ghost use Rattle.kap_base.specs.Texts.{is_empty, begins_with};
 ghost use Rattle.line_points.specs.Parts.{is_separator, is_space, without_spaces};
+ghost use Rattle.line_points.specs.Line.{is_blank};
+
+use crate::fault::LineFault;
 
 /// Whether there are no bytes.
 pub fn is_empty(bytes: &[u8]) -> bool
@@ -32,6 +36,28 @@ pub fn without_spaces(bytes: &[u8]) -> &[u8]
         rest = behind;
     }
     rest
+}
+
+/// Whether the line holds nothing, or a comment.
+pub fn is_blank(line: &[u8]) -> bool
+    ensures { result ≡ is_blank (without_spaces line.now) }
+{
+    match without_spaces(line).first() {
+        Some(first) => *first == b'#',
+        None => true,
+    }
+}
+
+/// The line as text.
+pub fn text(line: &[u8]) -> Result<&str, LineFault>
+    ensures text { IfOk result (λ s. s.now ≡ line.now) }
+    ensures fault { IfErr result (λ e. e ≡ LineFault.NotUtf8) }
+    ensures valid { is_ok result ≡ is_utf8 line.now }
+{
+    match str::from_utf8(line) {
+        Ok(text) => Ok(text),
+        Err(_) => Err(LineFault::NotUtf8),
+    }
 }
 
 fn separator_place(bytes: &[u8]) -> Option<usize>

@@ -6,7 +6,6 @@ ghost use Rattle.line_points.specs.Parts.{without_spaces};
 ghost use Rattle.line_points.specs.Line.{differ, measurement_at, tag_at, tags_from, tags_at, quoted_at, word_at, value_at, field_at, fields_from, fields_at, time_of};
 ghost use Rattle.line_points.specs.Reading.{Gives};
 
-use crate::bytes::is_empty;
 use crate::fault::LineFault;
 use crate::mode::Mode;
 use crate::part::Part;
@@ -24,7 +23,7 @@ pub fn measurement(alloc: Global, scanner: &mut Scanner) -> Result<Text, LineFau
         return Err(LineFault::Measurement);
     }
     let name = scanner.text(alloc, Part::Measurement)?;
-    if is_empty(name.bytes()) {
+    if name.is_empty() {
         return Err(LineFault::Measurement);
     }
     Ok(name)
@@ -36,11 +35,11 @@ fn tag(alloc: Global, scanner: &mut Scanner) -> Result<(Text, Text), LineFault>
     ensures value { Gives result scanner.new.rest.now (tag_at scanner.old.rest.now) }
 {
     let key = scanner.text(alloc, Part::Key)?;
-    if is_empty(key.bytes()) || !scanner.take(b'=') {
+    if key.is_empty() || !scanner.take(b'=') {
         return Err(LineFault::Tag);
     }
     let value = scanner.text(alloc, Part::Key)?;
-    if is_empty(value.bytes()) || scanner.begins_with(b'=') {
+    if value.is_empty() || scanner.begins_with(b'=') {
         return Err(LineFault::Tag);
     }
     Ok((key, value))
@@ -114,7 +113,7 @@ fn field(alloc: Global, scanner: &mut Scanner) -> Result<(Text, Value), LineFaul
     ensures value { Gives result scanner.new.rest.now (field_at scanner.old.rest.now) }
 {
     let key = scanner.text(alloc, Part::Key)?;
-    if is_empty(key.bytes()) || !scanner.take(b'=') {
+    if key.is_empty() || !scanner.take(b'=') {
         return Err(LineFault::Field);
     }
     let value = value(alloc, scanner)?;
