@@ -71,10 +71,10 @@ one_more : (bytes after rest : List ℕ) (f : Field) (fs : List Field) → begin
 one_more bytes after rest f fs found t ts = record {
   front = t.key ++ (equals ∷ (t.value ++ (comma ∷ ts.front)));
   is =
-    t.is
-    ∙ ap (λ (x : List ℕ). t.key ++ (equals ∷ (t.value ++ x))) (behind_first comma after found ∙ ap (λ (x : List ℕ). comma ∷ x) ts.is)
-    ∙ ap (λ (x : List ℕ). t.key ++ (equals ∷ x)) (sym (append_assoc t.value (comma ∷ ts.front) rest))
-    ∙ sym (append_assoc t.key (equals ∷ (t.value ++ (comma ∷ ts.front))) rest);
+      t.is
+      ∙ ap (λ (x : List ℕ). t.key ++ (equals ∷ (t.value ++ x))) (behind_first comma after found ∙ ap (λ (x : List ℕ). comma ∷ x) ts.is)
+      ∙ ap (λ (x : List ℕ). t.key ++ (equals ∷ x)) (sym (append_assoc t.value (comma ∷ ts.front) rest))
+      ∙ sym (append_assoc t.key (equals ∷ (t.value ++ (comma ∷ ts.front))) rest);
   spells = more_fields f.0 f.1 t.key t.value fs ts.front t.some_key t.key_spells t.value_spells ts.spells;
   next = ts.next;
   none = ts.none;
@@ -118,7 +118,7 @@ fields_again (more_fields k v key value fs more some key_spells value_spells spe
     absurd (omega (arith, ap length (append_assoc key (equals ∷ (value ++ (comma ∷ more))) rest), length-append key (equals ∷ ((value ++ (comma ∷ more)) ++ rest))))
 fields_again (more_fields k v key value fs more some key_spells value_spells spells) (suc n) rest le next none =
     let behind : (key ++ (equals ∷ (value ++ (comma ∷ more)))) ++ rest ≡ key ++ (equals ∷ (value ++ (comma ∷ (more ++ rest)))) =
-        append_assoc key (equals ∷ (value ++ (comma ∷ more))) rest ∙ ap (λ (x : List ℕ). key ++ (equals ∷ x)) (append_assoc value (comma ∷ more) rest) in
+    append_assoc key (equals ∷ (value ++ (comma ∷ more))) rest ∙ ap (λ (x : List ℕ). key ++ (equals ∷ x)) (append_assoc value (comma ∷ more) rest) in
     let shorter : length (more ++ rest) ≤ n = omega (arith, ap length behind, length-append key (equals ∷ (value ++ (comma ∷ (more ++ rest)))), length-append value (comma ∷ (more ++ rest))) in
     ap (fields_from (suc n)) behind
     ∙ one_read n (key ++ (equals ∷ (value ++ (comma ∷ (more ++ rest))))) (comma ∷ (more ++ rest)) (k, v) (field_again k v key value (comma ∷ (more ++ rest)) some key_spells value_spells refl)

@@ -17,4 +17,6 @@ pub mod CleanLaws
 pub mod EntryLaws
 pub mod FactLaws
 pub mod AnswerLaws
+pub mod GrownLaws
+pub mod PrintedLaws
 pub mod PrintLaws

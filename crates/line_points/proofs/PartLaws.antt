@@ -62,6 +62,7 @@ kept part b bs front rest none read =
     first_false : (x y : Bool) → (x || y) ≡ false → x ≡ false
     first_false true y h = absurd cc
     first_false false y h = refl
+
     second_false : (x y : Bool) → (x || y) ≡ false → y ≡ false
     second_false true y h = absurd cc
     second_false false y h = h

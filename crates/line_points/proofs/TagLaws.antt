@@ -96,11 +96,11 @@ one_more bytes after rest tag tags found t ts =
     record {
       front = comma ∷ (t.key ++ (equals ∷ (t.value ++ ts.front)));
       is =
-        behind_first comma bytes found
-        ∙ ap (λ (x : List ℕ). comma ∷ x) (t.is
-        ∙ ap (λ (x : List ℕ). t.key ++ (equals ∷ (t.value ++ x))) ts.is
-        ∙ ap (λ (x : List ℕ). t.key ++ (equals ∷ x)) (sym (append_assoc t.value ts.front rest))
-        ∙ sym (append_assoc t.key (equals ∷ (t.value ++ ts.front)) rest));
+          behind_first comma bytes found
+          ∙ ap (λ (x : List ℕ). comma ∷ x) (t.is
+          ∙ ap (λ (x : List ℕ). t.key ++ (equals ∷ (t.value ++ x))) ts.is
+          ∙ ap (λ (x : List ℕ). t.key ++ (equals ∷ x)) (sym (append_assoc t.value ts.front rest))
+          ∙ sym (append_assoc t.key (equals ∷ (t.value ++ ts.front)) rest));
       spells = more_tags tag.0 tag.1 t.key t.value tags ts.front t.some_key t.some_value t.key_spells t.value_spells ts.spells;
       next = λ _. ts.next t.next;
       none = ts.none;
@@ -159,7 +159,7 @@ tags_again no_tags n rest le next none = ended n rest none
 tags_again (more_tags k v key value ts more some_key some_value key_spells value_spells spells) zero rest le next none = absurd (omega arith)
 tags_again (more_tags k v key value ts more some_key some_value key_spells value_spells spells) (suc n) rest le next none =
     let behind : (key ++ (equals ∷ (value ++ more))) ++ rest ≡ key ++ (equals ∷ (value ++ (more ++ rest))) =
-        append_assoc key (equals ∷ (value ++ more)) rest ∙ ap (λ (x : List ℕ). key ++ (equals ∷ x)) (append_assoc value more rest) in
+    append_assoc key (equals ∷ (value ++ more)) rest ∙ ap (λ (x : List ℕ). key ++ (equals ∷ x)) (append_assoc value more rest) in
     let shorter : length (more ++ rest) ≤ n = omega (arith, ap length behind, length-append key (equals ∷ (value ++ (more ++ rest))), length-append value (more ++ rest)) in
     let read = tag_again k v key value (more ++ rest) some_key some_value key_spells value_spells (next-tags spells rest next) in
     ap (λ (x : List ℕ). tags_from (suc n) (comma ∷ x)) behind

@@ -99,6 +99,7 @@ word_taken word v e = by_front word v (before_last_byte 105 word) refl e
     by_number : (word front : List ℕ) (v : Value) (o : Option (Bool × ℕ)) → word ≡ front ++ 105 ∷ [] → number_of front ≡ o → option_map_or int_value o (other_value word) ≡ Ok v → SpellsValue v word
     by_number word front v (Some number) is read e = int_taken word front number v is read e
     by_number word front v None is read e = other_taken word v e
+
     by_front : (word : List ℕ) (v : Value) (o : Option (List ℕ)) → before_last_byte 105 word ≡ o → option_map_or int_value (option_and_then number_of o) (other_value word) ≡ Ok v → SpellsValue v word
     by_front word v (Some front) read e = by_number word front v (number_of front) (last_byte 105 word front read) refl e
     by_front word v None read e = other_taken word v e
@@ -224,7 +225,8 @@ int_read negative digits all fit =
 same_bytes : (xs ys : List ℕ) → bytes_eq xs ys ≡ true → xs ≡ ys
 same_bytes xs ys h = (bytes_eq-Decides xs ys).0 h
 
-one_of : (P : List ℕ → Type 0) (word : List ℕ) (words : List (List ℕ)) → list_any (bytes_eq word) words ≡ true → AllByRecursion P words → P word
+-- what holds of each of some words
+pub one_of : (P : List ℕ → Type 0) (word : List ℕ) (words : List (List ℕ)) → list_any (bytes_eq word) words ≡ true → AllByRecursion P words → P word
 one_of P word [] h all = absurd cc
 one_of P word (w ∷ words) h all =
     elim (bytes_eq word w) as (λ b. bytes_eq word w ≡ b → (b || list_any (bytes_eq word) words) ≡ true → P word) [

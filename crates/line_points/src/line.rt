@@ -19,13 +19,7 @@ use std::alloc::Global;
 const LONGEST: usize = 65_536;
 
 #[tactic(auto, unfolding(crate::specs::Line::point_of))]
-fn point(
-    alloc: Global,
-    line: &str,
-    db: &Text,
-    rp: &Text,
-    mode: &Mode,
-) -> Result<Point, LineFault>
+fn point(alloc: Global, line: &str, db: &Text, rp: &Text, mode: &Mode) -> Result<Point, LineFault>
     requires line { IsTrue (not (has_line_feed line.now)) }
     requires db { IsTrue (not (has_line_feed db.now)) }
     requires rp { IsTrue (not (has_line_feed rp.now)) }
@@ -53,13 +47,7 @@ fn point(
 }
 
 #[tactic(auto, unfolding(crate::specs::Line::stored_of))]
-fn stored(
-    alloc: Global,
-    line: &[u8],
-    db: &Text,
-    rp: &Text,
-    mode: &Mode,
-) -> Result<Point, LineFault>
+fn stored(alloc: Global, line: &[u8], db: &Text, rp: &Text, mode: &Mode) -> Result<Point, LineFault>
     requires line { IsTrue (not (has_line_feed line.now)) }
     requires db { IsTrue (not (has_line_feed db.now)) }
     requires rp { IsTrue (not (has_line_feed rp.now)) }

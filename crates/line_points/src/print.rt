@@ -2,6 +2,7 @@ ghost use Rattle.std.specs.Prelude.{◌≡◌, ◌≤◌, ◌++◌, ◌∷◌, O
 ghost use Rattle.std.specs.List.{flat_map, list_any};
 ghost use Rattle.std.specs.Fmt.{signed_decimal};
 ghost use Rattle.kap_base.specs.Texts.{is_line};
+ghost use Rattle.kap_base.specs.Points.{IsPoint};
 ghost use Rattle.line_points.specs.Parts.{escapes};
 ghost use Rattle.line_points.specs.Line.{Reads, stored_of};
 ghost use Rattle.line_points.specs.Print.{escaped, value_text, tag_text, field_text, fields_text, Print, ungrouped};
@@ -108,13 +109,9 @@ fn put_fields(fields: &[(Text, Value)], out: &mut Bytes) -> Result<(), NoMemory>
     Ok(())
 }
 
-/// The canonical line of a point, with its time in nanoseconds and without a line feed.
-pub fn print_line(alloc: Global, point: &Point) -> Result<Bytes, NoMemory>
+fn canonical_line(alloc: Global, point: &Point) -> Result<Bytes, NoMemory>
     ensures line { IfOk result (λ line. line ≡ Print point.now) }
-    ensures one_line { IfOk result (λ line. IsTrue (is_line line)) }
-    // Read again it gives the point, ungrouped: by `read_line` in Recording mode up to 65,536 bytes, by `read_stored` always.
-    ensures again { IfOk result (λ line. length line ≤ 65536 → Reads point.now.db point.now.rp Mode.Recording line (ungrouped point.now)) }
-    ensures stored_again { IfOk result (λ line. stored_of point.now.db point.now.rp Mode.Recording line ≡ Ok (ungrouped point.now)) }
+    ensures point { OnOk result (IsPoint point.now) }
 {
     let mut out = Bytes::new(alloc);
     put_escaped(Part::Measurement, &point.name, &mut out)?;
@@ -124,4 +121,15 @@ pub fn print_line(alloc: Global, point: &Point) -> Result<Bytes, NoMemory>
     out.push(b' ')?;
     put_number(point.time, &mut out)?;
     Ok(out)
+}
+
+/// The canonical line of a point, with its time in nanoseconds and without a line feed.
+pub fn print_line(alloc: Global, point: &Point) -> Result<Bytes, NoMemory>
+    ensures line { IfOk result (λ line. line ≡ Print point.now) }
+    ensures one_line { IfOk result (λ line. IsTrue (is_line line)) }
+    // Read again it gives the point, ungrouped: by `read_line` in Recording mode up to 65,536 bytes, by `read_stored` always.
+    ensures again { IfOk result (λ line. length line ≤ 65536 → Reads point.now.db point.now.rp Mode.Recording line (ungrouped point.now)) }
+    ensures stored_again { IfOk result (λ line. stored_of point.now.db point.now.rp Mode.Recording line ≡ Ok (ungrouped point.now)) }
+{
+    canonical_line(alloc, point)
 }

@@ -6,8 +6,8 @@ ghost use Rattle.line_points.specs.Line.{scaled, word_time, time_of};
 
 use crate::bytes::is_empty;
 use crate::fault::LineFault;
-use crate::number::{Number, read_number};
 use crate::mode::{Mode, Unit};
+use crate::number::{Number, read_number};
 
 /// The farthest that a time may lie from 1970, in nanoseconds.
 const FARTHEST: u128 = 9_000_000_000_000_000_000;
