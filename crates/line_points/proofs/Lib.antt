@@ -19,4 +19,5 @@ pub mod FactLaws
 pub mod AnswerLaws
 pub mod GrownLaws
 pub mod PrintedLaws
+pub mod BodyLaws
 pub mod PrintLaws
