@@ -91,22 +91,21 @@ time_start (some_time mode n negative digits all range) behind = refl
 
 pub spelled_is_point : (db rp : List ℕ) (mode : Mode) (line : List ℕ) (p : Series) → IsOf db rp p → Spelled mode p line → IsClean line → is_line db ≡ true → is_line rp ≡ true → has_time mode ≡ true → IsPoint p
 spelled_is_point db rp mode line p is s c db_is rp_is has =
-    let q = s.parts in
     let last = s.time ++ spaces s.behind in
     let middle = space ∷ (spaces s.between ++ (s.fields ++ last)) in
-    let whole = behind_clean_spaces s.before (s.name ++ (s.tags ++ middle)) (subst IsClean q.line_is c) in
-    let one = cut s.name (s.tags ++ middle) (tags_start q.tags_spelled middle refl) whole in
+    let whole = behind_clean_spaces s.before (s.name ++ (s.tags ++ middle)) (subst IsClean s.line_is c) in
+    let one = cut s.name (s.tags ++ middle) (tags_start s.tags_spelled middle refl) whole in
     let two = cut s.tags middle refl one.behind in
-    let three = cut s.fields last (time_start q.time_spelled s.behind) (behind_clean_spaces s.between (s.fields ++ last) (behind_ascii space (spaces s.between ++ (s.fields ++ last)) refl two.behind)) in
+    let three = cut s.fields last (time_start s.time_spelled s.behind) (behind_clean_spaces s.between (s.fields ++ last) (behind_ascii space (spaces s.between ++ (s.fields ++ last)) refl two.behind)) in
     record {
       db = ap is_line is.db ∙ db_is;
       rp = ap is_line is.rp ∙ rp_is;
-      name = both (not (begins_with number_sign p.name)) (is_name p.name) (not_false (begins_with number_sign p.name) q.no_comment) (spelled_name q.name_spelled refl q.some_name one.before);
-      tags = ap (λ (m : TextMap (List ℕ)). list_all (λ e. is_name e.0 && is_name e.1) (entries m)) q.tags_are ∙ all-entries is_name is_name s.ts (tags_are q.tags_spelled two.before);
-      fields = ap (λ (m : TextMap Value). list_all (λ e. is_name e.0 && is_value e.1) (entries m)) q.fields_are ∙ all-entries is_name is_value s.fs (fields_are q.fields_spelled three.before);
-      some_field = ap (λ (m : TextMap Value). nat_lt 0 (len m)) q.fields_are ∙ some_field q.fields_spelled;
+      name = both (not (begins_with number_sign p.name)) (is_name p.name) (not_false (begins_with number_sign p.name) s.no_comment) (spelled_name s.name_spelled refl s.some_name one.before);
+      tags = ap (λ (m : TextMap (List ℕ)). list_all (λ e. is_name e.0 && is_name e.1) (entries m)) s.tags_are ∙ all-entries is_name is_name s.ts (tags_are s.tags_spelled two.before);
+      fields = ap (λ (m : TextMap Value). list_all (λ e. is_name e.0 && is_value e.1) (entries m)) s.fields_are ∙ all-entries is_name is_value s.fs (fields_are s.fields_spelled three.before);
+      some_field = ap (λ (m : TextMap Value). nat_lt 0 (len m)) s.fields_are ∙ some_field s.fields_spelled;
       dims = rw is.dims refl;
-      time = time_is q.time_spelled has;
+      time = time_is s.time_spelled has;
     }
 
 clean_from : (bytes : List ℕ) → not (has_line_feed bytes) ≡ true → IsUtf8 bytes → IsClean bytes

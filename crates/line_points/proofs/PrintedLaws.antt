@@ -182,26 +182,24 @@ printed p is =
           (together (fields_text (entries p.fields)) last (fields_clean fields is.fields) (time_clean time))));
       spelled = record {
         before = 0;
-        between = 0;
-        behind = 0;
         name = escaped parts.Measurement p.name;
         tags = flat_map tag_text (entries p.tags);
+        between = 0;
         fields = fields_text (entries p.fields);
         time = last;
+        behind = 0;
+        line_is = ap (λ (x : List ℕ). escaped parts.Measurement p.name ++ (flat_map tag_text (entries p.tags) ++ (space ∷ (fields_text (entries p.fields) ++ x)))) (sym (append-nil last));
+        some_name = name_some p.name name_is;
+        no_comment = not_true (begins_with number_sign p.name) (first_of _ (is_name p.name) is.name);
+        name_spelled = name;
         ts = entries p.tags;
+        tags_spelled = tags;
+        keys_differ = keys_once (entries p.tags) (len p.tags) (length (entries p.tags)) p.tags refl refl (sym (with_own_entries p.tags)) (len-entries p.tags);
+        tags_are = sym (with_own_entries p.tags);
         fs = entries p.fields;
-        parts = record {
-          line_is = ap (λ (x : List ℕ). escaped parts.Measurement p.name ++ (flat_map tag_text (entries p.tags) ++ (space ∷ (fields_text (entries p.fields) ++ x)))) (sym (append-nil last));
-          some_name = name_some p.name name_is;
-          no_comment = not_true (begins_with number_sign p.name) (first_of _ (is_name p.name) is.name);
-          name_spelled = name;
-          tags_spelled = tags;
-          keys_differ = keys_once (entries p.tags) (len p.tags) (length (entries p.tags)) p.tags refl refl (sym (with_own_entries p.tags)) (len-entries p.tags);
-          tags_are = sym (with_own_entries p.tags);
-          fields_spelled = fields;
-          fields_are = sym (with_own_entries p.fields);
-          time_spelled = time;
-        };
+        fields_spelled = fields;
+        fields_are = sym (with_own_entries p.fields);
+        time_spelled = time;
       };
     }
 

@@ -17,7 +17,7 @@ use Rattle.line_points.specs.declared.part.Part.TheVariants as parts
 use Rattle.line_points.specs.declared.mode.Mode.{Mode}
 use Rattle.line_points.specs.Parts.{comma, equals, space, begins, is_space, without_spaces, text_at}
 use Rattle.line_points.specs.Line.{Tag, Field, differ, measurement_at, tags_from, tags_at, fields_from, fields_at, time_of, point_of, stored_of, line_of, is_live, is_blank}
-use Rattle.line_points.specs.Grammar.{Spells, no_bytes, plain, behind_backslash, spaces, SpellsTags, SpellsFields, one_field, more_fields, SpellsTime, SpelledFrom, Spelled, IsOf}
+use Rattle.line_points.specs.Grammar.{Spells, no_bytes, plain, behind_backslash, spaces, SpellsTags, SpellsFields, one_field, more_fields, SpellsTime, Spelled, IsOf}
 use Rattle.line_points.proofs.TestLaws.{first_of, second_of, first_false, second_false, both, not_true, not_false, ok_is, bind_ok, else_ok, then_ok, unless_ok}
 use Rattle.line_points.proofs.SpellLaws.{ends_here, Taken, Reading, at_end, at_stop, over_escape, over_plain, reading, text_taken, spelling_again}
 use Rattle.line_points.proofs.TagLaws.{is_next, some_behind, TagsTaken, tags_taken, next-tags, tags_again}
@@ -117,26 +117,24 @@ parts_spelled db rp mode line name tags fields time behind_name behind_tags behi
     let middle = behind_spaces behind_tags (t.taken.next n.next) t.taken.none (some_before behind_tags f.some) in
     record {
       before = first.count;
-      between = middle.more;
-      behind = m.behind;
       name = n.spelling;
       tags = t.taken.front;
+      between = middle.more;
       fields = f.taken.front;
       time = m.time;
+      behind = m.behind;
+      line_is = regrouped line (spaces first.count) n.spelling t.taken.front (spaces middle.more) f.taken.front m.time (spaces m.behind) (without_spaces line) behind_name behind_tags (without_spaces behind_tags) behind_fields first.is n.is t.taken.is middle.is f.taken.is m.is;
+      some_name = n.some;
+      no_comment = n.no_comment;
+      name_spelled = n.spells;
       ts = t.ts;
+      tags_spelled = t.taken.spells;
+      keys_differ = t.apart;
+      tags_are = t.are;
       fs = f.fs;
-      parts = record {
-        line_is = regrouped line (spaces first.count) n.spelling t.taken.front (spaces middle.more) f.taken.front m.time (spaces m.behind) (without_spaces line) behind_name behind_tags (without_spaces behind_tags) behind_fields first.is n.is t.taken.is middle.is f.taken.is m.is;
-        some_name = n.some;
-        no_comment = n.no_comment;
-        name_spelled = n.spells;
-        tags_spelled = t.taken.spells;
-        keys_differ = t.apart;
-        tags_are = t.are;
-        fields_spelled = f.taken.spells;
-        fields_are = f.are;
-        time_spelled = m.spells;
-      };
+      fields_spelled = f.taken.spells;
+      fields_are = f.are;
+      time_spelled = m.spells;
     }
 
 pub record IsSpelled (database policy : List ℕ) (mode : Mode) (line : List ℕ) (p : Series) : Type 0 where
@@ -243,11 +241,10 @@ parts_again db rp mode p between behind name tags fields time ts fs is name_spel
 
 pub spelled_point : (db rp : List ℕ) (mode : Mode) (line : List ℕ) (p : Series) → IsOf db rp p → Spelled mode p line → point_of db rp mode (without_spaces line) ≡ Ok p
 spelled_point db rp mode line p is s =
-    let q = s.parts in
     let rest = s.tags ++ (space ∷ (spaces s.between ++ (s.fields ++ (s.time ++ spaces s.behind)))) in
-    ap (λ (x : List ℕ). point_of db rp mode (without_spaces x)) q.line_is
-    ∙ ap (point_of db rp mode) (spaces_skipped s.before (s.name ++ rest) (spelled_first q.name_spelled rest q.some_name))
-    ∙ parts_again db rp mode p s.between s.behind s.name s.tags s.fields s.time s.ts s.fs is q.name_spelled q.some_name q.no_comment q.tags_spelled q.keys_differ q.tags_are q.fields_spelled q.fields_are q.time_spelled
+    ap (λ (x : List ℕ). point_of db rp mode (without_spaces x)) s.line_is
+    ∙ ap (point_of db rp mode) (spaces_skipped s.before (s.name ++ rest) (spelled_first s.name_spelled rest s.some_name))
+    ∙ parts_again db rp mode p s.between s.behind s.name s.tags s.fields s.time s.ts s.fs is s.name_spelled s.some_name s.no_comment s.tags_spelled s.keys_differ s.tags_are s.fields_spelled s.fields_are s.time_spelled
 
 pub spelled_stored : (db rp : List ℕ) (mode : Mode) (line : List ℕ) (p : Series) → IsOf db rp p → Spelled mode p line → is_utf8 line ≡ true → stored_of db rp mode line ≡ Ok p
 unfolding stored_of
@@ -255,11 +252,10 @@ spelled_stored db rp mode line p is s valid = rw valid (spelled_point db rp mode
 
 never_blank : (mode : Mode) (p : Series) (line : List ℕ) → Spelled mode p line → is_blank (without_spaces line) ≡ false
 never_blank mode p line s =
-    let q = s.parts in
     let rest = s.tags ++ (space ∷ (spaces s.between ++ (s.fields ++ (s.time ++ spaces s.behind)))) in
-    ap (λ (x : List ℕ). is_blank (without_spaces x)) q.line_is
-    ∙ ap is_blank (spaces_skipped s.before (s.name ++ rest) (spelled_first q.name_spelled rest q.some_name))
-    ∙ rw (spelled_some q.name_spelled rest q.some_name, spelled_no_sign q.name_spelled rest q.some_name q.no_comment) refl
+    ap (λ (x : List ℕ). is_blank (without_spaces x)) s.line_is
+    ∙ ap is_blank (spaces_skipped s.before (s.name ++ rest) (spelled_first s.name_spelled rest s.some_name))
+    ∙ rw (spelled_some s.name_spelled rest s.some_name, spelled_no_sign s.name_spelled rest s.some_name s.no_comment) refl
 
 no_matter : (b : Bool) → (b && false) ≡ false
 no_matter true = refl
