@@ -20,4 +20,5 @@ pub mod AnswerLaws
 pub mod GrownLaws
 pub mod PrintedLaws
 pub mod BodyLaws
+pub mod OneLaws
 pub mod PrintLaws

@@ -7,3 +7,4 @@ pub mod Grammar
 pub mod Print
 pub mod Body
 pub mod Reading
+pub mod Answered
