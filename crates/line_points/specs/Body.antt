@@ -39,6 +39,12 @@ abbrev pub before_more : Option Series → List Series → List Series
 before_more None points = points
 before_more (Some p) points = p ∷ points
 
+-- points, and that of one more line, if there is one
+abbrev pub with_line : List Series → Result (Option Series) LineFault → Result (List Series) LineFault
+with_line points read = do
+  point ← read
+  Ok (points ++ before_more point [])
+
 -- the points of lines that are numbered from n on, or the first faulty line
 unfoldable pub points_of : List ℕ → List ℕ → Mode → ℕ → List (List ℕ) → Result (List Series) BodyFault
 points_of db rp mode n [] = Ok []

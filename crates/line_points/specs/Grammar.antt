@@ -59,34 +59,31 @@ pub data SpellsTime : Mode → ℤ → List ℕ → Type 0 where
   no_time : (unit : Unit) (now : ℤ) → SpellsTime (Live unit now) now []
   some_time : (mode : Mode) (n : ℕ) (negative : Bool) (digits : List ℕ) → is_digits digits ≡ true → nat_le (digits_value 10 digits * nanoseconds (unit_of mode)) (9 * 10 ^ 18) ≡ true → SpellsTime mode (signed (negative, digits_value 10 digits * nanoseconds (unit_of mode))) (space ∷ (spaces n ++ (minus negative ++ digits)))
 
--- A line spells a point: spaces, the measurement, the tags, one space or more, the fields, the time, spaces.
-pub record SpelledFrom (mode : Mode) (p : Series) (line : List ℕ) (before between behind : ℕ) (name tags fields time : List ℕ) (ts : List Tag) (fs : List Field) : Type 0 where
+-- A line spells a point: spaces, the measurement, the tags, one space or more, the fields, the time, spaces. Each part is
+-- a spelling of the point's part.
+pub record Spelled (mode : Mode) (p : Series) (line : List ℕ) : Type 0 where
+  pub before : ℕ
+  pub name : List ℕ
+  pub tags : List ℕ
+  pub between : ℕ
+  pub fields : List ℕ
+  pub time : List ℕ
+  pub behind : ℕ
   pub line_is : line ≡ spaces before ++ (name ++ (tags ++ (space ∷ (spaces between ++ (fields ++ (time ++ spaces behind))))))
   -- the measurement is not empty, and begins no comment
   pub some_name : is_empty p.name ≡ false
   pub no_comment : begins_with number_sign p.name ≡ false
   pub name_spelled : Spells parts.Measurement p.name name
   -- the tags in the order of the line, under different keys
+  pub ts : List Tag
   pub tags_spelled : SpellsTags ts tags
   pub keys_differ : differ ts ≡ true
   pub tags_are : p.tags ≡ with_entries empty ts
   -- the fields in the order of the line; of equal keys the last one counts
+  pub fs : List Field
   pub fields_spelled : SpellsFields fs fields
   pub fields_are : p.fields ≡ with_entries empty fs
   pub time_spelled : SpellsTime mode p.time time
-
--- the line spells the point from some parts
-pub record Spelled (mode : Mode) (p : Series) (line : List ℕ) : Type 0 where
-  pub before : ℕ
-  pub between : ℕ
-  pub behind : ℕ
-  pub name : List ℕ
-  pub tags : List ℕ
-  pub fields : List ℕ
-  pub time : List ℕ
-  pub ts : List Tag
-  pub fs : List Field
-  pub parts : SpelledFrom mode p line before between behind name tags fields time ts fs
 
 -- a point that is grouped by nothing, of this database and policy
 pub record IsOf (database policy : List ℕ) (p : Series) : Type 0 where

@@ -6,3 +6,5 @@ pub mod Line
 pub mod Grammar
 pub mod Print
 pub mod Body
+pub mod Reading
+pub mod Answered

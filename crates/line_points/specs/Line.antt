@@ -59,7 +59,7 @@ tags_from (suc n) bytes =
 -- no key stands twice
 abbrev pub differ : List Tag → Bool
 differ [] = true
-differ (t ∷ ts) = not (list_any (λ u. bytes_eq t.0 u.0) ts) && differ ts
+differ (t ∷ ts) = not (list_any (λ u. bytes_eq u.0 t.0) ts) && differ ts
 
 -- the tags behind a measurement, under different keys
 unfoldable pub tags_at : List ℕ → Result (TextMap (List ℕ) × List ℕ) LineFault

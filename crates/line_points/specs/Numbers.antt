@@ -38,10 +38,16 @@ before_last_byte b [] = None
 before_last_byte b (x ∷ []) = if x == b then Some [] else None
 before_last_byte b (x ∷ y ∷ xs) = option_map (λ front. x ∷ front) (before_last_byte b (y ∷ xs))
 
--- one of the five words for true
-abbrev pub is_true : List ℕ → Bool
-is_true word = list_any (bytes_eq word) (codes "t" ∷ codes "T" ∷ codes "true" ∷ codes "True" ∷ codes "TRUE" ∷ [])
+-- the words for true
+abbrev pub true_words : List (List ℕ)
+true_words = codes "t" ∷ codes "T" ∷ codes "true" ∷ codes "True" ∷ codes "TRUE" ∷ []
 
--- one of the five words for false
+-- the words for false
+abbrev pub false_words : List (List ℕ)
+false_words = codes "f" ∷ codes "F" ∷ codes "false" ∷ codes "False" ∷ codes "FALSE" ∷ []
+
+abbrev pub is_true : List ℕ → Bool
+is_true word = list_any (bytes_eq word) true_words
+
 abbrev pub is_false : List ℕ → Bool
-is_false word = list_any (bytes_eq word) (codes "f" ∷ codes "F" ∷ codes "false" ∷ codes "False" ∷ codes "FALSE" ∷ [])
+is_false word = list_any (bytes_eq word) false_words

@@ -28,6 +28,10 @@ stops Measurement b = b == comma || b == space
 stops Key b = b == comma || b == space || b == equals
 stops Quoted b = b == quote
 
+-- a byte that may end the part or begin an escape
+abbrev pub marks : Part → ℕ → Bool
+marks part b = stops part b || b == backslash
+
 -- a space
 abbrev pub is_space : ℕ → Bool
 is_space b = b == space

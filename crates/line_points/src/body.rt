@@ -1,12 +1,65 @@
-ghost use Rattle.std.specs.Prelude.{◌≡◌, ◌≢◌, not, IsTrue, IfOk, IfErr, Ok, Err};
-ghost use Rattle.kap_base.specs.Texts.{has_line_feed};
-ghost use Rattle.line_points.specs.Line.{has_time};
-ghost use Rattle.line_points.specs.Body.{body_of, fault_line};
+ghost use Rattle.std.specs.Prelude.{◌≡◌, ◌≢◌, ◌==◌, not, position, IsTrue, IfOk, IfErr, OnOk, Ok, Err};
+ghost use Rattle.std.specs.List.{before_first, after_first};
+ghost use Rattle.kap_base.specs.Texts.{has_line_feed, line_feed};
+ghost use Rattle.line_points.specs.Line.{has_time, line_of};
+ghost use Rattle.line_points.specs.Body.{with_line, body_of, fault_line, fault_name, without_return};
 
+use crate::bytes::is_empty;
 use crate::fault::{BodyFault, LineFault};
+use crate::line::read_line;
 use crate::mode::Mode;
+use itoa::Buffer;
 use kap_base::{Bytes, NoMemory, Points, Text};
 use std::alloc::Global;
+
+fn feed_place(body: &[u8]) -> Option<usize>
+    ensures { result ≡ position (λ b. b == line_feed) body.now }
+{
+    body.iter().position(|b| *b == b'\n')
+}
+
+/// The bytes before the first line feed, and those behind it.
+fn first_line(body: &[u8]) -> (&[u8], &[u8])
+    ensures line { result.0.now ≡ before_first (λ b. b == line_feed) body.now }
+    ensures behind { result.1.now ≡ after_first (λ b. b == line_feed) body.now }
+{
+    match feed_place(body) {
+        Some(at) => (&body[..at], &body[at + 1..]),
+        None => (body, &[]),
+    }
+}
+
+/// The line without one carriage return at its end.
+fn without_return(line: &[u8]) -> &[u8]
+    ensures { result.now ≡ without_return line.now }
+{
+    match line.split_last() {
+        Some((last, front)) => { if *last == b'\r' { front } else { line } }
+        None => line,
+    }
+}
+
+/// Adds the point of the line, if there is one.
+fn add_line(
+    alloc: Global,
+    line: &[u8],
+    db: &Text,
+    rp: &Text,
+    mode: &Mode,
+    points: &mut Points,
+) -> Result<(), LineFault>
+    requires line { IsTrue (not (has_line_feed line.now)) }
+    requires db { IsTrue (not (has_line_feed db.now)) }
+    requires rp { IsTrue (not (has_line_feed rp.now)) }
+    requires time { IsTrue (has_time mode.now) }
+    ensures added { OnOk result (with_line points.old (line_of db.now rp.now mode.now line.now) ≡ Ok points.new) }
+    ensures fault { IfErr result (λ f. f ≢ LineFault.NoMemory → line_of db.now rp.now mode.now line.now ≡ Err f) }
+{
+    if let Some(point) = read_line(alloc, line, db, rp, mode)? {
+        points.push(point)?;
+    }
+    Ok(())
+}
 
 /// The points of all lines of a body, in their order, or the first faulty line. A line ends before a line feed, and one
 /// carriage return at its end isn't part of it.
@@ -23,15 +76,52 @@ pub fn read_body(
     ensures points { IfOk result (λ points. body_of db.now rp.now mode.now body.now ≡ Ok points) }
     ensures fault { IfErr result (λ f. f.fault ≢ LineFault.NoMemory → body_of db.now rp.now mode.now body.now ≡ Err f) }
 {
-    Err(BodyFault {
-        line: 1,
-        fault: LineFault::NoMemory,
-    })
+    let mut points = Points::new(alloc);
+    let mut before = 0u64;
+    let mut rest = body;
+    'lines: while !is_empty(rest) {
+        let (first, behind) = first_line(rest);
+        let line = without_return(first);
+        if let Err(fault) = add_line(alloc, line, db, rp, mode, &mut points) {
+            return Err(BodyFault {
+                line: before + 1,
+                fault,
+            });
+        }
+        rest = behind;
+        before += 1;
+    }
+    Ok(points)
+}
+
+fn name(fault: LineFault) -> &'static [u8]
+    ensures { result.now ≡ fault_name fault }
+{
+    match fault {
+        LineFault::Measurement => b"Measurement",
+        LineFault::Tag => b"Tag",
+        LineFault::NoField => b"NoField",
+        LineFault::Field => b"Field",
+        LineFault::FloatField => b"FloatField",
+        LineFault::UnsignedField => b"UnsignedField",
+        LineFault::Time => b"Time",
+        LineFault::TimeRange => b"TimeRange",
+        LineFault::NoTime => b"NoTime",
+        LineFault::Long => b"Long",
+        LineFault::NotUtf8 => b"NotUtf8",
+        LineFault::NoMemory => b"NoMemory",
+    }
 }
 
 /// The text `line N: FAULT` of a body's fault, where FAULT is the fault's name.
 pub fn body_text(alloc: Global, fault: &BodyFault) -> Result<Bytes, NoMemory>
     ensures { IfOk result (λ text. text ≡ fault_line fault.now) }
 {
-    Err(NoMemory)
+    let mut buffer = Buffer::new();
+    let mut text = Bytes::new(alloc);
+    text.append(b"line ")?;
+    text.append(buffer.format(fault.line).as_bytes())?;
+    text.append(b": ")?;
+    text.append(name(fault.fault))?;
+    Ok(text)
 }

@@ -3,15 +3,22 @@
 #![tactic(auto)]
 
 mod body;
+mod bytes;
 mod fault;
+mod law;
 mod line;
 mod mode;
 mod number;
 mod part;
 mod print;
+mod reading;
+mod scanner;
+mod time;
+mod word;
 
 pub use body::{body_text, read_body};
 pub use fault::{BodyFault, LineFault};
+pub use law::one_answer;
 pub use line::{read_line, read_stored};
 pub use mode::{Mode, Unit};
 pub use print::print_line;

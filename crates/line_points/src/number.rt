@@ -1,6 +1,84 @@
+ghost use Rattle.std.specs.Prelude.{◌≡◌, ℕ, min, IsTrue};
+ghost use Rattle.std.specs.List.{list_all};
+ghost use Rattle.std.specs.Char.{is_ascii_digit};
+ghost use Rattle.std.specs.Option.{option_map};
+ghost use Rattle.std.specs.Str.Parse.{digits_value};
+ghost use Rattle.line_points.specs.Numbers.{is_digits, number_from, number_of, before_last_byte, is_true, is_false};
+ghost use Rattle.line_points.specs.Capped.{capped, parts};
+
+use crate::bytes::is_empty;
+
 /// A number of a line. One above `u64::MAX` has that magnitude.
 #[derive(Clone, Copy)]
 pub struct Number {
     pub negative: bool,
     pub magnitude: u64,
+}
+
+fn all_digits(bytes: &[u8]) -> bool
+    ensures { result ≡ list_all is_ascii_digit bytes.now }
+{
+    bytes.iter().all(|b| b.is_ascii_digit())
+}
+
+/// Whether there are bytes, and all are digits.
+pub fn is_digits(bytes: &[u8]) -> bool
+    ensures { result ≡ is_digits bytes.now }
+{
+    !is_empty(bytes) && all_digits(bytes)
+}
+
+fn magnitude(digits: &[u8]) -> u64
+    requires { IsTrue (is_digits digits.now) }
+    ensures { result ≡ min (digits_value 10 digits.now) u64.MAX }
+{
+    let mut value = 0u64;
+    for digit in digits {
+        value = value
+            .saturating_mul(10)
+            .saturating_add(u64::from(*digit - b'0'));
+    }
+    value
+}
+
+fn number_from(negative: bool, bytes: &[u8]) -> Option<Number>
+    ensures { option_map parts result ≡ option_map capped (number_from negative bytes.now) }
+{
+    if !is_digits(bytes) {
+        return None;
+    }
+    Some(Number {
+        negative,
+        magnitude: magnitude(bytes),
+    })
+}
+
+/// The number of an optional minus and digits.
+pub fn read_number(bytes: &[u8]) -> Option<Number>
+    ensures { option_map parts result ≡ option_map capped (number_of bytes.now) }
+{
+    match bytes.split_first() {
+        Some((b'-', digits)) => number_from(true, digits),
+        _ => number_from(false, bytes),
+    }
+}
+
+/// The bytes before the last one, where that is `byte`.
+pub fn before_last(byte: u8, bytes: &[u8]) -> Option<&[u8]>
+    ensures { option_map (λ front. front.now) result ≡ before_last_byte byte bytes.now }
+{
+    let (last, front) = bytes.split_last()?;
+    if *last == byte { Some(front) } else { None }
+}
+
+pub fn is_true(word: &[u8]) -> bool
+    ensures { result ≡ is_true word.now }
+{
+    matches!(word, b"t" | b"T" | b"true" | b"True" | b"TRUE")
+}
+
+pub fn is_false(word: &[u8]) -> bool
+    ensures { result ≡ is_false word.now }
+{
+    matches!(word, b"f" | b"F" | b"false" | b"False" | b"FALSE")
 }

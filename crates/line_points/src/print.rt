@@ -1,11 +1,127 @@
-ghost use Rattle.std.specs.Prelude.{◌≡◌, ◌≤◌, Ok, Some, length, IsTrue, IfOk};
+ghost use Rattle.std.specs.Prelude.{◌≡◌, ◌≤◌, ◌++◌, ◌∷◌, Ok, length, not, IsTrue, OnOk, IfOk};
+ghost use Rattle.std.specs.List.{flat_map, list_any};
+ghost use Rattle.std.specs.Fmt.{signed_decimal};
 ghost use Rattle.kap_base.specs.Texts.{is_line};
+ghost use Rattle.kap_base.specs.Points.{IsPoint};
+ghost use Rattle.line_points.specs.Parts.{escapes};
 ghost use Rattle.line_points.specs.Line.{Reads, stored_of};
-ghost use Rattle.line_points.specs.Print.{Print, ungrouped};
+ghost use Rattle.line_points.specs.Print.{escaped, value_text, tag_text, field_text, fields_text, Print, ungrouped};
 
 use crate::mode::Mode;
-use kap_base::{Bytes, NoMemory, Point};
+use crate::part::Part;
+use itoa::Buffer;
+use kap_base::{Bytes, NoMemory, Point, Text, Value};
 use std::alloc::Global;
+
+/// Whether the part escapes one of the bytes.
+fn needs_escapes(part: Part, bytes: &[u8]) -> bool
+    ensures { result ≡ list_any (escapes part) bytes.now }
+{
+    bytes.iter().any(|byte| part.escapes(*byte))
+}
+
+fn put_bytes_escaped(part: Part, bytes: &[u8], out: &mut Bytes) -> Result<(), NoMemory>
+    ensures { OnOk result (out.new ≡ out.old ++ escaped part bytes.now) }
+{
+    'bytes: for byte in bytes {
+        if part.escapes(*byte) {
+            out.push(b'\\')?;
+        }
+        out.push(*byte)?;
+    }
+    Ok(())
+}
+
+fn put_escaped(part: Part, text: &Text, out: &mut Bytes) -> Result<(), NoMemory>
+    ensures { OnOk result (out.new ≡ out.old ++ escaped part text.now) }
+{
+    let bytes = text.bytes();
+    if needs_escapes(part, bytes) {
+        return put_bytes_escaped(part, bytes, out);
+    }
+    out.append(bytes)
+}
+
+fn put_number(number: i64, out: &mut Bytes) -> Result<(), NoMemory>
+    ensures { OnOk result (out.new ≡ out.old ++ signed_decimal number) }
+{
+    let mut buffer = Buffer::new();
+    out.append(buffer.format(number).as_bytes())
+}
+
+#[tactic(auto, unfolding(crate::specs::Print::value_text))]
+fn put_value(value: &Value, out: &mut Bytes) -> Result<(), NoMemory>
+    ensures { OnOk result (out.new ≡ out.old ++ value_text value.now) }
+{
+    match value {
+        Value::Int(number) => {
+            put_number(*number, out)?;
+            out.push(b'i')?;
+        }
+        Value::Bool(true) => out.append(b"true")?,
+        Value::Bool(false) => out.append(b"false")?,
+        Value::Str(text) => {
+            out.push(b'"')?;
+            put_escaped(Part::Quoted, text, out)?;
+            out.push(b'"')?;
+        }
+    }
+    Ok(())
+}
+
+fn put_field(field: &(Text, Value), out: &mut Bytes) -> Result<(), NoMemory>
+    ensures { OnOk result (out.new ≡ out.old ++ field_text field.now) }
+{
+    put_escaped(Part::Key, &field.0, out)?;
+    out.push(b'=')?;
+    put_value(&field.1, out)
+}
+
+fn put_tags(tags: &[(Text, Text)], out: &mut Bytes) -> Result<(), NoMemory>
+    ensures { OnOk result (out.new ≡ out.old ++ flat_map tag_text tags.now) }
+{
+    'tags: for tag in tags {
+        out.push(b',')?;
+        put_escaped(Part::Key, &tag.0, out)?;
+        out.push(b'=')?;
+        put_escaped(Part::Key, &tag.1, out)?;
+    }
+    Ok(())
+}
+
+fn put_more_fields(fields: &[(Text, Value)], out: &mut Bytes) -> Result<(), NoMemory>
+    ensures { OnOk result (out.new ≡ out.old ++ flat_map (λ g. 44 ∷ field_text g) fields.now) }
+{
+    'fields: for field in fields {
+        out.push(b',')?;
+        put_field(field, out)?;
+    }
+    Ok(())
+}
+
+fn put_fields(fields: &[(Text, Value)], out: &mut Bytes) -> Result<(), NoMemory>
+    ensures { OnOk result (out.new ≡ out.old ++ fields_text fields.now) }
+{
+    if let Some((first, others)) = fields.split_first() {
+        put_field(first, out)?;
+        put_more_fields(others, out)?;
+    }
+    Ok(())
+}
+
+fn canonical_line(alloc: Global, point: &Point) -> Result<Bytes, NoMemory>
+    ensures line { IfOk result (λ line. line ≡ Print point.now) }
+    ensures point { OnOk result (IsPoint point.now) }
+{
+    let mut out = Bytes::new(alloc);
+    put_escaped(Part::Measurement, &point.name, &mut out)?;
+    put_tags(point.tags.entries(), &mut out)?;
+    out.push(b' ')?;
+    put_fields(point.fields.entries(), &mut out)?;
+    out.push(b' ')?;
+    put_number(point.time, &mut out)?;
+    Ok(out)
+}
 
 /// The canonical line of a point, with its time in nanoseconds and without a line feed.
 pub fn print_line(alloc: Global, point: &Point) -> Result<Bytes, NoMemory>
@@ -15,5 +131,5 @@ pub fn print_line(alloc: Global, point: &Point) -> Result<Bytes, NoMemory>
     ensures again { IfOk result (λ line. length line ≤ 65536 → Reads point.now.db point.now.rp Mode.Recording line (ungrouped point.now)) }
     ensures stored_again { IfOk result (λ line. stored_of point.now.db point.now.rp Mode.Recording line ≡ Ok (ungrouped point.now)) }
 {
-    Err(NoMemory)
+    canonical_line(alloc, point)
 }

@@ -1,0 +1,9 @@
+use Rattle.std.proofs.Common.{◌≡◌, length}
+use Rattle.line_points.specs.Parts.{without_spaces}
+use Rattle.line_points.proofs.bytes.without_spaces.Given as goal
+
+abbrev pub invariant-spaces : goal.invariant-spaces
+invariant-spaces l = without_spaces l.rest ≡ without_spaces l.bytes
+
+abbrev pub decreases-spaces : goal.decreases-spaces
+decreases-spaces l = length l.rest

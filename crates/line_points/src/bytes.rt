@@ -1,0 +1,77 @@
+ghost use Rattle.std.specs.Prelude.{◌≡◌, ◌≤◌, ◌<◌, length, drop, take, position, is_ok, IfOk, IfErr};
+ghost use Rattle.std.specs.Str.{is_utf8};
+ghost use Rattle.std.specs.List.{before_first, position_or_len};
+ghost use Rattle.kap_base.specs.Texts.{is_empty, begins_with};
+ghost use Rattle.line_points.specs.Parts.{is_separator, is_space, without_spaces};
+ghost use Rattle.line_points.specs.Line.{is_blank};
+
+use crate::fault::LineFault;
+
+/// Whether there are no bytes.
+pub fn is_empty(bytes: &[u8]) -> bool
+    ensures { result ≡ is_empty bytes.now }
+{
+    match bytes.first() {
+        Some(_) => false,
+        None => true,
+    }
+}
+
+/// Whether the byte stands at the front.
+pub fn begins_with(bytes: &[u8], byte: u8) -> bool
+    ensures { result ≡ begins_with byte bytes.now }
+{
+    match bytes.first() {
+        Some(first) => *first == byte,
+        None => false,
+    }
+}
+
+/// The bytes from the first one on that is no space.
+pub fn without_spaces(bytes: &[u8]) -> &[u8]
+    ensures { result.now ≡ without_spaces bytes.now }
+{
+    let mut rest = bytes;
+    'spaces: while let Some((b' ', behind)) = rest.split_first() {
+        rest = behind;
+    }
+    rest
+}
+
+/// Whether the line holds nothing, or a comment.
+pub fn is_blank(line: &[u8]) -> bool
+    ensures { result ≡ is_blank (without_spaces line.now) }
+{
+    match without_spaces(line).first() {
+        Some(first) => *first == b'#',
+        None => true,
+    }
+}
+
+/// The line as text.
+pub fn text(line: &[u8]) -> Result<&str, LineFault>
+    ensures text { IfOk result (λ s. s.now ≡ line.now) }
+    ensures fault { IfErr result (λ e. e ≡ LineFault.NotUtf8) }
+    ensures valid { is_ok result ≡ is_utf8 line.now }
+{
+    match str::from_utf8(line) {
+        Ok(text) => Ok(text),
+        Err(_) => Err(LineFault::NotUtf8),
+    }
+}
+
+fn separator_place(bytes: &[u8]) -> Option<usize>
+    ensures { result ≡ position is_separator bytes.now }
+{
+    bytes.iter().position(|b| *b == b',' || *b == b' ')
+}
+
+/// How many bytes stand before the first comma or space.
+pub fn word_len(bytes: &[u8]) -> usize
+    ensures { result ≡ position_or_len is_separator bytes.now }
+{
+    match separator_place(bytes) {
+        Some(at) => at,
+        None => bytes.len(),
+    }
+}

@@ -1,0 +1,71 @@
+ghost use Rattle.std.specs.Prelude.{◌≡◌, ◌≤◌, ℕ, Bool, length, drop, position};
+ghost use Rattle.std.specs.List.{list_all, before_first, position_or_len};
+ghost use Rattle.line_points.specs.Parts.{is_space};
+ghost use Rattle.line_points.specs.Capped.{capped, parts};
+ghost use Rattle.line_points.specs.Line.{scaled, word_time, time_of};
+
+use crate::bytes::is_empty;
+use crate::fault::LineFault;
+use crate::mode::{Mode, Unit};
+use crate::number::{Number, read_number};
+
+/// The farthest that a time may lie from 1970, in nanoseconds.
+const FARTHEST: u128 = 9_000_000_000_000_000_000;
+
+fn scaled(unit: Unit, number: Number) -> Result<i64, LineFault>
+    ensures { (n : Bool × ℕ) → parts number ≡ capped n → result ≡ scaled unit n }
+{
+    let distance = u128::from(number.magnitude) * u128::from(unit.nanoseconds());
+    if distance > FARTHEST {
+        return Err(LineFault::TimeRange);
+    }
+    let time = distance as i64;
+    Ok(if number.negative { -time } else { time })
+}
+
+fn space_place(bytes: &[u8]) -> Option<usize>
+    ensures { result ≡ position is_space bytes.now }
+{
+    bytes.iter().position(|b| *b == b' ')
+}
+
+/// The bytes before the first space, and those from it on.
+fn split_at_space(bytes: &[u8]) -> (&[u8], &[u8])
+    ensures word { result.0.now ≡ before_first is_space bytes.now }
+    ensures rest { result.1.now ≡ drop (position_or_len is_space bytes.now) bytes.now }
+{
+    match space_place(bytes) {
+        Some(at) => bytes.split_at(at),
+        None => (bytes, &[]),
+    }
+}
+
+fn are_spaces(bytes: &[u8]) -> bool
+    ensures { result ≡ list_all is_space bytes.now }
+{
+    bytes.iter().all(|b| *b == b' ')
+}
+
+fn word_time(mode: &Mode, word: &[u8]) -> Result<i64, LineFault>
+    ensures { result ≡ word_time mode.now word.now }
+{
+    match read_number(word) {
+        Some(number) => scaled(mode.unit(), number),
+        None => Err(LineFault::Time),
+    }
+}
+
+/// The time of a line, of which these bytes stand behind its fields.
+#[tactic(auto, unfolding(crate::specs::Line::time_of))]
+pub fn time(mode: &Mode, bytes: &[u8]) -> Result<i64, LineFault>
+    ensures { result ≡ time_of mode.now bytes.now }
+{
+    if is_empty(bytes) {
+        return mode.missing_time();
+    }
+    let (word, behind) = split_at_space(bytes);
+    if !are_spaces(behind) {
+        return Err(LineFault::Time);
+    }
+    word_time(mode, word)
+}
