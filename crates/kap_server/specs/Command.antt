@@ -1,0 +1,21 @@
+-- What a command answers, and when.
+use Rattle.std.specs.Prelude.{◌≡◌, ◌⊎◌, ℕ, List, Option, Some, None, IsSomeAnd}
+use Rattle.kap_server.specs.declared.status.Status.{Status}
+use Rattle.kap_server.specs.declared.status.Status.TheVariants.{NoMemory}
+use Rattle.kap_server.specs.Script.{IsFilter}
+use Rattle.kap_server.specs.Words.{asked}
+
+-- this status comes exactly where the fact holds, but for want of memory
+pub record ExactlyWhere (result status : Status) (fact : Type 0) : Type 0 where
+  pub only : result ≡ status → fact
+  pub always : fact → (result ≡ status) ⊎ (result ≡ NoMemory)
+
+-- the words ask for a replay of a script that isn't of the form
+abbrev pub AsksForNoFilter : List (List ℕ) → Type 0
+AsksForNoFilter words = IsSomeAnd (asked words) (λ ask. (name : List ℕ) → IsFilter ask.1 name → ⊥)
+
+-- the words ask for a replay for the task of this id, of a script that filters by this measurement
+pub record AsksFor (words : List (List ℕ)) (id name : List ℕ) : Type 0 where
+  pub script : List ℕ
+  pub asks : asked words ≡ Some (id, script)
+  pub filters : IsFilter script name

@@ -1,0 +1,41 @@
+-- What stands after a replay.
+use Rattle.std.specs.Prelude.{◌≡◌, ℕ, List, Option, None, Some}
+use Rattle.std.specs.Io.KnownBytes.{Appends, Consumes}
+use Rattle.kap_base.specs.Points.{Series}
+use Rattle.kap_io.specs.Pieces.{AppendsFront}
+use Rattle.recording_file.specs.declared.fault.RecFault.TheVariants as faults
+use Rattle.recording_file.specs.Recording.{Reading, Stop, Ended, Faulty, Undecided, recording, recording_front}
+use Rattle.kap_server.specs.declared.status.Status.{Status}
+use Rattle.kap_server.specs.declared.status.Status.TheVariants.{Ok, Usage, Line, Truncated, TooLong, ScriptForm, NoMemory, ReadFault, WriteFault}
+
+-- reading the whole input stops so, and the text of all its points was appended
+abbrev pub Writes : (List Series → List ℕ) → Option (List ℕ) → Option (List ℕ) → Option (List ℕ) → Stop → Type 0
+Writes text None w v stop = Unit {0}
+Writes text (Some input) w v stop = ((recording input).stop ≡ stop) × Appends w v (text (recording input).points)
+
+-- a front of the text of the whole input's points was appended
+abbrev pub WritesFront : (List Series → List ℕ) → Option (List ℕ) → Option (List ℕ) → Option (List ℕ) → Type 0
+WritesFront text None w v = Unit {0}
+WritesFront text (Some input) w v = AppendsFront w v (text (recording input).points)
+
+-- the bytes that were read don't decide how reading goes on, and the text of the points in them was appended
+pub record WritesSoFar (text : List Series → List ℕ) (s t w v : Option (List ℕ)) : Type 0 where
+  pub got : List ℕ
+  pub took : Consumes s t got
+  pub undecided : (recording_front got).stop ≡ Undecided
+  pub written : Appends w v (text (recording_front got).points)
+
+-- By the status, where s and t are what was left of the input before and after, and w and v what was written: at Ok the input
+-- ends between two groups, and the text of its points was appended; at a fault of the input that is its first fault, and the
+-- text of the points before it was appended; after a read fault that of the points that were read; after a write fault a
+-- front of the text of all points. Want of memory is free.
+abbrev pub Replayed : (List Series → List ℕ) → Status → Option (List ℕ) → Option (List ℕ) → Option (List ℕ) → Option (List ℕ) → Type 0
+Replayed text Ok s t w v = Writes text s w v Ended
+Replayed text Usage s t w v = ⊥
+Replayed text (Line n fault) s t w v = Writes text s w v (Faulty (faults.Line n fault))
+Replayed text (Truncated n) s t w v = Writes text s w v (Faulty (faults.Truncated n))
+Replayed text TooLong s t w v = Writes text s w v (Faulty faults.Long)
+Replayed text ScriptForm s t w v = ⊥
+Replayed text NoMemory s t w v = Unit {0}
+Replayed text ReadFault s t w v = WritesSoFar text s t w v
+Replayed text WriteFault s t w v = WritesFront text s w v

@@ -1,0 +1,40 @@
+-- The numbers and texts of the statuses.
+use Rattle.std.specs.Prelude.{ℕ, List, [], ◌++◌, codes}
+use Rattle.std.specs.Fmt.{decimal}
+use Rattle.line_points.specs.Body.{fault_line}
+use Rattle.recording_file.specs.declared.fault.RecFault.{RecFault}
+use Rattle.recording_file.specs.declared.fault.RecFault.TheVariants as faults
+use Rattle.kap_server.specs.declared.status.Status.{Status}
+use Rattle.kap_server.specs.declared.status.Status.TheVariants.{Ok, Usage, Line, Truncated, TooLong, ScriptForm, NoMemory, ReadFault, WriteFault}
+
+-- the number with which the process ends
+abbrev pub number_of : Status → ℕ
+number_of Ok = 0
+number_of Usage = 2
+number_of (Line n fault) = 4
+number_of (Truncated n) = 5
+number_of TooLong = 10
+number_of ScriptForm = 21
+number_of NoMemory = 70
+number_of ReadFault = 71
+number_of WriteFault = 72
+
+-- the status of a recording's fault
+abbrev pub status_of : RecFault → Status
+status_of (faults.Line n fault) = Line n fault
+status_of (faults.Truncated n) = Truncated n
+status_of faults.Long = TooLong
+status_of faults.ReadFault = ReadFault
+status_of faults.NoMemory = NoMemory
+
+-- what stands behind `kapd: ` on standard error
+abbrev pub text_of_status : Status → List ℕ
+text_of_status Ok = []
+text_of_status Usage = codes "usage"
+text_of_status (Line n fault) = fault_line (record { line = n; fault = fault })
+text_of_status (Truncated n) = codes "truncated at line " ++ decimal n
+text_of_status TooLong = codes "too long"
+text_of_status ScriptForm = codes "script form"
+text_of_status NoMemory = codes "no memory"
+text_of_status ReadFault = codes "read fault"
+text_of_status WriteFault = codes "write fault"

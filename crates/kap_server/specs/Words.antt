@@ -1,0 +1,33 @@
+-- The words of a command line.
+use Rattle.std.specs.Prelude.{ℕ, Bool, not, ◌&&◌, ◌||◌, ◌==◌, nat_lt, nat_le, List, [], ◌∷◌, length, slice_index, Option, Some, None, codes, if◌then◌else◌}
+use Rattle.std.specs.Char.{is_ascii_digit}
+use Rattle.std.specs.List.{list_all}
+use Rattle.std.specs.Str.{bytes_eq}
+
+-- an ASCII letter
+abbrev pub is_letter : ℕ → Bool
+is_letter b = (nat_le 65 b && nat_le b 90) || (nat_le 97 b && nat_le b 122)
+
+-- what a name in a script is made of: an ASCII letter, a digit or `_`
+abbrev pub is_name_byte : ℕ → Bool
+is_name_byte b = is_letter b || is_ascii_digit b || b == 95
+
+-- what the id of a task is made of: those, `-` and `.`
+abbrev pub is_id_byte : ℕ → Bool
+is_id_byte b = is_name_byte b || b == 45 || b == 46
+
+-- the word begins with `--`, as options do
+abbrev pub is_option : List ℕ → Bool
+is_option word = slice_index word 0 == 45 && slice_index word 1 == 45
+
+-- the id of a task: 1 to 64 of those bytes
+abbrev pub is_id : List ℕ → Bool
+is_id word = nat_lt 0 (length word) && nat_le (length word) 64 && list_all is_id_byte word
+
+-- the id and the script of `replay ID SCRIPT`, where no option stands in the id's place
+abbrev pub asked : List (List ℕ) → Option (List ℕ × List ℕ)
+asked [] = None
+asked (a ∷ []) = None
+asked (a ∷ b ∷ []) = None
+asked (command ∷ id ∷ script ∷ []) = if bytes_eq command (codes "replay") && is_id id && not (is_option id) then Some (id, script) else None
+asked (a ∷ b ∷ c ∷ d ∷ rest) = None

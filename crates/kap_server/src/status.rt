@@ -1,0 +1,63 @@
+ghost use Rattle.std.specs.Prelude.{◌≡◌};
+ghost use Rattle.kap_server.specs.Statuses.{status_of};
+
+use line_points::LineFault;
+use recording_file::RecFault;
+
+/// How a command ended.
+#[derive(Clone, Copy, Debug, PartialEq, Eq)]
+pub enum Status {
+    /// All was done, and the input was read to its end.
+    Ok,
+    /// The words aren't those of a command.
+    Usage,
+    /// This line of the recording, numbered from 1, is the first that is no database, no policy or no line of the line protocol.
+    Line { line: u64, fault: LineFault },
+    /// The recording ends inside a group of three lines: this line is missing.
+    Truncated { line: u64 },
+    /// The recording has more than 1,073,741,824 bytes.
+    TooLong,
+    /// The script isn't of the one form that is known until scripts are compiled.
+    ScriptForm,
+    /// Memory ran out.
+    NoMemory,
+    /// The input failed.
+    ReadFault,
+    /// The output failed.
+    WriteFault,
+}
+
+impl Status {
+    ghost use Rattle.kap_server.specs.Statuses.{number_of};
+
+    /// The number with which the process ends (this project).
+    pub fn number(&self) -> u8
+        ensures { result ≡ number_of self.now }
+    {
+        match self {
+            Status::Ok => 0,
+            Status::Usage => 2,
+            Status::Line { .. } => 4,
+            Status::Truncated { .. } => 5,
+            Status::TooLong => 10,
+            Status::ScriptForm => 21,
+            Status::NoMemory => 70,
+            Status::ReadFault => 71,
+            Status::WriteFault => 72,
+        }
+    }
+}
+
+impl From<RecFault> for Status {
+    ghost from_gives = { λ f s. s ≡ status_of f };
+
+    fn from(fault: RecFault) -> Self {
+        match fault {
+            RecFault::Line { line, fault } => Status::Line { line, fault },
+            RecFault::Truncated { line } => Status::Truncated { line },
+            RecFault::Long => Status::TooLong,
+            RecFault::ReadFault => Status::ReadFault,
+            RecFault::NoMemory => Status::NoMemory,
+        }
+    }
+}

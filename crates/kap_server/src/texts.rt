@@ -1,0 +1,49 @@
+ghost use Rattle.std.specs.Prelude.{◌≡◌, IfOk};
+ghost use Rattle.kap_server.specs.Statuses.{text_of_status};
+
+use crate::status::Status;
+use itoa::Buffer;
+use kap_base::{Bytes, NoMemory};
+use line_points::{BodyFault, body_text};
+use std::alloc::Global;
+
+fn of_bytes(alloc: Global, bytes: &[u8]) -> Result<Bytes, NoMemory>
+    ensures { IfOk result (λ text. text ≡ bytes.now) }
+{
+    let mut text = Bytes::new(alloc);
+    text.append(bytes)?;
+    Ok(text)
+}
+
+fn truncated(alloc: Global, line: u64) -> Result<Bytes, NoMemory>
+    ensures { IfOk result (λ text. text ≡ text_of_status (Status.Truncated line)) }
+{
+    let mut digits = Buffer::new();
+    let mut text = Bytes::new(alloc);
+    text.append(b"truncated at line ")?;
+    text.append(digits.format(line).as_bytes())?;
+    Ok(text)
+}
+
+/// What `kapd` says of a status behind `kapd: ` on standard error, and nothing for `Ok` (this project).
+pub fn status_text(alloc: Global, status: &Status) -> Result<Bytes, NoMemory>
+    ensures { IfOk result (λ text. text ≡ text_of_status status.now) }
+{
+    match status {
+        Status::Ok => of_bytes(alloc, b""),
+        Status::Usage => of_bytes(alloc, b"usage"),
+        Status::Line { line, fault } => body_text(
+            alloc,
+            &BodyFault {
+                line: *line,
+                fault: *fault,
+            },
+        ),
+        Status::Truncated { line } => truncated(alloc, *line),
+        Status::TooLong => of_bytes(alloc, b"too long"),
+        Status::ScriptForm => of_bytes(alloc, b"script form"),
+        Status::NoMemory => of_bytes(alloc, b"no memory"),
+        Status::ReadFault => of_bytes(alloc, b"read fault"),
+        Status::WriteFault => of_bytes(alloc, b"write fault"),
+    }
+}
