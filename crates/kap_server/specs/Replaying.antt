@@ -1,8 +1,11 @@
 -- What stands after a replay.
-use Rattle.std.specs.Prelude.{◌≡◌, ℕ, List, Option, None, Some}
+use Rattle.std.specs.Prelude.{◌≡◌, ◌⊎◌, ◌++◌, ℕ, List, Option, None, Some}
 use Rattle.std.specs.Io.KnownBytes.{Appends, Consumes}
 use Rattle.kap_base.specs.Points.{Series}
+use Rattle.kap_io.specs.Causes.{Rose}
 use Rattle.kap_io.specs.Pieces.{AppendsFront}
+use Rattle.recording_file.specs.Finding.{At}
+use Rattle.recording_file.specs.Reading.{HasGiven}
 use Rattle.recording_file.specs.declared.fault.RecFault.TheVariants as faults
 use Rattle.recording_file.specs.Recording.{Reading, Stop, Ended, Faulty, Undecided, recording, recording_front}
 use Rattle.kap_server.specs.declared.status.Status.{Status}
@@ -39,3 +42,21 @@ Replayed text ScriptForm s t w v = ⊥
 Replayed text NoMemory s t w v = Unit {0}
 Replayed text ReadFault s t w v = WritesSoFar text s t w v
 Replayed text WriteFault s t w v = WritesFront text s w v
+
+-- a front of what is due was appended, and the rest is still due
+pub record Moves (due left : List ℕ) (w v : Option (List ℕ)) : Type 0 where
+  pub piece : List ℕ
+  pub written : Appends w v piece
+  pub rest : due ≡ piece ++ left
+
+-- the points so far are the first of the input, and the text of them was appended, but for what is due
+pub record Underway (text : List Series → List ℕ) (due : List ℕ) (at : At) (s t w v : Option (List ℕ)) : Type 0 where
+  pub points : List Series
+  pub given : HasGiven points at s t
+  pub done : List ℕ
+  pub written : Appends w v done
+  pub is : text points ≡ done ++ due
+
+-- the rest of the text was written, or the output failed
+abbrev pub IsWritten : Status → Status → Option (List ℕ) → Option (List ℕ) → List ℕ → ℕ → ℕ → Type 0
+IsWritten status result w v due before after = ((result ≡ status) × Appends w v due) ⊎ ((result ≡ WriteFault) × AppendsFront w v due × Rose before after)

@@ -5,6 +5,8 @@
 
 
 mod script;
+mod lines;
+mod replaying;
 mod status;
 mod texts;
 mod words;

@@ -1,6 +1,8 @@
 ghost use Rattle.std.specs.Prelude.{◌≡◌};
 ghost use Rattle.kap_server.specs.Statuses.{status_of};
 
+use kap_base::NoMemory;
+use kap_io::Failed;
 use line_points::LineFault;
 use recording_file::RecFault;
 

@@ -1,0 +1,44 @@
+ghost use Rattle.std.specs.Prelude.{◌≡◌, ◌++◌, [], ◌∷◌, OnOk};
+ghost use Rattle.kap_server.specs.Lines.{is_of, out_line, text_of};
+
+use kap_base::{Bytes, NoMemory, Point};
+use line_points::print_line;
+use std::alloc::Global;
+
+fn is_of(name: &[u8], point: &Point) -> bool
+    ensures { result ≡ is_of name.now point.now }
+{
+    point.name.bytes() == name
+}
+
+fn put_out_line(
+    alloc: Global,
+    id: &[u8],
+    point: &Point,
+    text: &mut Bytes,
+) -> Result<(), NoMemory>
+    ensures { OnOk result (text.new ≡ text.old ++ out_line id.now point.now) }
+{
+    let line = print_line(alloc, point)?;
+    text.append(b"out ")?;
+    text.append(id)?;
+    text.append(b" log2 ")?;
+    text.append(line.as_slice())?;
+    text.push(b'\n')
+}
+
+/// Adds the line of a point, where it is of the measurement.
+pub fn put_point(
+    alloc: Global,
+    id: &[u8],
+    name: &[u8],
+    point: &Point,
+    text: &mut Bytes,
+) -> Result<(), NoMemory>
+    ensures { OnOk result (text.new ≡ text.old ++ text_of id.now name.now (point.now ∷ [])) }
+{
+    if is_of(name, point) {
+        put_out_line(alloc, id, point, text)?;
+    }
+    Ok(())
+}
