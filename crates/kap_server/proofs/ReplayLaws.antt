@@ -23,7 +23,7 @@ use Rattle.kap_server.specs.declared.status.Status.{Status}
 use Rattle.kap_server.specs.declared.status.Status.TheVariants as statuses
 use Rattle.kap_server.specs.Statuses.{status_of}
 use Rattle.kap_server.specs.Lines.{is_of, out_line, text_of}
-use Rattle.kap_server.specs.Replaying.{Writes, WritesFront, WritesSoFar, Replayed, Moves, Underway}
+use Rattle.kap_server.specs.Replaying.{Writes, WritesFront, WritesSoFar, Replayed, IsWritten, Moves, Underway}
 
 -- ---- text
 
@@ -100,3 +100,17 @@ module _ (id name : List ℕ) where
   pub cut_off : (due : List ℕ) (at : At) (s t w v x : Option (List ℕ)) → Underway (text_of id name) due at s t w v → AppendsFront v x due → WritesFront (text_of id name) s w x
   cut_off due at None t w v x on p = tt
   cut_off due at (Some input) t w v x on p = cut_told due at input (to_come at.ended t) t w v x on refl on.given.took p
+
+  -- the rest of the text was written, or the output failed
+  pub finished : (status result : Status) (s u v w x : Option (List ℕ)) (due : List ℕ) (before after : ℕ) → IsWritten status result v x due before after
+      → (Appends v x due → Replayed (text_of id name) status s u w x) → (AppendsFront v x due → WritesFront (text_of id name) s w x) → Replayed (text_of id name) result s u w x
+  finished status result s u v w x due before after (inl p) whole part = subst (λ r. Replayed (text_of id name) r s u w x) (sym p.0) (whole p.1)
+  finished status result s u v w x due before after (inr p) whole part = subst (λ r. Replayed (text_of id name) r s u w x) (sym p.0) (part p.1)
+
+  -- a point came, and the output failed or memory ran out
+  pub gave_up : (status : Status) (due : List ℕ) (at b : At) (s t u w v x : Option (List ℕ)) (p : Series) → Underway (text_of id name) due at s t w v → GivesPoint read at b t u p
+      → (status ≡ statuses.NoMemory) ⊎ (status ≡ statuses.WriteFault) → (status ≡ statuses.WriteFault → AppendsFront v x (due ++ text_of id name (p ∷ []))) → Replayed (text_of id name) status s u w x
+  gave_up status due at b s t u w v x p on step (inl memory) part = subst (λ r. Replayed (text_of id name) r s u w x) (sym memory) tt
+  gave_up status due at b s t u w v x p on step (inr fault) part =
+      let still : Moves (due ++ text_of id name (p ∷ [])) (due ++ text_of id name (p ∷ [])) v v = record { piece = []; written = appends_none v; rest = refl } in
+      subst (λ r. Replayed (text_of id name) r s u w x) (sym fault) (cut_off (due ++ text_of id name (p ∷ [])) b s u w v x (underway_more s t w v due at on p b u v (due ++ text_of id name (p ∷ [])) step still) (part fault))

@@ -1,16 +1,14 @@
 //! The commands of `kapd`: what they answer, what they write and when.
 #![tactic(auto)]
 
- 
-
-
-mod script;
+mod commands;
 mod lines;
 mod replaying;
+mod script;
 mod status;
 mod texts;
 mod words;
 
-
+pub use commands::command;
 pub use status::Status;
 pub use texts::status_text;

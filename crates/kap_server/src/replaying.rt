@@ -3,7 +3,7 @@ ghost use Rattle.kap_io.specs.Causes.{HasCause, Rose};
 ghost use Rattle.kap_io.specs.Pieces.{AppendsFront};
 ghost use Rattle.recording_file.specs.Finding.{HasEnded};
 ghost use Rattle.kap_server.specs.Lines.{text_of};
-ghost use Rattle.kap_server.specs.Replaying.{IsWritten, Moves};
+ghost use Rattle.kap_server.specs.Replaying.{IsWritten, Moves, Replayed};
 
 use crate::lines::put_point;
 use crate::status::Status;
@@ -60,5 +60,33 @@ fn replay_point<K: Sink>(
     match write_piece(out, text) {
         Ok(()) => Ok(()),
         Err(_) => Err(Status::WriteFault),
+    }
+}
+
+/// Replays the recording that the input gives: a line for each point of the measurement.
+pub fn replay<S: Source, K: Sink>(
+    alloc: Global,
+    id: &[u8],
+    name: &[u8],
+    input: &mut S,
+    out: &mut K,
+) -> Status
+    ensures replayed { Replayed (text_of id.now name.now) result (S.left input.old) (S.left input.new) (K.written out.old) (K.written out.new) }
+    ensures read { result ≡ Status.Ok → HasEnded (S.left input.old) (S.left input.new) }
+    ensures read_fault { result ≡ Status.ReadFault → Rose (S.faults input.old) (S.faults input.new) }
+    ensures write_fault { result ≡ Status.WriteFault → Rose (K.faults out.old) (K.faults out.new) }
+{
+    let mut reader = Reader::new(alloc);
+    let mut text = Bytes::new(alloc);
+    'replaying: loop {
+        let point = match reader.next(alloc, input) {
+            Ok(Some(point)) => point,
+            Ok(None) => return written(out, &text, Status::Ok),
+            Err(fault) => return written(out, &text, Status::from(fault)),
+        };
+        match replay_point(alloc, id, name, &point, out, &mut text) {
+            Ok(()) => {}
+            Err(status) => return status,
+        }
     }
 }

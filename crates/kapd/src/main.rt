@@ -1,0 +1,81 @@
+//! `kapd - replay ID SCRIPT` replays the recording on standard input, and writes the lines of its points to standard output.
+#![tactic(auto)]
+
+use kap_io::{ReadSource, WriteSink};
+use kap_server::{Status, command, status_text};
+use std::env::Env;
+use std::process::ExitCode;
+use std::{env, io};
+
+/// What `kapd --help` prints.
+const HELP: &str = "kapd PLACE COMMAND ..
+
+PLACE is `-`. Commands:
+
+  replay ID SCRIPT   reads a recording from standard input, and writes the lines that the script logs
+
+A recording has three lines a point: the database, the retention policy, and the point in line protocol with its
+time in nanoseconds. SCRIPT is `stream|from().measurement('M')|log()`, with the name of a measurement for M.
+
+  kapd --help        prints this
+  kapd --version     prints the version
+";
+
+/// What `kapd --version` prints.
+const VERSION: &str = "kapd 0.1.0
+";
+
+/// The words of the command line, without the program's name; none where they can't be told.
+fn words_of<R: Env + AllocGlobal>(rt: &R) -> Option<Vec<String>> {
+    let mut words = Vec::new(rt.alloc());
+    for word in env::args(rt).ok()?.skip(1) {
+        words.push(word).ok()?;
+    }
+    Some(words)
+}
+
+/// Does what the words behind the place ask for.
+fn run<R: Input + Print + AllocGlobal>(rt: &R, words: &[String]) -> Status {
+    let mut input = ReadSource::new(rt.reader());
+    let mut out = WriteSink::new(io::writer(rt));
+    command(rt.alloc(), words, &mut input, &mut out)
+}
+
+/// Prints a text to standard output.
+fn show<R: Print>(rt: &R, text: &str) -> Status {
+    match rt.print(text) {
+        Ok(()) => Status::Ok,
+        Err(_) => Status::WriteFault,
+    }
+}
+
+fn answer<R: Env + Input + Print + AllocGlobal>(rt: &R) -> Status {
+    let Some(words) = words_of(rt) else {
+        return Status::Usage;
+    };
+    match words.as_slice() {
+        [word] if word.as_str() == "--help" => show(rt, HELP),
+        [word] if word.as_str() == "--version" => show(rt, VERSION),
+        [place, rest @ ..] if place.as_str() == "-" => run(rt, rest),
+        _ => Status::Usage,
+    }
+}
+
+/// Says on standard error how the command ended.
+fn tell<R: Eprint + AllocGlobal>(rt: &R, status: &Status) -> io::Result<()> {
+    match status_text(rt.alloc(), status) {
+        Ok(text) => {
+            let words = str::from_utf8(text.as_slice()).unwrap_or("");
+            eprintln!(rt; "kapd: {words}")
+        }
+        Err(_) => eprintln!(rt; "kapd: no memory"),
+    }
+}
+
+fn main(rt: HostRuntime) -> ExitCode {
+    let status = answer(&rt);
+    if status != Status::Ok {
+        let _ = tell(&rt, &status);
+    }
+    ExitCode::from(status.number())
+}
