@@ -140,6 +140,18 @@ impl<V: Drop> KeyMap<V> {
         })
     }
 
+    /// The map of these entries, or None exactly where their keys don't rise.
+    pub fn from_rising(entries: Vec<(Text, V)>) -> Option<KeyMap<V>>
+        ensures rises { is_some result ≡ map.is_sorted (slice_cmp nat_cmp) entries.items }
+        ensures same { IfSome result (λ m. m ≡ map.from_sorted entries.items) }
+    {
+        if rises(&entries) {
+            Some(KeyMap { entries })
+        } else {
+            None
+        }
+    }
+
     /// How many keys it has.
     pub fn len(&self) -> usize
         ensures { result ≡ map.len self.now }
