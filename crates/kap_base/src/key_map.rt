@@ -1,4 +1,4 @@
-ghost use Rattle.std.specs.Prelude.{◌≡◌, length, IfOk, OnOk, OnErr, IsTrue};
+ghost use Rattle.std.specs.Prelude.{◌≡◌, length, is_some, IfOk, IfSome, OnOk, OnErr, IsTrue};
 ghost use Rattle.std.specs.FinMap as map;
 ghost use Rattle.std.specs.Ordering.{nat_cmp, eq_by_cmp, is_lt};
 ghost use Rattle.std.specs.List.{list_any};
