@@ -100,7 +100,7 @@ module _ {X : Type 0} where
 
   -- one more entry is put
   pub put_one : (old new es : List (List ℕ × X)) (k : List ℕ) (v : X) → IsTrue (is_sorted byte_order old) → from_sorted old ≡ with_entries empty es → new ≡ put byte_order k v old
-    → IsTrue (is_sorted byte_order new) × (from_sorted new ≡ with_entries empty (es ++ (k, v) ∷ []))
+      → IsTrue (is_sorted byte_order new) × (from_sorted new ≡ with_entries empty (es ++ (k, v) ∷ []))
   put_one old new es k v sorted same is = (sorted-put old new k v sorted is, insert-put old new (with_entries empty es) k v sorted same is ∙ sym (with_entries-append empty es k v))
 
   -- ---- what stands at a key

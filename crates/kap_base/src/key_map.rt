@@ -1,4 +1,4 @@
-ghost use Rattle.std.specs.Prelude.{◌≡◌, length, IfOk, OnOk, OnErr, IsTrue};
+ghost use Rattle.std.specs.Prelude.{◌≡◌, length, is_some, IfOk, IfSome, OnOk, OnErr, IsTrue};
 ghost use Rattle.std.specs.FinMap as map;
 ghost use Rattle.std.specs.Ordering.{nat_cmp, eq_by_cmp, is_lt};
 ghost use Rattle.std.specs.List.{list_any};
@@ -138,6 +138,18 @@ impl<V: Drop> KeyMap<V> {
         Ok(KeyMap {
             entries: last_of_each(alloc, sorted(entries)?)?,
         })
+    }
+
+    /// The map of these entries, or None exactly where their keys don't rise.
+    pub fn from_rising(entries: Vec<(Text, V)>) -> Option<KeyMap<V>>
+        ensures rises { is_some result ≡ map.is_sorted (slice_cmp nat_cmp) entries.items }
+        ensures same { IfSome result (λ m. m ≡ map.from_sorted entries.items) }
+    {
+        if rises(&entries) {
+            Some(KeyMap { entries })
+        } else {
+            None
+        }
     }
 
     /// How many keys it has.

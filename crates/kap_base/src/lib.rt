@@ -3,6 +3,7 @@
 
 mod duplicate;
 mod expr;
+mod fun;
 mod key_map;
 mod listed;
 mod memory;
@@ -12,6 +13,7 @@ mod value;
 
 pub use duplicate::Duplicate;
 pub use expr::{Expr, Exprs, Lit, Op};
+pub use fun::{Fun, TimePart};
 pub use key_map::KeyMap;
 pub use listed::Listed;
 pub use memory::NoMemory;

@@ -1,4 +1,4 @@
-ghost use Rattle.std.specs.Prelude.{◌≡◌, [], ◌∷◌, ◌++◌, length, IfOk, OnOk, OnErr};
+ghost use Rattle.std.specs.Prelude.{◌≡◌, [], ◌∷◌, ◌++◌, length, take, IfOk, OnOk, OnErr};
 
 use crate::duplicate::{Duplicate, copies};
 use crate::memory::NoMemory;
@@ -64,6 +64,13 @@ impl<T: Drop> Listed<T> {
     {
         self.items.push(item)?;
         Ok(())
+    }
+
+    /// Keeps the first `len` items, or all where there are no more.
+    pub fn truncate(&mut self, len: usize)
+        ensures { self.new ≡ take len self.old }
+    {
+        self.items.truncate(len);
     }
 
     /// Removes all items, and keeps their room.

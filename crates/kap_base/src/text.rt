@@ -80,7 +80,8 @@ impl Text {
 
     /// The text of this string.
     pub fn from_string(string: String) -> Text
-        ensures { result ≡ string_bytes string }
+        ensures text { result ≡ string_bytes string }
+        ensures utf8 { IsUtf8 result }
     {
         Text { string }
     }

@@ -1,0 +1,9 @@
+pub mod PlaceLaws
+pub mod TrimLaws
+pub mod NumberLaws
+pub mod ReplaceLaws
+pub mod CivilLaws
+pub mod DateLaws
+pub mod LineLaws
+pub mod SortLaws
+pub mod PieceLaws

@@ -1,0 +1,8 @@
+pub mod Spelling
+pub mod Laws
+pub mod Numbers
+pub mod Wide
+pub mod Texts
+pub mod Maps
+pub mod Values
+pub mod Places
