@@ -1,0 +1,5 @@
+//! Tokens of a script.
+#![tactic(auto)]
+
+pub mod lexer;
+pub mod token;
