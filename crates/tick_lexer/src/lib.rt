@@ -1,6 +1,13 @@
-//! Tokens of a script.
+//! Tokens of a script (Kapacitor 1.6 TICKscript language reference: Syntax).
 #![tactic(auto)]
 
-pub mod lexer;
-pub mod token;
-pub mod unit;
+mod bytes;
+mod front;
+mod lexer;
+mod quote;
+mod token;
+mod unit;
+
+pub use lexer::lex;
+pub use token::{Kind, LexFault, Token, Tokens};
+pub use unit::Unit;

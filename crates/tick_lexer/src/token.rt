@@ -1,12 +1,9 @@
 //! Tokens, and why a text has none.
 
 ghost use Rattle.std.specs.Prelude.{◌≡◌};
-ghost use Rattle.tick_lexer.specs.declared.token.LexFault.TheVariants.{NoMemory};
+ghost use Rattle.tick_lexer.specs.declared.token.LexFault.TheVariants.{NoMemory as no_memory};
 
-use kap_base::expr::{Lit, Op};
-use kap_base::text::Text;
-use std::alloc::{AllocError, AllocFailed};
-use std::marker::Model;
+use kap_base::{Listed, Lit, NoMemory, Op, Text};
 
 /// What a token is, and what it says (Kapacitor 1.6 TICKscript language reference: Syntax).
 #[derive(Drop)]
@@ -48,35 +45,7 @@ pub struct Token {
 }
 
 /// The tokens of a text, in order.
-#[derive(Drop)]
-pub struct Tokens {
-    items: Vec<Token>,
-}
-
-impl Model for Tokens {
-    ghost use Rattle.std.specs.Prelude.{List};
-    ghost use Rattle.tick_lexer.specs.declared.token.Token.{Token};
-
-    ghost Value = { List Token };
-
-    ghost view = { λ tokens. tokens.items.items };
-}
-
-impl Tokens {
-    /// The tokens in this order; takes no memory.
-    pub fn of(items: Vec<Token>) -> Tokens
-        ensures { result ≡ items.items }
-    {
-        Tokens { items }
-    }
-
-    /// The tokens one after the other; takes no memory.
-    pub fn as_slice(&self) -> &[Token]
-        ensures { result.now ≡ self.now }
-    {
-        &self.items
-    }
-}
+pub type Tokens = Listed<Token>;
 
 /// Why a text has no tokens, at the first byte of what is no token.
 #[derive(Clone, Copy, Debug, PartialEq, Eq, Drop)]
@@ -103,18 +72,10 @@ pub enum LexFault {
     NoMemory,
 }
 
-impl From<AllocError> for LexFault {
-    ghost from_gives = { λ _ fault. fault ≡ NoMemory };
+impl From<NoMemory> for LexFault {
+    ghost from_gives = { λ _ fault. fault ≡ no_memory };
 
-    fn from(_error: AllocError) -> LexFault {
-        LexFault::NoMemory
-    }
-}
-
-impl<T: Drop> From<AllocFailed<T>> for LexFault {
-    ghost from_gives = { λ _ fault. fault ≡ NoMemory };
-
-    fn from(_error: AllocFailed<T>) -> LexFault {
+    fn from(_: NoMemory) -> LexFault {
         LexFault::NoMemory
     }
 }
