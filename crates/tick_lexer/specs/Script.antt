@@ -1,5 +1,5 @@
 -- The tokens of a text, and its first fault.
-use Rattle.std.specs.Prelude.{◌≡◌, ◌≢◌, ◌⊎◌, ℕ, ◌+◌, ◌*◌, ◌<◌, ◌≤◌, ◌^◌, Bool, true, false, ◌||◌, List, [], ◌∷◌, ◌++◌, length, codes}
+use Rattle.std.specs.Prelude.{◌≡◌, ◌≢◌, ◌⊎◌, ℕ, ◌+◌, ◌*◌, ◌<◌, ◌≤◌, ◌^◌, Bool, true, false, ◌||◌, List, [], ◌∷◌, ◌++◌, length, slice_range, codes}
 use Rattle.std.specs.Str.Parse.{IsNumeral, digits_value}
 use Rattle.tick_lexer.specs.declared.token.LexFault.{LexFault}
 use Rattle.tick_lexer.specs.declared.token.LexFault.TheVariants.{BadChar, OpenString, OpenRegex, BadNumber, FloatLiteral, OctalLiteral, WideInt, WideDuration, UserFunction, NoMemory}
@@ -86,7 +86,7 @@ pub record BeginsBadNumber (fault : LexFault) (text : List ℕ) : Type 0 where
 -- why no token stands first
 abbrev pub Begins : Bool → LexFault → List ℕ → Type 0
 Begins pattern (BadChar place) text = (b : ℕ) × (rest : List ℕ) × (text ≡ b ∷ rest) × ((is_word b || (is_mark b || is_white b)) ≡ false) × (b ≢ 64)
-Begins pattern (OpenString place) text = IsOpenThree text ⊎ ((starts_three text ≡ false) × IsOpen 39 text) ⊎ IsOpen 34 text
+Begins pattern (OpenString place) text = IsOpenThree text ⊎ (((starts_three text ≡ false) × IsOpen 39 text) ⊎ IsOpen 34 text)
 Begins pattern (OpenRegex place) text = (pattern ≡ true) × IsOpen 47 text × ((rest : List ℕ) → text ≡ 47 ∷ rest → NotFirst is_slash rest)
 Begins pattern (UserFunction place) text = (rest : List ℕ) × (text ≡ 64 ∷ rest)
 Begins pattern NoMemory text = ⊥
@@ -136,3 +136,9 @@ HasTokens text tokens = Reads tokens Whole false 0 text
 -- the text has this first fault: tokens stand before it
 abbrev pub HasFirstFault : List ℕ → LexFault → Type 0
 HasFirstFault text fault = (before : List Token) × Reads before (Fault fault) false 0 text
+
+-- from a place on these tokens stand one behind the other, and each one's slice of the text is its spelling
+abbrev pub AreInPlace : List ℕ → ℕ → List Token → Type 0
+AreInPlace text at [] = Unit {0}
+AreInPlace text at (t ∷ ts) =
+    (at ≤ t.start) × (t.start < t.«end») × (t.«end» ≤ length text) × Spelled t.kind (slice_range text t.start t.«end») × AreInPlace text t.«end» ts
