@@ -1,9 +1,6 @@
 -- The front of a text that begins no gap: each token and each fault that stands there is found, and what is found
 -- stands there.
-use Rattle.std.proofs.Common.{◌≡◌, ◌≢◌, ◌⊎◌, ⊎_elim, ℕ, ◌+◌, ◌<◌, Bool, true, false, cond, eqb, ◌&&◌, ◌||◌, List, [], ◌∷◌, ◌++◌, length, drop, refl, sym, ap, ◌∙◌, subst, arith, append_assoc, Option, pos, codes}
-use Rattle.std.proofs.lemmas.Bool.Decides.{nat_tests}
-use Rattle.std.specs.Str.Parse.{IsNumeral, digits_value}
-use Rattle.std.specs.Char.{digit_value}
+use Rattle.std.proofs.Common.{◌≡◌, ◌≢◌, ◌⊎◌, ⊎_elim, ℕ, Bool, true, false, cond, eqb, ◌&&◌, ◌||◌, List, [], ◌∷◌, ◌++◌, length, drop, refl, sym, ap, ◌∙◌, subst, arith, Option, codes}
 use Rattle.kap_base.specs.declared.expr.Lit.TheVariants.{Int, Dur, Str, Bool as Truth, Regex}
 use Rattle.kap_base.specs.declared.expr.Op.{Op}
 use Rattle.kap_base.specs.declared.expr.Op.TheVariants.{Or, And, Eq, Ne, Match, NoMatch, Lt, Le, Gt, Ge, Add, Sub, Mul, Div, Rem}
@@ -12,14 +9,13 @@ use Rattle.tick_lexer.specs.declared.token.Kind.TheVariants.{Ident, Var, Lambda,
 use Rattle.tick_lexer.specs.declared.token.LexFault.{LexFault}
 use Rattle.tick_lexer.specs.declared.token.LexFault.TheVariants.{BadChar, OpenString, OpenRegex, BadNumber, FloatLiteral, OctalLiteral, WideInt, WideDuration, UserFunction, NoMemory}
 use Rattle.tick_lexer.specs.Bytes.{is_letter, is_digit, is_word, is_white, is_mark, starts, NotFirst, starts_three}
-use Rattle.tick_lexer.specs.Spelling.{IsName, operator_bytes, escaped, Spelled, is_slash, is_equals, is_tilde, Ends, IsAllowed}
-use Rattle.tick_lexer.specs.Script.{IsOpenThree, IsOpen, Begins, BeginsBadNumber, place_of}
-use Rattle.tick_lexer.specs.Front.{Found, Took, Bad, word, quoted, before_three, tripled, string, paired, sign, mark, number, front}
-use Rattle.tick_lexer.specs.Runs.{begins_comment, skipped}
-use Rattle.tick_lexer.proofs.Tests.{cond_true, cond_false, choose, or_false, both_false, and_left, and_rest, is_same, other_test, not_same}
-use Rattle.tick_lexer.proofs.Quotes.{escaped_quote, escaped_other}
+use Rattle.tick_lexer.specs.Spelling.{operator_bytes, Spelled, is_slash, is_equals, is_tilde, Ends, IsAllowed}
+use Rattle.tick_lexer.specs.Script.{IsOpenThree, IsOpen, Begins, place_of}
+use Rattle.tick_lexer.specs.Front.{Found, Took, Bad, word, quoted, before_three, tripled, paired, mark, number, front}
+use Rattle.tick_lexer.specs.Runs.{begins_comment}
+use Rattle.tick_lexer.proofs.Tests.{cond_false, choose, or_false, both_false, and_left, and_rest, is_same, other_test}
 use Rattle.tick_lexer.proofs.Three.{none_ends}
-use Rattle.tick_lexer.proofs.Sound.{Sound, sound_took}
+use Rattle.tick_lexer.proofs.Sound.{Sound}
 use Rattle.tick_lexer.proofs.Words.{front_mark, front_name, ident_front, word_found, word_bad}
 use Rattle.tick_lexer.proofs.Numbers.{int_front, duration_front, bad_number_front, number_sound}
 use Rattle.tick_lexer.proofs.Signs.{in_quotes, quoted_front, open_front, string_front, mark_sound}

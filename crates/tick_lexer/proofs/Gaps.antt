@@ -1,5 +1,5 @@
 -- Gaps: what is skipped is one, and one is skipped whole.
-use Rattle.std.proofs.Common.{◌≡◌, ◌≢◌, ◌⊎◌, inl, inr, ⊎_elim, ℕ, ◌+◌, ◌<◌, Bool, true, false, cond, eqb, not, ◌&&◌, ◌||◌, List, [], ◌∷◌, ◌++◌, length, refl, sym, ap, ◌∙◌, subst, arith, append_assoc, codes}
+use Rattle.std.proofs.Common.{◌≡◌, ◌≢◌, ◌⊎◌, inl, inr, ⊎_elim, ℕ, ◌<◌, Bool, true, false, cond, eqb, not, ◌&&◌, ◌||◌, List, [], ◌∷◌, ◌++◌, refl, sym, ap, ◌∙◌, subst, arith, append_assoc, codes}
 use Rattle.std.proofs.lemmas.Bool.Decides.{nat_tests}
 use Rattle.std.specs.Str.Parse.{IsNumeral}
 use Rattle.std.specs.Char.{digit_value}
@@ -10,7 +10,7 @@ use Rattle.tick_lexer.specs.declared.token.Kind.{Kind}
 use Rattle.tick_lexer.specs.declared.token.Kind.TheVariants.{Ident, Var, Lambda, Literal, Reference, Sign, Bang, Assign, Open, Close, Comma, Dot, Pipe}
 use Rattle.tick_lexer.specs.declared.token.LexFault.{LexFault}
 use Rattle.tick_lexer.specs.declared.token.LexFault.TheVariants.{BadChar, OpenString, OpenRegex, BadNumber, FloatLiteral, OctalLiteral, WideInt, WideDuration, UserFunction, NoMemory}
-use Rattle.tick_lexer.specs.Bytes.{is_letter, is_word, is_white, is_mark, starts, NotFirst, starts_three}
+use Rattle.tick_lexer.specs.Bytes.{is_letter, is_word, is_white, is_mark, starts, starts_three}
 use Rattle.tick_lexer.specs.Spelling.{IsName, unit_bytes, operator_bytes, escaped, Quoted, Tripled, Spelled, is_slash, Ends}
 use Rattle.tick_lexer.specs.Script.{Place, Between, Slash, Comment, IsGap, IsOpenThree, IsOpen, Begins, BeginsBadNumber}
 use Rattle.tick_lexer.specs.Runs.{begins_comment, skipped}
@@ -28,8 +28,8 @@ cons_some b bs = λ (h : (b ∷ bs) ≡ []). cc
 first_gap : (b : ℕ) (bs : List ℕ) → is_white b ≡ false → begins_comment (b ∷ bs) ≡ false → NoGap (b ∷ bs)
 first_gap b bs h k = record {
   stays =
-    cond_false (is_white b) (skipped bs false) (cond (begins_comment (b ∷ bs)) (skipped bs true) (b ∷ bs)) h
-    ∙ cond_false (begins_comment (b ∷ bs)) (skipped bs true) (b ∷ bs) k;
+      cond_false (is_white b) (skipped bs false) (cond (begins_comment (b ∷ bs)) (skipped bs true) (b ∷ bs)) h
+      ∙ cond_false (begins_comment (b ∷ bs)) (skipped bs true) (b ∷ bs) k;
   some = cons_some b bs;
 }
 

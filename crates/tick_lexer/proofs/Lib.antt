@@ -10,3 +10,4 @@ pub mod Signs
 pub mod Fronts
 pub mod Gaps
 pub mod Texts
+pub mod Lexing

@@ -1,5 +1,5 @@
 -- Numbers: what is spelled as one is found, and what is found is spelled so; likewise their faults.
-use Rattle.std.proofs.Common.{◌≡◌, ◌≢◌, ◌⊎◌, inl, inr, ℕ, ◌+◌, ◌*◌, ◌<◌, ◌≤◌, ◌^◌, Bool, true, false, cond, eqb, ltb, leb, ◌&&◌, ◌||◌, List, [], ◌∷◌, ◌++◌, length, drop, refl, sym, ap, ◌∙◌, subst, arith, pos, lt-ltb, ltb-true, ltb-false, append_assoc, length-append, Option, Some, None}
+use Rattle.std.proofs.Common.{◌≡◌, ℕ, ◌+◌, ◌*◌, ◌<◌, ◌≤◌, ◌^◌, Bool, true, false, cond, eqb, ltb, leb, ◌||◌, List, [], ◌∷◌, ◌++◌, length, drop, refl, sym, ap, ◌∙◌, subst, arith, pos, lt-ltb, ltb-true, ltb-false, append_assoc, length-append, Option, Some, None}
 use Rattle.std.proofs.lemmas.Bool.Decides.{nat_tests}
 use Rattle.std.proofs.lemmas.List.Sums.{take_while-cons}
 use Rattle.std.proofs.Math.Seq.{drop-append_seam}
@@ -7,7 +7,6 @@ use Rattle.std.specs.List.{take_while}
 use Rattle.std.specs.Str.Parse.{AllDigits, IsNumeral, digits_value}
 use Rattle.std.specs.Char.{digit_value}
 use Rattle.kap_base.specs.declared.expr.Lit.TheVariants.{Int, Dur}
-use Rattle.tick_lexer.specs.declared.token.Kind.{Kind}
 use Rattle.tick_lexer.specs.declared.token.Kind.TheVariants.{Literal}
 use Rattle.tick_lexer.specs.declared.token.LexFault.{LexFault}
 use Rattle.tick_lexer.specs.declared.token.LexFault.TheVariants.{BadChar, OpenString, OpenRegex, BadNumber, FloatLiteral, OctalLiteral, WideInt, WideDuration, UserFunction, NoMemory}
@@ -15,11 +14,11 @@ use Rattle.tick_lexer.specs.declared.unit.Unit as units
 use Rattle.tick_lexer.specs.declared.unit.Unit.TheVariants.{Week, Day, Hour, Minute, Second, Milli, Micro, MicroSign}
 use Rattle.tick_lexer.specs.Bytes.{is_letter, is_digit, is_word, AllPass, starts, NotFirst, starts_micro}
 use Rattle.tick_lexer.specs.Spelling.{has_leading_zero, IsPlainNumeral, unit_bytes, unit_nanos, longest_duration, IsDuration, is_dot, EndsInt}
-use Rattle.tick_lexer.specs.Script.{Digits, IsNoUnit, IsWideDuration, IsBadNumber, BeginsBadNumber, place_of}
-use Rattle.tick_lexer.specs.Front.{Found, Took, Bad, unit_at, integer, duration, measured, numeral, number, front}
-use Rattle.tick_lexer.proofs.Tests.{cond_true, cond_false, choose, or_false, or_left, or_right, and_left, and_true, is_same}
+use Rattle.tick_lexer.specs.Script.{Digits, IsBadNumber, BeginsBadNumber, place_of}
+use Rattle.tick_lexer.specs.Front.{Took, Bad, unit_at, integer, duration, measured, numeral, number, front}
+use Rattle.tick_lexer.proofs.Tests.{cond_true, cond_false, choose, or_false, or_left, and_left, and_true, is_same}
 use Rattle.tick_lexer.proofs.Scans.{digits_pass}
-use Rattle.tick_lexer.proofs.Sound.{Sound, sound_took, sound_bad, sound_at}
+use Rattle.tick_lexer.proofs.Sound.{Sound, sound_took, sound_bad}
 use Rattle.tick_lexer.proofs.Words.{front_digit, pass_all, run_of}
 
 digit_passes : (b : ℕ) → digit_value b < 10 → is_digit b ≡ true
@@ -397,10 +396,13 @@ measured_sound pattern at digits tail text (Some unit) e d plain dot =
       digits = digits;
       tail = tail;
       number = d;
-      bad = (plain, record {
-        follows = ap (λ (l : List ℕ). starts is_word l || starts_micro l) u.joined ∙ unit_follows unit u.back;
-        no_end = λ other rest f. other_stands tail u.back unit rest other e u.joined (sym same ∙ w) f;
-      });
+      bad = (
+        plain,
+        record {
+          follows = ap (λ (l : List ℕ). starts is_word l || starts_micro l) u.joined ∙ unit_follows unit u.back;
+          no_end = λ other rest f. other_stands tail u.back unit rest other e u.joined (sym same ∙ w) f;
+        },
+      );
     }) refl)
     (λ w. duration_sound pattern at digits tail text u.back unit d plain u.joined (sym same ∙ w))
 

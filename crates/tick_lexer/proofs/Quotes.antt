@@ -1,5 +1,5 @@
 -- Texts in quotes: the scan reads each, and what it reads is one.
-use Rattle.std.proofs.Common.{◌≡◌, ◌≢◌, ℕ, ◌+◌, Bool, true, false, cond, eqb, List, [], ◌∷◌, ◌++◌, length, refl, sym, ap, ◌∙◌, subst, arith, append_assoc, length-append}
+use Rattle.std.proofs.Common.{◌≡◌, ◌≢◌, ℕ, ◌+◌, Bool, true, false, cond, eqb, List, [], ◌∷◌, ◌++◌, length, refl, sym, ap, ◌∙◌, subst, arith, append_assoc}
 use Rattle.tick_lexer.specs.Front.{Scan, Endless, Shut, grown, scan}
 use Rattle.tick_lexer.specs.Spelling.{escaped, EndsPlain, Quoted}
 use Rattle.tick_lexer.proofs.Tests.{is_same, same_test, other_test, not_same}

@@ -1,24 +1,21 @@
 -- Strings, references, patterns and signs: what is spelled as one is found, and what is found is spelled so;
 -- likewise their faults.
-use Rattle.std.proofs.Common.{◌≡◌, ◌≢◌, ◌⊎◌, inl, inr, ⊎_elim, ℕ, ◌+◌, ◌<◌, Bool, true, false, cond, eqb, ◌&&◌, ◌||◌, List, [], ◌∷◌, ◌++◌, length, drop, take, refl, sym, ap, ◌∙◌, subst, arith, append_assoc, length-append, Option, Some, None, codes}
-use Rattle.std.proofs.lemmas.Bool.Decides.{nat_tests}
+use Rattle.std.proofs.Common.{◌≡◌, ◌≢◌, ◌⊎◌, inl, inr, ⊎_elim, ℕ, ◌+◌, Bool, true, false, eqb, ◌&&◌, ◌||◌, List, [], ◌∷◌, ◌++◌, length, drop, take, refl, sym, ap, ◌∙◌, subst, arith, append_assoc, length-append, Option, Some, None, codes}
 use Rattle.std.proofs.Math.Seq.{take-append_seam}
-use Rattle.kap_base.specs.declared.expr.Lit.TheVariants.{Str, Bool as Truth, Regex}
-use Rattle.kap_base.specs.declared.expr.Op.{Op}
-use Rattle.kap_base.specs.declared.expr.Op.TheVariants.{Or, And, Eq, Ne, Match, NoMatch, Lt, Le, Gt, Ge, Add, Sub, Mul, Div, Rem}
+use Rattle.kap_base.specs.declared.expr.Lit.TheVariants.{Str, Regex}
+use Rattle.kap_base.specs.declared.expr.Op.TheVariants.{Eq, Ne, Match, NoMatch, Lt, Le, Gt, Ge, Add, Sub, Mul, Div, Rem}
 use Rattle.tick_lexer.specs.declared.token.Kind.{Kind}
 use Rattle.tick_lexer.specs.declared.token.Kind.TheVariants.{Literal, Reference, Sign, Bang, Assign, Open, Close, Comma, Dot, Pipe}
 use Rattle.tick_lexer.specs.declared.token.LexFault.{LexFault}
 use Rattle.tick_lexer.specs.declared.token.LexFault.TheVariants.{BadChar, OpenString, OpenRegex, UserFunction}
 use Rattle.tick_lexer.specs.Bytes.{is_word, is_white, is_mark, starts, NotFirst, starts_three}
-use Rattle.tick_lexer.specs.Spelling.{operator_bytes, escaped, EndsPlain, Quoted, Tripled, Spelled, is_single_quote, is_slash, is_equals, is_tilde, EndsAlone, Ends, IsAllowed}
-use Rattle.tick_lexer.specs.Script.{IsOpen, IsOpenThree, place_of}
-use Rattle.tick_lexer.specs.Front.{Found, Took, Bad, Scan, Endless, Shut, scan, shut, quoted, before_three, tripled, string, paired, sign, mark, front}
-use Rattle.tick_lexer.proofs.Tests.{cond_true, cond_false, choose, or_false, both_false, and_true, and_rest, and_left, is_same, not_same}
-use Rattle.tick_lexer.proofs.Quotes.{Shutting, shut_quoted, quoted_scan, endless_quoted}
-use Rattle.tick_lexer.proofs.Three.{three_ends, none_ends, ends_none, tripling, no_three}
-use Rattle.tick_lexer.proofs.Sound.{Sound, sound_took, sound_bad, sound_at}
-use Rattle.tick_lexer.proofs.Words.{Lexeme}
+use Rattle.tick_lexer.specs.Spelling.{escaped, EndsPlain, Quoted, Tripled, Spelled, is_single_quote, is_slash, is_equals, is_tilde, Ends, IsAllowed}
+use Rattle.tick_lexer.specs.Script.{IsOpen}
+use Rattle.tick_lexer.specs.Front.{Found, Took, Bad, Scan, Endless, Shut, scan, shut, quoted, before_three, tripled, string, sign, mark, front}
+use Rattle.tick_lexer.proofs.Tests.{cond_false, choose, both_false, and_true, and_rest, is_same, not_same}
+use Rattle.tick_lexer.proofs.Quotes.{shut_quoted, quoted_scan, endless_quoted}
+use Rattle.tick_lexer.proofs.Three.{three_ends, ends_none, tripling, no_three}
+use Rattle.tick_lexer.proofs.Sound.{Sound, sound_took, sound_bad}
 
 -- the bytes of a quoted text
 abbrev pub in_quotes : ℕ → List ℕ → List ℕ
@@ -44,9 +41,9 @@ open_front kind fault quote rest ne h =
 
 -- what is found at a quote
 quoted_sound : (pattern : Bool) (at : ℕ) (kind : List ℕ → Kind) (fault : LexFault) (quote : ℕ) (rest : List ℕ) → quote ≢ 92
-  → ((content back : List ℕ) → rest ≡ (escaped quote content ++ quote ∷ []) ++ back → Quoted quote content (in_quotes quote content) → Spelled (kind content) (in_quotes quote content) × Ends (kind content) (in_quotes quote content) back × IsAllowed pattern (kind content))
-  → (IsOpen quote (quote ∷ rest) → Sound pattern at (quote ∷ rest) (Bad fault))
-  → Sound pattern at (quote ∷ rest) (quoted kind fault quote rest)
+    → ((content back : List ℕ) → rest ≡ (escaped quote content ++ quote ∷ []) ++ back → Quoted quote content (in_quotes quote content) → Spelled (kind content) (in_quotes quote content) × Ends (kind content) (in_quotes quote content) back × IsAllowed pattern (kind content))
+    → (IsOpen quote (quote ∷ rest) → Sound pattern at (quote ∷ rest) (Bad fault))
+    → Sound pattern at (quote ∷ rest) (quoted kind fault quote rest)
 quoted_sound pattern at kind fault quote rest ne good bad =
     let go : (x : Scan) → scan quote rest false ≡ x → Sound pattern at (quote ∷ rest) (shut kind fault x) =
     elim [

@@ -1,5 +1,5 @@
 -- What is found at the front of a text: a token that stands there, or a fault that begins there.
-use Rattle.std.proofs.Common.{◌≡◌, ℕ, Bool, List, subst, ◌∙◌, ap, sym}
+use Rattle.std.proofs.Common.{◌≡◌, ℕ, Bool, List, subst}
 use Rattle.tick_lexer.specs.declared.token.Kind.{Kind}
 use Rattle.tick_lexer.specs.declared.token.LexFault.{LexFault}
 use Rattle.tick_lexer.specs.Front.{Found, Took, Bad}
@@ -25,10 +25,10 @@ pub sound_bad : (pattern : Bool) (at : ℕ) (text : List ℕ) (fault : LexFault)
 sound_bad pattern at text fault b p = record {
   took = λ k m (h : Bad fault ≡ Took k m). absurd (cc);
   bad = λ f (h : Bad fault ≡ Bad f).
-    let same : fault ≡ f = cc in
-    let P : LexFault → Type 0 = λ x. Failure pattern at text x in
-    let it : P fault = record { begins = b; place = p } in
-    subst P same it;
+      let same : fault ≡ f = cc in
+      let P : LexFault → Type 0 = λ x. Failure pattern at text x in
+      let it : P fault = record { begins = b; place = p } in
+      subst P same it;
 }
 
 pub sound_at : (pattern : Bool) (at : ℕ) (text other : List ℕ) (found : Found) → text ≡ other → Sound pattern at text found → Sound pattern at other found

@@ -9,9 +9,8 @@ use Rattle.tick_lexer.specs.declared.token.Kind.{Kind}
 use Rattle.tick_lexer.specs.declared.token.Kind.TheVariants.{Ident, Var, Lambda, Literal, Reference, Sign, Bang, Assign, Open, Close, Comma, Dot, Pipe}
 use Rattle.tick_lexer.specs.declared.token.LexFault.{LexFault}
 use Rattle.tick_lexer.specs.declared.token.Token.{Token}
-use Rattle.tick_lexer.specs.Bytes.{starts}
-use Rattle.tick_lexer.specs.Spelling.{IsName, operator_bytes, escaped, Quoted, Tripled, Spelled, takes_pattern}
-use Rattle.tick_lexer.specs.Script.{Between, IsGap, Next, place_of, Fails, Ending, Whole, Fault, EndsIn, Reads, HasTokens, HasFirstFault, AreInPlace}
+use Rattle.tick_lexer.specs.Spelling.{IsName, operator_bytes, Quoted, Tripled, Spelled, takes_pattern}
+use Rattle.tick_lexer.specs.Script.{Between, IsGap, Next, place_of, Ending, Whole, Fault, Reads, HasTokens, HasFirstFault, AreInPlace}
 use Rattle.tick_lexer.specs.Front.{Found, Took, Bad, front}
 use Rattle.tick_lexer.specs.Runs.{skipped, Runs}
 use Rattle.tick_lexer.proofs.Signs.{in_quotes}
@@ -166,3 +165,157 @@ runs_of (t ∷ ts) ending pattern at text h =
       runs_at ts ending (takes_pattern t.kind) t.«end» rest (drop (length n.bytes) (skipped text false)) (sym (ap (λ (l : List ℕ). drop (length n.bytes) l) left ∙ drop-append_seam n.bytes rest))
           (runs_of ts ending (takes_pattern t.kind) t.«end» rest h.2),
     )
+
+same_token : (t u : Token) → t.kind ≡ u.kind → t.start ≡ u.start → t.«end» ≡ u.«end» → t ≡ u
+same_token t u a b c =
+    let one : t ≡ record { kind = u.kind; start = t.start; «end» = t.«end» } = ap (λ (k : Kind). record { kind = k; start = t.start; «end» = t.«end» }) a in
+    let two : record { kind = u.kind; start = t.start; «end» = t.«end» } ≡ record { kind = u.kind; start = u.start; «end» = t.«end» } = ap (λ (n : ℕ). record { kind = u.kind; start = n; «end» = t.«end» }) b in
+    let three : record { kind = u.kind; start = u.start; «end» = t.«end» } ≡ u = ap (λ (n : ℕ). record { kind = u.kind; start = u.start; «end» = n }) c in
+    one ∙ two ∙ three
+
+-- the lexer runs in one way
+record Same (ts us : List Token) (e f : Ending) : Type 0 where
+  pub tokens : ts ≡ us
+  pub ending : e ≡ f
+
+same_end : (e f : Ending) (pattern : Bool) (at : ℕ) (text : List ℕ) → Runs [] e pattern at text → Runs [] f pattern at text → e ≡ f
+same_end Whole Whole pattern at text h k = refl
+same_end Whole (Fault b) pattern at text h k = absurd (k.0 h)
+same_end (Fault a) Whole pattern at text h k = absurd (h.0 k)
+same_end (Fault a) (Fault b) pattern at text h k =
+    let bads : Bad a ≡ Bad b = sym h.1 ∙ k.1 in
+    let same : a ≡ b = cc in
+    ap (λ (x : LexFault). Fault x) same
+
+no_token : (ending : Ending) (pattern : Bool) (at : ℕ) (text : List ℕ) (t : Token) (ts : List Token) (other : Ending) → Runs [] ending pattern at text → Runs (t ∷ ts) other pattern at text → ⊥
+no_token Whole pattern at text t ts other h k = took_some pattern t.start (skipped text false) t.kind k.0 k.1 h
+no_token (Fault fault) pattern at text t ts other h k =
+    let place : front pattern t.start (skipped text false) ≡ Bad fault = ap (λ (n : ℕ). front pattern n (skipped text false)) k.2 ∙ h.1 in
+    let both : Bad fault ≡ Took t.kind k.0 = sym place ∙ k.1 in
+    cc
+
+same_runs : (ts us : List Token) (e f : Ending) (pattern : Bool) (at : ℕ) (text : List ℕ) → Runs ts e pattern at text → Runs us f pattern at text → Same ts us e f
+same_runs [] [] e f pattern at text h k = record { tokens = refl; ending = same_end e f pattern at text h k }
+same_runs [] (u ∷ us) e f pattern at text h k = absurd (no_token e pattern at text u us f h k)
+same_runs (t ∷ ts) [] e f pattern at text h k = absurd (no_token f pattern at text t ts e k h)
+same_runs (t ∷ ts) (u ∷ us) e f pattern at text h k =
+    let left = skipped text false in
+    let starts_same : t.start ≡ u.start = h.2 ∙ sym k.2 in
+    let fronts : Took t.kind h.0 ≡ Took u.kind k.0 = sym h.1 ∙ ap (λ (n : ℕ). front pattern n left) starts_same ∙ k.1 in
+    let kinds : t.kind ≡ u.kind = cc in
+    let sizes : h.0 ≡ k.0 = cc in
+    let ends_same : t.«end» ≡ u.«end» = let a = h.3 in let b = k.3 in omega arith in
+    let first : t ≡ u = same_token t u kinds starts_same ends_same in
+    let P : Token → Type 0 = λ x. Runs us f (takes_pattern x.kind) x.«end» (drop k.0 left) in
+    let moved : Runs us f (takes_pattern t.kind) t.«end» (drop k.0 left) = subst P (sym first) k.4 in
+    let there = runs_at us f (takes_pattern t.kind) t.«end» (drop k.0 left) (drop h.0 left) (ap (λ (n : ℕ). drop n left) (sym sizes)) moved in
+    let rest = same_runs ts us e f (takes_pattern t.kind) t.«end» (drop h.0 left) h.4 there in
+    record { tokens = ap (λ (x : Token). x ∷ ts) first ∙ ap (λ (l : List Token). u ∷ l) rest.tokens; ending = rest.ending }
+
+same_reads : (ts us : List Token) (e f : Ending) (text : List ℕ) → Reads ts e false 0 text → Reads us f false 0 text → Same ts us e f
+same_reads ts us e f text h k = same_runs ts us e f false 0 text (runs_of ts e false 0 text h) (runs_of us f false 0 text k)
+
+pub one_list : (text : List ℕ) (a b : List Token) → HasTokens text a → HasTokens text b → a ≡ b
+one_list text a b h k = let s = same_reads a b Whole Whole text h k in s.tokens
+
+pub one_fault : (text : List ℕ) (a b : LexFault) → HasFirstFault text a → HasFirstFault text b → a ≡ b
+one_fault text a b h k = let s = same_reads h.0 k.0 (Fault a) (Fault b) text h.1 k.1 in let e = s.ending in cc
+
+pub not_both : (text : List ℕ) (tokens : List Token) (fault : LexFault) → HasTokens text tokens → HasFirstFault text fault → ⊥
+not_both text tokens fault h k = let s = same_reads tokens k.0 Whole (Fault fault) text h k.1 in let e = s.ending in cc
+
+-- the lexer runs through each text
+record Through (pattern : Bool) (at : ℕ) (text : List ℕ) : Type 0 where
+  pub tokens : List Token
+  pub ending : Ending
+  pub runs : Runs tokens ending pattern at text
+
+skipped_fits : (text : List ℕ) → length (skipped text false) ≤ length text
+skipped_fits text =
+    let g = gap_of text in
+    let sizes = ap (λ (l : List ℕ). length l) g.joined ∙ length-append g.gap (skipped text false) in
+    omega arith
+
+through_on : (limit : ℕ) (text : List ℕ) (pattern : Bool) (at start : ℕ) (found : Found) → skipped text false ≢ [] → start ≡ at + (length text - length (skipped text false)) → front pattern start (skipped text false) ≡ found → length text ≤ suc limit
+    → ((rest : List ℕ) (next : Bool) (place : ℕ) → length rest ≤ limit → Through next place rest) → Through pattern at text
+through_on limit text pattern at start (Bad fault) some place h size more = record {
+  tokens = [];
+  ending = Fault fault;
+  runs = (some, ap (λ (n : ℕ). front pattern n (skipped text false)) (sym place) ∙ h);
+}
+through_on limit text pattern at start (Took kind n) some place h size more =
+    let left = skipped text false in
+    let l = lexeme_of pattern start text kind n some h in
+    let one = spelled_some kind l.bytes l.spelled in
+    let sizes = ap (λ (x : List ℕ). length x) l.joined ∙ length-append l.bytes l.rest in
+    let same : drop n left ≡ l.rest = ap (λ (k : ℕ). drop k left) l.size ∙ ap (λ (x : List ℕ). drop (length l.bytes) x) l.joined ∙ drop-append_seam l.bytes l.rest in
+    let rest_size = ap (λ (x : List ℕ). length x) same in
+    let fits = skipped_fits text in
+    let token : Token = record { kind = kind; start = start; «end» = start + n } in
+    let t = more (drop n left) (takes_pattern kind) (start + n) (omega arith) in
+    record { tokens = token ∷ t.tokens; ending = t.ending; runs = (n, h, place, refl, t.runs) }
+
+through : (limit : ℕ) (text : List ℕ) (pattern : Bool) (at : ℕ) → length text ≤ limit → Through pattern at text
+through zero text pattern at size =
+    let fits = skipped_fits text in
+    let none : (l : List ℕ) → length l ≤ 0 → l ≡ [] = elim [ [] ↦ λ h. refl | b ∷ l ↦ λ h. absurd (omega arith) ] in
+    record { tokens = []; ending = Whole; runs = none (skipped text false) (omega arith) }
+through (suc limit) text pattern at size =
+    let more = λ (rest : List ℕ) (next : Bool) (place : ℕ) (h : length rest ≤ limit). through limit rest next place h in
+    let start = at + (length text - length (skipped text false)) in
+    let go : (l : List ℕ) → skipped text false ≡ l → Through pattern at text =
+    elim [
+      | [] ↦ λ e. record { tokens = []; ending = Whole; runs = e }
+      | b ∷ l ↦ λ e.
+          let some : skipped text false ≢ [] = λ (z : skipped text false ≡ []). cc in
+          through_on limit text pattern at start (front pattern start (skipped text false)) some refl refl size more
+    ] in
+    go (skipped text false) refl
+
+has_one : (text : List ℕ) (tokens : List Token) (ending : Ending) → Reads tokens ending false 0 text → ((ts : List Token) × HasTokens text ts) ⊎ ((fault : LexFault) × HasFirstFault text fault)
+has_one text tokens Whole h = inl (tokens, h)
+has_one text tokens (Fault fault) h = inr (fault, (tokens, h))
+
+pub some_answer : (text : List ℕ) → ((tokens : List Token) × HasTokens text tokens) ⊎ ((fault : LexFault) × HasFirstFault text fault)
+some_answer text =
+    let t = through (length text) text false 0 (omega arith) in
+    has_one text t.tokens t.ending (reads_of t.tokens t.ending false 0 text t.runs)
+
+-- the slice of a token that stands behind some text
+slice_behind : (front bytes rest : List ℕ) → take (length front + length bytes - length front) (drop (length front) (front ++ (bytes ++ rest))) ≡ bytes
+slice_behind front bytes rest =
+    let size : length front + length bytes - length front ≡ length bytes = omega arith in
+    ap (λ (n : ℕ). take n (drop (length front) (front ++ (bytes ++ rest)))) size
+    ∙ ap (λ (l : List ℕ). take (length bytes) l) (drop-append_seam front (bytes ++ rest))
+    ∙ take-append_seam bytes rest
+
+-- a text's tokens stand in their places
+pub in_place : (ts : List Token) (ending : Ending) (pattern : Bool) (at : ℕ) (text before rest : List ℕ) → text ≡ before ++ rest → at ≡ length before → Reads ts ending pattern at rest → AreInPlace text at ts
+in_place [] ending pattern at text before rest e p h = tt
+in_place (t ∷ ts) ending pattern at text before rest e p h =
+    let back = h.0 in
+    let n = h.1 in
+    let front = before ++ n.gap in
+    let whole : text ≡ front ++ (n.bytes ++ back) = e ∙ ap (λ (l : List ℕ). before ++ l) n.joined ∙ sym (append_assoc before n.gap (n.bytes ++ back)) in
+    let all : text ≡ (front ++ n.bytes) ++ back = whole ∙ sym (append_assoc front n.bytes back) in
+    let sizes = ap (λ (l : List ℕ). length l) whole ∙ length-append front (n.bytes ++ back) in
+    let more = length-append n.bytes back in
+    let wide = length-append before n.gap in
+    let start : t.start ≡ length front = let b = n.begins in omega arith in
+    let stop : t.«end» ≡ length front + length n.bytes = let s = n.stops in omega arith in
+    let some = spelled_some t.kind n.bytes n.spelled in
+    let is : take (t.«end» - t.start) (drop t.start text) ≡ n.bytes =
+    ap (λ (k : ℕ). take (k - t.start) (drop t.start text)) stop
+    ∙ ap (λ (k : ℕ). take (length front + length n.bytes - k) (drop k text)) start
+    ∙ ap (λ (l : List ℕ). take (length front + length n.bytes - length front) (drop (length front) l)) whole
+    ∙ slice_behind front n.bytes back in
+    let ends : t.«end» ≡ length (front ++ n.bytes) = let k = length-append front n.bytes in omega arith in (
+      omega arith,
+      omega arith,
+      omega arith,
+      subst (λ (l : List ℕ). Spelled t.kind l) (sym is) n.spelled,
+      in_place ts ending (takes_pattern t.kind) t.«end» text (front ++ n.bytes) back all ends h.2,
+    )
+
+pub tokens_in_place : (text : List ℕ) (tokens : List Token) → HasTokens text tokens → AreInPlace text 0 tokens
+tokens_in_place text tokens h = in_place tokens Whole false 0 text [] text refl refl h

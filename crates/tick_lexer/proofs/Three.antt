@@ -1,8 +1,8 @@
 -- Texts in three quotes.
-use Rattle.std.proofs.Common.{◌≡◌, ℕ, ◌+◌, suc, Bool, true, false, cond, eqb, ◌&&◌, List, [], ◌∷◌, ◌++◌, length, take, refl, sym, ap, ◌∙◌, subst, arith, Option, Some, None}
+use Rattle.std.proofs.Common.{◌≡◌, ℕ, ◌+◌, Bool, true, false, cond, eqb, ◌&&◌, List, [], ◌∷◌, ◌++◌, length, refl, sym, ap, ◌∙◌, arith, Option, Some, None}
 use Rattle.tick_lexer.specs.Bytes.{starts_three, NoThree}
 use Rattle.tick_lexer.specs.Front.{plus, before_three}
-use Rattle.tick_lexer.proofs.Tests.{cond_true, cond_false, and_true, and_left, is_same}
+use Rattle.tick_lexer.proofs.Tests.{cond_false, and_true, and_left, is_same}
 
 -- whether three quotes stand first doesn't hang on what follows two of them
 three_same : (b : ℕ) (text rest : List ℕ) → starts_three (b ∷ (text ++ (39 ∷ 39 ∷ []))) ≡ starts_three (b ∷ (text ++ (39 ∷ 39 ∷ 39 ∷ rest)))
@@ -53,9 +53,9 @@ tripling_here (b ∷ c ∷ d ∷ bs) n z h =
       text = [];
       rest = bs;
       joined =
-        ap (λ (x : ℕ). x ∷ c ∷ d ∷ bs) (is_same b 39 one.0)
-        ∙ ap (λ (x : ℕ). 39 ∷ x ∷ d ∷ bs) (is_same c 39 two.0)
-        ∙ ap (λ (x : ℕ). 39 ∷ 39 ∷ x ∷ bs) (is_same d 39 two.1);
+          ap (λ (x : ℕ). x ∷ c ∷ d ∷ bs) (is_same b 39 one.0)
+          ∙ ap (λ (x : ℕ). 39 ∷ x ∷ d ∷ bs) (is_same c 39 two.0)
+          ∙ ap (λ (x : ℕ). 39 ∷ 39 ∷ x ∷ bs) (is_same d 39 two.1);
       size = sym z;
       plain = (refl, (refl, tt));
     }

@@ -1,5 +1,5 @@
 -- Words: what is spelled as one is found, and what is found is spelled so.
-use Rattle.std.proofs.Common.{◌≡◌, ◌≢◌, ℕ, ◌+◌, Bool, true, false, cond, eqb, ◌&&◌, ◌||◌, List, [], ◌∷◌, ◌++◌, length, drop, refl, sym, ap, ◌∙◌, subst, arith, bytes_eq, codes}
+use Rattle.std.proofs.Common.{◌≡◌, ℕ, ◌+◌, Bool, true, false, cond, ◌&&◌, ◌||◌, List, [], ◌∷◌, ◌++◌, length, drop, refl, sym, ap, ◌∙◌, subst, bytes_eq, codes}
 use Rattle.std.proofs.lemmas.List.Sums.{take_while-cons}
 use Rattle.std.proofs.Math.Seq.{drop-append_seam}
 use Rattle.std.specs.List.{take_while}
@@ -12,7 +12,7 @@ use Rattle.tick_lexer.specs.declared.token.LexFault.{LexFault}
 use Rattle.tick_lexer.specs.Bytes.{is_letter, is_digit, is_word, AllPass, starts, NotFirst}
 use Rattle.tick_lexer.specs.Spelling.{is_reserved, IsName, Spelled, is_colon, Ends, IsAllowed}
 use Rattle.tick_lexer.specs.Front.{Found, Took, Bad, word_kind, named, word, number, mark, front}
-use Rattle.tick_lexer.proofs.Tests.{cond_true, cond_false, choose, or_false, both_false, or_left, and_true, and_left, and_right, and_rest, is_same}
+use Rattle.tick_lexer.proofs.Tests.{cond_true, cond_false, choose, or_false, both_false, or_left, and_true, and_rest, is_same}
 
 -- a token of this kind and this many bytes stands at the front
 pub record Lexeme (pattern : Bool) (kind : Kind) (n : ℕ) (text : List ℕ) : Type 0 where

@@ -1,5 +1,5 @@
 -- What the code finds at the front of a text that begins no gap: its steps, cited by private contracts alone.
-use Rattle.std.specs.Prelude.{ℕ, ◌+◌, ◌*◌, ◌^◌, Bool, true, false, cond, eqb, ltb, leb, bytes_eq, ◌&&◌, ◌||◌, List, [], ◌∷◌, ◌++◌, length, drop, take, pos, take_while, codes, Option, Some, None}
+use Rattle.std.specs.Prelude.{ℕ, ◌+◌, ◌*◌, ◌^◌, Bool, true, false, cond, eqb, ltb, leb, bytes_eq, ◌&&◌, List, [], ◌∷◌, ◌++◌, length, drop, take, pos, take_while, codes, Option, Some, None}
 use Rattle.std.specs.Str.Parse.{digits_value}
 use Rattle.kap_base.specs.declared.expr.Lit.TheVariants.{Int, Dur, Str, Bool as Truth, Regex}
 use Rattle.kap_base.specs.declared.expr.Op.TheVariants.{Or, And, Eq, Ne, Match, NoMatch, Lt, Le, Gt, Ge, Add, Sub, Mul, Div, Rem}

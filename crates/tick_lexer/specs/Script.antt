@@ -6,7 +6,7 @@ use Rattle.tick_lexer.specs.declared.token.LexFault.TheVariants.{BadChar, OpenSt
 use Rattle.tick_lexer.specs.declared.token.Token.{Token}
 use Rattle.tick_lexer.specs.declared.unit.Unit as units
 use Rattle.tick_lexer.specs.Bytes.{is_digit, is_word, is_white, is_mark, starts, NotFirst, starts_micro, starts_three, NoThree}
-use Rattle.tick_lexer.specs.Spelling.{has_leading_zero, IsPlainNumeral, unit_bytes, unit_nanos, longest_duration, Quoted, Spelled, is_dot, is_slash, EndsInt, Ends, takes_pattern, IsAllowed}
+use Rattle.tick_lexer.specs.Spelling.{has_leading_zero, unit_bytes, unit_nanos, longest_duration, Quoted, Spelled, is_dot, is_slash, EndsInt, Ends, takes_pattern, IsAllowed}
 
 -- where in a gap a text begins: between its parts, behind the first slash of a comment, in a comment
 pub data Place : Type 0 where

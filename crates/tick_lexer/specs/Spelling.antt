@@ -1,5 +1,5 @@
 -- How each token is spelled, and what may not follow it, so that it is the longest one.
-use Rattle.std.specs.Prelude.{◌≡◌, ◌≢◌, ◌⊎◌, ℕ, ◌*◌, ◌<◌, ◌≤◌, ◌^◌, Bool, true, false, cond, eqb, bytes_eq, ◌||◌, List, [], ◌∷◌, ◌++◌, pos, ℤ, codes}
+use Rattle.std.specs.Prelude.{◌≡◌, ◌≢◌, ◌⊎◌, ℕ, ◌*◌, ◌<◌, ◌≤◌, ◌^◌, Bool, true, false, cond, eqb, bytes_eq, ◌||◌, List, [], ◌∷◌, ◌++◌, pos, codes}
 use Rattle.std.specs.Str.Parse.{IsNumeral, digits_value}
 use Rattle.kap_base.specs.declared.expr.Lit.TheVariants.{Int, Dur, Str, Bool as Truth, Regex}
 use Rattle.kap_base.specs.declared.expr.Op.{Op}

@@ -233,14 +233,24 @@ fn mark(alloc: Global, pattern: bool, text: &str, at: usize, byte: u8) -> Result
         return string(alloc, place, text.split_at(at + 1).1);
     }
     if byte == b'"' {
-        let quoted = quoted(alloc, text.split_at(at + 1).1, byte, LexFault::OpenString(place))?;
+        let quoted = quoted(
+            alloc,
+            text.split_at(at + 1).1,
+            byte,
+            LexFault::OpenString(place),
+        )?;
         return Ok(Front {
             kind: Kind::Reference(quoted.text),
             bytes: quoted.bytes + 1,
         });
     }
     if byte == b'/' && pattern {
-        let quoted = quoted(alloc, text.split_at(at + 1).1, byte, LexFault::OpenRegex(place))?;
+        let quoted = quoted(
+            alloc,
+            text.split_at(at + 1).1,
+            byte,
+            LexFault::OpenRegex(place),
+        )?;
         return Ok(Front {
             kind: Kind::Literal(Lit::Regex(quoted.text)),
             bytes: quoted.bytes + 1,

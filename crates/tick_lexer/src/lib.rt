@@ -8,6 +8,6 @@ mod quote;
 mod token;
 mod unit;
 
-pub use lexer::lex;
+pub use lexer::{lex, text_reads_in_one_way};
 pub use token::{Kind, LexFault, Token, Tokens};
 pub use unit::Unit;

@@ -1,4 +1,4 @@
-use Rattle.std.proofs.Common.{◌≡◌, List, ℕ, ap, ◌∙◌, length}
+use Rattle.std.proofs.Common.{List, ℕ, ap, ◌∙◌, length}
 use Rattle.std.specs.List.{take_while}
 use Rattle.tick_lexer.specs.Bytes.{is_word}
 use Rattle.tick_lexer.proofs.Scans.{word_cut}

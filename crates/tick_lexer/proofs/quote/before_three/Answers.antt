@@ -1,4 +1,4 @@
-use Rattle.std.proofs.Common.{◌≡◌, List, ℕ, ap, sym, ◌∙◌}
+use Rattle.std.proofs.Common.{List, ℕ, ap, sym, ◌∙◌}
 use Rattle.tick_lexer.specs.Bytes.{starts_three}
 use Rattle.tick_lexer.proofs.Scans.{three_later}
 use Rattle.tick_lexer.proofs.quote.before_three.Goals as goal
