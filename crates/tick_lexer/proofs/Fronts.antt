@@ -13,7 +13,7 @@ use Rattle.tick_lexer.specs.Spelling.{operator_bytes, Spelled, is_slash, is_equa
 use Rattle.tick_lexer.specs.Script.{IsOpenThree, IsOpen, Begins, place_of}
 use Rattle.tick_lexer.specs.Front.{Found, Took, Bad, word, quoted, before_three, tripled, paired, mark, number, front}
 use Rattle.tick_lexer.specs.Runs.{begins_comment}
-use Rattle.tick_lexer.proofs.Tests.{cond_false, choose, or_false, both_false, and_left, and_rest, is_same, other_test}
+use Rattle.tick_lexer.proofs.Choices.{cond_false, choose, or_false, both_false, and_left, and_rest, is_same, other_test}
 use Rattle.tick_lexer.proofs.Three.{none_ends}
 use Rattle.tick_lexer.proofs.Sound.{Sound}
 use Rattle.tick_lexer.proofs.Words.{front_mark, front_name, ident_front, word_found, word_bad}

@@ -14,7 +14,7 @@ use Rattle.tick_lexer.specs.Bytes.{is_letter, is_word, is_white, is_mark, starts
 use Rattle.tick_lexer.specs.Spelling.{IsName, unit_bytes, operator_bytes, escaped, Quoted, Tripled, Spelled, is_slash, Ends}
 use Rattle.tick_lexer.specs.Script.{Place, Between, Slash, Comment, IsGap, IsOpenThree, IsOpen, Begins, BeginsBadNumber}
 use Rattle.tick_lexer.specs.Runs.{begins_comment, skipped}
-use Rattle.tick_lexer.proofs.Tests.{cond_true, cond_false, choose, or_false, and_true, and_left, is_same, other_test, not_same}
+use Rattle.tick_lexer.proofs.Choices.{cond_true, cond_false, choose, or_false, and_true, and_left, is_same, other_test, not_same}
 use Rattle.tick_lexer.proofs.Signs.{in_quotes}
 
 -- no gap begins here, and something stands here

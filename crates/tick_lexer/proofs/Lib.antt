@@ -1,4 +1,4 @@
-pub mod Tests
+pub mod Choices
 pub mod Scans
 pub mod Reading
 pub mod Quotes

@@ -16,7 +16,7 @@ use Rattle.tick_lexer.specs.Bytes.{is_letter, is_digit, is_word, AllPass, starts
 use Rattle.tick_lexer.specs.Spelling.{has_leading_zero, IsPlainNumeral, unit_bytes, unit_nanos, longest_duration, IsDuration, is_dot, EndsInt}
 use Rattle.tick_lexer.specs.Script.{Digits, IsBadNumber, BeginsBadNumber, place_of}
 use Rattle.tick_lexer.specs.Front.{Took, Bad, unit_at, integer, duration, measured, numeral, number, front}
-use Rattle.tick_lexer.proofs.Tests.{cond_true, cond_false, choose, or_false, or_left, and_left, and_true, is_same}
+use Rattle.tick_lexer.proofs.Choices.{cond_true, cond_false, choose, or_false, or_left, and_left, and_true, is_same}
 use Rattle.tick_lexer.proofs.Scans.{digits_pass}
 use Rattle.tick_lexer.proofs.Sound.{Sound, sound_took, sound_bad}
 use Rattle.tick_lexer.proofs.Words.{front_digit, pass_all, run_of}

@@ -2,7 +2,7 @@
 use Rattle.std.proofs.Common.{◌≡◌, ◌≢◌, ℕ, ◌+◌, Bool, true, false, cond, eqb, List, [], ◌∷◌, ◌++◌, length, refl, sym, ap, ◌∙◌, subst, arith, append_assoc}
 use Rattle.tick_lexer.specs.Front.{Scan, Endless, Shut, grown, scan}
 use Rattle.tick_lexer.specs.Spelling.{escaped, EndsPlain, Quoted}
-use Rattle.tick_lexer.proofs.Tests.{is_same, same_test, other_test, not_same}
+use Rattle.tick_lexer.proofs.Choices.{is_same, same_test, other_test, not_same}
 
 tail_plain : (b : ℕ) (text : List ℕ) → EndsPlain (b ∷ text) → EndsPlain text
 tail_plain b [] h = tt

@@ -12,7 +12,7 @@ use Rattle.tick_lexer.specs.Bytes.{is_word, is_white, is_mark, starts, NotFirst,
 use Rattle.tick_lexer.specs.Spelling.{escaped, EndsPlain, Quoted, Tripled, Spelled, is_single_quote, is_slash, is_equals, is_tilde, Ends, IsAllowed}
 use Rattle.tick_lexer.specs.Script.{IsOpen}
 use Rattle.tick_lexer.specs.Front.{Found, Took, Bad, Scan, Endless, Shut, scan, shut, quoted, before_three, tripled, string, sign, mark, front}
-use Rattle.tick_lexer.proofs.Tests.{cond_false, choose, both_false, and_true, and_rest, is_same, not_same}
+use Rattle.tick_lexer.proofs.Choices.{cond_false, choose, both_false, and_true, and_rest, is_same, not_same}
 use Rattle.tick_lexer.proofs.Quotes.{shut_quoted, quoted_scan, endless_quoted}
 use Rattle.tick_lexer.proofs.Three.{three_ends, ends_none, tripling, no_three}
 use Rattle.tick_lexer.proofs.Sound.{Sound, sound_took, sound_bad}

@@ -2,7 +2,7 @@
 use Rattle.std.proofs.Common.{◌≡◌, ℕ, ◌+◌, Bool, true, false, cond, eqb, ◌&&◌, List, [], ◌∷◌, ◌++◌, length, refl, sym, ap, ◌∙◌, arith, Option, Some, None}
 use Rattle.tick_lexer.specs.Bytes.{starts_three, NoThree}
 use Rattle.tick_lexer.specs.Front.{plus, before_three}
-use Rattle.tick_lexer.proofs.Tests.{cond_false, and_true, and_left, is_same}
+use Rattle.tick_lexer.proofs.Choices.{cond_false, and_true, and_left, is_same}
 
 -- whether three quotes stand first doesn't hang on what follows two of them
 three_same : (b : ℕ) (text rest : List ℕ) → starts_three (b ∷ (text ++ (39 ∷ 39 ∷ []))) ≡ starts_three (b ∷ (text ++ (39 ∷ 39 ∷ 39 ∷ rest)))

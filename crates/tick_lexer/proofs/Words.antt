@@ -12,7 +12,7 @@ use Rattle.tick_lexer.specs.declared.token.LexFault.{LexFault}
 use Rattle.tick_lexer.specs.Bytes.{is_letter, is_digit, is_word, AllPass, starts, NotFirst}
 use Rattle.tick_lexer.specs.Spelling.{is_reserved, IsName, Spelled, is_colon, Ends, IsAllowed}
 use Rattle.tick_lexer.specs.Front.{Found, Took, Bad, word_kind, named, word, number, mark, front}
-use Rattle.tick_lexer.proofs.Tests.{cond_true, cond_false, choose, or_false, both_false, or_left, and_true, and_rest, is_same}
+use Rattle.tick_lexer.proofs.Choices.{cond_true, cond_false, choose, or_false, both_false, or_left, and_true, and_rest, is_same}
 
 -- a token of this kind and this many bytes stands at the front
 pub record Lexeme (pattern : Bool) (kind : Kind) (n : ℕ) (text : List ℕ) : Type 0 where

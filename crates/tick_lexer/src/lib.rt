@@ -5,6 +5,8 @@ mod bytes;
 mod front;
 mod lexer;
 mod quote;
+#[cfg(test)]
+mod tests;
 mod token;
 mod unit;
 
