@@ -1,0 +1,13 @@
+pub mod Choices
+pub mod Scans
+pub mod Reading
+pub mod Quotes
+pub mod Three
+pub mod Words
+pub mod Sound
+pub mod Numbers
+pub mod Signs
+pub mod Fronts
+pub mod Gaps
+pub mod Texts
+pub mod Lexing

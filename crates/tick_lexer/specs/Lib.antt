@@ -1,0 +1,5 @@
+pub mod Bytes
+pub mod Spelling
+pub mod Script
+pub mod Front
+pub mod Runs

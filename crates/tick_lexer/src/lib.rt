@@ -1,0 +1,15 @@
+//! Tokens of a script (Kapacitor 1.6 TICKscript language reference: Syntax).
+#![tactic(auto)]
+
+mod bytes;
+mod front;
+mod lexer;
+mod quote;
+#[cfg(test)]
+mod tests;
+mod token;
+mod unit;
+
+pub use lexer::{lex, text_reads_in_one_way};
+pub use token::{Kind, LexFault, Token, Tokens};
+pub use unit::Unit;
