@@ -1,5 +1,5 @@
 -- A map of many entries: put one after the other, they are what a stable sort leaves.
-use Rattle.std.proofs.Common.{◌≡◌, ℕ, ◌+◌, ◌<◌, Bool, true, false, cond, not, ◌&&◌, T, subst, List, [], ◌∷◌, ◌++◌, length, refl, sym, ap, ◌∙◌, append_assoc, append-nil, arith}
+use Rattle.std.proofs.Common.{◌≡◌, ℕ, ◌+◌, ◌-◌, ◌<◌, Bool, true, false, cond, not, ◌&&◌, T, subst, List, [], ◌∷◌, ◌++◌, length, get_or, take, drop, refl, sym, ap, ◌∙◌, append_assoc, append-nil, arith}
 use Rattle.std.specs.Prelude.{Option, Some, None, filter, IsTrue}
 use Rattle.std.specs.declared.cmp.Ordering.{Ordering}
 use Rattle.std.specs.declared.cmp.Ordering.TheVariants.{Less, Equal, Greater}
@@ -9,7 +9,10 @@ use Rattle.std.specs.Ordering.{nat_cmp, eq_by_cmp, is_lt, is_eq, ordering_revers
 use Rattle.std.specs.List.Sorted.{ties, IsStableBy}
 use Rattle.std.proofs.lemmas.Cmp.{nat_list_cmp_total}
 use Rattle.kap_base.specs.Maps.{byte_order, with_entries, is_below}
-use Rattle.kap_base.proofs.KeyMapLaws.{holds, is_true, empty-from_sorted, sorted-put, insert-put}
+use Rattle.std.proofs.Math.ListN.{set}
+use Rattle.std.proofs.Math.Seq.{set-append_seam}
+use Rattle.std.proofs.lemmas.List.{take-append-drop, length-take, length-drop, nil_from_length, get_or_default}
+use Rattle.kap_base.proofs.KeyMapLaws.{holds, is_true, entry_at, empty-from_sorted, sorted-put, insert-put}
 
 -- ---- an entry behind all others
 
@@ -144,3 +147,53 @@ module _ {X : Type 0} where
   pub stable : (xs ys : List (List ℕ × X)) → IsStableBy (λ x y. is_lt (byte_order x.0 y.0)) xs ys → length xs ≡ length ys → with_entries empty ys ≡ with_entries empty xs
   unfolding lt
   stable xs ys ties same = same_map nat_list_cmp_total (slice_cmp-IsAntisymmetric nat_cmp-IsAntisymmetric) _ _ (λ q. get-with_entries empty q ys ∙ seek-stable (get empty q) q xs ys ties same ∙ sym (get-with_entries empty q xs))
+
+  -- ---- an entry put behind those that rise
+
+  above_last : (x : List ℕ) (front : List (List ℕ × X)) (e : List ℕ × X) (k : List ℕ) (v : X) → T (below_all byte_order x (front ++ e ∷ [])) → byte_order e.0 k ≡ Less → T (below_all byte_order x ((front ++ e ∷ []) ++ (k, v) ∷ []))
+  above_last x [] e k v h p = both _ _ (first _ _ h) (both _ _ (subst (λ (o : Ordering). T (is_lt o)) (sym (nat_list_cmp_total.trans x e.0 k (less _ (first _ _ h)) p)) tt) tt)
+  above_last x (f ∷ front) e k v h p = both _ _ (first _ _ h) (above_last x front e k v (second _ _ h) p)
+
+  longer_sorted : (front : List (List ℕ × X)) (e : List ℕ × X) (k : List ℕ) (v : X) → T (is_sorted byte_order (front ++ e ∷ [])) → byte_order e.0 k ≡ Less → T (is_sorted byte_order ((front ++ e ∷ []) ++ (k, v) ∷ []))
+  longer_sorted [] e k v h p = subst (λ (o : Ordering). T ((is_lt o && true) && (true && true))) (sym p) tt
+  longer_sorted (f ∷ front) e k v h p = both _ _ (above_last f.0 front e k v (first _ _ h) p) (longer_sorted front e k v (second _ _ h) p)
+
+  -- above the last key: behind all
+  pub put-above : (front : List (List ℕ × X)) (e : List ℕ × X) (k : List ℕ) (v : X) → T (is_sorted byte_order (front ++ e ∷ [])) → byte_order k e.0 ≡ Greater → put byte_order k v (front ++ e ∷ []) ≡ (front ++ e ∷ []) ++ (k, v) ∷ []
+  put-above front e k v h p =
+      put-behind (front ++ e ∷ []) k v (longer_sorted front e k v h (nat_list_cmp_total.antisymm e.0 k ∙ ap ordering_reverse p))
+
+  -- at the last key: in its place
+  pub put-last : (front : List (List ℕ × X)) (e : List ℕ × X) (k : List ℕ) (v : X) → T (is_sorted byte_order (front ++ e ∷ [])) → byte_order k e.0 ≡ Equal → put byte_order k v (front ++ e ∷ []) ≡ front ++ (e.0, v) ∷ []
+  put-last [] e k v h p = rw p refl
+  put-last (f ∷ front) e k v h p =
+      let same : k ≡ e.0 = slice_cmp-IsAntisymmetric nat_cmp-IsAntisymmetric k e.0 p in
+      let above : byte_order k f.0 ≡ Greater = ap (λ (x : List ℕ). byte_order x f.0) same ∙ nat_list_cmp_total.antisymm e.0 f.0 ∙ ap ordering_reverse (below_last f.0 front e.0 e.1 (first _ _ h)) in
+      rw above (ap (λ (rest : List (List ℕ × X)). f ∷ rest) (put-last front e k v (second _ _ h) p))
+
+  last_is : (es : List (List ℕ × X)) (n : ℕ) (e : List ℕ × X) → n ≡ length es → 0 < n → e ≡ get_or es (n - 1) e → es ≡ take (n - 1) es ++ e ∷ []
+  last_is es n e count some is =
+      let within : n - 1 < length es = omega (arith, count) in
+      let none : drop (n - 1 + 1) es ≡ [] = nil_from_length _ (omega (arith, length-drop (n - 1 + 1) es, count)) in
+      sym (take-append-drop (n - 1) es) ∙ ap (λ (rest : List (List ℕ × X)). take (n - 1) es ++ rest) (entry_at byte_order es (n - 1) e within is ∙ ap (λ (rest : List (List ℕ × X)). e ∷ rest) none)
+
+  sorted_as : (es fs : List (List ℕ × X)) → es ≡ fs → IsTrue (is_sorted byte_order es) → T (is_sorted byte_order fs)
+  sorted_as es fs is h = holds _ (ap (is_sorted byte_order) (sym is) ∙ h)
+
+  pub put_greater : (es : List (List ℕ × X)) (n : ℕ) (e : List ℕ × X) (k : List ℕ) (v : X) → n ≡ length es → 0 < n → e ≡ get_or es (n - 1) e → IsTrue (is_sorted byte_order es) → byte_order k e.0 ≡ Greater → es ++ (k, v) ∷ [] ≡ put byte_order k v es
+  put_greater es n e k v count some is h p =
+      let split = last_is es n e count some is in
+      ap (λ (x : List (List ℕ × X)). x ++ (k, v) ∷ []) split ∙ sym (put-above (take (n - 1) es) e k v (sorted_as es _ split h) p) ∙ ap (put byte_order k v) (sym split)
+
+  pub put_equal : (es : List (List ℕ × X)) (n : ℕ) (e written : List ℕ × X) (k : List ℕ) (v : X) → n ≡ length es → 0 < n → e ≡ get_or es (n - 1) e → written ≡ get_or es (n - 1) written → IsTrue (is_sorted byte_order es) → byte_order k e.0 ≡ Equal → set es (n - 1) (written.0, v) ≡ put byte_order k v es
+  put_equal es n e written k v count some is was h p =
+      let within : n - 1 < length es = omega (arith, count) in
+      let same : written ≡ e = was ∙ get_or_default es (n - 1) written e within ∙ sym is in
+      let split = last_is es n e count some is in
+      let place : length (take (n - 1) es) ≡ n - 1 = omega (arith, length-take (n - 1) es, count) in
+      ap (λ (x : List ℕ × X). set es (n - 1) (x.0, v)) same
+      ∙ ap (λ (i : ℕ). set es i (e.0, v)) (sym place)
+      ∙ ap (λ (x : List (List ℕ × X)). set x (length (take (n - 1) es)) (e.0, v)) split
+      ∙ set-append_seam (take (n - 1) es) e [] (e.0, v)
+      ∙ sym (put-last (take (n - 1) es) e k v (sorted_as es _ split h) p)
+      ∙ ap (put byte_order k v) (sym split)

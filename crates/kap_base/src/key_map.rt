@@ -76,7 +76,7 @@ fn last_of_each<V: Drop>(alloc: Global, entries: Vec<(Text, V)>) -> Result<Vec<(
 {
     let mut kept = Vec::new(alloc);
     'putting: for (key, value) in entries {
-        put(&mut kept, key, value)?;
+        put_behind(&mut kept, key, value)?;
     }
     Ok(kept)
 }
@@ -98,6 +98,30 @@ fn put<V: Drop>(entries: &mut Vec<(Text, V)>, key: Text, value: V) -> Result<(),
     }
     entries.insert(at, (key, value))?;
     Ok(())
+}
+
+/// The same, at one comparison where no key stands above this one.
+fn put_behind<V: Drop>(entries: &mut Vec<(Text, V)>, key: Text, value: V) -> Result<(), NoMemory>
+    requires { IsTrue (map.is_sorted (slice_cmp nat_cmp) entries.old.items) }
+    ensures ok { OnOk result (entries.new.items ≡ map.put (slice_cmp nat_cmp) key value entries.old.items) }
+    ensures err { OnErr result (entries.new.items ≡ entries.old.items) }
+{
+    let count = entries.len();
+    if count == 0 {
+        entries.push((key, value))?;
+        return Ok(());
+    }
+    match key.order(&entries[count - 1].0) {
+        Ordering::Greater => {
+            entries.push((key, value))?;
+            Ok(())
+        }
+        Ordering::Equal => {
+            entries[count - 1].1 = value;
+            Ok(())
+        }
+        Ordering::Less => put(entries, key, value),
+    }
 }
 
 fn holds<V>(entries: &[(Text, V)], key: &Text) -> bool

@@ -22,3 +22,6 @@ pub use law::one_answer;
 pub use line::{read_line, read_stored};
 pub use mode::{Mode, Unit};
 pub use print::print_line;
+
+#[cfg(test)]
+mod tests;

@@ -7,5 +7,5 @@ putting-init g c = record { rising = rw c.new-kept.ensures.items; same = empty-f
 
 pub putting-preserved : goal.putting-preserved
 putting-preserved g c =
-    let p = put_one c.putting.kept.items c.put.new.entries.items c.putting.yielded c.in-Some.key c.in-Some.value c.putting.invariant.rising c.putting.invariant.same c.in_ok-put.ensures.ok in
+    let p = put_one c.putting.kept.items c.put_behind.new.entries.items c.putting.yielded c.in-Some.key c.in-Some.value c.putting.invariant.rising c.putting.invariant.same c.in_ok-put_behind.ensures.ok in
     record { rising = p.0; same = p.1 }
