@@ -10,6 +10,13 @@ pub trait Duplicate: Sized {
         ensures { IfOk result (λ copy. copy ≡ self.now) };
 }
 
+impl Duplicate for u8 {
+    fn copy(&self, alloc: Global) -> Result<u8, NoMemory> {
+        let _ = alloc;
+        Ok(*self)
+    }
+}
+
 /// Equal values, in order.
 pub(crate) fn copies<T: Duplicate + Drop>(alloc: Global, items: &[T]) -> Result<Vec<T>, NoMemory>
     ensures { IfOk result (λ copies. copies.items ≡ items.now) }

@@ -35,3 +35,6 @@ pub type Tags = KeyMap<Text>;
 
 /// The fields of a point: values under texts, in byte order of the keys (InfluxDB 1.8 line protocol reference: field set).
 pub type Fields = KeyMap<Value>;
+
+#[cfg(test)]
+mod tests;

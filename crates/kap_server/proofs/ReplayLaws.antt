@@ -42,16 +42,16 @@ module _ (id name : List ℕ) where
     -- one point more
     pub underway_more : (p : Series) (b : At) (u x : Option (List ℕ)) (left : List ℕ) → GivesPoint read at b t u p → Moves (due ++ text_of id name (p ∷ [])) left v x → Underway (text_of id name) left b s u w x
     underway_more p b u x left step moved = record {
-        points = on.points ++ p ∷ [];
-        given = given_more on.points p at b s t u on.given step;
-        done = on.done ++ moved.piece;
-        written = appends_more w v x on.done moved.piece on.written moved.written;
-        is = text-append id name on.points (p ∷ [])
-            ∙ ap (λ (l : List ℕ). l ++ text_of id name (p ∷ [])) on.is
-            ∙ append_assoc on.done due (text_of id name (p ∷ []))
-            ∙ ap (λ (l : List ℕ). on.done ++ l) moved.rest
-            ∙ sym (append_assoc on.done moved.piece left);
-      }
+      points = on.points ++ p ∷ [];
+      given = given_more on.points p at b s t u on.given step;
+      done = on.done ++ moved.piece;
+      written = appends_more w v x on.done moved.piece on.written moved.written;
+      is = text-append id name on.points (p ∷ [])
+          ∙ ap (λ (l : List ℕ). l ++ text_of id name (p ∷ [])) on.is
+          ∙ append_assoc on.done due (text_of id name (p ∷ []))
+          ∙ ap (λ (l : List ℕ). on.done ++ l) moved.rest
+          ∙ sym (append_assoc on.done moved.piece left);
+    }
 
     -- the rest of the text was written
     whole_written : (x : Option (List ℕ)) → Appends v x due → Appends w x (text_of id name on.points)

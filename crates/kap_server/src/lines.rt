@@ -11,12 +11,7 @@ fn is_of(name: &[u8], point: &Point) -> bool
     point.name.bytes() == name
 }
 
-fn put_out_line(
-    alloc: Global,
-    id: &[u8],
-    point: &Point,
-    text: &mut Bytes,
-) -> Result<(), NoMemory>
+fn put_out_line(alloc: Global, id: &[u8], point: &Point, text: &mut Bytes) -> Result<(), NoMemory>
     ensures { OnOk result (text.new ≡ text.old ++ out_line id.now point.now) }
 {
     let line = print_line(alloc, point)?;

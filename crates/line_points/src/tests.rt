@@ -47,7 +47,11 @@ fn stored(rt: &(impl AllocGlobal + Abort), line: &[u8]) -> Result<Result<Point, 
     Ok(read_stored(rt.alloc(), line, &db, &rp))
 }
 
-fn fault_of(rt: &(impl AllocGlobal + Abort), line: &[u8], mode: &Mode) -> Result<Option<LineFault>, Fail>
+fn fault_of(
+    rt: &(impl AllocGlobal + Abort),
+    line: &[u8],
+    mode: &Mode,
+) -> Result<Option<LineFault>, Fail>
     requires { IsTrue (has_time mode.now) }
 {
     Ok(read(rt, line, mode)?.err())
@@ -132,18 +136,33 @@ fn a_line_prints_in_canonical_form(rt: HostRuntime) -> Result<(), Fail> {
         ("m x=007i 007", "m x=7i 7"),
         ("m x=-0i -0", "m x=0i 0"),
         ("m x=1i,x=2i,x=3i 1", "m x=3i 1"),
-        ("m x=-9223372036854775808i -9000000000000000000", "m x=-9223372036854775808i -9000000000000000000"),
-        ("m x=9223372036854775807i 9000000000000000000", "m x=9223372036854775807i 9000000000000000000"),
+        (
+            "m x=-9223372036854775808i -9000000000000000000",
+            "m x=-9223372036854775808i -9000000000000000000",
+        ),
+        (
+            "m x=9223372036854775807i 9000000000000000000",
+            "m x=9223372036854775807i 9000000000000000000",
+        ),
         ("\\#c x=1i 5", "\\#c x=1i 5"),
         ("\\ #c x=1i 5", "\\ #c x=1i 5"),
         ("a\\b\\\\,c x=1i 5", "a\\b\\\\,c x=1i 5"),
-        ("m,\\=k\\ =\\,v x\\,\\ \\==\"\" 5", "m,\\=k\\ =\\,v x\\,\\ \\==\"\" 5"),
+        (
+            "m,\\=k\\ =\\,v x\\,\\ \\==\"\" 5",
+            "m,\\=k\\ =\\,v x\\,\\ \\==\"\" 5",
+        ),
         ("m\t1 x=True,y=f 5", "m\t1 x=true,y=false 5"),
         ("m s=\"a b, c=d\" 5", "m s=\"a b, c=d\" 5"),
         ("m s=\"\\a\\n\" 5", "m s=\"\\\\a\\\\n\" 5"),
         ("m time=1i,time=2i 5", "m time=2i 5"),
-        ("h\u{e9},\u{e9}=\u{4e2d} \u{1f600}=\"\u{e9}\" 5", "h\u{e9},\u{e9}=\u{4e2d} \u{1f600}=\"\u{e9}\" 5"),
-        ("cpu,host=a usage_idle=100i 1000000000", "cpu,host=a usage_idle=100i 1000000000"),
+        (
+            "h\u{e9},\u{e9}=\u{4e2d} \u{1f600}=\"\u{e9}\" 5",
+            "h\u{e9},\u{e9}=\u{4e2d} \u{1f600}=\"\u{e9}\" 5",
+        ),
+        (
+            "cpu,host=a usage_idle=100i 1000000000",
+            "cpu,host=a usage_idle=100i 1000000000",
+        ),
     ];
     for (line, canonical) in rows.iter() {
         let text = printed(&rt, line.as_bytes(), &Mode::Recording)?;
@@ -215,7 +234,11 @@ fn falling_line(alloc: Global) -> Result<Vec<u8>, Fail> {
     let mut line = Vec::from_slice(alloc, b"m ")?;
     for i in 0..9_361u32 {
         let n = 9_360 - i;
-        let key = [b'a' + (n / 676 % 26) as u8, b'a' + (n / 26 % 26) as u8, b'a' + (n % 26) as u8];
+        let key = [
+            b'a' + (n / 676 % 26) as u8,
+            b'a' + (n / 26 % 26) as u8,
+            b'a' + (n % 26) as u8,
+        ];
         if i > 0 {
             line.push(b',')?;
         }
@@ -276,11 +299,19 @@ fn a_body_is_its_lines(rt: HostRuntime) -> Result<(), Fail> {
         ("\n\n", ""),
         ("m x=1i 1", "d/r m x=1i 1000000000|"),
         ("m x=1i 1\n", "d/r m x=1i 1000000000|"),
-        ("m x=1i 1\r\nm x=2i\r\n", "d/r m x=1i 1000000000|d/r m x=2i 77|"),
-        ("# c\n\nm x=1i 1\n  \nn y=t\r", "d/r m x=1i 1000000000|d/r n y=true 77|"),
+        (
+            "m x=1i 1\r\nm x=2i\r\n",
+            "d/r m x=1i 1000000000|d/r m x=2i 77|",
+        ),
+        (
+            "# c\n\nm x=1i 1\n  \nn y=t\r",
+            "d/r m x=1i 1000000000|d/r n y=true 77|",
+        ),
     ];
     for (body, wanted) in rows.iter() {
-        let points = read_lines(&rt, body.as_bytes(), &SECONDS)?.ok().ok_or("a fault")?;
+        let points = read_lines(&rt, body.as_bytes(), &SECONDS)?
+            .ok()
+            .ok_or("a fault")?;
         let text = all_printed(&rt, &points)?;
         assert!(rt; text.as_slice() == wanted.as_bytes(), "{body}");
     }
@@ -300,7 +331,9 @@ fn a_faulty_body_names_its_first_faulty_line(rt: HostRuntime) -> Result<(), Fail
         ("m x=1i 9000000001", "line 1: TimeRange"),
     ];
     for (body, wanted) in rows.iter() {
-        let fault = read_lines(&rt, body.as_bytes(), &SECONDS)?.err().ok_or("no fault")?;
+        let fault = read_lines(&rt, body.as_bytes(), &SECONDS)?
+            .err()
+            .ok_or("no fault")?;
         let text = body_text(rt.alloc(), &fault).ok().ok_or("no memory")?;
         assert!(rt; text.as_slice() == wanted.as_bytes(), "{body}");
     }
@@ -318,7 +351,9 @@ fn a_faulty_body_names_its_first_faulty_line(rt: HostRuntime) -> Result<(), Fail
 #[test]
 fn a_body_of_spaces_has_no_points(rt: HostRuntime) -> Result<(), Fail> {
     let body = vec![in rt.alloc(); b' '; 8_388_608]?;
-    let points = read_lines(&rt, body.as_slice(), &SECONDS)?.ok().ok_or("a fault")?;
+    let points = read_lines(&rt, body.as_slice(), &SECONDS)?
+        .ok()
+        .ok_or("a fault")?;
     assert_eq!(rt; points.len(), 0);
     Ok(())
 }

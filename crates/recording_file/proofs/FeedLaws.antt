@@ -68,10 +68,10 @@ return_kept (b ∷ c ∷ line) none = ap (λ t. t || has_line_feed (without_retu
 front_feedless : (bytes : List ℕ) → has_line_feed (take (position_or_len is_feed bytes) bytes) ≡ false
 front_feedless [] = refl
 front_feedless (b ∷ bytes) = elim (is_feed b) as (λ f. is_feed b ≡ f → has_line_feed (take (cond (not f) (1 + position_or_len is_feed bytes) 0) (b ∷ bytes)) ≡ false) [
-    | true ↦ λ e. refl
-    | false ↦ λ e. let one : 1 + position_or_len is_feed bytes ≡ suc (position_or_len is_feed bytes) = omega arith in
-        rw one (ap (λ t. t || has_line_feed (take (position_or_len is_feed bytes) bytes)) e ∙ front_feedless bytes)
-  ] refl
+  | true ↦ λ e. refl
+  | false ↦ λ e. let one : 1 + position_or_len is_feed bytes ≡ suc (position_or_len is_feed bytes) = omega arith in
+      rw one (ap (λ t. t || has_line_feed (take (position_or_len is_feed bytes) bytes)) e ∙ front_feedless bytes)
+] refl
 
 -- a line has no line feed
 pub feedless : (bytes line : List ℕ) (k : ℕ) → k ≡ position_or_len is_feed bytes → line ≡ without_return (take k bytes) → not (has_line_feed line) ≡ true

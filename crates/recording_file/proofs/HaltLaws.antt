@@ -42,10 +42,10 @@ not_pointed d r line long = rw (is_long line long) refl
 -- the line is too long
 halt_long : (n : ℕ) (line : List ℕ) (seen : Seen) → 65536 < length line → Halts n (Faulty (rec_faults.Line n faults.Long)) (before line seen)
 halt_long n line seen long = record {
-    group = read_behind seen.stop n line seen.lines ∙ further_err n (named line) faults.Long _ (not_named line long);
-    database = λ d. further_err n (named line) faults.Long _ (not_named line long);
-    policy = λ d r. further_err n (pointed d r line) faults.Long _ (not_pointed d r line long);
-  }
+  group = read_behind seen.stop n line seen.lines ∙ further_err n (named line) faults.Long _ (not_named line long);
+  database = λ d. further_err n (named line) faults.Long _ (not_named line long);
+  policy = λ d r. further_err n (pointed d r line) faults.Long _ (not_pointed d r line long);
+}
 
 -- ---- lines that are too long, and recordings
 
@@ -75,14 +75,14 @@ module _ (n : ℕ) (bytes : List ℕ) (long : 65537 < position_or_len is_feed by
 
   whole_long : Halts n (Faulty (rec_faults.Line n faults.Long)) (whole bytes)
   whole_long = elim (nat_lt (position_or_len is_feed bytes) (length bytes)) as (λ t. nat_lt (position_or_len is_feed bytes) (length bytes) ≡ t → Halts n (Faulty (rec_faults.Line n faults.Long)) (whole bytes)) [
-      | true ↦ λ e.
-          let lt : position_or_len is_feed bytes < length bytes = grind (arith, nat_tests) in
-          subst (Halts n (Faulty (rec_faults.Line n faults.Long))) (sym (whole_line bytes (position_or_len is_feed bytes) refl lt)) (halt_long n _ _ (long_first bytes (position_or_len is_feed bytes) long (omega arith)))
-      | false ↦ λ e.
-          let bound = pos_within bytes in
-          let none : position_or_len is_feed bytes ≡ length bytes = grind (arith, nat_tests) in
-          last_long bytes none (omega arith)
-    ] refl where
+    | true ↦ λ e.
+        let lt : position_or_len is_feed bytes < length bytes = grind (arith, nat_tests) in
+        subst (Halts n (Faulty (rec_faults.Line n faults.Long))) (sym (whole_line bytes (position_or_len is_feed bytes) refl lt)) (halt_long n _ _ (long_first bytes (position_or_len is_feed bytes) long (omega arith)))
+    | false ↦ λ e.
+        let bound = pos_within bytes in
+        let none : position_or_len is_feed bytes ≡ length bytes = grind (arith, nat_tests) in
+        last_long bytes none (omega arith)
+  ] refl where
     last_long : (xs : List ℕ) → position_or_len is_feed xs ≡ length xs → 65537 < length xs → Halts n (Faulty (rec_faults.Line n faults.Long)) (whole xs)
     last_long [] none big = absurd (omega arith)
     last_long (x ∷ xs) none big = subst (Halts n (Faulty (rec_faults.Line n faults.Long))) (sym (whole_last x xs none)) (halt_long n _ _ (omega (arith, return_short (x ∷ xs))))
@@ -119,16 +119,16 @@ module _ (n limit : ℕ) (bytes : List ℕ) (within : limit < length bytes) (lon
 
   cut_long : Halts n (Faulty (rec_faults.Line n faults.Long)) (cut (take limit bytes))
   cut_long = elim (nat_lt (position_or_len is_feed bytes) limit) as (λ t. nat_lt (position_or_len is_feed bytes) limit ≡ t → Halts n (Faulty (rec_faults.Line n faults.Long)) (cut (take limit bytes))) [
-      | true ↦ λ e. cut_before (grind (arith, nat_tests))
-      | false ↦ λ e. cut_beyond (grind (arith, nat_tests))
-    ] refl
+    | true ↦ λ e. cut_before (grind (arith, nat_tests))
+    | false ↦ λ e. cut_beyond (grind (arith, nat_tests))
+  ] refl
 
 -- a line of more than 65,537 bytes within the limit is too long
 pub limited_long : (n limit : ℕ) (bytes : List ℕ) → 65537 < min limit (position_or_len is_feed bytes) → Halts n (Faulty (rec_faults.Line n faults.Long)) (limited limit bytes)
 limited_long n limit bytes long = elim (nat_le (length bytes) limit) as (λ t. nat_le (length bytes) limit ≡ t → Halts n (Faulty (rec_faults.Line n faults.Long)) (cond t (whole bytes) (cut (take limit bytes)))) [
-    | true ↦ λ e. whole_long n bytes (omega arith)
-    | false ↦ λ e. cut_long n limit bytes (grind (arith, nat_tests)) long
-  ] refl
+  | true ↦ λ e. whole_long n bytes (omega arith)
+  | false ↦ λ e. cut_long n limit bytes (grind (arith, nat_tests)) long
+] refl
 
 -- a line that isn't ended within the limit, which is nearer than that
 pub limited_past : (n limit : ℕ) (bytes : List ℕ) → limit < length bytes → limit ≤ position_or_len is_feed bytes → limit ≤ 65537 → Halts n (Faulty rec_faults.Long) (limited limit bytes)
@@ -138,8 +138,8 @@ limited_past n limit bytes beyond none near =
     let cut_off : nat_le (length bytes) limit ≡ false = le_not (length bytes) limit beyond in
     subst (Halts n (Faulty rec_faults.Long)) (sym (ap (λ t. cond t (whole bytes) (cut (take limit bytes))) cut_off ∙ cut_none (take limit bytes) (none_within limit bytes none)))
     (halt_none n _ (at_limit (take limit bytes)) (λ f. ap (λ t. Faulty (cond t (rec_faults.Line n faults.Long) rec_faults.Long)) small)) where
-  le_not : (a b : ℕ) → b < a → nat_le a b ≡ false
-  le_not a b h = grind (arith, nat_tests)
+      le_not : (a b : ℕ) → b < a → nat_le a b ≡ false
+      le_not a b h = grind (arith, nat_tests)
 
 -- bytes that don't decide
 pub front_undecided : (n : ℕ) (bytes : List ℕ) → position_or_len is_feed bytes ≡ length bytes → length bytes ≤ 65537 → Halts n Undecided (front bytes)
@@ -178,16 +178,16 @@ module _ (R : ℕ → Seen → Reading) (a b : At) (s t : Option (List ℕ)) (on
       let where_it_is : (l : ℕ) (f : LineFault) → n ≡ l → fault ≡ f → StopsSo R a (to_come a.ended s) (Faulty (rec_faults.Line l f)) → StopsSo R a (to_come a.ended s) (Faulty (rec_faults.Line n fault)) = λ l f p q h.
       subst (λ m. StopsSo R a (to_come a.ended s) (Faulty (rec_faults.Line m fault))) (sym p) (subst (λ g. StopsSo R a (to_come a.ended s) (Faulty (rec_faults.Line l g))) (sym q) h) in
       where_it_is b.line faults.Long none.0 none.1 (stops_by R a _ _ _ _ on.more (λ y is. same_ahead y
-          ∙ halts b.line _ _ (limited_long b.line (room b) (b.bytes ++ y) (let far = pos_more b.bytes y in let long = none.2 in omega arith))))
+      ∙ halts b.line _ _ (limited_long b.line (room b) (b.bytes ++ y) (let far = pos_more b.bytes y in let long = none.2 in omega arith))))
   refuses_find (rec_faults.Truncated n) halts none = absurd none
   refuses_find rec_faults.Long halts none = stops_by R a _ _ _ _ on.more (λ y is. same_ahead y
       ∙ halts b.line _ _ (limited_past b.line (room b) (b.bytes ++ y) (let beyond = none.0 in omega (arith, length-append b.bytes y)) (let far = pos_more b.bytes y in let feed = none.1 in omega arith) none.2))
   refuses_find rec_faults.ReadFault halts none = record {
-      got = drop (length a.bytes) b.bytes;
-      took = on.more;
-      not_ended = none.1;
-      undecided = ap (λ l. R a.line (front l)) (sym on.front) ∙ ap (λ n. R n (front b.bytes)) (sym on.line_kept) ∙ halts b.line _ _ (front_undecided b.line b.bytes none.0.no_feed none.0.short);
-    }
+    got = drop (length a.bytes) b.bytes;
+    took = on.more;
+    not_ended = none.1;
+    undecided = ap (λ l. R a.line (front l)) (sym on.front) ∙ ap (λ n. R n (front b.bytes)) (sym on.line_kept) ∙ halts b.line _ _ (front_undecided b.line b.bytes none.0.no_feed none.0.short);
+  }
   refuses_find rec_faults.NoMemory halts none = tt
 
   -- the line is missing
@@ -214,11 +214,11 @@ module _ (R : ℕ → Seen → Reading) (a b : At) (s t : Option (List ℕ)) (li
     refuses_later c u (rec_faults.Truncated n) open_still h = later_stops (Faulty (rec_faults.Truncated n)) h
     refuses_later c u rec_faults.Long open_still h = later_stops (Faulty rec_faults.Long) h
     refuses_later c u rec_faults.ReadFault open_still h = record {
-        got = g.got ++ h.got;
-        took = consumes_more _ _ _ g.got h.got g.took h.took;
-        not_ended = h.not_ended;
-        undecided = ap (R a.line) (g.opens h.got (open_still h.not_ended)) ∙ step _ ∙ ap (λ n. Q n (front (b.bytes ++ h.got))) (sym g.number) ∙ h.undecided;
-      }
+      got = g.got ++ h.got;
+      took = consumes_more _ _ _ g.got h.got g.took h.took;
+      not_ended = h.not_ended;
+      undecided = ap (R a.line) (g.opens h.got (open_still h.not_ended)) ∙ step _ ∙ ap (λ n. Q n (front (b.bytes ++ h.got))) (sym g.number) ∙ h.undecided;
+    }
     refuses_later c u rec_faults.NoMemory open_still h = tt
 
 -- a line that was found is faulty

@@ -25,9 +25,9 @@ named_text line text h utf8 is = named_by line h true (is_utf8-from_IsUtf8 line 
 
 pub named_not : (line : List ℕ) → length line ≤ 65536 → (IsUtf8 line → ⊥) → named line ≡ Err faults.NotUtf8
 named_not line h no_text = elim (is_utf8 line) as (λ b. is_utf8 line ≡ b → named line ≡ Err faults.NotUtf8) [
-    | true ↦ λ e. absurd (no_text (IsUtf8-from_is_utf8 line e))
-    | false ↦ λ e. named_by line h false e
-  ] refl
+  | true ↦ λ e. absurd (no_text (IsUtf8-from_is_utf8 line e))
+  | false ↦ λ e. named_by line h false e
+] refl
 
 -- a line of a recording gives its point or its fault, and never nothing
 unfoldable some_point : Result Series LineFault → Result (Option Series) LineFault
@@ -37,9 +37,9 @@ some_point (Err f) = Err f
 read_is : (db rp line : List ℕ) → line_of db rp Recording line ≡ some_point (pointed db rp line)
 unfolding line_of some_point
 read_is db rp line = elim (nat_lt 65536 (length line)) as (λ t. cond t (Err faults.Long) (stored_of db rp Recording line >>= λ p. Ok (Some p)) ≡ some_point (cond t (Err faults.Long) (Ok line) >>= λ text. stored_of db rp Recording text)) [
-    | true ↦ refl
-    | false ↦ elim (stored_of db rp Recording line) as (λ r. (r >>= λ p. Ok (Some p)) ≡ some_point r) [ Ok p ↦ refl | Err f ↦ refl ]
-  ]
+  | true ↦ refl
+  | false ↦ elim (stored_of db rp Recording line) as (λ r. (r >>= λ p. Ok (Some p)) ≡ some_point r) [ Ok p ↦ refl | Err f ↦ refl ]
+]
 
 pub point_read : (db rp line : List ℕ) (p : Series) → line_of db rp Recording line ≡ Ok (Some p) → pointed db rp line ≡ Ok p
 unfolding some_point

@@ -132,19 +132,19 @@ module _ (R Q : ℕ → Seen → Reading) (a b c : At) (s t u : Option (List ℕ
 
   pub line_gives : (p : Series) → GivesPoint Q b c t u p → GivesPoint R a c s u p
   line_gives p h = record {
-      got = g.got ++ h.got;
-      took = consumes_more _ _ _ g.got h.got g.took h.took;
-      stays = λ e. h.stays (g.stays e);
-      none = λ e. nothing_more true g.got h.got (g.none e) (h.none (g.stays e));
-      reads = λ more none. ap (λ l. R a.line (limited (room a) (a.bytes ++ l))) (append_assoc g.got h.got more)
-          ∙ ap (R a.line) (g.reads (h.got ++ more) (λ e. nothing_more true h.got more (h.none e) (none (h.stays e))))
-          ∙ number_of (limited (room b) (b.bytes ++ (h.got ++ more)))
-          ∙ h.reads more none;
-      opens = λ more goes_on. ap (λ l. R a.line (front (a.bytes ++ l))) (append_assoc g.got h.got more)
-          ∙ ap (R a.line) (g.opens (h.got ++ more) (not_yet b.ended c.ended h.stays goes_on))
-          ∙ number_of (front (b.bytes ++ (h.got ++ more)))
-          ∙ h.opens more goes_on;
-    }
+    got = g.got ++ h.got;
+    took = consumes_more _ _ _ g.got h.got g.took h.took;
+    stays = λ e. h.stays (g.stays e);
+    none = λ e. nothing_more true g.got h.got (g.none e) (h.none (g.stays e));
+    reads = λ more none. ap (λ l. R a.line (limited (room a) (a.bytes ++ l))) (append_assoc g.got h.got more)
+        ∙ ap (R a.line) (g.reads (h.got ++ more) (λ e. nothing_more true h.got more (h.none e) (none (h.stays e))))
+        ∙ number_of (limited (room b) (b.bytes ++ (h.got ++ more)))
+        ∙ h.reads more none;
+    opens = λ more goes_on. ap (λ l. R a.line (front (a.bytes ++ l))) (append_assoc g.got h.got more)
+        ∙ ap (R a.line) (g.opens (h.got ++ more) (not_yet b.ended c.ended h.stays goes_on))
+        ∙ number_of (front (b.bytes ++ (h.got ++ more)))
+        ∙ h.opens more goes_on;
+  }
 
 -- the second line of a group, and the first
 pub database_step : (d r : List ℕ) (n : ℕ) (line : List ℕ) (seen : Seen) → named line ≡ Ok r → read_database d n (before line seen) ≡ read_policy d r (n + 1) seen

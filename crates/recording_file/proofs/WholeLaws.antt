@@ -25,11 +25,11 @@ none_taken (Some left) = refl
 -- at the start nothing was given
 pub given_none : (s : Option (List ℕ)) → HasGiven [] start s s
 given_none s = record {
-    got = [];
-    took = subst (λ o. Consumes s o []) (sym (open_source s)) (none_taken s);
-    reads = λ more none. refl;
-    opens = λ more goes_on. refl;
-  }
+  got = [];
+  took = subst (λ o. Consumes s o []) (sym (open_source s)) (none_taken s);
+  reads = λ more none. refl;
+  opens = λ more goes_on. refl;
+}
 
 behind_onto : (ps : List Series) (p : Series) (r : Reading) → behind ps (onto p r) ≡ behind (ps ++ p ∷ []) r
 behind_onto ps p r = ap (λ (l : List Series). record { points = l; stop = r.stop }) (sym (append_assoc ps (p ∷ []) r.points))
@@ -40,17 +40,17 @@ behind_stopped ps stop = ap (λ (l : List Series). record { points = l; stop = s
 -- one point more
 pub given_more : (ps : List Series) (p : Series) (a b : At) (s t u : Option (List ℕ)) → HasGiven ps a s t → GivesPoint read a b t u p → HasGiven (ps ++ p ∷ []) b s u
 given_more ps p a b s t u g h = record {
-    got = g.got ++ h.got;
-    took = consumes_more _ _ _ g.got h.got g.took h.took;
-    reads = λ more none. ap recording (append_assoc g.got h.got more)
-        ∙ g.reads (h.got ++ more) (λ e. nothing_more true h.got more (h.none e) (none (h.stays e)))
-        ∙ ap (behind ps) (h.reads more none)
-        ∙ behind_onto ps p _;
-    opens = λ more goes_on. ap recording_front (append_assoc g.got h.got more)
-        ∙ g.opens (h.got ++ more) (not_yet a.ended b.ended h.stays goes_on)
-        ∙ ap (behind ps) (h.opens more goes_on)
-        ∙ behind_onto ps p _;
-  }
+  got = g.got ++ h.got;
+  took = consumes_more _ _ _ g.got h.got g.took h.took;
+  reads = λ more none. ap recording (append_assoc g.got h.got more)
+      ∙ g.reads (h.got ++ more) (λ e. nothing_more true h.got more (h.none e) (none (h.stays e)))
+      ∙ ap (behind ps) (h.reads more none)
+      ∙ behind_onto ps p _;
+  opens = λ more goes_on. ap recording_front (append_assoc g.got h.got more)
+      ∙ g.opens (h.got ++ more) (not_yet a.ended b.ended h.stays goes_on)
+      ∙ ap (behind ps) (h.opens more goes_on)
+      ∙ behind_onto ps p _;
+}
 
 -- reading stops behind the points that were given
 stops_behind : (ps : List Series) (a : At) (s o : Option (List ℕ)) (t : Option (List ℕ)) (stop : Stop) → o ≡ to_come a.ended t → (g : HasGiven ps a s t) → Consumes s o g.got → StopsSo read a o stop → StopsWith s ps stop
@@ -68,10 +68,10 @@ given_then ps a b s t u (faults.Line n fault) g stays h = given_all ps a s t (Fa
 given_then ps a b s t u (faults.Truncated n) g stays h = given_all ps a s t (Faulty (faults.Truncated n)) g h
 given_then ps a b s t u faults.Long g stays h = given_all ps a s t (Faulty faults.Long) g h
 given_then ps a b s t u faults.ReadFault g stays h = record {
-    got = g.got ++ h.got;
-    took = subst (λ o. Consumes s o (g.got ++ h.got)) (ap (λ e. to_come e u) h.not_ended ∙ open_source u) (consumes_more _ _ _ g.got h.got g.took h.took);
-    undecided = g.opens h.got (not_yet a.ended b.ended stays h.not_ended) ∙ ap (behind ps) h.undecided ∙ behind_stopped ps Undecided;
-  }
+  got = g.got ++ h.got;
+  took = subst (λ o. Consumes s o (g.got ++ h.got)) (ap (λ e. to_come e u) h.not_ended ∙ open_source u) (consumes_more _ _ _ g.got h.got g.took h.took);
+  undecided = g.opens h.got (not_yet a.ended b.ended stays h.not_ended) ∙ ap (behind ps) h.undecided ∙ behind_stopped ps Undecided;
+}
 given_then ps a b s t u faults.NoMemory g stays h = tt
 
 ended_over : (e : Bool) (s t u : Option (List ℕ)) (got : List ℕ) → Consumes s (to_come e t) got → HasEnded t u → HasEnded s u
