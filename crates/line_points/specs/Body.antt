@@ -10,6 +10,7 @@ use Rattle.line_points.specs.declared.fault.BodyFault.{BodyFault}
 use Rattle.line_points.specs.declared.mode.Mode.{Mode}
 use Rattle.line_points.specs.Line.{line_of}
 
+-- the byte of a carriage return
 abbrev pub carriage_return : ℕ
 carriage_return = 13
 

@@ -167,6 +167,7 @@ stored_of db rp mode line = if not (is_utf8 line) then Err faults.NotUtf8 else p
 abbrev pub is_blank : List ℕ → Bool
 is_blank bytes = is_empty bytes || begins_with number_sign bytes
 
+-- lines as clients write them
 abbrev pub is_live : Mode → Bool
 is_live (Live unit now) = true
 is_live Recording = false

@@ -11,6 +11,7 @@ use Rattle.line_points.specs.Parts.{begins}
 abbrev pub is_digits : List ℕ → Bool
 is_digits bytes = not (is_empty bytes) && list_all is_ascii_digit bytes
 
+-- a minus
 abbrev pub is_minus : ℕ → Bool
 is_minus b = b == 45
 
@@ -46,8 +47,10 @@ true_words = codes "t" ∷ codes "T" ∷ codes "true" ∷ codes "True" ∷ codes
 abbrev pub false_words : List (List ℕ)
 false_words = codes "f" ∷ codes "F" ∷ codes "false" ∷ codes "False" ∷ codes "FALSE" ∷ []
 
+-- one of the words for true
 abbrev pub is_true : List ℕ → Bool
 is_true word = list_any (bytes_eq word) true_words
 
+-- one of the words for false
 abbrev pub is_false : List ℕ → Bool
 is_false word = list_any (bytes_eq word) false_words

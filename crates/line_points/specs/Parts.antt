@@ -4,15 +4,19 @@ use Rattle.kap_base.specs.Texts.{backslash}
 use Rattle.line_points.specs.declared.part.Part.{Part}
 use Rattle.line_points.specs.declared.part.Part.TheVariants.{Measurement, Key, Quoted}
 
+-- the byte of a space
 abbrev pub space : ℕ
 space = 32
 
+-- the byte of a double quote
 abbrev pub quote : ℕ
 quote = 34
 
+-- the byte of a comma
 abbrev pub comma : ℕ
 comma = 44
 
+-- the byte of an equals sign
 abbrev pub equals : ℕ
 equals = 61
 

@@ -31,6 +31,7 @@ value_text (values.Str text) = quote ∷ (escaped parts.Quoted text ++ quote ∷
 abbrev pub tag_text : Tag → List ℕ
 tag_text tag = comma ∷ (escaped parts.Key tag.0 ++ equals ∷ escaped parts.Key tag.1)
 
+-- a field: its key, an equals sign and its value
 abbrev pub field_text : Field → List ℕ
 field_text field = escaped parts.Key field.0 ++ equals ∷ value_text field.1
 

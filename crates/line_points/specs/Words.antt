@@ -13,6 +13,7 @@ use Rattle.line_points.specs.Numbers.{is_digits, is_minus, number_of, signed, fi
 abbrev pub is_sign : ℕ → Bool
 is_sign b = b == 45 || b == 43
 
+-- a decimal point
 abbrev pub is_point : ℕ → Bool
 is_point b = b == 46
 

@@ -64,139 +64,142 @@ fn printed(rt: &(impl AllocGlobal + Abort), line: &[u8], mode: &Mode) -> Result<
     Ok(print_line(rt.alloc(), &point).ok().ok_or("no memory")?)
 }
 
+/// Each line is a fault and a line that has it, read in Recording mode.
+const FAULTY: &str = "\
+Measurement|,a=1 x=1i 5
+Measurement|# c
+Measurement|
+Measurement|   
+Tag|m,a=1,a=2 x=1i 5
+Tag|m,a= x=1i 5
+Tag|m,a x=1i 5
+Tag|m,a=1=2 x=1i 5
+Tag|m,=1 x=1i 5
+Tag|m, x=1i 5
+NoField|m
+NoField|m,a=b  
+NoField|m,a=b\\
+Field|m 5
+Field|m =1i 5
+Field|m x=9223372036854775808i 5
+Field|m x=-9223372036854775809i 5
+Field|m x=-1u 5
+Field|m a b=1i 5
+Field|m x=1i, y=2i 5
+Field|m a,b=1i 5
+Field|m x=1i, 5
+Field|m x=\"a\"b 5
+Field|m x=\"a\\\" 5
+Field|m x=1. 5
+Field|m x=1e 5
+Field|m x=+1 5
+Field|m x=0x1 5
+Field|m x=nan 5
+Field|m x=1.5i 5
+Field|m x=tRUE 5
+Field|m x= 5
+FloatField|m x=1 5
+FloatField|m x=-.5e3 5
+FloatField|m x=1.5 1
+FloatField|m x=1E+06 1
+UnsignedField|m x=1u 5
+Time|m x=1i 5s
+Time|m x=1i 5 6
+TimeRange|m x=1i 9000000000000000001
+TimeRange|m x=1i -9000000000000000001
+TimeRange|m x=1i 100000000000000000000000
+NoTime|m x=1i
+NoTime|m x=1i  
+Tag|m,a= x=1 5s
+FloatField|m x=1,y=1u 5s
+UnsignedField|m x=1u,y=1.5 5s
+";
+
 #[test]
 fn a_faulty_line_has_its_first_fault(rt: HostRuntime) -> Result<(), Fail> {
-    let rows = [
-        (",a=1 x=1i 5", LineFault::Measurement),
-        ("# c", LineFault::Measurement),
-        ("", LineFault::Measurement),
-        ("   ", LineFault::Measurement),
-        ("m,a=1,a=2 x=1i 5", LineFault::Tag),
-        ("m,a= x=1i 5", LineFault::Tag),
-        ("m,a x=1i 5", LineFault::Tag),
-        ("m,a=1=2 x=1i 5", LineFault::Tag),
-        ("m,=1 x=1i 5", LineFault::Tag),
-        ("m, x=1i 5", LineFault::Tag),
-        ("m", LineFault::NoField),
-        ("m,a=b  ", LineFault::NoField),
-        ("m,a=b\\", LineFault::NoField),
-        ("m 5", LineFault::Field),
-        ("m =1i 5", LineFault::Field),
-        ("m x=9223372036854775808i 5", LineFault::Field),
-        ("m x=-9223372036854775809i 5", LineFault::Field),
-        ("m x=-1u 5", LineFault::Field),
-        ("m a b=1i 5", LineFault::Field),
-        ("m x=1i, y=2i 5", LineFault::Field),
-        ("m a,b=1i 5", LineFault::Field),
-        ("m x=1i, 5", LineFault::Field),
-        ("m x=\"a\"b 5", LineFault::Field),
-        ("m x=\"a\\\" 5", LineFault::Field),
-        ("m x=1. 5", LineFault::Field),
-        ("m x=1e 5", LineFault::Field),
-        ("m x=+1 5", LineFault::Field),
-        ("m x=0x1 5", LineFault::Field),
-        ("m x=nan 5", LineFault::Field),
-        ("m x=1.5i 5", LineFault::Field),
-        ("m x=tRUE 5", LineFault::Field),
-        ("m x= 5", LineFault::Field),
-        ("m x=1 5", LineFault::FloatField),
-        ("m x=-.5e3 5", LineFault::FloatField),
-        ("m x=1.5 1", LineFault::FloatField),
-        ("m x=1E+06 1", LineFault::FloatField),
-        ("m x=1u 5", LineFault::UnsignedField),
-        ("m x=1i 5s", LineFault::Time),
-        ("m x=1i 5 6", LineFault::Time),
-        ("m x=1i 5\r", LineFault::Time),
-        ("m x=1i 9000000000000000001", LineFault::TimeRange),
-        ("m x=1i -9000000000000000001", LineFault::TimeRange),
-        ("m x=1i 100000000000000000000000", LineFault::TimeRange),
-        ("m x=1i", LineFault::NoTime),
-        ("m x=1i  ", LineFault::NoTime),
-        // The first of several.
-        ("m,a= x=1 5s", LineFault::Tag),
-        ("m x=1,y=1u 5s", LineFault::FloatField),
-        ("m x=1u,y=1.5 5s", LineFault::UnsignedField),
-    ];
-    for (line, fault) in rows.iter() {
-        let found = fault_of(&rt, line.as_bytes(), &Mode::Recording)?;
-        assert!(rt; found == Some(*fault), "{line} is {found:?}");
+    let mut count = 0usize;
+    for row in FAULTY.lines() {
+        let (name, line) = row.split_once('|').ok_or("no bar")?;
+        let fault = fault_of(&rt, line.as_bytes(), &Mode::Recording)?.ok_or("no fault")?;
+        let text = body_text(rt.alloc(), &BodyFault { line: 1, fault })
+            .ok()
+            .ok_or("no memory")?;
+        let wanted = format!(in rt.alloc(); "line 1: {name}")?;
+        assert!(rt; text.as_slice() == wanted.as_bytes(), "{line}");
+        count = count.wrapping_add(1);
     }
+    assert_eq!(rt; count, 47);
     Ok(())
 }
 
+/// Each line is a line of a recording and its canonical form.
+const CANONICAL: &str = "\
+m,b=2,a=1 y=t,x=-7i 5|m,a=1,b=2 x=-7i,y=true 5
+m\\ a\\,b,k\\=1=v\\,2 s=\"q\\\"z\\\\\",t=T,f=FALSE 7|m\\ a\\,b,k\\=1=v\\,2 f=false,s=\"q\\\"z\\\\\",t=true 7
+  m   x=1i   5  |m x=1i 5
+m x=007i 007|m x=7i 7
+m x=-0i -0|m x=0i 0
+m x=1i,x=2i,x=3i 1|m x=3i 1
+m x=-9223372036854775808i -9000000000000000000|m x=-9223372036854775808i -9000000000000000000
+m x=9223372036854775807i 9000000000000000000|m x=9223372036854775807i 9000000000000000000
+\\#c x=1i 5|\\#c x=1i 5
+\\ #c x=1i 5|\\ #c x=1i 5
+a\\b\\\\,c x=1i 5|a\\b\\\\,c x=1i 5
+m,\\=k\\ =\\,v x\\,\\ \\==\"\" 5|m,\\=k\\ =\\,v x\\,\\ \\==\"\" 5
+m\t1 x=True,y=f 5|m\t1 x=true,y=false 5
+m s=\"a b, c=d\" 5|m s=\"a b, c=d\" 5
+m s=\"\\a\\n\" 5|m s=\"\\\\a\\\\n\" 5
+m time=1i,time=2i 5|m time=2i 5
+h\u{e9},\u{e9}=\u{4e2d} \u{1f600}=\"\u{e9}\" 5|h\u{e9},\u{e9}=\u{4e2d} \u{1f600}=\"\u{e9}\" 5
+cpu,host=a usage_idle=100i 1000000000|cpu,host=a usage_idle=100i 1000000000
+";
+
 #[test]
 fn a_line_prints_in_canonical_form(rt: HostRuntime) -> Result<(), Fail> {
-    let rows = [
-        ("m,b=2,a=1 y=t,x=-7i 5", "m,a=1,b=2 x=-7i,y=true 5"),
-        (
-            "m\\ a\\,b,k\\=1=v\\,2 s=\"q\\\"z\\\\\",t=T,f=FALSE 7",
-            "m\\ a\\,b,k\\=1=v\\,2 f=false,s=\"q\\\"z\\\\\",t=true 7",
-        ),
-        ("  m   x=1i   5  ", "m x=1i 5"),
-        ("m x=007i 007", "m x=7i 7"),
-        ("m x=-0i -0", "m x=0i 0"),
-        ("m x=1i,x=2i,x=3i 1", "m x=3i 1"),
-        (
-            "m x=-9223372036854775808i -9000000000000000000",
-            "m x=-9223372036854775808i -9000000000000000000",
-        ),
-        (
-            "m x=9223372036854775807i 9000000000000000000",
-            "m x=9223372036854775807i 9000000000000000000",
-        ),
-        ("\\#c x=1i 5", "\\#c x=1i 5"),
-        ("\\ #c x=1i 5", "\\ #c x=1i 5"),
-        ("a\\b\\\\,c x=1i 5", "a\\b\\\\,c x=1i 5"),
-        (
-            "m,\\=k\\ =\\,v x\\,\\ \\==\"\" 5",
-            "m,\\=k\\ =\\,v x\\,\\ \\==\"\" 5",
-        ),
-        ("m\t1 x=True,y=f 5", "m\t1 x=true,y=false 5"),
-        ("m s=\"a b, c=d\" 5", "m s=\"a b, c=d\" 5"),
-        ("m s=\"\\a\\n\" 5", "m s=\"\\\\a\\\\n\" 5"),
-        ("m time=1i,time=2i 5", "m time=2i 5"),
-        (
-            "h\u{e9},\u{e9}=\u{4e2d} \u{1f600}=\"\u{e9}\" 5",
-            "h\u{e9},\u{e9}=\u{4e2d} \u{1f600}=\"\u{e9}\" 5",
-        ),
-        (
-            "cpu,host=a usage_idle=100i 1000000000",
-            "cpu,host=a usage_idle=100i 1000000000",
-        ),
-    ];
-    for (line, canonical) in rows.iter() {
+    let mut count = 0usize;
+    for row in CANONICAL.lines() {
+        let (line, canonical) = row.split_once('|').ok_or("no bar")?;
         let text = printed(&rt, line.as_bytes(), &Mode::Recording)?;
         assert!(rt; text.as_slice() == canonical.as_bytes(), "{line}");
         let again = printed(&rt, text.as_slice(), &Mode::Recording)?;
         assert!(rt; again.as_slice() == canonical.as_bytes(), "{line}");
+        count = count.wrapping_add(1);
     }
+    assert_eq!(rt; count, 18);
     Ok(())
+}
+
+fn is_printed(
+    rt: &(impl AllocGlobal + Abort),
+    unit: Unit,
+    line: &[u8],
+    canonical: &[u8],
+) -> Result<bool, Fail> {
+    let text = printed(rt, line, &Mode::Live { unit, now: 5 })?;
+    Ok(text.as_slice() == canonical)
 }
 
 #[test]
 fn a_time_counts_its_unit(rt: HostRuntime) -> Result<(), Fail> {
-    let rows = [
-        (Unit::Ns, "m x=1i 12", "m x=1i 12"),
-        (Unit::Us, "m x=1i 12", "m x=1i 12000"),
-        (Unit::Ms, "m x=1i 12", "m x=1i 12000000"),
-        (Unit::S, "m x=1i 12", "m x=1i 12000000000"),
-        (Unit::M, "m x=1i 12", "m x=1i 720000000000"),
-        (Unit::H, "m x=1i 12", "m x=1i 43200000000000"),
-        (Unit::H, "m x=1i -2500000", "m x=1i -9000000000000000000"),
-        (Unit::S, "m x=1i 9000000000", "m x=1i 9000000000000000000"),
-        (Unit::S, "m x=1i", "m x=1i 5"),
-        (Unit::M, "m x=1i  ", "m x=1i 5"),
-    ];
-    for (unit, line, canonical) in rows.iter() {
-        let mode = Mode::Live {
-            unit: *unit,
-            now: 5,
-        };
-        let text = printed(&rt, line.as_bytes(), &mode)?;
-        assert!(rt; text.as_slice() == canonical.as_bytes(), "{line}");
-    }
+    assert!(rt; is_printed(&rt, Unit::Ns, b"m x=1i 12", b"m x=1i 12")?);
+    assert!(rt; is_printed(&rt, Unit::Us, b"m x=1i 12", b"m x=1i 12000")?);
+    assert!(rt; is_printed(&rt, Unit::Ms, b"m x=1i 12", b"m x=1i 12000000")?);
+    assert!(rt; is_printed(&rt, Unit::S, b"m x=1i 12", b"m x=1i 12000000000")?);
+    assert!(rt; is_printed(&rt, Unit::M, b"m x=1i 12", b"m x=1i 720000000000")?);
+    assert!(rt; is_printed(&rt, Unit::H, b"m x=1i 12", b"m x=1i 43200000000000")?);
+    assert!(rt;
+        is_printed(
+            &rt,
+            Unit::H,
+            b"m x=1i -2500000",
+            b"m x=1i -9000000000000000000"
+        )?
+    );
+    assert!(rt; is_printed(&rt, Unit::M, b"m x=1i  ", b"m x=1i 5")?);
     let far = fault_of(&rt, b"m x=1i 9000000001", &SECONDS)?;
     assert!(rt; far == Some(LineFault::TimeRange));
+    let far = fault_of(&rt, b"m x=1i 5\r", &SECONDS)?;
+    assert!(rt; far == Some(LineFault::Time));
     Ok(())
 }
 
@@ -282,68 +285,60 @@ fn all_printed(rt: &(impl AllocGlobal + Abort), points: &Points) -> Result<Vec<u
     let mut text = Vec::new(rt.alloc());
     for point in points.as_slice() {
         text.extend_from_slice(point.db.bytes())?;
-        text.push(b'/')?;
+        text.push(b':')?;
         text.extend_from_slice(point.rp.bytes())?;
         text.push(b' ')?;
         let line = print_line(rt.alloc(), point).ok().ok_or("no memory")?;
         text.extend_from_slice(line.as_slice())?;
-        text.push(b'|')?;
+        text.push(b';')?;
     }
     Ok(text)
 }
 
-#[test]
-fn a_body_is_its_lines(rt: HostRuntime) -> Result<(), Fail> {
-    let rows = [
-        ("", ""),
-        ("\n\n", ""),
-        ("m x=1i 1", "d/r m x=1i 1000000000|"),
-        ("m x=1i 1\n", "d/r m x=1i 1000000000|"),
-        (
-            "m x=1i 1\r\nm x=2i\r\n",
-            "d/r m x=1i 1000000000|d/r m x=2i 77|",
-        ),
-        (
-            "# c\n\nm x=1i 1\n  \nn y=t\r",
-            "d/r m x=1i 1000000000|d/r n y=true 77|",
-        ),
-    ];
-    for (body, wanted) in rows.iter() {
-        let points = read_lines(&rt, body.as_bytes(), &SECONDS)?
-            .ok()
-            .ok_or("a fault")?;
-        let text = all_printed(&rt, &points)?;
-        assert!(rt; text.as_slice() == wanted.as_bytes(), "{body}");
+/// A body's points as they are printed, or the text of its fault.
+fn answer(rt: &(impl AllocGlobal + Abort), body: &[u8], mode: &Mode) -> Result<Vec<u8>, Fail>
+    requires { IsTrue (has_time mode.now) }
+{
+    match read_lines(rt, body, mode)? {
+        Ok(points) => all_printed(rt, &points),
+        Err(fault) => {
+            let text = body_text(rt.alloc(), &fault).ok().ok_or("no memory")?;
+            Ok(text.into_items())
+        }
     }
-    Ok(())
 }
 
+/// Each line is a body, with `;` for a line feed and `^` for a carriage return, and its answer in Live mode.
+const BODIES: &str = "\
+/
+;;/
+m x=1i 1/d:r m x=1i 1000000000;
+m x=1i 1;/d:r m x=1i 1000000000;
+m x=1i 1^;m x=2i^;/d:r m x=1i 1000000000;d:r m x=2i 77;
+# c;;m x=1i 1;  ;n y=t^/d:r m x=1i 1000000000;d:r n y=true 77;
+m x=1i 1;# c;;m x=1.5 1;m 5/line 4: FloatField
+m x=1i 5^^;/line 1: Time
+;m;/line 2: NoField
+m x=1u;/line 1: UnsignedField
+,a=1 x=1i 5/line 1: Measurement
+m,a=1,a=2 x=1i 5/line 1: Tag
+m 5/line 1: Field
+m x=1i 9000000001/line 1: TimeRange
+";
+
 #[test]
-fn a_faulty_body_names_its_first_faulty_line(rt: HostRuntime) -> Result<(), Fail> {
-    let rows = [
-        ("m x=1i 1\n# c\n\nm x=1.5 1\nm 5", "line 4: FloatField"),
-        ("m x=1i 5\r\r\n", "line 1: Time"),
-        ("\nm\n", "line 2: NoField"),
-        ("m x=1u\n", "line 1: UnsignedField"),
-        (",a=1 x=1i 5", "line 1: Measurement"),
-        ("m,a=1,a=2 x=1i 5", "line 1: Tag"),
-        ("m 5", "line 1: Field"),
-        ("m x=1i 9000000001", "line 1: TimeRange"),
-    ];
-    for (body, wanted) in rows.iter() {
-        let fault = read_lines(&rt, body.as_bytes(), &SECONDS)?
-            .err()
-            .ok_or("no fault")?;
-        let text = body_text(rt.alloc(), &fault).ok().ok_or("no memory")?;
-        assert!(rt; text.as_slice() == wanted.as_bytes(), "{body}");
+fn a_body_is_its_lines(rt: HostRuntime) -> Result<(), Fail> {
+    let mut count = 0usize;
+    for row in BODIES.lines() {
+        let (shown, wanted) = row.split_once('/').ok_or("no slash")?;
+        let feeds = shown.replace(rt.alloc(), ";", "\n")?;
+        let body = feeds.replace(rt.alloc(), "^", "\r")?;
+        let text = answer(&rt, body.as_bytes(), &SECONDS)?;
+        assert!(rt; text.as_slice() == wanted.as_bytes(), "{shown}");
+        count = count.wrapping_add(1);
     }
-    let fault = read_lines(&rt, b"m x=1i 1\nm x=1i", &Mode::Recording)?.err();
-    let no_time = BodyFault {
-        line: 2,
-        fault: LineFault::NoTime,
-    };
-    assert!(rt; fault == Some(no_time));
-    let text = body_text(rt.alloc(), &no_time).ok().ok_or("no memory")?;
+    assert_eq!(rt; count, 14);
+    let text = answer(&rt, b"m x=1i 1\nm x=1i", &Mode::Recording)?;
     assert!(rt; text.as_slice() == b"line 2: NoTime".as_slice());
     Ok(())
 }
