@@ -41,7 +41,6 @@ fn written<K: Sink>(out: &mut K, text: &Bytes, status: Status) -> Status
 
 /// Adds the line of a point, where it is of the measurement, to the text that is due, and writes that where it is a whole piece.
 fn replay_point<K: Sink>(
-    alloc: Global,
     id: &[u8],
     name: &[u8],
     point: &Point,
@@ -54,7 +53,7 @@ fn replay_point<K: Sink>(
     ensures later { K.faults out.old ≤ K.faults out.new }
     ensures rose { result ≡ Err Status.WriteFault → Rose (K.faults out.old) (K.faults out.new) }
 {
-    if put_point(alloc, id, name, point, text).is_err() {
+    if put_point(id, name, point, text).is_err() {
         return Err(Status::NoMemory);
     }
     match write_piece(out, text) {
@@ -84,7 +83,7 @@ pub fn replay<S: Source, K: Sink>(
             Ok(None) => return written(out, &text, Status::Ok),
             Err(fault) => return written(out, &text, Status::from(fault)),
         };
-        match replay_point(alloc, id, name, &point, out, &mut text) {
+        match replay_point(id, name, &point, out, &mut text) {
             Ok(()) => {}
             Err(status) => return status,
         }

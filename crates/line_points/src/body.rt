@@ -30,7 +30,7 @@ fn first_line(body: &[u8]) -> (&[u8], &[u8])
 }
 
 /// The line without one carriage return at its end.
-fn without_return(line: &[u8]) -> &[u8]
+pub fn without_return(line: &[u8]) -> &[u8]
     ensures { result.now ≡ without_return line.now }
 {
     match line.split_last() {

@@ -109,17 +109,26 @@ fn put_fields(fields: &[(Text, Value)], out: &mut Bytes) -> Result<(), NoMemory>
     Ok(())
 }
 
+/// Adds the canonical line of a point, with its time in nanoseconds and without a line feed. After `NoMemory` a part of it may
+/// have been added.
+pub fn put_line(point: &Point, out: &mut Bytes) -> Result<(), NoMemory>
+    ensures line { OnOk result (out.new ≡ out.old ++ Print point.now) }
+    ensures point { OnOk result (IsPoint point.now) }
+{
+    put_escaped(Part::Measurement, &point.name, out)?;
+    put_tags(point.tags.entries(), out)?;
+    out.push(b' ')?;
+    put_fields(point.fields.entries(), out)?;
+    out.push(b' ')?;
+    put_number(point.time, out)
+}
+
 fn canonical_line(alloc: Global, point: &Point) -> Result<Bytes, NoMemory>
     ensures line { IfOk result (λ line. line ≡ Print point.now) }
     ensures point { OnOk result (IsPoint point.now) }
 {
     let mut out = Bytes::new(alloc);
-    put_escaped(Part::Measurement, &point.name, &mut out)?;
-    put_tags(point.tags.entries(), &mut out)?;
-    out.push(b' ')?;
-    put_fields(point.fields.entries(), &mut out)?;
-    out.push(b' ')?;
-    put_number(point.time, &mut out)?;
+    put_line(point, &mut out)?;
     Ok(out)
 }
 

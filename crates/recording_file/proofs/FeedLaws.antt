@@ -7,7 +7,8 @@ use Rattle.std.proofs.lemmas.List.{get_or-drop}
 use Rattle.std.proofs.lemmas.List.Sums.{position_or_len_is, fails_before_first}
 use Rattle.kap_base.specs.Texts.{has_line_feed}
 use Rattle.memchr.specs.Find.{IsFirstByte, is_byte}
-use Rattle.recording_file.specs.Lines.{is_feed, without_return}
+use Rattle.line_points.specs.Body.{without_return}
+use Rattle.recording_file.specs.Lines.{is_feed}
 
 no_feed : (b : Bool) → b ≢ true → b ≡ false
 no_feed true not_true = absurd (not_true refl)
@@ -35,22 +36,6 @@ pub end_missing : (bytes : List ℕ) (s : ℕ) → s ≤ length bytes → s ≤ 
 end_missing bytes s within searched nowhere =
     let whole : s + length (drop s bytes) ≡ length bytes = omega (arith, length-drop s bytes) in
     sym (position_or_len_is is_feed bytes (length bytes) 0 (omega arith) (λ k lt. none_before bytes s (length (drop s bytes)) searched nowhere k (omega arith)) (λ lt. absurd (omega arith)))
-
--- a carriage return at the end isn't part of a line
-pub one_return : (line front : List ℕ) (b : ℕ) → line ≡ front ++ b ∷ [] → b ≡ 13 → without_return line ≡ front
-one_return line front b is return = subst (λ (l : List ℕ). without_return l ≡ front) (sym is) (subst (λ (x : ℕ). without_return (front ++ x ∷ []) ≡ front) (sym return) (go front)) where
-  go : (f : List ℕ) → without_return (f ++ 13 ∷ []) ≡ f
-  go [] = refl
-  go (x ∷ []) = refl
-  go (x ∷ y ∷ f) = ap (λ (l : List ℕ). x ∷ l) (go (y ∷ f))
-
--- and any other byte is
-pub no_return : (line front : List ℕ) (b : ℕ) → line ≡ front ++ b ∷ [] → (b == 13) ≡ false → without_return line ≡ line
-no_return line front b is other = subst (λ (l : List ℕ). without_return l ≡ l) (sym is) (go front) where
-  go : (f : List ℕ) → without_return (f ++ b ∷ []) ≡ f ++ b ∷ []
-  go [] = ap (λ (t : Bool). cond t [] (b ∷ [])) other
-  go (x ∷ []) = ap (λ (t : Bool). x ∷ cond t [] (b ∷ [])) other
-  go (x ∷ y ∷ f) = ap (λ (l : List ℕ). x ∷ l) (go (y ∷ f))
 
 any_step : (a b : Bool) → (a || b) ≡ false → b ≡ false
 any_step true b e = cc

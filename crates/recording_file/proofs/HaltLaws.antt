@@ -10,7 +10,8 @@ use Rattle.line_points.specs.declared.fault.LineFault.{LineFault}
 use Rattle.line_points.specs.declared.fault.LineFault.TheVariants as faults
 use Rattle.recording_file.specs.declared.fault.RecFault.{RecFault}
 use Rattle.recording_file.specs.declared.fault.RecFault.TheVariants as rec_faults
-use Rattle.recording_file.specs.Lines.{is_feed, raw_lines, without_return, closed, all, last_of}
+use Rattle.line_points.specs.Body.{without_return}
+use Rattle.recording_file.specs.Lines.{is_feed, raw_lines, closed, all, last_of}
 use Rattle.recording_file.specs.Recording.{Reading, Seen, Stop, Ended, Faulty, Undecided, named, pointed, short, at_line, further, stopped, onto, groups, at_end, at_open, at_limit, whole, front, cut, limited, read}
 use Rattle.recording_file.specs.Finding.{At, ReadsOn, IsLine, IsUndecided, FindsNone, room, taken, to_come}
 use Rattle.recording_file.specs.Steps.{before, behind_policy, behind_database, read_policy, read_database, GivesLine, GivesPoint, StopsSo, FailsOpen, Refuses, FaultAt}

@@ -6,7 +6,8 @@ use Rattle.std.specs.Prelude.{nat_le, nat_lt}
 use Rattle.std.specs.List.{position_or_len, onto_first}
 use Rattle.std.proofs.lemmas.Bool.Decides.{nat_tests}
 use Rattle.std.proofs.lemmas.List.Splits.{slice_split_first, length-slice_split}
-use Rattle.recording_file.specs.Lines.{is_feed, raw_lines, without_return, closed, all, last_of}
+use Rattle.line_points.specs.Body.{without_return}
+use Rattle.recording_file.specs.Lines.{is_feed, raw_lines, closed, all, last_of}
 use Rattle.recording_file.specs.Recording.{Seen, whole, front, cut, limited, at_end, at_open, at_limit}
 use Rattle.recording_file.specs.Steps.{before}
 

@@ -10,7 +10,8 @@ use Rattle.kap_io.specs.KnownLaws.{consumes_more}
 use Rattle.line_points.specs.declared.fault.LineFault.{LineFault}
 use Rattle.recording_file.specs.declared.fault.RecFault.{RecFault}
 use Rattle.recording_file.specs.declared.fault.RecFault.TheVariants as rec_faults
-use Rattle.recording_file.specs.Lines.{is_feed, without_return}
+use Rattle.line_points.specs.Body.{without_return}
+use Rattle.recording_file.specs.Lines.{is_feed}
 use Rattle.recording_file.specs.Recording.{Reading, Seen, Stop, Faulty, Undecided, named, pointed, at_line, further, stopped, onto, groups, front, limited, read}
 use Rattle.recording_file.specs.Finding.{At, ReadsOn, IsLine, room, taken, to_come}
 use Rattle.recording_file.specs.Steps.{before, behind_policy, behind_database, read_policy, read_database, GivesLine, GivesPoint}

@@ -1,7 +1,10 @@
 -- The lines of bytes.
-use Rattle.std.specs.Prelude.{ℕ, Bool, ◌==◌, List, [], ◌∷◌, map, if◌then◌else◌}
+use Rattle.std.specs.Prelude.{ℕ, Bool, ◌==◌, List, [], ◌∷◌, ◌++◌, if◌then◌else◌}
 use Rattle.std.specs.List.{slice_split}
 use Rattle.kap_base.specs.Texts.{line_feed, is_empty}
+use Rattle.kap_base.specs.Points.{Series}
+use Rattle.line_points.specs.Body.{without_return}
+use Rattle.line_points.specs.Print.{Print}
 
 abbrev pub is_feed : ℕ → Bool
 is_feed b = b == line_feed
@@ -9,12 +12,6 @@ is_feed b = b == line_feed
 -- what stands before each line feed, and last what stands behind the last one
 abbrev pub raw_lines : List ℕ → List (List ℕ)
 raw_lines bytes = slice_split is_feed bytes
-
--- one carriage return at the end isn't part of a line
-abbrev pub without_return : List ℕ → List ℕ
-without_return [] = []
-without_return (b ∷ []) = if b == 13 then [] else b ∷ []
-without_return (b ∷ c ∷ bytes) = b ∷ without_return (c ∷ bytes)
 
 -- the lines that have their line feed
 abbrev pub closed : List (List ℕ) → List (List ℕ)
@@ -33,3 +30,7 @@ abbrev pub last_of : List (List ℕ) → List ℕ
 last_of [] = []
 last_of (last ∷ []) = last
 last_of (line ∷ next ∷ more) = last_of (next ∷ more)
+
+-- the three lines of a point, each with its line feed
+abbrev pub record_text : Series → List ℕ
+record_text p = p.db ++ (line_feed ∷ (p.rp ++ (line_feed ∷ (Print p ++ line_feed ∷ []))))

@@ -1,6 +1,6 @@
 ghost use Rattle.std.specs.Prelude.{◌≡◌, ◌+◌, ◌≤◌, List, ℕ, length, drop};
 ghost use Rattle.std.specs.List.{position_or_len};
-ghost use Rattle.recording_file.specs.Lines.{is_feed, without_return};
+ghost use Rattle.recording_file.specs.Lines.{is_feed};
 
 use memchr::memchr;
 
@@ -15,16 +15,5 @@ pub fn line_end(bytes: &[u8], searched: usize) -> usize
     match memchr(b'\n', rest) {
         Some(at) => searched + at,
         None => bytes.len(),
-    }
-}
-
-/// The line without the carriage return at its end.
-#[tactic(auto, using(crate::proofs::FeedLaws::no_return, crate::proofs::FeedLaws::one_return))]
-pub fn without_return(line: &[u8]) -> &[u8]
-    ensures { result.now ≡ without_return line.now }
-{
-    match line.split_last() {
-        Some((last, front)) => { if *last == b'\r' { front } else { line } }
-        None => line,
     }
 }

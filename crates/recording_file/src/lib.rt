@@ -6,9 +6,11 @@ mod feeds;
 mod group;
 mod lines;
 mod points;
+mod print;
 mod reader;
 mod window;
 
 pub use fault::RecFault;
 pub use points::read_points;
+pub use print::print_record;
 pub use reader::Reader;

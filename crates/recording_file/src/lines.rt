@@ -2,15 +2,16 @@ ghost use Rattle.std.specs.Prelude.{◌≡◌, false, ◌+◌, ◌-◌, ◌^◌,
 ghost use Rattle.std.specs.Bool.{OnTrue, OnFalse};
 ghost use Rattle.std.specs.List.{position_or_len};
 ghost use Rattle.kap_base.specs.Texts.{has_line_feed};
+ghost use Rattle.line_points.specs.Body.{without_return};
 ghost use Rattle.recording_file.specs.Causes.{HasReadCause};
-ghost use Rattle.recording_file.specs.Lines.{is_feed, without_return};
+ghost use Rattle.recording_file.specs.Lines.{is_feed};
 ghost use Rattle.recording_file.specs.Finding.{At, ReadsOn, room, taken, IsLine, IsUndecided, FindFault, FindsNone};
 
 use crate::fault::RecFault;
-use crate::feeds::{line_end, without_return};
+use crate::feeds::line_end;
 use crate::window::Window;
 use kap_io::Source;
-use line_points::LineFault;
+use line_points::{LineFault, without_return};
 use std::alloc::Global;
 use std::marker::Model;
 
