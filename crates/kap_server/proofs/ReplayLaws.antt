@@ -21,7 +21,8 @@ use Rattle.recording_file.proofs.HaltLaws.{ended_left}
 use Rattle.recording_file.proofs.WholeLaws.{given_none, given_more, given_all, given_then}
 use Rattle.kap_server.specs.declared.status.Status.{Status}
 use Rattle.kap_server.specs.declared.status.Status.TheVariants as statuses
-use Rattle.kap_server.specs.Statuses.{status_of}
+use Rattle.kap_server.specs.Statuses.{status_of, status_at}
+use Rattle.kap_server.specs.Command.{IsUnlessFailed}
 use Rattle.kap_server.specs.Lines.{is_of, out_line, text_of}
 use Rattle.kap_server.specs.Replaying.{Writes, WritesFront, WritesSoFar, Replayed, IsWritten, Moves, Underway}
 
@@ -114,3 +115,18 @@ module _ (id name : List ℕ) where
   gave_up status due at b s t u w v x p on step (inr fault) part =
       let still : Moves (due ++ text_of id name (p ∷ [])) (due ++ text_of id name (p ∷ [])) v v = record { piece = []; written = appends_none v; rest = refl } in
       subst (λ r. Replayed (text_of id name) r s u w x) (sym fault) (cut_off (due ++ text_of id name (p ∷ [])) b s u w v x (underway_more s t w v due at on p b u v (due ++ text_of id name (p ∷ [])) step still) (part fault))
+
+-- the status of a replay is that at which reading its input stops
+told_status : (text : List Series → List ℕ) (result : Status) (bytes : List ℕ) (t w v : Option (List ℕ)) → Replayed text result (Some bytes) t w v → IsUnlessFailed result (status_at (recording bytes).stop)
+told_status text statuses.Ok bytes t w v h = inl (ap status_at (sym h.0))
+told_status text statuses.Usage bytes t w v h = absurd h
+told_status text (statuses.Line n fault) bytes t w v h = inl (ap status_at (sym h.0))
+told_status text (statuses.Truncated n) bytes t w v h = inl (ap status_at (sym h.0))
+told_status text statuses.TooLong bytes t w v h = inl (ap status_at (sym h.0))
+told_status text statuses.ScriptForm bytes t w v h = absurd h
+told_status text statuses.NoMemory bytes t w v h = inr (inl refl)
+told_status text statuses.ReadFault bytes t w v h = inr (inr (inl refl))
+told_status text statuses.WriteFault bytes t w v h = inr (inr (inr refl))
+
+pub status_is : (text : List Series → List ℕ) (result : Status) (bytes : List ℕ) (s t w v : Option (List ℕ)) → Replayed text result s t w v → s ≡ Some bytes → IsUnlessFailed result (status_at (recording bytes).stop)
+status_is text result bytes s t w v h is = told_status text result bytes t w v (subst (λ o. Replayed text result o t w v) is h)

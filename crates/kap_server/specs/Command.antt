@@ -1,7 +1,7 @@
 -- What a command answers, and when.
 use Rattle.std.specs.Prelude.{◌≡◌, ◌⊎◌, ℕ, List, Option, Some, None, IsSomeAnd}
 use Rattle.kap_server.specs.declared.status.Status.{Status}
-use Rattle.kap_server.specs.declared.status.Status.TheVariants.{NoMemory}
+use Rattle.kap_server.specs.declared.status.Status.TheVariants.{NoMemory, ReadFault, WriteFault}
 use Rattle.kap_server.specs.Script.{IsFilter}
 use Rattle.kap_server.specs.Words.{asked}
 
@@ -19,3 +19,7 @@ pub record AsksFor (words : List (List ℕ)) (id name : List ℕ) : Type 0 where
   pub script : List ℕ
   pub asks : asked words ≡ Some (id, script)
   pub filters : IsFilter script name
+
+-- the answer is this status, unless memory ran out or a device failed
+abbrev pub IsUnlessFailed : Status → Status → Type 0
+IsUnlessFailed result status = (result ≡ status) ⊎ ((result ≡ NoMemory) ⊎ ((result ≡ ReadFault) ⊎ (result ≡ WriteFault)))

@@ -2,6 +2,7 @@
 use Rattle.std.specs.Prelude.{ℕ, List, [], ◌++◌, codes}
 use Rattle.std.specs.Fmt.{decimal}
 use Rattle.line_points.specs.Body.{fault_line}
+use Rattle.recording_file.specs.Recording.{Stop, Ended, Faulty, Undecided}
 use Rattle.recording_file.specs.declared.fault.RecFault.{RecFault}
 use Rattle.recording_file.specs.declared.fault.RecFault.TheVariants as faults
 use Rattle.kap_server.specs.declared.status.Status.{Status}
@@ -38,3 +39,9 @@ text_of_status ScriptForm = codes "script form"
 text_of_status NoMemory = codes "no memory"
 text_of_status ReadFault = codes "read fault"
 text_of_status WriteFault = codes "write fault"
+
+-- the status of a replay whose input's reading stops so
+abbrev pub status_at : Stop → Status
+status_at Ended = Ok
+status_at (Faulty fault) = status_of fault
+status_at Undecided = NoMemory

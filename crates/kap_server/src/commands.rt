@@ -2,9 +2,11 @@ ghost use Rattle.std.specs.Prelude.{◌≡◌, ◌⊎◌, List, ℕ, None, Some,
 ghost use Rattle.std.specs.Io.KnownBytes.{Keeps};
 ghost use Rattle.kap_io.specs.Causes.{Rose};
 ghost use Rattle.recording_file.specs.Finding.{HasEnded};
-ghost use Rattle.kap_server.specs.Command.{ExactlyWhere, AsksFor, AsksForNoFilter};
+ghost use Rattle.recording_file.specs.Recording.{recording};
+ghost use Rattle.kap_server.specs.Command.{ExactlyWhere, AsksFor, AsksForNoFilter, IsUnlessFailed};
 ghost use Rattle.kap_server.specs.Lines.{text_of};
 ghost use Rattle.kap_server.specs.Replaying.{Replayed};
+ghost use Rattle.kap_server.specs.Statuses.{status_at};
 ghost use Rattle.kap_server.specs.Words.{asked};
 
 use crate::replaying::replay;
@@ -33,6 +35,8 @@ pub fn command<S: Source, K: Sink>(
     ensures nothing { (result ≡ Status.Usage) ⊎ (result ≡ Status.ScriptForm) → Keeps (S.left input.old) (S.left input.new) × Keeps (K.written out.old) (K.written out.new) }
     // Else the text of the points is written, as the status says.
     ensures replayed { (id name : List ℕ) → AsksFor (map string_bytes words.now) id name → Replayed (text_of id name) result (S.left input.old) (S.left input.new) (K.written out.old) (K.written out.new) }
+    // The status is Ok where the input is a recording, and else that of its first fault, unless memory ran out or a device failed.
+    ensures status { (id name bytes : List ℕ) → AsksFor (map string_bytes words.now) id name → S.left input.old ≡ Some bytes → IsUnlessFailed result (status_at (recording bytes).stop) }
     // At Ok the input was read to its end.
     ensures read { result ≡ Status.Ok → HasEnded (S.left input.old) (S.left input.new) }
     // A fault of the input or the output comes only where its count rose in this call.

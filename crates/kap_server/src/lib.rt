@@ -12,3 +12,6 @@ mod words;
 pub use commands::command;
 pub use status::Status;
 pub use texts::status_text;
+
+#[cfg(test)]
+mod tests;

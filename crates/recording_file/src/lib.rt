@@ -14,3 +14,6 @@ pub use fault::RecFault;
 pub use points::read_points;
 pub use print::print_record;
 pub use reader::Reader;
+
+#[cfg(test)]
+mod tests;

@@ -1,0 +1,191 @@
+ghost use Rattle.std.specs.Prelude.{◌<◌};
+
+use crate::{Status, command, status_text};
+use kap_io::{MemSink, MemSource};
+use line_points::LineFault;
+use std::alloc::{AllocError, Global};
+use std::test::Fail;
+
+const SCRIPT: &str = "stream|from().measurement('m')|log()";
+
+/// What a command ended with, and what it wrote.
+#[derive(Drop)]
+struct Outcome {
+    status: Status,
+    sink: MemSink,
+}
+
+fn words(alloc: Global, of: &[&str]) -> Result<Vec<String>, AllocError> {
+    let mut words = Vec::new(alloc);
+    for word in of {
+        words.push(String::from_str(alloc, word)?)?;
+    }
+    Ok(words)
+}
+
+/// Runs a command over a source of these bytes, `step` of them a call, whose calls `fails` fail, and a sink that takes `most` bytes
+/// a call, and whose calls `stops` fail.
+fn run(
+    alloc: Global,
+    of: &[&str],
+    bytes: &[u8],
+    step: usize,
+    fails: &[u64],
+    most: usize,
+    stops: &[u64],
+) -> Result<Outcome, AllocError>
+    requires step { 0 < step }
+    requires most { 0 < most }
+{
+    let words = words(alloc, of)?;
+    let mut source = MemSource::new(alloc, bytes.to_vec(alloc)?, step, fails.to_vec(alloc)?);
+    let mut sink = MemSink::new(alloc, most, stops.to_vec(alloc)?);
+    let status = command(alloc, &words, &mut source, &mut sink);
+    Ok(Outcome { status, sink })
+}
+
+fn replay(alloc: Global, bytes: &[u8], step: usize) -> Result<Outcome, AllocError>
+    requires { 0 < step }
+{
+    run(alloc, &["replay", "t", SCRIPT], bytes, step, &[], 4096, &[])
+}
+
+const TWO: &[u8] = b"d\nr\nm,b=2,a=1 y=t,x=-7i 5\nd\nr\nn x=1i 6\n";
+
+const ONE: &[u8] = b"d\nr\nm x=1i 5\n";
+
+#[test]
+fn points_of_the_measurement_are_written(rt: HostRuntime) -> Result<(), Fail> {
+    let alloc = rt.alloc();
+    for step in [1, 2, 7, 100_000] {
+        let done = replay(alloc, TWO, step)?;
+        assert_eq!(rt; done.status, Status::Ok);
+        assert_eq!(rt;
+            done.sink.bytes(),
+            b"out t log2 m,a=1,b=2 x=-7i,y=true 5\n".as_slice()
+        );
+    }
+    let done = replay(alloc, b"", 1)?;
+    assert_eq!(rt; done.status, Status::Ok);
+    assert_eq!(rt; done.sink.bytes(), b"".as_slice());
+    Ok(())
+}
+
+#[test]
+fn each_front_of_a_recording_has_its_status(rt: HostRuntime) -> Result<(), Fail> {
+    let alloc = rt.alloc();
+    let fault = |fault| Status::Line { line: 3, fault };
+    let wanted = [
+        Status::Ok,
+        Status::Truncated { line: 2 },
+        Status::Truncated { line: 2 },
+        Status::Truncated { line: 3 },
+        Status::Truncated { line: 3 },
+        fault(LineFault::NoField),
+        fault(LineFault::NoField),
+        fault(LineFault::Field),
+        fault(LineFault::Field),
+        fault(LineFault::FloatField),
+        fault(LineFault::NoTime),
+        fault(LineFault::NoTime),
+        Status::Ok,
+        Status::Ok,
+    ];
+    for (count, status) in wanted.iter().enumerate() {
+        let front = ONE.get(..count).unwrap_or(ONE);
+        assert_eq!(rt; replay(alloc, front, 2)?.status, *status, "at {count}");
+    }
+    Ok(())
+}
+
+#[test]
+fn what_stands_before_a_fault_is_written(rt: HostRuntime) -> Result<(), Fail> {
+    let alloc = rt.alloc();
+    let line = b"out t log2 m x=1i 5\n";
+    let done = replay(alloc, b"d\nr\nm x=1i 5\nd\nr\n", 3)?;
+    assert_eq!(rt; done.status, Status::Truncated { line: 6 });
+    assert_eq!(rt; done.sink.bytes(), line.as_slice());
+    let done = replay(alloc, b"d\nr\nm x=1i 5\n\xff\nr\nm x=1i 6\n", 3)?;
+    assert_eq!(rt;
+        done.status,
+        Status::Line {
+            line: 4,
+            fault: LineFault::NotUtf8
+        }
+    );
+    assert_eq!(rt; done.sink.bytes(), line.as_slice());
+    // The read that fails comes inside the second group.
+    let twice = b"d\nr\nm x=1i 5\nd\nr\nm x=1i 6\n";
+    let done = run(alloc, &["replay", "t", SCRIPT], twice, 15, &[2], 9, &[])?;
+    assert_eq!(rt; done.status, Status::ReadFault);
+    assert_eq!(rt; done.sink.bytes(), line.as_slice());
+    Ok(())
+}
+
+#[test]
+fn a_sink_that_fails_keeps_a_front(rt: HostRuntime) -> Result<(), Fail> {
+    let alloc = rt.alloc();
+    let done = run(alloc, &["replay", "t", SCRIPT], TWO, 100, &[], 10, &[2])?;
+    assert_eq!(rt; done.status, Status::WriteFault);
+    assert_eq!(rt; done.sink.bytes(), b"out t log2".as_slice());
+    Ok(())
+}
+
+#[test]
+fn other_words_and_scripts_are_refused(rt: HostRuntime) -> Result<(), Fail> {
+    let alloc = rt.alloc();
+    for (id, script, status) in [
+        ("t", "stream|from()|log()", Status::ScriptForm),
+        (
+            "t",
+            "stream|from().measurement('')|log()",
+            Status::ScriptForm,
+        ),
+        (
+            "t",
+            "stream|from().measurement('1m')|log()",
+            Status::ScriptForm,
+        ),
+        ("--t", SCRIPT, Status::Usage),
+        ("a b", SCRIPT, Status::Usage),
+        ("", SCRIPT, Status::Usage),
+        ("A-z_0.9", SCRIPT, Status::Ok),
+    ] {
+        let done = run(alloc, &["replay", id, script], b"", 1, &[], 1, &[])?;
+        assert_eq!(rt; done.status, status, "at {id} {script}");
+    }
+    let few = run(alloc, &["replay", "t"], b"", 1, &[], 1, &[])?;
+    assert_eq!(rt; few.status, Status::Usage);
+    let none = run(alloc, &[], b"", 1, &[], 1, &[])?;
+    assert_eq!(rt; none.status, Status::Usage);
+    let other = run(alloc, &["check", "t", SCRIPT], b"", 1, &[], 1, &[])?;
+    assert_eq!(rt; other.status, Status::Usage);
+    Ok(())
+}
+
+#[test]
+fn each_status_has_its_text(rt: HostRuntime) -> Result<(), Fail> {
+    let alloc = rt.alloc();
+    for (status, number, text) in [
+        (Status::Ok, 0, ""),
+        (Status::Usage, 2, "usage"),
+        (
+            Status::Line {
+                line: 12,
+                fault: LineFault::FloatField,
+            },
+            4,
+            "line 12: FloatField",
+        ),
+        (Status::Truncated { line: 6 }, 5, "truncated at line 6"),
+        (Status::TooLong, 10, "too long"),
+        (Status::ScriptForm, 21, "script form"),
+        (Status::NoMemory, 70, "no memory"),
+        (Status::ReadFault, 71, "read fault"),
+        (Status::WriteFault, 72, "write fault"),
+    ] {
+        assert_eq!(rt; status.number(), number);
+        assert_eq!(rt; status_text(alloc, &status)?.as_slice(), text.as_bytes());
+    }
+    Ok(())
+}
