@@ -17,12 +17,10 @@ pub fn one_answer()
     ensures no_blank { (db rp line : List ℕ) (mode : Mode) (f : LineFault) → Blank db rp mode line → Faulty db rp mode line f → ⊥ }
     ensures no_fault { (db rp line : List ℕ) (mode : Mode) (p : Series) (f : LineFault) → Reads db rp mode line p → Faulty db rp mode line f → ⊥ }
     ensures blank { (db rp line : List ℕ) (mode : Mode) → (Blank db rp mode line) ↔ ((is_live mode ≡ true) × IsBlankLine line) }
-{
-}
+{}
 
 /// The law of spellings. A line reads as a point exactly where it spells the point, whatever spelling was chosen for each part,
 /// the point is ungrouped and of the database and policy at hand, and the line is UTF-8 and has at most 65,536 bytes.
 pub fn each_spelling()
     ensures { (db rp line : List ℕ) (mode : Mode) (p : Series) → (Reads db rp mode line p) ↔ (Spelled mode p line × IsOf db rp p × IsTrue (is_utf8 line) × (length line ≤ 65536)) }
-{
-}
+{}
