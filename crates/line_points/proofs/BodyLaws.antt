@@ -14,7 +14,7 @@ use Rattle.line_points.specs.declared.fault.BodyFault.{BodyFault}
 use Rattle.line_points.specs.declared.mode.Mode.{Mode}
 use Rattle.line_points.specs.Line.{line_of}
 use Rattle.line_points.specs.Body.{carriage_return, without_return, without_last_empty, body_lines, at_line, before_more, with_line, points_of}
-use Rattle.line_points.proofs.PlaceLaws.{place_le}
+use Rattle.line_points.proofs.PlaceLaws.{take_more}
 use Rattle.line_points.proofs.TestLaws.{first_false, second_false, ok_is}
 
 -- ---- a carriage return
@@ -32,11 +32,8 @@ without_return-last (x ∷ y ∷ front) b =
 abbrev parts_behind : List ℕ → List (List ℕ)
 parts_behind body = cond (ltb (position_or_len (λ b. eqb b line_feed) body) (length body)) (slice_split (λ b. eqb b line_feed) (after_first (λ b. eqb b line_feed) body)) []
 
-drop_one : (n b : ℕ) (bs : List ℕ) → drop ((1 + n) + 1) (b ∷ bs) ≡ drop (n + 1) bs
-drop_one n b bs = let e : (1 + n) + 1 ≡ suc (n + 1) = omega arith in rw e refl
-
-take_one : (n b : ℕ) (bs : List ℕ) → take (1 + n) (b ∷ bs) ≡ b ∷ take n bs
-take_one n b bs = rw one-add refl
+drop_two : (n b : ℕ) (bs : List ℕ) → drop ((1 + n) + 1) (b ∷ bs) ≡ drop (n + 1) bs
+drop_two n b bs = let e : (1 + n) + 1 ≡ suc (n + 1) = omega arith in rw e refl
 
 less_zero : (m : ℕ) → ltb 0 (suc m) ≡ true
 less_zero m = grind (arith, nat_tests)
@@ -52,7 +49,7 @@ first_part (b ∷ bs) =
       | true ↦ rw (less_zero (length bs)) refl
       | false ↦
           ap (onto_first b) (first_part bs)
-          ∙ rw (take_one n b bs, less_one n (length bs), drop_one n b bs) refl
+          ∙ rw (take_more n b bs, less_one n (length bs), drop_two n b bs) refl
     ]
 
 line_on : (front behind : List ℕ) → without_last_empty (front ∷ slice_split (λ b. eqb b line_feed) behind) ≡ front ∷ without_last_empty (slice_split (λ b. eqb b line_feed) behind)
@@ -89,7 +86,7 @@ first_no_feed (b ∷ bs) =
     let n = position_or_len (λ b. eqb b line_feed) bs in
     elim (eqb b line_feed) as (λ t. eqb b line_feed ≡ t → has_line_feed (take (cond (not t) (1 + n) 0) (b ∷ bs)) ≡ false) [
       | true ↦ λ _. refl
-      | false ↦ λ t. ap has_line_feed (take_one n b bs) ∙ rw t (first_no_feed bs)
+      | false ↦ λ t. ap has_line_feed (take_more n b bs) ∙ rw t (first_no_feed bs)
     ] refl
 
 return_no_feed : (line : List ℕ) → has_line_feed line ≡ false → has_line_feed (without_return line) ≡ false
@@ -112,13 +109,6 @@ onto points read = read >>= λ more. Ok (points ++ more)
 pub record LinesLeft (db rp : List ℕ) (mode : Mode) (before : ℕ) (done : List Series) (rest body : List ℕ) : Type 0 where
   pub same : onto done (points_of db rp mode (before + 1) (body_lines rest)) ≡ points_of db rp mode 1 (body_lines body)
   pub few : before + length rest ≤ length body
-
-onto-nil : (read : Result (List Series) BodyFault) → onto [] read ≡ read
-onto-nil (Ok points) = refl
-onto-nil (Err f) = refl
-
-pub lines-begin : (db rp : List ℕ) (mode : Mode) (body : List ℕ) → LinesLeft db rp mode 0 [] body body
-lines-begin db rp mode body = record { same = onto-nil (points_of db rp mode 1 (body_lines body)); few = omega arith }
 
 one_line : (db rp : List ℕ) (mode : Mode) (n : ℕ) (line : List ℕ) (lines : List (List ℕ)) (done new : List Series) → with_line done (line_of db rp mode line) ≡ Ok new → onto done (points_of db rp mode n (line ∷ lines)) ≡ onto new (points_of db rp mode (n + 1) lines)
 unfolding points_of

@@ -67,11 +67,6 @@ behind_clean_spaces (suc n) ys c = behind_clean_spaces n ys (behind_ascii space 
 
 -- ---- what clean bytes spell
 
-escapes-ascii : (part : Part) (b : ℕ) → escapes part b ≡ true → b < 128
-escapes-ascii parts.Measurement b h = grind (arith, nat_tests)
-escapes-ascii parts.Key b h = grind (arith, nat_tests)
-escapes-ascii parts.Quoted b h = grind (arith, nat_tests)
-
 spelled-feeds : {part : Part} {text spelling : List ℕ} → Spells part text spelling → has_line_feed spelling ≡ false → has_line_feed text ≡ false
 spelled-feeds no_bytes h = refl
 spelled-feeds (plain b text bytes alone more) h =

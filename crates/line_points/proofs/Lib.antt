@@ -21,4 +21,5 @@ pub mod GrownLaws
 pub mod PrintedLaws
 pub mod BodyLaws
 pub mod OneLaws
+pub mod LongLaws
 pub mod PrintLaws

@@ -21,18 +21,11 @@ regroup : {A : Type 0} (front : List A) (a : A) (read : Result (List A × List �
 regroup {A} front a (Ok x) = ap (λ (xs : List A). Ok (xs, x.1)) (simp append_assoc)
 regroup front a (Err e) = refl
 
-pub onto-nil : {A : Type 0} (read : Result (List A × List ℕ) LineFault) → onto [] read ≡ read
-onto-nil (Ok x) = refl
-onto-nil (Err e) = refl
-
 -- the tags in the rest of a line complete those that are read
 pub record TagsLeft (done : List Tag) (rest : List ℕ) (total : Result (List Tag × List ℕ) LineFault) : Type 0 where
   pub fuel : ℕ
   pub enough : length rest ≤ fuel
   pub same : onto done (tags_from fuel rest) ≡ total
-
-pub tags-begin : (rest : List ℕ) → TagsLeft [] rest (tags_from (length rest) rest)
-tags-begin rest = record { fuel = length rest; enough = omega arith; same = onto-nil (tags_from (length rest) rest) }
 
 record Opened (done : List Tag) (rest : List ℕ) (total : Result (List Tag × List ℕ) LineFault) : Type 0 where
   left : ℕ
@@ -69,9 +62,6 @@ pub record FieldsLeft (done : List Field) (rest : List ℕ) (total : Result (Lis
   pub fuel : ℕ
   pub enough : length rest ≤ fuel
   pub same : onto done (fields_from fuel rest) ≡ total
-
-pub fields-begin : (rest : List ℕ) → FieldsLeft [] rest (fields_from (length rest) rest)
-fields-begin rest = record { fuel = length rest; enough = omega arith; same = onto-nil (fields_from (length rest) rest) }
 
 abbrev pub more_fields : ℕ → List ℕ → Result (List Field × List ℕ) LineFault
 more_fields n rest = cond (begins_with comma rest) (fields_from n (drop 1 rest)) (Ok ([], rest))

@@ -5,6 +5,8 @@ use Rattle.std.proofs.lemmas.Bool.Decides.{nat_tests}
 use Rattle.kap_base.specs.Texts.{backslash, begins_with}
 use Rattle.line_points.specs.declared.part.Part.TheVariants.{Measurement, Key, Quoted}
 use Rattle.std.proofs.lemmas.List.{append-nil}
+use Rattle.line_points.proofs.PlaceLaws.{drop_more, take_more}
+use Rattle.line_points.proofs.TestLaws.{first_false, second_false}
 use Rattle.line_points.specs.declared.part.Part.{Part}
 use Rattle.line_points.specs.Parts.{stops, marks, ends, opens_escape, text_from, text_at}
 
@@ -34,12 +36,6 @@ joined-done part escaped front (b ∷ bs) none = absurd (omega arith)
 
 -- ---- where no backslash stands
 
-cut_one : (n b : ℕ) (bs : List ℕ) → drop (1 + n) (b ∷ bs) ≡ drop n bs
-cut_one n b bs = rw one-add refl
-
-take_one : (n b : ℕ) (bs : List ℕ) → take (1 + n) (b ∷ bs) ≡ b ∷ take n bs
-take_one n b bs = rw one-add refl
-
 -- a byte that ends the part
 stopped : (part : Part) (b : ℕ) (bs : List ℕ) → marks part b ≡ true → eqb b backslash ≡ false → text_from part false (b ∷ bs) ≡ ([], b ∷ bs)
 unfolding text_from
@@ -58,14 +54,6 @@ kept part b bs front rest none read =
     let goes : stops part b ≡ false = first_false (stops part b) (eqb b backslash) none in
     let plain : eqb b backslash ≡ false = second_false (stops part b) (eqb b backslash) none in
     rw (goes, plain, read) refl
-  where
-    first_false : (x y : Bool) → (x || y) ≡ false → x ≡ false
-    first_false true y h = absurd cc
-    first_false false y h = refl
-
-    second_false : (x y : Bool) → (x || y) ≡ false → y ≡ false
-    second_false true y h = absurd cc
-    second_false false y h = h
 
 -- up to the first byte that may end the part or begin an escape, the bytes are the text
 pub plain_from : (part : Part) (bytes : List ℕ) → begins_with backslash (drop (position_or_len (marks part) bytes) bytes) ≡ false → text_from part false bytes ≡ (take (position_or_len (marks part) bytes) bytes, drop (position_or_len (marks part) bytes) bytes)
@@ -76,8 +64,8 @@ plain_from part (b ∷ bs) none =
       | true ↦ λ m none. stopped part b bs m none
       | false ↦ λ m none.
           let n = position_or_len (marks part) bs in
-          kept part b bs (take n bs) (drop n bs) m (plain_from part bs (subst (λ (x : List ℕ). begins_with backslash x ≡ false) (cut_one n b bs) none))
-          ∙ rw (take_one n b bs, cut_one n b bs) refl
+          kept part b bs (take n bs) (drop n bs) m (plain_from part bs (subst (λ (x : List ℕ). begins_with backslash x ≡ false) (drop_more n b bs) none))
+          ∙ rw (take_more n b bs, drop_more n b bs) refl
     ] refl none
 
 -- a byte behind which a part ends, or begins an escape, is ASCII

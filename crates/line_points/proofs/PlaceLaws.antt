@@ -1,7 +1,7 @@
 -- Places in a text: the first byte that passes a test, and where a text may be cut.
-use Rattle.std.proofs.Common.{◌≡◌, ℕ, suc, ◌+◌, ◌-◌, ◌<◌, ◌≤◌, Bool, true, false, not, cond, List, [], ◌∷◌, ◌++◌, Option, Some, None, length, get_or, take, drop, refl, sym, subst, arith, ltb}
+use Rattle.std.proofs.Common.{◌≡◌, ℕ, suc, ◌+◌, ◌-◌, ◌<◌, ◌≤◌, Bool, true, false, not, cond, List, [], ◌∷◌, ◌++◌, Option, Some, None, length, get_or, take, drop, refl, sym, ap, subst, ◌∙◌, one-add, arith, ltb}
 use Rattle.std.specs.Prelude.{IsUtf8, position}
-use Rattle.std.specs.List.{position_or_len}
+use Rattle.std.specs.List.{list_all, before_first, position_or_len}
 use Rattle.std.specs.Str.{IsCharBoundary}
 use Rattle.std.proofs.lemmas.Bool.{ltb-true, ltb-false}
 use Rattle.std.proofs.lemmas.Bool.Decides.{nat_tests}
@@ -9,22 +9,11 @@ use Rattle.std.proofs.lemmas.List.Sums.{passes_at_first}
 use Rattle.std.proofs.lemmas.Str.{IsCharBoundary-end, IsCharBoundary-before_ascii, IsCharBoundary-after_ascii, IsCharBoundary-from_drop}
 use Rattle.kap_base.specs.Texts.{begins_with}
 use Rattle.line_points.specs.Parts.{is_separator}
+use Rattle.line_points.proofs.TestLaws.{first_of, second_of}
 
 pub place_le : (p : ℕ → Bool) (xs : List ℕ) → position_or_len p xs ≤ length xs
 place_le p [] = omega arith
 place_le p (x ∷ xs) = elim (p x) as (λ b. cond (not b) (1 + position_or_len p xs) 0 ≤ length (x ∷ xs)) [ true ↦ omega arith | false ↦ omega (arith, place_le p xs) ]
-
-pub record IsPlace (p : ℕ → Bool) (xs : List ℕ) (i : ℕ) : Type 0 where
-  pub is : position_or_len p xs ≡ i
-  pub within : i < length xs
-
--- the first place that was found
-pub some_place : (p : ℕ → Bool) (xs : List ℕ) (i : ℕ) → Some i ≡ position p xs → IsPlace p xs i
-some_place p xs i e =
-    elim (ltb (position_or_len p xs) (length xs)) as (λ t. ltb (position_or_len p xs) (length xs) ≡ t → Some i ≡ cond t (Some (position_or_len p xs)) None → IsPlace p xs i) [
-      | true ↦ λ t e. let same : position_or_len p xs ≡ i = cc in record { is = same; within = subst (λ n. n < length xs) same (ltb-true _ _ t) }
-      | false ↦ λ _ e. absurd cc
-    ] refl e
 
 -- where none was found, it is the length
 pub none_place : (p : ℕ → Bool) (xs : List ℕ) → None ≡ position p xs → position_or_len p xs ≡ length xs
@@ -49,3 +38,26 @@ first_boundary b (x ∷ xs) text ascii found = IsCharBoundary-after_ascii (x ∷
 
 pub separator-ascii : (b : ℕ) → is_separator b ≡ true → b < 128
 separator-ascii b h = grind (arith, nat_tests)
+
+-- ---- a word and what stands behind it
+
+pub drop_more : (n b : ℕ) (bs : List ℕ) → drop (1 + n) (b ∷ bs) ≡ drop n bs
+drop_more n b bs = rw one-add refl
+
+pub take_more : (n b : ℕ) (bs : List ℕ) → take (1 + n) (b ∷ bs) ≡ b ∷ take n bs
+take_more n b bs = rw one-add refl
+
+-- the word ends where the rest begins
+pub record WordEnds (p : ℕ → Bool) (word rest : List ℕ) : Type 0 where
+  pub before : before_first p (word ++ rest) ≡ word
+  pub behind : drop (position_or_len p (word ++ rest)) (word ++ rest) ≡ rest
+
+pub word_ends : (p : ℕ → Bool) (word rest : List ℕ) → list_all (λ b. not (p b)) word ≡ true → position_or_len p rest ≡ 0 → WordEnds p word rest
+word_ends p [] rest whole none = record { before = rw none refl; behind = rw none refl }
+word_ends p (b ∷ word) rest whole none =
+    let here : not (p b) ≡ true = first_of (not (p b)) _ whole in
+    let more = word_ends p word rest (second_of (not (p b)) _ whole) none in
+    record {
+      before = rw here (take_more (position_or_len p (word ++ rest)) b (word ++ rest) ∙ ap (λ (x : List ℕ). b ∷ x) more.before);
+      behind = rw here (drop_more (position_or_len p (word ++ rest)) b (word ++ rest) ∙ more.behind);
+    }

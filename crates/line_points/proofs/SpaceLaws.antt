@@ -63,28 +63,7 @@ behind_spaces (b ∷ bs) next none some =
     let more = after_spaces bs in
     record { more = more.count; is = rw s (ap (λ (x : ℕ). x ∷ bs) same ∙ ap (λ (x : List ℕ). space ∷ x) more.is) }
 
--- ---- a word that ends at a space
-
-drop_one_more : (n b : ℕ) (bs : List ℕ) → drop (1 + n) (b ∷ bs) ≡ drop n bs
-drop_one_more n b bs = rw one-add refl
-
-take_one_more : (n b : ℕ) (bs : List ℕ) → take (1 + n) (b ∷ bs) ≡ b ∷ take n bs
-take_one_more n b bs = rw one-add refl
-
-pub record WordEnds (word rest : List ℕ) : Type 0 where
-  pub before : before_first is_space (word ++ rest) ≡ word
-  pub behind : drop (position_or_len is_space (word ++ rest)) (word ++ rest) ≡ rest
-
-place_end : (n : ℕ) → position_or_len is_space (spaces n) ≡ 0
+-- a word that ends where spaces begin, or nothing
+pub place_end : (n : ℕ) → position_or_len is_space (spaces n) ≡ 0
 place_end zero = refl
 place_end (suc n) = refl
-
-pub word_ends : (word : List ℕ) (n : ℕ) → list_all (λ b. not (is_space b)) word ≡ true → WordEnds word (spaces n)
-word_ends [] n whole = record { before = rw (place_end n) refl; behind = rw (place_end n) refl }
-word_ends (b ∷ word) n whole =
-    let here : not (is_space b) ≡ true = first_of _ _ whole in
-    let more = word_ends word n (second_of _ _ whole) in
-    record {
-      before = rw here (take_one_more (position_or_len is_space (word ++ spaces n)) b (word ++ spaces n) ∙ ap (λ (x : List ℕ). b ∷ x) more.before);
-      behind = rw here (drop_one_more (position_or_len is_space (word ++ spaces n)) b (word ++ spaces n) ∙ more.behind);
-    }

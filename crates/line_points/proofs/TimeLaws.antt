@@ -20,7 +20,8 @@ use Rattle.line_points.specs.Grammar.{minus, spaces, SpellsTime, no_time, some_t
 use Rattle.line_points.proofs.TestLaws.{first_of, second_of, ok_is, guard_ok, then_ok}
 use Rattle.line_points.proofs.TagLaws.{is_next}
 use Rattle.line_points.proofs.ValueLaws.{number_taken, number_again}
-use Rattle.line_points.proofs.SpaceLaws.{after_spaces, spaces_skipped, only_spaces, are_spaces, spaces_are, some_before, behind_spaces, word_ends}
+use Rattle.line_points.proofs.PlaceLaws.{word_ends}
+use Rattle.line_points.proofs.SpaceLaws.{after_spaces, spaces_skipped, only_spaces, are_spaces, spaces_are, some_before, behind_spaces, place_end}
 
 -- what stands behind the fields is a spelling of the time, and spaces
 pub record TimeTaken (mode : Mode) (t : ℤ) (rest : List ℕ) : Type 0 where
@@ -109,7 +110,7 @@ given_again : (mode : Mode) (negative : Bool) (digits : List ℕ) (behind : ℕ)
 unfolding time_of
 given_again mode negative digits behind all range =
     let word = minus negative ++ digits in
-    let ends = word_ends word behind (number_whole negative digits all) in
+    let ends = word_ends is_space word (spaces behind) (number_whole negative digits all) (place_end behind) in
     rw (number_some negative digits (spaces behind) all, ends.behind, are_spaces behind, ends.before, number_again negative digits all, range) refl
 
 missing_again : (unit : TimeUnit) (now : ℤ) → time_of (Live unit now) [] ≡ Ok now

@@ -24,6 +24,7 @@ use Rattle.line_points.specs.Line.{quoted_at, word_at, value_at}
 use Rattle.line_points.specs.Grammar.{Spells, minus, SpellsValue, integer_word, true_word, false_word, quoted_text}
 use Rattle.line_points.proofs.TestLaws.{first_of, second_of, not_true, not_false, ok_is, bind_ok, guard_ok}
 use Rattle.line_points.proofs.NumberLaws.{before_last_byte-last}
+use Rattle.line_points.proofs.PlaceLaws.{drop_more, word_ends}
 use Rattle.line_points.proofs.SpellLaws.{text_taken, spelling_again}
 use Rattle.line_points.proofs.TagLaws.{is_next, begins_some, behind_first}
 
@@ -109,37 +110,17 @@ word_taken word v e = by_front word v (before_last_byte 105 word) refl e
 abbrev pub no_separator : List ℕ → Bool
 no_separator word = list_all (λ b. not (is_separator b)) word
 
-drop_one_more : (n b : ℕ) (bs : List ℕ) → drop (1 + n) (b ∷ bs) ≡ drop n bs
-drop_one_more n b bs = rw one-add refl
-
-take_one_more : (n b : ℕ) (bs : List ℕ) → take (1 + n) (b ∷ bs) ≡ b ∷ take n bs
-take_one_more n b bs = rw one-add refl
-
 pub next_word : (bytes : List ℕ) → is_next (drop (position_or_len is_separator bytes) bytes) ≡ true
 next_word [] = refl
 next_word (b ∷ bs) =
     elim (is_separator b) as (λ s. is_separator b ≡ s → is_next (drop (cond (not s) (1 + position_or_len is_separator bs) 0) (b ∷ bs)) ≡ true) [
       | true ↦ λ s. s
-      | false ↦ λ _. ap is_next (drop_one_more (position_or_len is_separator bs) b bs) ∙ next_word bs
+      | false ↦ λ _. ap is_next (drop_more (position_or_len is_separator bs) b bs) ∙ next_word bs
     ] refl
 
 place_end : (rest : List ℕ) → is_next rest ≡ true → position_or_len is_separator rest ≡ 0
 place_end [] next = refl
 place_end (b ∷ bs) next = rw next refl
-
-record WordEnds (word rest : List ℕ) : Type 0 where
-  before : before_first is_separator (word ++ rest) ≡ word
-  behind : drop (position_or_len is_separator (word ++ rest)) (word ++ rest) ≡ rest
-
-word_ends : (word rest : List ℕ) → no_separator word ≡ true → is_next rest ≡ true → WordEnds word rest
-word_ends [] rest whole next = record { before = rw (place_end rest next) refl; behind = rw (place_end rest next) refl }
-word_ends (b ∷ word) rest whole next =
-    let here : not (is_separator b) ≡ true = first_of _ _ whole in
-    let more = word_ends word rest (second_of _ _ whole) next in
-    record {
-      before = rw here (take_one_more (position_or_len is_separator (word ++ rest)) b (word ++ rest) ∙ ap (λ (x : List ℕ). b ∷ x) more.before);
-      behind = rw here (drop_one_more (position_or_len is_separator (word ++ rest)) b (word ++ rest) ∙ more.behind);
-    }
 
 -- ---- what is read is spelled so
 
@@ -199,7 +180,7 @@ record IsWord (v : Value) (word : List ℕ) : Type 0 where
 word_again : (word rest : List ℕ) (v : Value) → IsWord v word → is_next rest ≡ true → value_at (word ++ rest) ≡ Ok (v, rest)
 unfolding word_at
 word_again word rest v w next =
-    let ends = word_ends word rest w.whole next in
+    let ends = word_ends is_separator word rest w.whole (place_end rest next) in
     rw (w.plain rest next, ends.before, ends.behind, w.value) refl
 
 digits_whole : (digits : List ℕ) → list_all is_ascii_digit digits ≡ true → no_separator (digits ++ codes "i") ≡ true

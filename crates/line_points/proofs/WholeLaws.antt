@@ -3,7 +3,7 @@ use Rattle.std.proofs.Common.{◌≡◌, ℕ, ◌+◌, ◌<◌, ◌≤◌, Bool,
 use Rattle.std.specs.Prelude.{Result, ℤ}
 use Rattle.std.specs.Str.{is_utf8}
 use Rattle.std.specs.FinMap.{empty}
-use Rattle.std.proofs.lemmas.Bool.{le-ltb}
+use Rattle.std.proofs.lemmas.Bool.{le-ltb, ltb-false}
 use Rattle.std.proofs.lemmas.Bool.Decides.{nat_tests}
 use Rattle.kap_base.specs.Words.{◌>>=◌}
 use Rattle.kap_base.specs.Texts.{is_empty, begins_with, number_sign}
@@ -173,6 +173,33 @@ pub line_spelled : (db rp : List ℕ) (mode : Mode) (line : List ℕ) (p : Serie
 unfolding line_of
 line_spelled db rp mode line p e =
     stored_spelled db rp mode line p (read_point (is_live mode && is_blank (without_spaces line)) (ltb 65536 (length line)) (stored_of db rp mode line) p e)
+
+-- a line that reads as a point is UTF-8, and not too long
+pub record IsAllowed (line : List ℕ) : Type 0 where
+  pub valid : is_utf8 line ≡ true
+  pub short : length line ≤ 65536
+
+stored_valid : (db rp : List ℕ) (mode : Mode) (line : List ℕ) (p : Series) → stored_of db rp mode line ≡ Ok p → is_utf8 line ≡ true
+unfolding stored_of
+stored_valid db rp mode line p e = not_not (is_utf8 line) (unless_ok (not (is_utf8 line)) faults.NotUtf8 (point_of db rp mode (without_spaces line)) p e).0
+  where
+    not_not : (b : Bool) → not b ≡ false → b ≡ true
+    not_not true h = refl
+    not_not false h = absurd cc
+
+not_long : (a b : Bool) (r : Result Series LineFault) (p : Series) → cond a (Ok None) (cond b (Err faults.Long) (r >>= λ q. Ok (Some q))) ≡ Ok (Some p) → b ≡ false
+not_long true b r p e = absurd cc
+not_long false true r p e = absurd cc
+not_long false false r p e = refl
+
+pub line_allowed : (db rp : List ℕ) (mode : Mode) (line : List ℕ) (p : Series) → line_of db rp mode line ≡ Ok (Some p) → IsAllowed line
+unfolding line_of
+line_allowed db rp mode line p e =
+    let blank = is_live mode && is_blank (without_spaces line) in
+    record {
+      valid = stored_valid db rp mode line p (read_point blank (ltb 65536 (length line)) (stored_of db rp mode line) p e);
+      short = ltb-false _ _ (not_long blank (ltb 65536 (length line)) (stored_of db rp mode line) p e);
+    }
 
 -- ---- a line is read as it is spelled
 

@@ -1,8 +1,10 @@
-ghost use Rattle.std.specs.Prelude.{◌≡◌, ◌↔◌, ℕ, List, true};
+ghost use Rattle.std.specs.Prelude.{◌≡◌, ◌≤◌, ◌↔◌, ℕ, List, true, length, IsTrue};
+ghost use Rattle.std.specs.Str.{is_utf8};
 ghost use Rattle.kap_base.specs.Points.{Series};
 ghost use Rattle.line_points.specs.declared.fault.LineFault.{LineFault};
 ghost use Rattle.line_points.specs.declared.mode.Mode.{Mode};
 ghost use Rattle.line_points.specs.Line.{Reads, Blank, Faulty, is_live};
+ghost use Rattle.line_points.specs.Grammar.{IsOf, Spelled};
 ghost use Rattle.line_points.specs.Answered.{IsAnswered, IsBlankLine};
 
 /// The law of lines. Each line reads as a point, is blank or is faulty, and exactly one of the three; it reads as one point and
@@ -15,4 +17,10 @@ pub fn one_answer()
     ensures no_blank { (db rp line : List ℕ) (mode : Mode) (f : LineFault) → Blank db rp mode line → Faulty db rp mode line f → ⊥ }
     ensures no_fault { (db rp line : List ℕ) (mode : Mode) (p : Series) (f : LineFault) → Reads db rp mode line p → Faulty db rp mode line f → ⊥ }
     ensures blank { (db rp line : List ℕ) (mode : Mode) → (Blank db rp mode line) ↔ ((is_live mode ≡ true) × IsBlankLine line) }
+{}
+
+/// The law of spellings. A line reads as a point exactly where it spells the point, whatever spelling was chosen for each part,
+/// the point is ungrouped and of the database and policy at hand, and the line is UTF-8 and has at most 65,536 bytes.
+pub fn each_spelling()
+    ensures { (db rp line : List ℕ) (mode : Mode) (p : Series) → (Reads db rp mode line p) ↔ (Spelled mode p line × IsOf db rp p × IsTrue (is_utf8 line) × (length line ≤ 65536)) }
 {}

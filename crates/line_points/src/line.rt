@@ -1,4 +1,4 @@
-ghost use Rattle.std.specs.Prelude.{◌≡◌, ◌≤◌, Some, Ok, length, not, IsTrue, IfOk, IfErr, IfSome, IfNone};
+ghost use Rattle.std.specs.Prelude.{◌≡◌, ◌≢◌, ◌≤◌, Some, Ok, length, not, IsTrue, IfOk, IfErr, IfSome, IfNone};
 ghost use Rattle.std.specs.Str.{is_utf8};
 ghost use Rattle.kap_base.specs.Words.{Answers};
 ghost use Rattle.kap_base.specs.Texts.{has_line_feed};
@@ -115,7 +115,11 @@ pub fn read_stored(alloc: Global, line: &[u8], db: &Text, rp: &Text) -> Result<P
     requires db { IsTrue (not (has_line_feed db.now)) }
     requires rp { IsTrue (not (has_line_feed rp.now)) }
     ensures read { Answers LineFault.NoMemory result (stored_of db.now rp.now Mode.Recording line.now) }
+    ensures no_limit { IfErr result (λ f. f ≢ LineFault.Long) }
+
+    // What is read is spelled so by the line.
     ensures spelled { IfOk result (λ p. Spelled Mode.Recording p line.now × IsOf db.now rp.now p) }
+    // Whatever spelling of a point the line is, it reads as that point.
     ensures each_spelling { (p : Series) → IsOf db.now rp.now p → Spelled Mode.Recording p line.now → IsTrue (is_utf8 line.now) → Answers LineFault.NoMemory result (Ok p) }
 {
     stored(alloc, line, db, rp, &Mode::Recording)
