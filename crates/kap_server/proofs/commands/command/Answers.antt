@@ -1,4 +1,5 @@
 use Rattle.std.proofs.Common.{◌≡◌, ℕ, List, Some, sym, ◌∙◌, subst}
+use Rattle.kap_base.specs.Points.{Series}
 use Rattle.kap_server.specs.Lines.{text_of}
 use Rattle.kap_server.specs.Script.{IsFilter}
 use Rattle.kap_server.specs.Replaying.{Replayed}
@@ -15,4 +16,6 @@ returns-clause-replayed g c = λ id name asks.
     subst (λ i. R i name) (c.as_bytes-2.ensures.value ∙ same.0) (subst (λ n. R c.as_bytes-2.result.now n) name_is c.replay.ensures.replayed)
 
 pub returns-clause-status : goal.returns-clause-status
-returns-clause-status g c = λ id name bytes asks told. status_is _ c.replay.result bytes _ _ _ _ c.replay.ensures.replayed told
+returns-clause-status g c = λ id name bytes asks told.
+    let text : List Series → List ℕ = text_of c.as_bytes-2.result.now c.in-Some-measurement_of.name.now in
+    status_is text c.replay.result bytes (g.S.Source.left c.args.input.now) (g.S.Source.left c.replay.new.input) (g.K.Sink.written c.args.out.now) (g.K.Sink.written c.replay.new.out) c.replay.ensures.replayed told
