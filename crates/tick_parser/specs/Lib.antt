@@ -1,0 +1,7 @@
+pub mod Trees
+pub mod Grammar
+pub mod Script
+pub mod Lambdas
+pub mod Machine
+pub mod Stack
+pub mod States
