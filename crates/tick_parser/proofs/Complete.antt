@@ -1,20 +1,19 @@
 -- Whatever script the grammar has, the reader reads it.
-use Rattle.std.proofs.Common.{◌≡◌, ◌≢◌, ℕ, ◌+◌, ◌-◌, ◌<◌, ◌≤◌, Bool, true, false, cond, ltb, Option, Some, None, List, [], ◌∷◌, ◌++◌, length, refl, sym, ap, ◌∙◌, subst, inl, inr, ◌⊎◌, ⊎_elim, arith, append_assoc, lt-ltb}
-use Rattle.std.proofs.lemmas.List.{append-nil}
+use Rattle.std.proofs.Common.{◌≡◌, ◌≢◌, ℕ, ◌+◌, ◌-◌, ◌<◌, ◌≤◌, Bool, true, false, cond, Option, List, [], ◌∷◌, ◌++◌, refl, sym, ap, ◌∙◌, subst, ⊎_elim, arith, lt-ltb}
 use Rattle.kap_base.specs.declared.expr.Lit.{Lit}
 use Rattle.kap_base.specs.declared.expr.Op.TheVariants.{Sub, Mul}
 use Rattle.kap_base.specs.Tree.{Tree}
 use Rattle.tick_lexer.specs.declared.token.Kind.{Kind}
-use Rattle.tick_lexer.specs.declared.token.Kind.TheVariants.{Ident, Literal, Reference, Sign, Bang, Open, Close, Comma, Dot, Pipe, Assign, Var, Lambda}
+use Rattle.tick_lexer.specs.declared.token.Kind.TheVariants.{Ident, Literal, Sign, Open, Close, Comma, Dot, Pipe, Var, Lambda}
 use Rattle.tick_lexer.specs.declared.token.Token.{Token}
 use Rattle.tick_parser.specs.declared.fault.ParseFault.{ParseFault}
-use Rattle.tick_parser.specs.declared.fault.ParseFault.TheVariants.{Expected, Deep, TooMany}
+use Rattle.tick_parser.specs.declared.fault.ParseFault.TheVariants.{Expected, Deep}
 use Rattle.tick_parser.specs.declared.fault.Want.TheVariants.{Value}
-use Rattle.tick_parser.specs.Trees.{ValTree, Given, Everything, Function, Chained, ValTrees, NoVals, MoreVals, JointTrees, NoJoints, MoreJoints, StmtTree, Declared, Dbrp, Piped, vals_onto, joints_onto}
-use Rattle.tick_parser.specs.Grammar.{At, Free, Signed, Fits, spell, Agree, Is, IsMinus, minus, depth, binaries}
-use Rattle.tick_parser.specs.Script.{spell_val, spell_vals, spell_more, spell_joints, spell_stmt, spell_script, word_dbrp, FitsVal, FitVals, FitJoints, IsOne, FitsStmt, FitsScript, depth_val, depth_vals, depth_joints, depth_stmt, depth_script, width_val, width_vals, width_joints, width_stmt, width_script}
+use Rattle.tick_parser.specs.Trees.{ValTree, Given, Everything, Function, Chained, ValTrees, NoVals, MoreVals, JointTrees, NoJoints, MoreJoints, StmtTree, vals_onto, joints_onto}
+use Rattle.tick_parser.specs.Grammar.{At, Free, Signed, Fits, spell, Agree, Is, IsMinus, depth, binaries}
+use Rattle.tick_parser.specs.Script.{spell_val, spell_vals, spell_more, spell_joints, FitsVal, FitVals, FitJoints, depth_val, depth_vals, depth_joints, width_val, width_vals, width_joints}
 use Rattle.tick_parser.specs.Lambdas as lambdas
-use Rattle.tick_parser.specs.Machine.{Line, Call, Spot, Variable, Argument, State, Between, VarRead, NameRead, DbRead, DotRead, Valuing, MinusRead, ValueRead, InLambda, LineRead, LinkRead, CallRead, ParenRead, Stopped, linked, chained, piped, opens_spot, opens, begin, argue, settle, leave, follow, star, value, signed, number, opening, opened, within, declare, assign, dotted, target, link, step, run, Answer, Got, settled, closed, finish}
+use Rattle.tick_parser.specs.Machine.{Line, Call, Spot, Variable, Argument, State, Valuing, ValueRead, InLambda, LineRead, LinkRead, CallRead, ParenRead, Stopped, linked, chained, opens_spot, opens, argue, settle, leave, follow, star, value, signed, number, opening, opened, within, link, step, run, settled, closed, finish}
 use Rattle.tick_parser.proofs.Agreeing.{split, first, none_left}
 use Rattle.tick_parser.proofs.LambdaComplete as complete
 use Rattle.tick_parser.proofs.LambdaFaults as faults

@@ -1,5 +1,5 @@
 -- Whatever script the grammar has, the reader reads it: statements.
-use Rattle.std.proofs.Common.{◌≡◌, ℕ, ◌+◌, ◌<◌, ◌≤◌, Bool, cond, ltb, List, [], ◌∷◌, ◌++◌, length, refl, sym, ap, ◌∙◌, subst, arith, append_assoc, lt-ltb, length-append}
+use Rattle.std.proofs.Common.{◌≡◌, ℕ, ◌+◌, ◌<◌, ◌≤◌, Bool, cond, List, [], ◌∷◌, ◌++◌, length, refl, sym, ap, ◌∙◌, subst, arith, append_assoc, lt-ltb, length-append}
 use Rattle.std.proofs.lemmas.List.{append-nil}
 use Rattle.tick_lexer.specs.declared.token.Kind.{Kind}
 use Rattle.tick_lexer.specs.declared.token.Kind.TheVariants.{Ident, Reference, Dot, Assign, Var}
@@ -7,8 +7,9 @@ use Rattle.tick_lexer.specs.declared.token.Token.{Token}
 use Rattle.tick_parser.specs.declared.fault.ParseFault.TheVariants.{TooMany}
 use Rattle.tick_parser.specs.Trees.{ValTree, Given, Everything, Function, Chained, JointTrees, NoJoints, StmtTree, Declared, Dbrp, Piped, joints_onto}
 use Rattle.tick_parser.specs.Grammar.{At, Free, Agree}
-use Rattle.tick_parser.specs.Script.{spell_val, spell_joints, spell_stmt, spell_script, word_dbrp, IsOne, FitsStmt, FitsScript, depth_stmt, depth_script, width_stmt, width_script, Reads, Within, IsStart}
-use Rattle.tick_parser.specs.Machine.{Line, Spot, Variable, State, Between, VarRead, NameRead, DbRead, DotRead, Valuing, LineRead, Stopped, piped, begin, leave, follow, declare, assign, dotted, target, step, run, Got, finish}
+use Rattle.tick_parser.specs.Script.{spell_val, spell_joints, spell_stmt, spell_script, word_dbrp, IsOne, FitsStmt, FitsScript, depth_stmt, depth_script, width_stmt, width_script, Reads, Within}
+use Rattle.tick_parser.specs.Refusal.{IsStart}
+use Rattle.tick_parser.specs.Machine.{Line, Spot, Variable, State, Between, VarRead, NameRead, DbRead, DotRead, Valuing, LineRead, Stopped, piped, begin, follow, declare, assign, dotted, target, step, run, Got, finish}
 use Rattle.tick_parser.proofs.Agreeing.{split, first, none_left}
 use Rattle.tick_parser.proofs.Complete.{Leaves, StarFits, follow_leaves, joints_turned, Settled, reads_val, reads_joints, both}
 use Rattle.tick_parser.proofs.Runs.{run_on, run_first, run_one}

@@ -1,5 +1,5 @@
 -- Why the reader stops, and what is wanted where it stands.
-use Rattle.std.proofs.Common.{◌≡◌, ◌⊎◌, inl, inr, ℕ, ◌+◌, ◌-◌, ◌<◌, ◌≤◌, Bool, true, false, cond, ltb, Option, Some, None, List, [], ◌∷◌, ◌++◌, length, refl, sym, ap, ◌∙◌, subst, ⊎_elim, arith, lt-ltb, ltb-false}
+use Rattle.std.proofs.Common.{◌≡◌, ◌⊎◌, inl, inr, ℕ, ◌+◌, ◌-◌, ◌≤◌, Bool, true, false, cond, ltb, Option, Some, None, List, [], ◌∷◌, ◌++◌, length, refl, sym, ap, ◌∙◌, subst, ⊎_elim, arith, lt-ltb, ltb-false}
 use Rattle.kap_base.specs.declared.expr.Lit.{Lit}
 use Rattle.kap_base.specs.declared.expr.Op.TheVariants.{Sub, Mul}
 use Rattle.kap_base.specs.Tree.{Tree, Named}
@@ -10,13 +10,13 @@ use Rattle.tick_parser.specs.declared.fault.Want.{Want}
 use Rattle.tick_parser.specs.declared.fault.Want.TheVariants.{Statement, Name, Equal, Value, Open as WantOpen, Close as WantClose, Ref, Dot as WantDot, Operand}
 use Rattle.tick_parser.specs.declared.fault.ParseFault.{ParseFault}
 use Rattle.tick_parser.specs.declared.fault.ParseFault.TheVariants.{Expected, Deep, TooMany}
-use Rattle.tick_parser.specs.Trees.{ValTree, Function, ValTrees, NoVals, MoreVals, NoJoints, StmtTree, Declared, Piped}
-use Rattle.tick_parser.specs.Grammar.{level, Agree, minus}
-use Rattle.tick_parser.specs.Script.{spell_val, spell_script, IsOpening, IsStart, Fills}
+use Rattle.tick_parser.specs.Trees.{ValTree, Function, ValTrees, NoVals, MoreVals, NoJoints, StmtTree, Declared}
+use Rattle.tick_parser.specs.Grammar.{Agree, minus}
+use Rattle.tick_parser.specs.Script.{spell_val, spell_script}
+use Rattle.tick_parser.specs.Refusal.{IsOpening, IsStart, Fills}
 use Rattle.tick_parser.specs.Lambdas as lambdas
-use Rattle.tick_parser.specs.Machine.{Line, Call, Spot, Variable, Argument, State, Between, VarRead, NameRead, DbRead, DotRead, Valuing, MinusRead, ValueRead, InLambda, LineRead, LinkRead, CallRead, ParenRead, Stopped, chained, piped, opens_spot, opens, begin, argue, settle, leave, is_dbrp, follow, star, value, signed, number, opening, opened, within, declare, assign, dotted, target, link, step, Answer, Got, Refuses, settled, left, closed, finish}
+use Rattle.tick_parser.specs.Machine.{Line, Call, Spot, Variable, Argument, State, Between, VarRead, NameRead, DbRead, DotRead, Valuing, MinusRead, ValueRead, InLambda, LineRead, LinkRead, CallRead, ParenRead, Stopped, chained, piped, opens_spot, opens, begin, argue, settle, leave, is_dbrp, follow, star, value, signed, number, opening, opened, within, declare, assign, dotted, target, link, step, Got, Refuses, settled, left, closed, finish}
 use Rattle.tick_parser.proofs.Complete.{within_going}
-use Rattle.tick_parser.proofs.LambdaSound as sound
 use Rattle.tick_parser.proofs.LambdaFaults as faults
 use Rattle.tick_parser.proofs.Sound.{spell_line, Done, GoodLine, GoodVal, Pending, Inside, Stands, spot_room, declared_done, line_valued, line_done, lambda_valued}
 use Rattle.tick_parser.proofs.Viable.{IsGoing}

@@ -1,5 +1,5 @@
 -- What the reader of lambdas has read goes on to a lambda, and why it stops.
-use Rattle.std.proofs.Common.{◌≡◌, ◌≢◌, ◌⊎◌, inl, inr, ℕ, ◌+◌, ◌<◌, ◌≤◌, max, Bool, true, false, cond, ltb, List, [], ◌∷◌, ◌++◌, refl, sym, ap, ◌∙◌, subst, ⊎_elim, arith, append_assoc, ltb-true, lt-ltb}
+use Rattle.std.proofs.Common.{◌≡◌, ◌⊎◌, inl, inr, ℕ, ◌+◌, ◌<◌, ◌≤◌, Bool, true, false, cond, ltb, List, [], ◌∷◌, ◌++◌, refl, sym, ap, ◌∙◌, subst, ⊎_elim, arith, append_assoc, ltb-true, lt-ltb}
 use Rattle.std.proofs.lemmas.List.{append-nil}
 use Rattle.kap_base.specs.declared.expr.Op.TheVariants.{Sub}
 use Rattle.kap_base.specs.Tree.{Tree, Named, Called, Grouped, Negated, Denied, Joined, NoTrees, MoreTrees, reversed_onto}
@@ -11,7 +11,7 @@ use Rattle.tick_parser.specs.declared.fault.Want.TheVariants.{Operand, Close as 
 use Rattle.tick_parser.specs.declared.fault.ParseFault.{ParseFault}
 use Rattle.tick_parser.specs.declared.fault.ParseFault.TheVariants.{Expected, Deep}
 use Rattle.tick_parser.specs.Grammar.{level, Fits, Mark, At, Free, spell, Agree, depth, binaries}
-use Rattle.tick_parser.specs.Lambdas.{Frame, Minus, Negation, Left, Paren, Args, Held, State, Wanting, Opened, Holding, Ended, Stopped, opens, reduce, operand, calling, leave, close_top, next_top, close_empty, after, opened, step, run, Answer, Got, Refuses, done_at, finish}
+use Rattle.tick_parser.specs.Lambdas.{Frame, Minus, Negation, Left, Paren, Args, State, Wanting, Opened, Holding, Ended, Stopped, opens, reduce, operand, calling, leave, close_top, next_top, close_empty, after, opened, step, run, Got, done_at, finish}
 use Rattle.tick_parser.proofs.Agreeing.{snoc}
 use Rattle.tick_parser.proofs.LambdaSound.{spell_stack, spell_done, count_stack, Over, over_minus, over_negation, over_left, fits_less, below_six, all_fit, depth_reversed, binaries_reversed, args_spelled, spell_unary, spell_left, reduced, Reduced, Ready, Carries, Stands, IsCall, operand_stands}
 

@@ -3,13 +3,13 @@ use Rattle.std.proofs.Common.{◌≡◌, ◌⊎◌, inl, inr, ℕ, List, [], ◌
 use Rattle.std.specs.Prelude.{pos}
 use Rattle.kap_base.specs.declared.expr.Lit.TheVariants.{Int}
 use Rattle.tick_lexer.specs.declared.token.Kind.{Kind}
-use Rattle.tick_lexer.specs.declared.token.Kind.TheVariants.{Ident, Literal, Reference, Sign, Bang, Open, Close, Dot, Assign, Var}
+use Rattle.tick_lexer.specs.declared.token.Kind.TheVariants.{Ident, Literal, Sign, Bang, Open, Close, Dot, Assign, Var}
 use Rattle.tick_lexer.specs.declared.token.Token.{Token}
 use Rattle.tick_parser.specs.declared.fault.Want.{Want}
 use Rattle.tick_parser.specs.declared.fault.Want.TheVariants.{Statement, Name, Equal, Value, Open as WantOpen, Close as WantClose, Ref, Dot as WantDot, Operand}
 use Rattle.tick_parser.specs.declared.fault.ParseFault.{ParseFault}
 use Rattle.tick_parser.specs.declared.fault.ParseFault.TheVariants.{Expected, Deep, TooMany, NoMemory}
-use Rattle.tick_parser.specs.Script.{Can, Only, IsIdent, IsReference, IsAssign, IsOpen, IsDot, IsWhole, Needs, IsOpening, IsStart, Ends, Stops, Lacks, Refused}
+use Rattle.tick_parser.specs.Refusal.{Can, Only, IsIdent, IsReference, IsAssign, IsOpen, IsDot, IsWhole, Needs, IsOpening, IsStart, Ends, Stops, Lacks, Refused}
 use Rattle.tick_parser.proofs.Viable.{sample}
 use Rattle.tick_parser.proofs.Reading.{fills_begins}
 

@@ -6,7 +6,8 @@ use Rattle.tick_parser.specs.Trees.{script_tree}
 use Rattle.tick_lexer.specs.declared.token.Token.{Token}
 use Rattle.tick_parser.specs.declared.fault.ParseFault.{ParseFault}
 use Rattle.tick_parser.specs.declared.fault.ParseFault.TheVariants.{NoMemory}
-use Rattle.tick_parser.specs.Script.{Reads, Within, Refused, ended, end_of}
+use Rattle.tick_parser.specs.Script.{Reads, Within}
+use Rattle.tick_parser.specs.Refusal.{Refused, ended, end_of}
 use Rattle.tick_parser.specs.Machine.{run, step, finish, Between, Stopped, Got, Refuses}
 use Rattle.tick_parser.specs.Machine as machine
 use Rattle.tick_parser.specs.States.{Answers}

@@ -1,19 +1,17 @@
 -- The reader's answer is the grammar's: the one script, or the first place where no reading goes on.
-use Rattle.std.proofs.Common.{◌≡◌, ◌⊎◌, inl, inr, ℕ, ◌+◌, ◌-◌, ◌<◌, ◌≤◌, max, Bool, true, false, cond, ltb, Option, Some, None, List, [], ◌∷◌, ◌++◌, length, refl, sym, ap, ◌∙◌, subst, ⊎_elim, arith, append_assoc, lt-ltb}
+use Rattle.std.proofs.Common.{◌≡◌, ◌⊎◌, inl, inr, ℕ, ◌+◌, ◌-◌, ◌<◌, max, Bool, true, false, cond, ltb, List, [], ◌∷◌, ◌++◌, length, refl, sym, ap, ◌∙◌, subst, ⊎_elim, arith, append_assoc, lt-ltb}
 use Rattle.std.proofs.lemmas.Bool.{le-ltb}
-use Rattle.kap_base.specs.declared.expr.Lit.{Lit}
 use Rattle.kap_base.specs.declared.expr.Op.TheVariants.{Sub, Mul}
 use Rattle.tick_lexer.specs.declared.token.Kind.{Kind}
 use Rattle.tick_lexer.specs.declared.token.Kind.TheVariants.{Ident, Sign, Bang, Open, Var}
 use Rattle.tick_lexer.specs.declared.token.Token.{Token}
-use Rattle.tick_parser.specs.declared.fault.Want.{Want}
-use Rattle.tick_parser.specs.declared.fault.Want.TheVariants.{Statement}
 use Rattle.tick_parser.specs.declared.fault.ParseFault.{ParseFault}
 use Rattle.tick_parser.specs.declared.fault.ParseFault.TheVariants.{Expected, Deep, TooMany, NoMemory}
-use Rattle.tick_parser.specs.Trees.{ValTree, Function, ValTrees, NoVals, MoreVals, NoJoints, StmtTree, Declared}
-use Rattle.tick_parser.specs.Script.{depth_script, width_script, Reads, Within, Begins, Opens, IsWhole, Needs, IsOpening, IsStart, Fills, Ends, GoesOn, Stops, end_of, Lacks, Refused}
+use Rattle.tick_parser.specs.Trees.{ValTree, Function, NoVals, NoJoints, StmtTree, Declared}
+use Rattle.tick_parser.specs.Script.{depth_script, width_script, Reads, Within}
+use Rattle.tick_parser.specs.Refusal.{Begins, Opens, IsWhole, IsOpening, IsStart, Fills, Ends, GoesOn, Stops, end_of, Lacks, Refused}
 use Rattle.tick_parser.specs.Lambdas as lambdas
-use Rattle.tick_parser.specs.Machine.{Line, Call, Spot, Variable, Argument, State, Between, VarRead, NameRead, DbRead, DotRead, Valuing, MinusRead, ValueRead, InLambda, LineRead, LinkRead, CallRead, ParenRead, Stopped, chained, piped, opens_spot, opens, begin, argue, settle, leave, follow, star, value, number, opening, opened, within, declare, assign, dotted, target, link, step, run, Got, Refuses, finish}
+use Rattle.tick_parser.specs.Machine.{Line, Call, Spot, Variable, Argument, State, Between, VarRead, NameRead, DbRead, DotRead, Valuing, MinusRead, ValueRead, InLambda, LineRead, LinkRead, CallRead, ParenRead, Stopped, chained, piped, opens_spot, opens, begin, settle, leave, follow, star, value, number, opening, opened, within, declare, assign, dotted, target, link, step, run, Answer, Got, Refuses, finish}
 use Rattle.tick_parser.proofs.CompleteScript.{whole_run}
 use Rattle.tick_parser.proofs.Viable.{IsGoing, HasRoom, viable}
 use Rattle.tick_parser.proofs.Room.{IsFull, same_count, run_stopped, going_first}
@@ -350,3 +348,11 @@ not_both d w m tokens t f r i (inl x) =
     let here : Reads (x.before ++ x.token ∷ x.after) t = subst (λ (l : List Token). Reads l t) x.joined r in
     no_end d w m x.before x.token f (whole_goes d w m x.before x.after x.token t here i) x.ends
 not_both d w m tokens t f r i (inr x) = lacks_not d w m tokens t f r x
+
+-- tokens are those of a script within the limits, or refused
+either_of : (d w m : ℕ) (tokens : List Token) (answer : Answer) → finish (end_of tokens) (state_of d w m tokens) ≡ answer → ((script : List StmtTree) × Reads tokens script × Within d w m script) ⊎ ((fault : ParseFault) × Refused d w m tokens fault)
+either_of d w m tokens (Got script) e = let x = answered d w m (end_of tokens) tokens script e in inl (script, x.0, x.1)
+either_of d w m tokens (Refuses fault) e = inr (fault, refused d w m tokens fault e)
+
+pub either : (d w m : ℕ) (tokens : List Token) → ((script : List StmtTree) × Reads tokens script × Within d w m script) ⊎ ((fault : ParseFault) × Refused d w m tokens fault)
+either d w m tokens = either_of d w m tokens (finish (end_of tokens) (state_of d w m tokens)) refl

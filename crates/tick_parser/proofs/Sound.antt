@@ -1,5 +1,5 @@
 -- What the reader of scripts has read are the tokens of what it holds.
-use Rattle.std.proofs.Common.{◌≡◌, ◌≢◌, ℕ, ◌+◌, ◌-◌, ◌<◌, ◌≤◌, max, Bool, true, false, cond, ltb, ◌&&◌, Option, Some, None, List, [], ◌∷◌, ◌++◌, length, refl, sym, ap, ◌∙◌, subst, inl, inr, arith, append_assoc, ltb-true, length-append}
+use Rattle.std.proofs.Common.{◌≡◌, ℕ, ◌+◌, ◌-◌, ◌<◌, ◌≤◌, max, Bool, true, false, cond, ltb, ◌&&◌, Option, Some, None, List, [], ◌∷◌, ◌++◌, length, refl, sym, ap, ◌∙◌, subst, inl, inr, arith, append_assoc, ltb-true, length-append}
 use Rattle.std.proofs.lemmas.List.{append-nil}
 use Rattle.std.proofs.lemmas.Slice.Eq.{bytes_eq-Decides}
 use Rattle.std.specs.Prelude.{bytes_eq}
@@ -7,12 +7,12 @@ use Rattle.kap_base.specs.declared.expr.Lit.{Lit}
 use Rattle.kap_base.specs.declared.expr.Op.TheVariants.{Sub, Mul}
 use Rattle.kap_base.specs.Tree.{Tree}
 use Rattle.tick_lexer.specs.declared.token.Kind.{Kind}
-use Rattle.tick_lexer.specs.declared.token.Kind.TheVariants.{Ident, Literal, Reference, Sign, Bang, Open, Close, Comma, Dot, Pipe, Assign, Var, Lambda}
+use Rattle.tick_lexer.specs.declared.token.Kind.TheVariants.{Ident, Literal, Reference, Sign, Open, Close, Comma, Dot, Pipe, Assign, Var, Lambda}
 use Rattle.tick_lexer.specs.declared.token.Token.{Token}
 use Rattle.tick_parser.specs.declared.fault.ParseFault.{ParseFault}
 use Rattle.tick_parser.specs.declared.fault.ParseFault.TheVariants.{Deep, TooMany}
-use Rattle.tick_parser.specs.Trees.{ValTree, Given, Everything, Function, Chained, ValTrees, NoVals, MoreVals, JointTrees, NoJoints, MoreJoints, StmtTree, Declared, Dbrp, Piped, vals_onto, joints_onto}
-use Rattle.tick_parser.specs.Grammar.{Mark, At, Free, Signed, Fits, spell, Agree, Is, IsMinus, minus, depth, binaries}
+use Rattle.tick_parser.specs.Trees.{ValTree, Given, Everything, Function, Chained, ValTrees, NoVals, MoreVals, JointTrees, NoJoints, MoreJoints, StmtTree, Declared, Dbrp, vals_onto, joints_onto}
+use Rattle.tick_parser.specs.Grammar.{Mark, At, Free, Signed, spell, Agree, Is, IsMinus, minus}
 use Rattle.tick_parser.specs.Script.{spell_val, spell_vals, spell_more, spell_joints, spell_stmt, spell_script, word_dbrp, FitsVal, FitVals, FitJoints, IsOne, FitsStmt, FitsScript, depth_val, depth_vals, depth_joints, depth_stmt, depth_script, width_val, width_vals, width_joints, width_stmt, width_script}
 use Rattle.tick_parser.specs.Lambdas as lambdas
 use Rattle.tick_parser.specs.Machine.{Line, Call, Spot, Variable, Argument, State, Between, VarRead, NameRead, DbRead, DotRead, Valuing, MinusRead, ValueRead, InLambda, LineRead, LinkRead, CallRead, ParenRead, Stopped, linked, chained, piped, opens_spot, opens, begin, argue, settle, leave, is_bare, is_dbrp, follow, star, value, signed, number, opening, opened, within, declare, assign, dotted, target, link, step, run}

@@ -1,20 +1,20 @@
 -- Where the reader stands, some script goes on.
-use Rattle.std.proofs.Common.{◌≡◌, ℕ, ◌+◌, ◌-◌, ◌<◌, ◌≤◌, Bool, cond, ltb, List, [], ◌∷◌, ◌++◌, length, refl, sym, ap, ◌∙◌, subst, arith, append_assoc, lt-ltb}
+use Rattle.std.proofs.Common.{◌≡◌, ℕ, ◌+◌, ◌-◌, ◌<◌, Bool, cond, List, [], ◌∷◌, ◌++◌, sym, ap, ◌∙◌, subst, append_assoc, lt-ltb}
 use Rattle.std.proofs.lemmas.List.{append-nil}
 use Rattle.std.specs.Prelude.{pos}
 use Rattle.kap_base.specs.declared.expr.Lit.TheVariants.{Int}
-use Rattle.kap_base.specs.Tree.{Tree}
 use Rattle.tick_lexer.specs.declared.token.Kind.{Kind}
 use Rattle.tick_lexer.specs.declared.token.Kind.TheVariants.{Ident, Literal, Reference, Open, Close, Dot, Assign}
 use Rattle.tick_lexer.specs.declared.token.Token.{Token}
 use Rattle.tick_parser.specs.declared.fault.ParseFault.TheVariants.{Deep}
 use Rattle.tick_parser.specs.Trees.{ValTree, Given, Function, NoVals, MoreVals, StmtTree, Declared, vals_onto}
 use Rattle.tick_parser.specs.Grammar.{Agree}
-use Rattle.tick_parser.specs.Script.{spell_val, spell_script, Reads, Begins, Opens}
+use Rattle.tick_parser.specs.Script.{spell_val, spell_script}
+use Rattle.tick_parser.specs.Refusal.{Begins, Opens}
 use Rattle.tick_parser.specs.Lambdas as lambdas
-use Rattle.tick_parser.specs.Machine.{Line, Call, Spot, Variable, Argument, State, Between, VarRead, NameRead, DbRead, DotRead, Valuing, MinusRead, ValueRead, InLambda, LineRead, LinkRead, CallRead, ParenRead, Stopped, linked, chained, opens_spot, opens, step, run}
+use Rattle.tick_parser.specs.Machine.{Line, Call, Spot, Variable, Argument, State, Between, VarRead, NameRead, DbRead, DotRead, Valuing, MinusRead, ValueRead, InLambda, LineRead, LinkRead, CallRead, ParenRead, Stopped, linked, chained, opens_spot, opens, step}
 use Rattle.tick_parser.proofs.LambdaFaults as faults
-use Rattle.tick_parser.proofs.Sound.{spell_open, spell_line, Done, GoodLine, GoodVal, Pending, Ready, Stands, declared_done, line_valued, line_done, lambda_valued, step_stands}
+use Rattle.tick_parser.proofs.Sound.{spell_line, Done, GoodLine, GoodVal, Pending, Ready, Stands, declared_done, line_valued, line_done, lambda_valued, step_stands}
 
 abbrev pub IsGoing : State → Type 0
 IsGoing (Stopped fault) = ⊥

@@ -1,5 +1,5 @@
 -- What may stand behind the tokens that are read.
-use Rattle.std.proofs.Common.{◌≡◌, ◌⊎◌, inl, inr, ℕ, ◌+◌, ◌-◌, ◌<◌, ◌≤◌, max, Bool, cond, ltb, List, [], ◌∷◌, ◌++◌, length, refl, sym, ap, ◌∙◌, subst, ⊎_elim, arith, append_assoc, lt-ltb}
+use Rattle.std.proofs.Common.{◌≡◌, ℕ, ◌+◌, ◌-◌, ◌≤◌, max, Bool, cond, List, [], ◌∷◌, ◌++◌, length, refl, sym, ap, ◌∙◌, subst, ⊎_elim, arith, lt-ltb}
 use Rattle.std.specs.Prelude.{pos}
 use Rattle.kap_base.specs.declared.expr.Lit.TheVariants.{Int}
 use Rattle.kap_base.specs.Tree.{Tree}
@@ -10,16 +10,17 @@ use Rattle.tick_parser.specs.declared.fault.Want.{Want}
 use Rattle.tick_parser.specs.declared.fault.Want.TheVariants.{Name, Equal, Value, Open as WantOpen, Close as WantClose, Ref, Dot as WantDot}
 use Rattle.tick_parser.specs.declared.fault.ParseFault.{ParseFault}
 use Rattle.tick_parser.specs.declared.fault.ParseFault.TheVariants.{Expected, Deep}
-use Rattle.tick_parser.specs.Trees.{StmtTree, Function}
-use Rattle.tick_parser.specs.Script.{depth_script, width_script, Reads, Within, Begins, Opens, Can, Cannot, IsWhole, IsIdent, IsReference, IsAssign, IsOpen, IsDot, Needs}
+use Rattle.tick_parser.specs.Trees.{StmtTree}
+use Rattle.tick_parser.specs.Script.{depth_script, width_script, Reads, Within}
+use Rattle.tick_parser.specs.Refusal.{Begins, Can, Cannot, IsWhole, IsIdent, IsReference, IsAssign, IsOpen, IsDot, Needs}
 use Rattle.tick_parser.specs.Lambdas as lambdas
-use Rattle.tick_parser.specs.Machine.{Line, Call, Spot, Variable, Argument, State, Between, VarRead, NameRead, DbRead, DotRead, Valuing, MinusRead, ValueRead, InLambda, LineRead, LinkRead, CallRead, ParenRead, Stopped, opens_spot, opens, within, step, run, Answer, Got, Refuses, settled, closed, finish}
+use Rattle.tick_parser.specs.Machine.{Line, Call, Spot, Variable, Argument, State, Between, VarRead, NameRead, DbRead, DotRead, Valuing, MinusRead, ValueRead, InLambda, LineRead, LinkRead, CallRead, ParenRead, Stopped, opens_spot, opens, within, step, run, Got, Refuses, closed, finish}
 use Rattle.tick_parser.proofs.LambdaComplete.{Below}
 use Rattle.tick_parser.proofs.LambdaSound as sound
-use Rattle.tick_parser.proofs.CompleteScript.{Rests, whole_run}
+use Rattle.tick_parser.proofs.CompleteScript.{whole_run}
 use Rattle.tick_parser.proofs.Sound.{Stands, run_stands}
 use Rattle.tick_parser.proofs.Viable.{IsGoing, HasRoom, sample, viable}
-use Rattle.tick_parser.proofs.Room.{IsFull, IsDeep, same_count, same_room, same_going, same_run, run_stopped, going_first}
+use Rattle.tick_parser.proofs.Room.{IsFull, IsDeep, same_count, same_room, same_run, run_stopped}
 use Rattle.tick_parser.proofs.Runs.{run-append}
 use Rattle.tick_parser.proofs.Faults.{wanted, wanted_held, finish_got}
 

@@ -1,6 +1,7 @@
 pub mod Trees
 pub mod Grammar
 pub mod Script
+pub mod Refusal
 pub mod Lambdas
 pub mod Machine
 pub mod Stack

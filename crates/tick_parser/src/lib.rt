@@ -14,5 +14,5 @@ mod steps;
 mod tests;
 
 pub use fault::{ParseFault, Want};
-pub use parser::{not_both, one_fault, one_tree, parse};
+pub use parser::{always_one, not_both, one_fault, one_tree, parse};
 pub use script::{Chain, Joint, Links, Stmt, Tree, Val, Vals};

@@ -3,7 +3,8 @@
 ghost use Rattle.std.specs.Prelude.{◌≡◌, ◌⊎◌, List, IfErr, IfOk};
 ghost use Rattle.tick_lexer.specs.declared.token.Token.{Token};
 ghost use Rattle.tick_parser.specs.Trees.{StmtTree, script_tree};
-ghost use Rattle.tick_parser.specs.Script.{Reads, Refused, Within};
+ghost use Rattle.tick_parser.specs.Script.{Reads, Within};
+ghost use Rattle.tick_parser.specs.Refusal.{Refused};
 ghost use Rattle.tick_parser.specs.declared.fault.ParseFault.{ParseFault};
 ghost use Rattle.tick_parser.specs.declared.fault.ParseFault.TheVariants.{NoMemory};
 
@@ -45,6 +46,11 @@ pub fn one_tree()
 /// Tokens of a script within the limits are not refused.
 pub fn not_both()
     ensures { (tokens : List Token) (script : List StmtTree) (fault : ParseFault) → Reads tokens script → Within 64 512 4096 script → Refused 64 512 4096 tokens fault → ⊥ }
+{}
+
+/// Tokens are those of a script within the limits, or refused.
+pub fn always_one()
+    ensures { (tokens : List Token) → ((script : List StmtTree) × Reads tokens script × Within 64 512 4096 script) ⊎ ((fault : ParseFault) × Refused 64 512 4096 tokens fault) }
 {}
 
 /// Tokens are refused at one place, for one reason.

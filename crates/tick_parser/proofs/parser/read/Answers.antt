@@ -1,7 +1,7 @@
 use Rattle.std.proofs.Common.{◌≡◌, ◌⊎◌, ◌∷◌, ◌∙◌, suc, arith, drop, drop-cons, ap, sym}
 use Rattle.std.proofs.lemmas.List.{drop_all}
 use Rattle.tick_parser.specs.declared.fault.ParseFault.TheVariants.{NoMemory}
-use Rattle.tick_parser.specs.Script.{Refused}
+use Rattle.tick_parser.specs.Refusal.{Refused}
 use Rattle.tick_parser.specs.States.{state_of}
 use Rattle.tick_parser.proofs.Parsing.{parsed_tree, parsed_fault, stopped_fault, handed_on}
 use Rattle.tick_parser.proofs.parser.read.Goals as goal

@@ -1,5 +1,5 @@
 use Rattle.std.proofs.Common.{◌≡◌, [], drop}
-use Rattle.tick_parser.specs.Script.{ended}
+use Rattle.tick_parser.specs.Refusal.{ended}
 use Rattle.tick_parser.specs.Machine.{run, Between}
 use Rattle.tick_parser.specs.States.{state_of, IsCountedState}
 use Rattle.tick_parser.proofs.parser.read.Given as goal
