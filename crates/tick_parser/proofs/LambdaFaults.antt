@@ -28,9 +28,6 @@ pub record Reading (d w : ℕ) (tokens : List Token) : Type 0 where
   pub tree : Tree
   pub whole : Whole d w (tokens ++ more) tree
 
-name_token : Token
-name_token = record { kind = Ident []; start = 0; «end» = 0 }
-
 abbrev close_all : List Frame → List Token
 close_all [] = []
 close_all (Minus at ∷ stack) = close_all stack

@@ -10,7 +10,7 @@ use Rattle.tick_parser.specs.declared.fault.ParseFault.TheVariants.{Deep}
 use Rattle.tick_parser.specs.Trees.{ValTree, Given, Function, NoVals, MoreVals, StmtTree, Declared, vals_onto}
 use Rattle.tick_parser.specs.Grammar.{Agree}
 use Rattle.tick_parser.specs.Script.{spell_val, spell_script}
-use Rattle.tick_parser.specs.Refusal.{Begins, Opens}
+use Rattle.tick_parser.specs.Refusal.{Opens}
 use Rattle.tick_parser.specs.Lambdas as lambdas
 use Rattle.tick_parser.specs.Machine.{Line, Call, Spot, Variable, Argument, State, Between, VarRead, NameRead, DbRead, DotRead, Valuing, MinusRead, ValueRead, InLambda, LineRead, LinkRead, CallRead, ParenRead, Stopped, linked, chained, opens_spot, opens, step}
 use Rattle.tick_parser.proofs.LambdaFaults as faults
@@ -48,15 +48,6 @@ opens_before d w a b o =
       reads = record { fits = r.fits; spelled = subst (λ (l : List Token). Agree l (spell_script o.script)) (append_assoc a b o.more) r.spelled };
       depth_fits = o.depth_fits;
       width_fits = o.width_fits;
-    }
-
-pub begins_before : (a b : List Token) → Begins (a ++ b) → Begins a
-begins_before a b o =
-    let r = o.reads in
-    record {
-      more = b ++ o.more;
-      script = o.script;
-      reads = record { fits = r.fits; spelled = subst (λ (l : List Token). Agree l (spell_script o.script)) (append_assoc a b o.more) r.spelled };
     }
 
 -- in a chain, by closing all that is open

@@ -50,7 +50,7 @@ pub data Mark : Type 0 where
   At : (kind : Kind) (place : ℕ) → Mark
   -- a token of this kind, whose place the tree doesn't keep
   Free : (kind : Kind) → Mark
-  -- the literal at this place, or a minus there and the same number without it
+  -- the literal at this place, or a minus there and the number or duration of which it makes this literal
   Signed : (lit : Lit) (place : ℕ) → Mark
 
 -- a lambda's tokens
