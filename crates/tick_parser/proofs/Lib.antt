@@ -1,0 +1,17 @@
+pub mod Agreeing
+pub mod LambdaRuns
+pub mod LambdaComplete
+pub mod LambdaSound
+pub mod LambdaFaults
+pub mod Runs
+pub mod Complete
+pub mod CompleteScript
+pub mod Sound
+pub mod Viable
+pub mod Room
+pub mod Faults
+pub mod Wants
+pub mod Reading
+pub mod Stacks
+pub mod Parsing
+pub mod OneFault
