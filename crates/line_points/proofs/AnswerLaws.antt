@@ -1,5 +1,5 @@
 -- What is answered, against the grammar.
-use Rattle.std.proofs.Common.{◌≡◌, ◌≤◌, true, Option, Some, None, List, ℕ, length, Ok, Err, subst, sym}
+use Rattle.std.proofs.Common.{◌≡◌, ◌≤◌, true, Option, Some, None, List, ℕ, length, Ok, Err, subst}
 use Rattle.std.specs.Prelude.{Result, IfOk, IfSome}
 use Rattle.std.specs.Str.{is_utf8}
 use Rattle.kap_base.specs.Words.{Answers}

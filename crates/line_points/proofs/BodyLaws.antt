@@ -1,11 +1,11 @@
 -- The lines of a body one after the other, as the loop reads them.
-use Rattle.std.proofs.Common.{◌≡◌, ◌≢◌, ℕ, zero, suc, ◌+◌, ◌-◌, ◌<◌, ◌≤◌, Bool, true, false, not, cond, ◌&&◌, ◌||◌, Option, Some, None, List, [], ◌∷◌, ◌++◌, length, take, drop, map, Ok, Err, refl, sym, ap, subst, ◌∙◌, append_assoc, one-add, add-one, eqb, ltb, arith}
+use Rattle.std.proofs.Common.{◌≡◌, ℕ, suc, ◌+◌, ◌<◌, ◌≤◌, true, false, not, cond, Option, Some, None, List, [], ◌∷◌, ◌++◌, length, take, drop, map, Ok, Err, refl, sym, ap, ◌∙◌, append_assoc, eqb, ltb, arith}
 use Rattle.std.specs.Prelude.{Result}
-use Rattle.std.specs.List.{list_any, slice_split, onto_first, before_first, after_first, position_or_len}
+use Rattle.std.specs.List.{slice_split, onto_first, before_first, after_first, position_or_len}
 use Rattle.std.proofs.lemmas.Bool.{ltb-false}
 use Rattle.std.proofs.lemmas.Bool.Decides.{nat_tests}
 use Rattle.std.proofs.lemmas.Grind.{common_steps}
-use Rattle.std.proofs.lemmas.List.{append-nil, length-append, length-drop}
+use Rattle.std.proofs.lemmas.List.{append-nil, length-drop}
 use Rattle.kap_base.specs.Words.{◌>>=◌}
 use Rattle.kap_base.specs.Texts.{is_empty, line_feed, has_line_feed}
 use Rattle.kap_base.specs.Points.{Series}

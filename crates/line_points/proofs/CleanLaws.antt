@@ -1,8 +1,7 @@
 -- UTF-8 without a line feed: such bytes may be cut at ASCII bytes, and what they spell is so too.
-use Rattle.std.proofs.Common.{◌≡◌, ℕ, zero, suc, ◌<◌, Bool, true, false, not, cond, ◌&&◌, ◌||◌, List, [], ◌∷◌, ◌++◌, refl, sym, ap, subst, ◌∙◌, append_assoc, eqb, arith}
+use Rattle.std.proofs.Common.{◌≡◌, ℕ, zero, suc, Bool, true, false, not, ◌&&◌, ◌||◌, List, [], ◌∷◌, ◌++◌, refl, sym, subst, append_assoc, eqb, arith}
 use Rattle.std.specs.Prelude.{IsUtf8, nat_lt}
 use Rattle.std.specs.Str.{is_utf8}
-use Rattle.std.specs.List.{list_any}
 use Rattle.std.proofs.lemmas.Bool.{ltb-true}
 use Rattle.std.proofs.lemmas.Bool.Decides.{nat_tests}
 use Rattle.std.proofs.lemmas.List.{append-nil}
@@ -11,8 +10,8 @@ use Rattle.kap_base.specs.Texts.{backslash, line_feed, has_line_feed, is_line, i
 use Rattle.line_points.specs.declared.part.Part.{Part}
 use Rattle.line_points.specs.declared.part.Part.TheVariants as parts
 use Rattle.line_points.specs.Parts.{space, escapes, begins}
-use Rattle.line_points.specs.Grammar.{stands_alone, Spells, no_bytes, plain, behind_backslash, spaces}
-use Rattle.line_points.proofs.TestLaws.{second_of, first_false, second_false, both, not_true, not_false}
+use Rattle.line_points.specs.Grammar.{Spells, no_bytes, plain, behind_backslash, spaces}
+use Rattle.line_points.proofs.TestLaws.{second_of, first_false, second_false, both, not_false}
 use Rattle.line_points.proofs.Utf8Laws.{around}
 
 pub record IsClean (bytes : List ℕ) : Type 0 where

@@ -1,23 +1,21 @@
 -- A line that is clean and spells a point spells one that is a point.
-use Rattle.std.proofs.Common.{◌≡◌, ℕ, zero, suc, ◌*◌, ◌^◌, ◌<◌, ◌≤◌, Bool, true, false, not, cond, ◌&&◌, ◌||◌, List, [], ◌∷◌, ◌++◌, refl, sym, ap, subst, ◌∙◌, append_assoc, Ok, arith}
+use Rattle.std.proofs.Common.{◌≡◌, ℕ, zero, suc, ◌*◌, ◌^◌, ◌<◌, ◌≤◌, Bool, true, false, not, ◌&&◌, List, [], ◌∷◌, ◌++◌, refl, ap, subst, ◌∙◌, Ok, arith}
 use Rattle.std.proofs.lemmas.Bool.{ltb-true, leb-true}
-use Rattle.std.specs.Prelude.{ℤ, pos, negsuc, nat_le, nat_lt, codes, IsUtf8, IsTrue}
+use Rattle.std.specs.Prelude.{ℤ, pos, negsuc, nat_le, nat_lt, IsUtf8}
 use Rattle.std.specs.List.{list_all}
 use Rattle.std.specs.FinMap.{entries, empty, len}
 use Rattle.std.specs.Str.Parse.{digits_value}
 use Rattle.std.proofs.lemmas.Bool.Decides.{nat_tests}
-use Rattle.kap_base.specs.Texts.{backslash, is_empty, begins_with, number_sign, has_line_feed, is_line, is_name, is_measurement}
+use Rattle.kap_base.specs.Texts.{begins_with, number_sign, has_line_feed, is_line, is_name}
 use Rattle.kap_base.specs.Maps.{TextMap, with_entries}
 use Rattle.kap_base.specs.Points.{Series, IsPoint, is_time, is_value}
 use Rattle.kap_base.specs.declared.value.Value.{Value}
 use Rattle.kap_base.specs.declared.value.Value.TheVariants as values
-use Rattle.line_points.specs.declared.part.Part.TheVariants as parts
 use Rattle.line_points.specs.declared.mode.Mode.{Mode}
-use Rattle.line_points.specs.declared.mode.Mode.TheVariants.{Live, Recording}
 use Rattle.line_points.specs.Parts.{comma, equals, quote, space, without_spaces}
 use Rattle.line_points.specs.Numbers.{signed, fits}
 use Rattle.line_points.specs.Line.{Tag, Field, measurement_at, tags_at, fields_at, time_of, has_time}
-use Rattle.line_points.specs.Grammar.{Spells, spaces, SpellsValue, integer_word, true_word, false_word, quoted_text, SpellsTags, no_tags, more_tags, SpellsFields, one_field, more_fields, SpellsTime, no_time, some_time, Spelled, IsOf}
+use Rattle.line_points.specs.Grammar.{spaces, SpellsValue, integer_word, true_word, false_word, quoted_text, SpellsTags, no_tags, more_tags, SpellsFields, one_field, more_fields, SpellsTime, no_time, some_time, Spelled, IsOf}
 use Rattle.std.proofs.lemmas.Int.{to_z-of_z}
 use Rattle.line_points.proofs.TestLaws.{both, not_true, not_false}
 use Rattle.line_points.proofs.WholeLaws.{parts_spelled}

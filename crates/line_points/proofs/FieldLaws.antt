@@ -1,8 +1,6 @@
 -- Fields that are read are spelled so, and fields that are spelled are read.
-use Rattle.std.proofs.Common.{◌≡◌, ℕ, zero, suc, ◌+◌, ◌<◌, ◌≤◌, Bool, true, false, not, cond, ◌&&◌, List, [], ◌∷◌, ◌++◌, length, drop, Ok, Err, refl, sym, ap, subst, ◌∙◌, append_assoc, arith}
-use Rattle.std.specs.Prelude.{Result}
+use Rattle.std.proofs.Common.{◌≡◌, ℕ, zero, suc, ◌≤◌, true, false, not, cond, ◌&&◌, List, [], ◌∷◌, ◌++◌, length, drop, Ok, refl, sym, ap, subst, ◌∙◌, append_assoc, arith}
 use Rattle.std.proofs.lemmas.List.{length-append}
-use Rattle.std.proofs.lemmas.Bool.Decides.{nat_tests}
 use Rattle.kap_base.specs.Words.{◌>>=◌}
 use Rattle.kap_base.specs.Texts.{is_empty, begins_with}
 use Rattle.kap_base.specs.declared.value.Value.{Value}
@@ -12,7 +10,7 @@ use Rattle.line_points.specs.declared.part.Part.TheVariants as parts
 use Rattle.line_points.specs.Parts.{comma, equals, text_at}
 use Rattle.line_points.specs.Line.{Field, value_at, field_at, fields_from}
 use Rattle.line_points.specs.Grammar.{Spells, SpellsValue, SpellsFields, one_field, more_fields}
-use Rattle.line_points.proofs.TestLaws.{first_of, second_of, not_true, not_false, ok_is, bind_ok, then_ok}
+use Rattle.line_points.proofs.TestLaws.{first_of, second_of, not_true, ok_is, bind_ok, then_ok}
 use Rattle.line_points.proofs.SpellLaws.{text_taken, spelling_again}
 use Rattle.line_points.proofs.TagLaws.{is_next, begins_some, behind_first}
 use Rattle.line_points.proofs.ValueLaws.{value_taken, value_again}

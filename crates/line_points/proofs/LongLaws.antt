@@ -1,24 +1,20 @@
 -- A line of any length is never too long.
-use Rattle.std.proofs.Common.{◌≡◌, ◌≢◌, ℕ, zero, suc, Bool, true, false, not, cond, ◌&&◌, ◌||◌, Option, Some, None, List, [], ◌∷◌, length, drop, Ok, Err, refl, sym, ap, subst, ◌∙◌}
+use Rattle.std.proofs.Common.{◌≡◌, ◌≢◌, ℕ, zero, suc, Bool, true, false, not, cond, ◌&&◌, ◌||◌, Option, Some, None, List, [], length, drop, Ok, Err, refl, sym, ap, ◌∙◌}
 use Rattle.std.specs.Prelude.{Result, IfErr, nat_le, ◌*◌, ◌^◌}
 use Rattle.std.specs.Str.{is_utf8}
 use Rattle.std.specs.List.{list_all, before_first, position_or_len}
 use Rattle.std.specs.Option.{option_map_or}
-use Rattle.std.specs.FinMap.{empty}
 use Rattle.kap_base.specs.Words.{◌>>=◌, Answers}
 use Rattle.kap_base.specs.Texts.{is_empty, begins_with, number_sign}
-use Rattle.kap_base.specs.Maps.{with_entries}
 use Rattle.kap_base.specs.Points.{Series}
-use Rattle.kap_base.specs.declared.value.Value.{Value}
 use Rattle.kap_base.specs.declared.value.Value.TheVariants as values
 use Rattle.line_points.specs.declared.fault.LineFault.{LineFault}
 use Rattle.line_points.specs.declared.fault.LineFault.TheVariants as faults
 use Rattle.line_points.specs.declared.part.Part.TheVariants as parts
 use Rattle.line_points.specs.declared.mode.Mode.{Mode}
 use Rattle.line_points.specs.declared.mode.Mode.TheVariants.{Live, Recording}
-use Rattle.line_points.specs.declared.mode.Unit.{Unit as TimeUnit}
 use Rattle.line_points.specs.Parts.{begins, comma, equals, quote, is_space, is_separator, without_spaces, text_at}
-use Rattle.line_points.specs.Numbers.{number_of, signed, fits, is_true, is_false}
+use Rattle.line_points.specs.Numbers.{number_of, fits, is_true, is_false}
 use Rattle.line_points.specs.Words.{integer_of, int_value, other_value, word_value, is_float, is_unsigned}
 use Rattle.line_points.specs.Line.{differ, measurement_at, tag_at, tags_from, tags_at, quoted_at, word_at, value_at, field_at, fields_from, fields_at, nanoseconds, unit_of, missing_time, scaled, word_time, time_of, point_of, stored_of}
 

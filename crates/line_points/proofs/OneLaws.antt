@@ -1,19 +1,19 @@
 -- A line has one answer.
-use Rattle.std.proofs.Common.{◌≡◌, ℕ, Bool, true, false, not, cond, ◌&&◌, ◌||◌, Option, Some, None, List, [], ◌∷◌, ◌++◌, length, Ok, Err, refl, sym, ap, ◌∙◌, inl, inr, eqb, ltb}
-use Rattle.std.specs.Prelude.{Result, ◌⊎◌}
+use Rattle.std.proofs.Common.{◌≡◌, ℕ, Bool, true, false, cond, ◌&&◌, Option, Some, None, List, [], ◌∷◌, ◌++◌, length, Ok, Err, refl, ap, ◌∙◌, inl, inr, ltb}
+use Rattle.std.specs.Prelude.{Result}
 use Rattle.std.proofs.lemmas.Bool.{eqb-true}
 use Rattle.std.proofs.lemmas.List.{append-nil}
 use Rattle.kap_base.specs.Words.{◌>>=◌}
-use Rattle.kap_base.specs.Texts.{is_empty, begins_with, number_sign}
+use Rattle.kap_base.specs.Texts.{number_sign}
 use Rattle.kap_base.specs.Points.{Series}
 use Rattle.line_points.specs.declared.fault.LineFault.{LineFault}
 use Rattle.line_points.specs.declared.fault.LineFault.TheVariants as faults
 use Rattle.line_points.specs.declared.mode.Mode.{Mode}
-use Rattle.line_points.specs.Parts.{begins, is_space, without_spaces}
-use Rattle.line_points.specs.Line.{Reads, Blank, Faulty, stored_of, line_of, is_live, is_blank}
+use Rattle.line_points.specs.Parts.{without_spaces}
+use Rattle.line_points.specs.Line.{Blank, stored_of, line_of, is_live, is_blank}
 use Rattle.line_points.specs.Answered.{IsAnswered, IsBlankLine}
 use Rattle.line_points.specs.Grammar.{spaces}
-use Rattle.line_points.proofs.TestLaws.{first_of, second_of, both}
+use Rattle.line_points.proofs.TestLaws.{first_of, second_of}
 use Rattle.line_points.proofs.SpaceLaws.{after_spaces, spaces_skipped, only_spaces}
 
 pub some_answer : (db rp line : List ℕ) (mode : Mode) → IsAnswered db rp mode line

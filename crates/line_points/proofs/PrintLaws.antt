@@ -1,11 +1,11 @@
 -- What is printed is a spelling of the point, and clean.
-use Rattle.std.proofs.Common.{◌≡◌, ℕ, zero, suc, ◌+◌, ◌*◌, ◌^◌, ◌<◌, ◌≤◌, Bool, true, false, not, cond, ◌&&◌, ◌||◌, List, [], ◌∷◌, ◌++◌, length, refl, sym, ap, subst, ◌∙◌, append_assoc, eqb, arith, rules}
+use Rattle.std.proofs.Common.{◌≡◌, ℕ, suc, ◌*◌, ◌^◌, ◌<◌, ◌≤◌, Bool, true, false, not, cond, ◌&&◌, ◌||◌, List, [], ◌∷◌, ◌++◌, length, refl, sym, ap, subst, ◌∙◌, append_assoc, eqb, arith, rules}
 use Rattle.std.specs.Prelude.{ℤ, pos, negsuc, codes}
 use Rattle.std.specs.Char.{is_ascii_digit}
 use Rattle.std.specs.List.{list_all, list_any, flat_map}
 use Rattle.std.specs.Fmt.{decimal, signed_decimal}
 use Rattle.std.specs.Str.Parse.{digits_value}
-use Rattle.std.proofs.lemmas.Bool.{eqb-true, ltb-true, leb-true, le-ltb, le-leb}
+use Rattle.std.proofs.lemmas.Bool.{eqb-true, ltb-true, leb-true, le-leb}
 use Rattle.std.proofs.lemmas.Bool.Decides.{nat_tests}
 use Rattle.std.proofs.lemmas.Fmt.{digits_decimal, digits_value-decimal, decimal_nonempty}
 use Rattle.std.proofs.lemmas.List.{append-nil}
@@ -18,10 +18,10 @@ use Rattle.kap_base.specs.declared.value.Value.TheVariants as values
 use Rattle.line_points.specs.declared.part.Part.{Part}
 use Rattle.line_points.specs.declared.part.Part.TheVariants as parts
 use Rattle.line_points.specs.declared.mode.Mode.TheVariants.{Recording}
-use Rattle.line_points.specs.Parts.{comma, equals, quote, space, escapes, stops, begins}
+use Rattle.line_points.specs.Parts.{comma, equals, space, escapes, stops, begins}
 use Rattle.line_points.specs.Numbers.{is_digits, signed, fits}
 use Rattle.line_points.specs.Line.{Tag, Field}
-use Rattle.line_points.specs.Grammar.{stands_alone, Spells, no_bytes, plain, behind_backslash, minus, SpellsValue, integer_word, true_word, false_word, quoted_text, SpellsTags, no_tags, more_tags, SpellsFields, one_field, more_fields, SpellsTime, some_time}
+use Rattle.line_points.specs.Grammar.{Spells, no_bytes, plain, behind_backslash, minus, SpellsValue, integer_word, true_word, false_word, quoted_text, SpellsTags, no_tags, more_tags, SpellsFields, one_field, more_fields, SpellsTime, some_time}
 use Rattle.line_points.specs.Print.{escaped_byte, escaped, value_text, tag_text, field_text, fields_text}
 use Rattle.line_points.proofs.TestLaws.{first_of, second_of, first_false, second_false, both, not_true, not_false}
 use Rattle.line_points.proofs.SpellLaws.{stops-escape}

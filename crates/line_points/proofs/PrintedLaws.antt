@@ -1,32 +1,30 @@
 -- The line that is printed of a point is clean, and spells the point without what it is grouped by.
-use Rattle.std.proofs.Common.{◌≡◌, ℕ, zero, suc, ◌+◌, ◌*◌, ◌^◌, ◌<◌, ◌≤◌, Bool, true, false, not, cond, ◌&&◌, ◌||◌, List, [], ◌∷◌, ◌++◌, length, Ok, Err, Some, refl, sym, ap, subst, ◌∙◌, append_assoc, eqb, arith}
-use Rattle.std.specs.Prelude.{ℤ, pos, negsuc, codes, IsUtf8, nat_lt, bytes_eq, Result, IfOk, OnOk}
+use Rattle.std.proofs.Common.{◌≡◌, ℕ, zero, suc, ◌<◌, ◌≤◌, Bool, true, false, not, ◌&&◌, List, [], ◌∷◌, ◌++◌, length, Ok, Err, Some, refl, sym, ap, subst, append_assoc, eqb, arith}
+use Rattle.std.specs.Prelude.{ℤ, codes, IsUtf8, nat_lt, bytes_eq, Result, IfOk, OnOk}
 use Rattle.std.specs.Char.{is_ascii_digit}
 use Rattle.std.specs.List.{list_all, list_any, flat_map, AllByRecursion}
 use Rattle.std.specs.Str.{is_utf8}
-use Rattle.std.specs.Fmt.{decimal, signed_decimal}
-use Rattle.std.specs.FinMap.{entries, empty, len, len-entries}
+use Rattle.std.specs.Fmt.{signed_decimal}
+use Rattle.std.specs.FinMap.{entries, len, len-entries}
 use Rattle.std.proofs.lemmas.Bool.{ltb-true}
 use Rattle.std.proofs.lemmas.Bool.Decides.{nat_tests}
 use Rattle.std.proofs.lemmas.List.{append-nil}
 use Rattle.std.proofs.lemmas.Str.{IsUtf8-append, IsUtf8-nil, IsUtf8-from_ascii, IsUtf8-from_is_utf8, is_utf8-from_IsUtf8}
 use Rattle.std.proofs.lemmas.Str.Ascii.{IsAscii-nil, IsAscii-cons}
-use Rattle.kap_base.specs.Texts.{backslash, line_feed, has_line_feed, is_line, is_empty, begins_with, number_sign, ends_with, is_name, is_measurement}
-use Rattle.kap_base.specs.Maps.{TextMap, with_entries}
+use Rattle.kap_base.specs.Texts.{backslash, line_feed, has_line_feed, is_line, is_empty, begins_with, number_sign, ends_with, is_name}
 use Rattle.kap_base.specs.Points.{Series, IsPoint, is_value}
 use Rattle.kap_base.specs.declared.memory.NoMemory.{NoMemory}
 use Rattle.kap_base.specs.declared.value.Value.{Value}
-use Rattle.kap_base.specs.declared.value.Value.TheVariants as values
 use Rattle.line_points.specs.declared.part.Part.{Part}
 use Rattle.line_points.specs.declared.part.Part.TheVariants as parts
 use Rattle.line_points.specs.declared.mode.Mode.{Mode}
 use Rattle.line_points.specs.declared.mode.Mode.TheVariants.{Recording}
 use Rattle.line_points.specs.Parts.{comma, equals, quote, space, escapes}
-use Rattle.line_points.specs.Numbers.{is_digits, true_words, false_words}
-use Rattle.line_points.specs.Line.{Tag, Field, differ, line_of, stored_of}
+use Rattle.line_points.specs.Numbers.{true_words, false_words}
+use Rattle.line_points.specs.Line.{Tag, Field, line_of, stored_of}
 use Rattle.line_points.specs.Grammar.{Spells, no_bytes, plain, behind_backslash, minus, spaces, SpellsValue, integer_word, true_word, false_word, quoted_text, SpellsTags, no_tags, more_tags, SpellsFields, one_field, more_fields, SpellsTime, no_time, some_time, Spelled, IsOf}
 use Rattle.line_points.specs.Print.{escaped, tag_text, fields_text, Print, ungrouped}
-use Rattle.line_points.proofs.TestLaws.{first_of, second_of, first_false, second_false, both, not_true, not_false}
+use Rattle.line_points.proofs.TestLaws.{first_of, second_of, first_false, second_false, not_true}
 use Rattle.line_points.proofs.CleanLaws.{IsClean, clean_line}
 use Rattle.line_points.proofs.Utf8Laws.{around}
 use Rattle.line_points.proofs.ValueLaws.{one_of}

@@ -1,10 +1,10 @@
 -- Spaces before and behind the parts of a line.
-use Rattle.std.proofs.Common.{◌≡◌, ℕ, zero, suc, ◌+◌, Bool, true, false, not, cond, ◌&&◌, List, [], ◌∷◌, ◌++◌, length, take, drop, refl, sym, ap, ◌∙◌, one-add, arith, eqb}
-use Rattle.std.specs.List.{list_all, before_first, position_or_len}
+use Rattle.std.proofs.Common.{◌≡◌, ℕ, zero, suc, true, false, List, [], ◌∷◌, ◌++◌, length, refl, ap, ◌∙◌, arith}
+use Rattle.std.specs.List.{list_all, position_or_len}
 use Rattle.std.proofs.lemmas.Bool.{eqb-true}
 use Rattle.std.proofs.lemmas.Bool.Decides.{nat_tests}
 use Rattle.kap_base.specs.Texts.{is_empty, begins_with}
-use Rattle.line_points.specs.Parts.{comma, space, begins, is_space, is_separator, without_spaces}
+use Rattle.line_points.specs.Parts.{comma, space, begins, is_space, without_spaces}
 use Rattle.line_points.specs.Grammar.{spaces}
 use Rattle.line_points.proofs.TestLaws.{first_of, second_of}
 use Rattle.line_points.proofs.TagLaws.{is_next}

@@ -1,5 +1,5 @@
 -- Tests and chains of results, taken apart.
-use Rattle.std.proofs.Common.{◌≡◌, Bool, true, false, not, cond, ◌&&◌, ◌||◌, Ok, Err, refl, ap}
+use Rattle.std.proofs.Common.{◌≡◌, Bool, true, false, not, cond, ◌&&◌, ◌||◌, Ok, Err, refl}
 use Rattle.std.specs.Prelude.{Result}
 use Rattle.kap_base.specs.Words.{◌>>=◌}
 

@@ -1,5 +1,5 @@
 -- A time that is read is spelled so, and a time that is spelled is read.
-use Rattle.std.proofs.Common.{◌≡◌, ℕ, zero, suc, ◌*◌, ◌^◌, Bool, true, false, not, cond, ◌&&◌, Option, Some, None, List, [], ◌∷◌, ◌++◌, length, drop, Ok, Err, refl, sym, ap, subst, ◌∙◌, append_assoc, arith}
+use Rattle.std.proofs.Common.{◌≡◌, ℕ, zero, suc, ◌*◌, ◌^◌, Bool, true, false, not, cond, Option, Some, None, List, [], ◌∷◌, ◌++◌, length, drop, Ok, Err, refl, sym, ap, subst, ◌∙◌, append_assoc, arith}
 use Rattle.std.specs.Prelude.{ℤ, nat_le}
 use Rattle.std.specs.Char.{is_ascii_digit}
 use Rattle.std.specs.List.{list_all, before_first, position_or_len}
@@ -17,7 +17,7 @@ use Rattle.line_points.specs.Parts.{comma, space, begins, is_space, without_spac
 use Rattle.line_points.specs.Numbers.{is_digits, number_of, signed}
 use Rattle.line_points.specs.Line.{nanoseconds, unit_of, missing_time, scaled, word_time, time_of}
 use Rattle.line_points.specs.Grammar.{minus, spaces, SpellsTime, no_time, some_time}
-use Rattle.line_points.proofs.TestLaws.{first_of, second_of, ok_is, guard_ok, then_ok}
+use Rattle.line_points.proofs.TestLaws.{second_of, ok_is, guard_ok, then_ok}
 use Rattle.line_points.proofs.TagLaws.{is_next}
 use Rattle.line_points.proofs.ValueLaws.{number_taken, number_again}
 use Rattle.line_points.proofs.PlaceLaws.{word_ends}

@@ -1,6 +1,6 @@
 -- Values that are read are spelled so, and values that are spelled are read.
-use Rattle.std.proofs.Common.{◌≡◌, ℕ, suc, ◌+◌, ◌<◌, ◌≤◌, Bool, true, false, not, cond, ◌&&◌, ◌||◌, Option, Some, None, List, [], ◌∷◌, ◌++◌, length, take, drop, Ok, Err, refl, sym, ap, subst, ◌∙◌, append_assoc, one-add, arith, eqb}
-use Rattle.std.specs.Prelude.{Result, codes, bytes_eq, option_and_then}
+use Rattle.std.proofs.Common.{◌≡◌, ℕ, ◌+◌, Bool, true, false, not, cond, ◌&&◌, ◌||◌, Option, Some, None, List, [], ◌∷◌, ◌++◌, drop, Ok, Err, refl, sym, ap, subst, ◌∙◌, append_assoc, arith, eqb}
+use Rattle.std.specs.Prelude.{codes, bytes_eq, option_and_then}
 use Rattle.std.specs.Char.{is_ascii_digit}
 use Rattle.std.specs.List.{list_all, list_any, AllByRecursion, before_first, position_or_len}
 use Rattle.std.specs.Option.{option_map, option_map_or}
@@ -10,7 +10,6 @@ use Rattle.std.proofs.lemmas.Bool.Decides.{nat_tests}
 use Rattle.std.proofs.lemmas.List.{take-append-drop}
 use Rattle.std.proofs.lemmas.Option.{cond_some}
 use Rattle.std.proofs.lemmas.Slice.Eq.{bytes_eq-Decides}
-use Rattle.kap_base.specs.Words.{◌>>=◌}
 use Rattle.kap_base.specs.Texts.{is_empty, begins_with}
 use Rattle.kap_base.specs.declared.value.Value.{Value}
 use Rattle.kap_base.specs.declared.value.Value.TheVariants as values
@@ -19,10 +18,10 @@ use Rattle.line_points.specs.declared.fault.LineFault.TheVariants as faults
 use Rattle.line_points.specs.declared.part.Part.TheVariants as parts
 use Rattle.line_points.specs.Parts.{quote, begins, is_separator, text_at}
 use Rattle.line_points.specs.Numbers.{is_digits, is_minus, number_from, number_of, signed, fits, before_last_byte, true_words, false_words, is_true, is_false}
-use Rattle.line_points.specs.Words.{integer_of, int_value, other_value, word_value, is_float, is_unsigned}
+use Rattle.line_points.specs.Words.{int_value, other_value, word_value, is_float, is_unsigned}
 use Rattle.line_points.specs.Line.{quoted_at, word_at, value_at}
 use Rattle.line_points.specs.Grammar.{Spells, minus, SpellsValue, integer_word, true_word, false_word, quoted_text}
-use Rattle.line_points.proofs.TestLaws.{first_of, second_of, not_true, not_false, ok_is, bind_ok, guard_ok}
+use Rattle.line_points.proofs.TestLaws.{first_of, second_of, ok_is, bind_ok, guard_ok}
 use Rattle.line_points.proofs.NumberLaws.{before_last_byte-last}
 use Rattle.line_points.proofs.PlaceLaws.{drop_more, word_ends}
 use Rattle.line_points.proofs.SpellLaws.{text_taken, spelling_again}

@@ -1,5 +1,5 @@
 -- A line that is read as a point is spelled so, and a line that spells a point is read as that point.
-use Rattle.std.proofs.Common.{◌≡◌, ℕ, ◌+◌, ◌<◌, ◌≤◌, Bool, true, false, not, cond, ◌&&◌, ◌||◌, Option, Some, None, List, [], ◌∷◌, ◌++◌, length, Ok, Err, refl, sym, ap, subst, ◌∙◌, append_assoc, arith, ltb}
+use Rattle.std.proofs.Common.{◌≡◌, ℕ, ◌≤◌, Bool, true, false, not, cond, ◌&&◌, ◌||◌, Some, None, List, [], ◌∷◌, ◌++◌, length, Ok, Err, refl, ap, subst, ◌∙◌, arith, ltb}
 use Rattle.std.specs.Prelude.{Result, ℤ}
 use Rattle.std.specs.Str.{is_utf8}
 use Rattle.std.specs.FinMap.{empty}
@@ -12,18 +12,17 @@ use Rattle.kap_base.specs.Points.{Series}
 use Rattle.kap_base.specs.declared.value.Value.{Value}
 use Rattle.line_points.specs.declared.fault.LineFault.{LineFault}
 use Rattle.line_points.specs.declared.fault.LineFault.TheVariants as faults
-use Rattle.line_points.specs.declared.part.Part.{Part}
 use Rattle.line_points.specs.declared.part.Part.TheVariants as parts
 use Rattle.line_points.specs.declared.mode.Mode.{Mode}
 use Rattle.line_points.specs.Parts.{comma, equals, space, begins, is_space, without_spaces, text_at}
 use Rattle.line_points.specs.Line.{Tag, Field, differ, measurement_at, tags_from, tags_at, fields_from, fields_at, time_of, point_of, stored_of, line_of, is_live, is_blank}
 use Rattle.line_points.specs.Grammar.{Spells, no_bytes, plain, behind_backslash, spaces, SpellsTags, SpellsFields, one_field, more_fields, SpellsTime, Spelled, IsOf}
-use Rattle.line_points.proofs.TestLaws.{first_of, second_of, first_false, second_false, both, not_true, not_false, ok_is, bind_ok, else_ok, then_ok, unless_ok}
-use Rattle.line_points.proofs.SpellLaws.{ends_here, Taken, Reading, at_end, at_stop, over_escape, over_plain, reading, text_taken, spelling_again}
+use Rattle.line_points.proofs.TestLaws.{first_false, second_false, ok_is, bind_ok, else_ok, then_ok, unless_ok}
+use Rattle.line_points.proofs.SpellLaws.{ends_here, Reading, at_end, at_stop, over_escape, over_plain, reading, text_taken, spelling_again}
 use Rattle.line_points.proofs.TagLaws.{is_next, some_behind, TagsTaken, tags_taken, next-tags, tags_again}
 use Rattle.line_points.proofs.FieldLaws.{FieldsTaken, fields_taken, fields_again}
 use Rattle.line_points.proofs.SpaceLaws.{after_spaces, spaces_skipped, some_before, behind_spaces}
-use Rattle.line_points.proofs.TimeLaws.{TimeTaken, time_taken, time_again, next-time, no_comma-time}
+use Rattle.line_points.proofs.TimeLaws.{time_taken, time_again, next-time, no_comma-time}
 
 -- ---- the measurement
 

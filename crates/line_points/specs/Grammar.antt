@@ -1,6 +1,6 @@
 -- The grammar of a line (InfluxDB 1.8 line protocol reference): which bytes spell a point. Nothing here reads: a line
 -- is put together from spellings of the parts of a point, whatever spelling is chosen for each.
-use Rattle.std.specs.Prelude.{◌≡◌, ℕ, ℤ, ◌+◌, ◌*◌, ◌^◌, Bool, true, false, not, ◌&&◌, ◌||◌, ◌==◌, List, [], ◌∷◌, ◌++◌, nat_le, IsTrue, codes, replicate, if◌then◌else◌}
+use Rattle.std.specs.Prelude.{◌≡◌, ℕ, ℤ, ◌*◌, ◌^◌, Bool, true, false, not, ◌&&◌, ◌||◌, ◌==◌, List, [], ◌∷◌, ◌++◌, nat_le, codes, replicate, if◌then◌else◌}
 use Rattle.std.specs.Str.Parse.{digits_value}
 use Rattle.std.specs.FinMap.{empty}
 use Rattle.kap_base.specs.declared.value.Value.{Value}
@@ -12,7 +12,7 @@ use Rattle.line_points.specs.declared.part.Part.{Part}
 use Rattle.line_points.specs.declared.part.Part.TheVariants as parts
 use Rattle.line_points.specs.declared.mode.Unit.{Unit}
 use Rattle.line_points.specs.declared.mode.Mode.{Mode}
-use Rattle.line_points.specs.declared.mode.Mode.TheVariants.{Live, Recording}
+use Rattle.line_points.specs.declared.mode.Mode.TheVariants.{Live}
 use Rattle.line_points.specs.Parts.{begins, comma, equals, quote, space, escapes, stops}
 use Rattle.line_points.specs.Numbers.{is_digits, is_true, is_false, signed, fits}
 use Rattle.line_points.specs.Line.{Tag, Field, differ, nanoseconds, unit_of}

@@ -1,4 +1,4 @@
-use Rattle.std.proofs.Common.{sym, ◌∙◌}
+use Rattle.std.proofs.Common.{sym}
 use Rattle.line_points.specs.Parts.{marks}
 use Rattle.line_points.proofs.PlaceLaws.{place_boundary}
 use Rattle.line_points.proofs.PartLaws.{marks-ascii, plain_parts}

@@ -1,4 +1,3 @@
-use Rattle.std.proofs.Common.{sym, ◌∙◌}
 use Rattle.line_points.proofs.Utf8Laws.{unescaped}
 use Rattle.line_points.proofs.scanner.Scanner.escaped_text.Goals as goal
 
