@@ -1,5 +1,5 @@
 -- Where a reader stops.
-use Rattle.std.proofs.Common.{◌≡◌, ◌≢◌, ℕ, zero, suc, ◌+◌, ◌-◌, ◌^◌, ◌<◌, ◌≤◌, Bool, true, false, cond, not, Option, None, Some, Ok, Err, List, [], ◌∷◌, ◌++◌, length, take, drop, min, refl, sym, ap, ◌∙◌, subst, append_assoc, append-nil, arith, length-append}
+use Rattle.std.proofs.Common.{◌≡◌, ◌≢◌, ℕ, zero, suc, ◌+◌, ◌-◌, ◌^◌, ◌<◌, ◌≤◌, Bool, true, false, cond, not, Option, None, Some, Ok, Err, List, [], ◌∷◌, ◌++◌, length, take, drop, min, refl, sym, ap, ◌∙◌, subst, append_assoc, arith, length-append}
 use Rattle.std.specs.Prelude.{Result, IsTrue, nat_lt, nat_le, ◌==◌}
 use Rattle.std.specs.List.{position_or_len}
 use Rattle.std.specs.Io.KnownBytes.{Consumes}
@@ -11,10 +11,10 @@ use Rattle.line_points.specs.declared.fault.LineFault.TheVariants as faults
 use Rattle.recording_file.specs.declared.fault.RecFault.{RecFault}
 use Rattle.recording_file.specs.declared.fault.RecFault.TheVariants as rec_faults
 use Rattle.line_points.specs.Body.{without_return}
-use Rattle.recording_file.specs.Lines.{is_feed, raw_lines, closed, all, last_of}
-use Rattle.recording_file.specs.Recording.{Reading, Seen, Stop, Ended, Faulty, Undecided, named, pointed, short, at_line, further, stopped, onto, groups, at_end, at_open, at_limit, whole, front, cut, limited, read}
-use Rattle.recording_file.specs.Finding.{At, ReadsOn, IsLine, IsUndecided, FindsNone, room, taken, to_come}
-use Rattle.recording_file.specs.Steps.{before, behind_policy, behind_database, read_policy, read_database, GivesLine, GivesPoint, StopsSo, FailsOpen, Refuses, FaultAt}
+use Rattle.recording_file.specs.Lines.{is_feed}
+use Rattle.recording_file.specs.Recording.{Reading, Seen, Stop, Faulty, Undecided, named, pointed, short, stopped, at_open, at_limit, whole, front, cut, limited, read}
+use Rattle.recording_file.specs.Finding.{At, ReadsOn, IsLine, FindsNone, room, taken, to_come}
+use Rattle.recording_file.specs.Steps.{before, read_policy, read_database, GivesLine, StopsSo, Refuses, FaultAt}
 use Rattle.recording_file.proofs.FindLaws.{pos_more}
 use Rattle.recording_file.proofs.SeenLaws.{raw_last, place_before, limited_none, whole_line, cut_line, whole_last}
 use Rattle.recording_file.proofs.StepLaws.{read_behind, further_err, gives_line}

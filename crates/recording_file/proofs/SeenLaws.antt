@@ -1,5 +1,5 @@
 -- The first line of what is seen of bytes.
-use Rattle.std.proofs.Common.{◌≡◌, ℕ, zero, suc, ◌+◌, ◌-◌, ◌<◌, ◌≤◌, Bool, true, false, cond, not, List, [], ◌∷◌, ◌++◌, length, take, drop, min, refl, sym, ap, ◌∙◌, subst, arith, length-drop}
+use Rattle.std.proofs.Common.{◌≡◌, ℕ, zero, suc, ◌+◌, ◌-◌, ◌<◌, ◌≤◌, Bool, true, false, cond, not, List, [], ◌∷◌, length, take, drop, min, refl, sym, ap, ◌∙◌, subst, arith, length-drop}
 use Rattle.std.proofs.lemmas.List.{length-take, drop-take}
 use Rattle.std.proofs.Math.Seq.{take-length}
 use Rattle.std.specs.Prelude.{nat_le, nat_lt}
@@ -8,7 +8,7 @@ use Rattle.std.proofs.lemmas.Bool.Decides.{nat_tests}
 use Rattle.std.proofs.lemmas.List.Splits.{slice_split_first, length-slice_split}
 use Rattle.line_points.specs.Body.{without_return}
 use Rattle.recording_file.specs.Lines.{is_feed, raw_lines, closed, all, last_of}
-use Rattle.recording_file.specs.Recording.{Seen, whole, front, cut, limited, at_end, at_open, at_limit}
+use Rattle.recording_file.specs.Recording.{whole, front, cut, limited, at_end}
 use Rattle.recording_file.specs.Steps.{before}
 
 -- ---- the raw lines

@@ -1,5 +1,5 @@
 -- The steps of a reader, one after the other.
-use Rattle.std.proofs.Common.{◌≡◌, ℕ, ◌+◌, ◌-◌, ◌^◌, ◌<◌, ◌≤◌, Bool, true, false, Option, None, Some, Ok, Err, List, [], ◌∷◌, ◌++◌, length, take, drop, min, refl, sym, ap, ◌∙◌, subst, append_assoc, append-nil, arith, length-append}
+use Rattle.std.proofs.Common.{◌≡◌, ℕ, ◌+◌, ◌-◌, ◌^◌, ◌<◌, ◌≤◌, Bool, true, false, Option, Ok, Err, List, [], ◌∷◌, ◌++◌, length, take, drop, min, refl, sym, ap, ◌∙◌, subst, append_assoc, append-nil, arith, length-append}
 use Rattle.std.specs.Prelude.{Result, IsTrue, nat_lt}
 use Rattle.std.specs.List.{position_or_len}
 use Rattle.std.specs.Io.KnownBytes.{Consumes}
@@ -8,11 +8,10 @@ use Rattle.std.proofs.lemmas.List.{drop-append-le, take-append-le}
 use Rattle.kap_base.specs.Points.{Series}
 use Rattle.kap_io.specs.KnownLaws.{consumes_more}
 use Rattle.line_points.specs.declared.fault.LineFault.{LineFault}
-use Rattle.recording_file.specs.declared.fault.RecFault.{RecFault}
 use Rattle.recording_file.specs.declared.fault.RecFault.TheVariants as rec_faults
 use Rattle.line_points.specs.Body.{without_return}
 use Rattle.recording_file.specs.Lines.{is_feed}
-use Rattle.recording_file.specs.Recording.{Reading, Seen, Stop, Faulty, Undecided, named, pointed, at_line, further, stopped, onto, groups, front, limited, read}
+use Rattle.recording_file.specs.Recording.{Reading, Seen, Stop, Faulty, named, pointed, at_line, further, stopped, onto, groups, front, limited, read}
 use Rattle.recording_file.specs.Finding.{At, ReadsOn, IsLine, room, taken, to_come}
 use Rattle.recording_file.specs.Steps.{before, behind_policy, behind_database, read_policy, read_database, GivesLine, GivesPoint}
 use Rattle.recording_file.proofs.FindLaws.{pos_there}

@@ -1,16 +1,16 @@
 -- Reading a whole recording, point after point.
-use Rattle.std.proofs.Common.{◌≡◌, ℕ, Bool, true, false, Option, None, Some, Ok, Err, List, [], ◌∷◌, ◌++◌, inl, inr, refl, sym, ap, ◌∙◌, subst, append_assoc, append-nil}
-use Rattle.std.specs.Prelude.{Result, IsTrue, ◌⊎◌}
+use Rattle.std.proofs.Common.{◌≡◌, ℕ, Bool, true, false, Option, None, Some, Err, List, [], ◌∷◌, ◌++◌, inl, inr, refl, sym, ap, ◌∙◌, subst, append_assoc, append-nil}
+use Rattle.std.specs.Prelude.{IsTrue, ◌⊎◌}
 use Rattle.std.specs.Io.KnownBytes.{Consumes, Keeps}
 use Rattle.kap_base.specs.Points.{Series}
 use Rattle.kap_io.specs.KnownLaws.{consumes_more}
 use Rattle.recording_file.specs.declared.fault.RecFault.{RecFault}
 use Rattle.recording_file.specs.declared.fault.RecFault.TheVariants as faults
-use Rattle.recording_file.specs.Recording.{Reading, Stop, Ended, Faulty, Undecided, recording, recording_front, read, front, limited, onto, stopped}
-use Rattle.recording_file.specs.Finding.{At, room, to_come, HasEnded}
-use Rattle.recording_file.specs.Steps.{GivesPoint, StopsSo, FailsOpen, Refuses}
-use Rattle.recording_file.specs.Reading.{start, behind, HasGiven, StopsWith, StaysOpen, ReadsPoints}
-use Rattle.recording_file.proofs.FindLaws.{ended_kept, ended_later}
+use Rattle.recording_file.specs.Recording.{Reading, Stop, Faulty, Undecided, recording, recording_front, read, onto, stopped}
+use Rattle.recording_file.specs.Finding.{At, to_come, HasEnded}
+use Rattle.recording_file.specs.Steps.{GivesPoint, StopsSo, Refuses}
+use Rattle.recording_file.specs.Reading.{start, behind, HasGiven, StopsWith, ReadsPoints}
+use Rattle.recording_file.proofs.FindLaws.{ended_kept}
 use Rattle.recording_file.proofs.HaltLaws.{ended_left}
 use Rattle.recording_file.proofs.StepLaws.{nothing_more, not_yet}
 

@@ -1,5 +1,5 @@
 -- The steps of a reader: a line, and the rest of a group behind its database or behind its policy.
-use Rattle.std.specs.Prelude.{◌≡◌, ◌≢◌, ℕ, ◌+◌, ◌++◌, Bool, false, Option, None, Some, List, [], ◌∷◌, IsTrue, Result, Ok, Err}
+use Rattle.std.specs.Prelude.{◌≡◌, ◌≢◌, ℕ, ◌+◌, ◌++◌, Bool, false, Option, None, Some, List, [], ◌∷◌, IsTrue, Result, Err}
 use Rattle.std.specs.Io.KnownBytes.{Consumes}
 use Rattle.kap_base.specs.Points.{Series}
 use Rattle.line_points.specs.declared.fault.LineFault.{LineFault}

@@ -1,11 +1,8 @@
-use Rattle.std.proofs.Common.{◌≡◌, refl, sym, subst, false, Ok, arith}
-use Rattle.std.specs.Prelude.{List}
+use Rattle.std.proofs.Common.{refl, arith}
 use Rattle.std.proofs.lemmas.Result.{err_from_is_err_and}
-use Rattle.kap_base.specs.Points.{Series}
 use Rattle.recording_file.specs.Recording.{read, Ended}
 use Rattle.recording_file.specs.Finding.{to_come}
 use Rattle.recording_file.specs.Steps.{GivesPoint, StopsSo}
-use Rattle.recording_file.specs.Reading.{Held, HasGiven}
 use Rattle.recording_file.proofs.WholeLaws.{given_none, given_more, given_all, given_then, still_ended}
 use Rattle.recording_file.proofs.points.read_points.Goals as goal
 

@@ -3,7 +3,7 @@ use Rattle.std.specs.Prelude.{IsTrue}
 use Rattle.std.proofs.lemmas.Result.{err_from_is_err_and}
 use Rattle.line_points.specs.declared.fault.LineFault.TheVariants as faults
 use Rattle.line_points.specs.Body.{without_return}
-use Rattle.recording_file.specs.Recording.{Seen, named, read}
+use Rattle.recording_file.specs.Recording.{Seen, named}
 use Rattle.recording_file.specs.Finding.{IsLine}
 use Rattle.recording_file.specs.Steps.{read_policy, read_database}
 use Rattle.recording_file.proofs.StepLaws.{gives_line, line_gives, database_step, further_err, not_yet}

@@ -1,10 +1,8 @@
 use Rattle.std.proofs.Common.{◌≡◌, ◌∙◌, sym, ap, length}
 use Rattle.std.specs.Prelude.{IsTrue}
 use Rattle.std.proofs.lemmas.Result.{err_from_is_err_and}
-use Rattle.kap_base.specs.Points.{Series}
 use Rattle.line_points.specs.declared.fault.LineFault.TheVariants as faults
-use Rattle.line_points.specs.Body.{without_return}
-use Rattle.recording_file.specs.Recording.{pointed, onto, groups}
+use Rattle.recording_file.specs.Recording.{pointed}
 use Rattle.recording_file.specs.Finding.{IsLine}
 use Rattle.recording_file.specs.Steps.{read_policy}
 use Rattle.recording_file.proofs.StepLaws.{gives_line, policy_gives, further_err}
