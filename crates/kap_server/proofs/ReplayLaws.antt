@@ -1,6 +1,6 @@
 -- A replay, point after point.
-use Rattle.std.proofs.Common.{◌≡◌, ℕ, ◌+◌, ◌≤◌, Bool, true, false, cond, Option, None, Some, Ok, Err, List, [], ◌∷◌, ◌++◌, length, take, inl, inr, refl, sym, ap, ◌∙◌, subst, append_assoc, append-nil, arith, length-append}
-use Rattle.std.specs.Prelude.{◌⊎◌, IsTrue, Result, filter}
+use Rattle.std.proofs.Common.{◌≡◌, ℕ, ◌+◌, true, Option, None, Some, List, [], ◌∷◌, ◌++◌, length, take, inl, inr, refl, sym, ap, ◌∙◌, subst, append_assoc, arith, length-append}
+use Rattle.std.specs.Prelude.{◌⊎◌, filter}
 use Rattle.std.specs.List.{flat_map}
 use Rattle.std.specs.Io.KnownBytes.{Appends, Consumes}
 use Rattle.std.proofs.lemmas.Grind.{flat_map-append}
@@ -8,15 +8,14 @@ use Rattle.std.proofs.lemmas.List.Elements.{filter-append}
 use Rattle.std.proofs.lemmas.List.{take-append-le}
 use Rattle.std.proofs.Math.Seq.{take-append-add}
 use Rattle.kap_base.specs.Points.{Series}
-use Rattle.kap_io.specs.Causes.{Rose}
 use Rattle.kap_io.specs.Pieces.{AppendsFront}
 use Rattle.kap_io.specs.KnownLaws.{appends_none, appends_more}
 use Rattle.recording_file.specs.declared.fault.RecFault.{RecFault}
 use Rattle.recording_file.specs.declared.fault.RecFault.TheVariants as faults
-use Rattle.recording_file.specs.Recording.{Reading, Stop, Ended, Faulty, Undecided, recording, recording_front, read, limited}
+use Rattle.recording_file.specs.Recording.{Reading, Stop, Ended, Faulty, recording, read, limited}
 use Rattle.recording_file.specs.Finding.{At, room, to_come}
 use Rattle.recording_file.specs.Steps.{GivesPoint, StopsSo, Refuses}
-use Rattle.recording_file.specs.Reading.{start, behind, HasGiven, StopsWith, StaysOpen, ReadsPoints}
+use Rattle.recording_file.specs.Reading.{start, StopsWith}
 use Rattle.recording_file.proofs.HaltLaws.{ended_left}
 use Rattle.recording_file.proofs.WholeLaws.{given_none, given_more, given_all, given_then}
 use Rattle.kap_server.specs.declared.status.Status.{Status}
@@ -24,7 +23,7 @@ use Rattle.kap_server.specs.declared.status.Status.TheVariants as statuses
 use Rattle.kap_server.specs.Statuses.{status_of, status_at}
 use Rattle.kap_server.specs.Command.{IsUnlessFailed}
 use Rattle.kap_server.specs.Lines.{is_of, out_line, text_of}
-use Rattle.kap_server.specs.Replaying.{Writes, WritesFront, WritesSoFar, Replayed, IsWritten, Moves, Underway}
+use Rattle.kap_server.specs.Replaying.{Writes, WritesFront, Replayed, IsWritten, Moves, Underway}
 
 -- ---- text
 

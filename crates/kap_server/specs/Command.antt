@@ -1,5 +1,5 @@
 -- What a command answers, and when.
-use Rattle.std.specs.Prelude.{◌≡◌, ◌⊎◌, ℕ, List, Option, Some, None, IsSomeAnd}
+use Rattle.std.specs.Prelude.{◌≡◌, ◌⊎◌, ℕ, List, Some, IsSomeAnd}
 use Rattle.kap_server.specs.declared.status.Status.{Status}
 use Rattle.kap_server.specs.declared.status.Status.TheVariants.{NoMemory, ReadFault, WriteFault}
 use Rattle.kap_server.specs.Script.{IsFilter}

@@ -7,7 +7,7 @@ use Rattle.kap_io.specs.Pieces.{AppendsFront}
 use Rattle.recording_file.specs.Finding.{At}
 use Rattle.recording_file.specs.Reading.{HasGiven}
 use Rattle.recording_file.specs.declared.fault.RecFault.TheVariants as faults
-use Rattle.recording_file.specs.Recording.{Reading, Stop, Ended, Faulty, Undecided, recording, recording_front}
+use Rattle.recording_file.specs.Recording.{Stop, Ended, Faulty, Undecided, recording, recording_front}
 use Rattle.kap_server.specs.declared.status.Status.{Status}
 use Rattle.kap_server.specs.declared.status.Status.TheVariants.{Ok, Usage, Line, Truncated, TooLong, ScriptForm, NoMemory, ReadFault, WriteFault}
 

@@ -1,4 +1,4 @@
-use Rattle.std.proofs.Common.{◌≡◌, ℕ, List, Some, sym, ◌∙◌, subst}
+use Rattle.std.proofs.Common.{◌≡◌, ℕ, List, ◌∙◌, subst}
 use Rattle.kap_base.specs.Points.{Series}
 use Rattle.kap_server.specs.Lines.{text_of}
 use Rattle.kap_server.specs.Script.{IsFilter}

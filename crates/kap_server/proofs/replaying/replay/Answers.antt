@@ -1,11 +1,9 @@
-use Rattle.std.proofs.Common.{◌≡◌, Err, ap, ◌∙◌, refl, arith}
-use Rattle.kap_base.specs.Points.{Series}
+use Rattle.std.proofs.Common.{Err, ap, refl, arith}
 use Rattle.recording_file.specs.Recording.{read, Ended}
 use Rattle.recording_file.specs.Finding.{to_come}
 use Rattle.recording_file.specs.Steps.{GivesPoint, StopsSo}
 use Rattle.recording_file.proofs.WholeLaws.{still_ended}
 use Rattle.kap_server.specs.declared.status.Status.TheVariants as statuses
-use Rattle.kap_server.specs.Statuses.{status_of}
 use Rattle.kap_server.proofs.ReplayLaws.{underway_none, underway_more, ends_well, ends_badly, cut_off, finished, gave_up}
 use Rattle.kap_server.proofs.replaying.replay.Goals as goal
 
