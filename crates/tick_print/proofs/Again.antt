@@ -1,5 +1,5 @@
 -- What was read is printed so that it is read again.
-use Rattle.std.proofs.Common.{◌≡◌, ℕ, false, List, [], ◌++◌, subst}
+use Rattle.std.proofs.Common.{ℕ, false, List, [], ◌++◌, subst}
 use Rattle.std.proofs.lemmas.List.{append-nil}
 use Rattle.tick_lexer.specs.declared.token.Token.{Token}
 use Rattle.tick_lexer.specs.Script.{Whole, Reads as ReadsTokens}

@@ -1,14 +1,14 @@
 -- The leaves of a script that was read can be printed: each one's canonical text spells it, where it stands.
-use Rattle.std.proofs.Common.{◌≡◌, ◌⊎◌, ⊎_elim, inl, ℕ, Bool, true, false, cond, List, [], ◌∷◌, ◌++◌, subst}
+use Rattle.std.proofs.Common.{◌≡◌, ⊎_elim, inl, ℕ, Bool, true, false, cond, List, [], ◌∷◌, ◌++◌, subst}
 use Rattle.kap_base.specs.declared.expr.Lit.{Lit}
-use Rattle.kap_base.specs.declared.expr.Op.TheVariants.{Sub, Mul}
+use Rattle.kap_base.specs.declared.expr.Op.TheVariants.{Sub}
 use Rattle.kap_base.specs.Tree.{Tree, Leaf, Referred, Named, Called, Grouped, Negated, Denied, Joined, Trees, NoTrees, MoreTrees}
 use Rattle.tick_lexer.specs.declared.token.Kind.{Kind}
 use Rattle.tick_lexer.specs.declared.token.Kind.TheVariants.{Ident, Var, Lambda, Literal, Reference, Sign, Bang, Assign, Open, Close, Comma, Dot, Pipe}
 use Rattle.tick_lexer.specs.declared.token.Token.{Token}
 use Rattle.tick_lexer.specs.Spelling.{IsName, is_reserved, EndsPlain, Spelled, IsAllowed, takes_pattern}
 use Rattle.tick_parser.specs.Trees.{ValTree, Given, Everything, Function, Chained, ValTrees, NoVals, MoreVals, JointTrees, NoJoints, MoreJoints, StmtTree, Declared, Dbrp, Piped}
-use Rattle.tick_parser.specs.Grammar.{Mark, At, Free, Signed, spell, spell_args, spell_rest, IsOneToken, AreTwoTokens, IsMinus, Is, Agree}
+use Rattle.tick_parser.specs.Grammar.{At, Free, Signed, spell, spell_args, spell_rest, IsOneToken, AreTwoTokens, IsMinus, Agree}
 use Rattle.tick_parser.specs.Script.{spell_val, spell_vals, spell_more, spell_joints, spell_stmt, spell_script, word_dbrp}
 use Rattle.tick_print.specs.Print.{lit_text}
 use Rattle.tick_print.proofs.Leaves.{lit_spelled, IsValue, behind_minus}

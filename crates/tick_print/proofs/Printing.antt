@@ -1,5 +1,5 @@
 -- The text of an expression is read as that expression, places aside.
-use Rattle.std.proofs.Common.{◌≡◌, ◌⊎◌, inl, inr, ⊎_elim, ℕ, ◌+◌, ◌<◌, Bool, true, false, cond, eqb, ◌&&◌, List, [], ◌∷◌, ◌++◌, length, refl, sym, ap, ◌∙◌, subst, arith, codes}
+use Rattle.std.proofs.Common.{◌≡◌, ◌⊎◌, inl, inr, ⊎_elim, ℕ, ◌+◌, ◌<◌, Bool, true, false, cond, eqb, ◌&&◌, List, [], ◌∷◌, ◌++◌, refl, sym, ap, ◌∙◌, subst, arith, codes}
 use Rattle.std.proofs.lemmas.Bool.Decides.{nat_tests}
 use Rattle.std.specs.Char.{digit_value}
 use Rattle.std.specs.Str.Parse.{IsNumeral}
@@ -9,12 +9,12 @@ use Rattle.kap_base.specs.declared.expr.Op.{Op}
 use Rattle.kap_base.specs.declared.expr.Op.TheVariants.{Or, And, Eq, Ne, Match, NoMatch, Lt, Le, Gt, Ge, Add, Sub, Mul, Div, Rem}
 use Rattle.kap_base.specs.Tree.{Tree, Leaf, Referred, Named, Called, Grouped, Negated, Denied, Joined, Trees, NoTrees, MoreTrees}
 use Rattle.tick_lexer.specs.declared.token.Kind.TheVariants.{Ident, Literal, Reference, Sign, Bang, Open, Close, Comma}
-use Rattle.tick_lexer.specs.Bytes.{is_letter, is_digit, is_word, NotFirst, starts, starts_micro}
+use Rattle.tick_lexer.specs.Bytes.{is_letter, is_digit, is_word, NotFirst, starts_micro}
 use Rattle.tick_lexer.specs.Spelling.{IsName, IsDuration, unit_bytes, operator_bytes, Quoted, Tripled, Spelled, is_dot, is_colon, is_single_quote, is_equals, is_tilde, Ends, IsAllowed, takes_pattern}
 use Rattle.tick_parser.specs.Grammar.{Fits, AllFit, level, Mark, At, Free, spell, spell_args, spell_rest}
 use Rattle.tick_print.specs.Print.{in_quotes, lit_text, tree_text, args_text, further_text}
 use Rattle.tick_print.specs.Places.{bare, bare_all}
-use Rattle.tick_print.proofs.Printable.{CanName, CanPrint, CanPrintAll}
+use Rattle.tick_print.proofs.Printable.{CanPrint, CanPrintAll}
 use Rattle.tick_print.proofs.Written.{Written, at_one, free_one, at_name, both, white}
 
 -- what may stand behind a value: nothing, a space, `)`, a comma, a line feed

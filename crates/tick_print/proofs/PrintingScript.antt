@@ -1,5 +1,5 @@
 -- The text of a script is read as that script, places aside.
-use Rattle.std.proofs.Common.{◌≡◌, ◌⊎◌, inl, inr, ⊎_elim, ℕ, ◌+◌, Bool, true, false, cond, List, [], ◌∷◌, ◌++◌, length, refl, sym, ap, ◌∙◌, subst, codes, Some, None}
+use Rattle.std.proofs.Common.{◌≡◌, inl, inr, ⊎_elim, ℕ, ◌+◌, Bool, true, false, cond, List, [], ◌∷◌, ◌++◌, refl, sym, ap, ◌∙◌, subst, codes, Some}
 use Rattle.kap_base.specs.declared.expr.Lit.{Lit}
 use Rattle.kap_base.specs.declared.expr.Lit.TheVariants.{Int, Dur, Str, Bool as Truth, Regex}
 use Rattle.kap_base.specs.declared.expr.Op.TheVariants.{Sub, Mul}
@@ -7,14 +7,13 @@ use Rattle.kap_base.specs.Tree.{Tree}
 use Rattle.tick_lexer.specs.declared.token.Kind.{Kind}
 use Rattle.tick_lexer.specs.declared.token.Kind.TheVariants.{Ident, Var, Lambda, Literal, Reference, Sign, Assign, Open, Close, Comma, Dot, Pipe}
 use Rattle.tick_lexer.specs.declared.token.Token.{Token}
-use Rattle.tick_lexer.specs.Bytes.{is_word, NotFirst}
-use Rattle.tick_lexer.specs.Spelling.{Spelled, is_colon, IsAllowed}
+use Rattle.tick_lexer.specs.Spelling.{Spelled, IsAllowed}
 use Rattle.tick_parser.specs.Trees.{ValTree, Given, Everything, Function, Chained, ValTrees, NoVals, MoreVals, JointTrees, NoJoints, MoreJoints, StmtTree, Declared, Dbrp, Piped}
 use Rattle.tick_parser.specs.Grammar.{minus, IsMinus, Agree, Mark, At, Free, Signed, spell}
 use Rattle.tick_parser.specs.Script.{spell_val, spell_vals, spell_more, spell_joints, word_dbrp, spell_stmt, spell_script, FitsVal, FitVals, FitJoints, IsOne, FitsStmt, FitsScript}
 use Rattle.tick_parser.proofs.Agreeing.{first}
 use Rattle.tick_print.specs.Print.{in_quotes, lit_text, tree_text, val_text, vals_text, more_text, joints_text, stmt_text, script_text}
-use Rattle.tick_print.specs.Places.{bare, bare_val, bare_vals, bare_joints, bare_stmt, bare_script}
+use Rattle.tick_print.specs.Places.{bare_val, bare_vals, bare_joints, bare_stmt, bare_script}
 use Rattle.tick_print.proofs.Leaves.{IsNegative, IsValue}
 use Rattle.tick_print.proofs.Printable.{CanVal, CanVals, CanJoints, CanStmt, CanScript}
 use Rattle.tick_print.proofs.Written.{Written, one, at_one, free_one, NameEnds, at_name, free_name, both, white}

@@ -5,7 +5,7 @@ use Rattle.tick_lexer.specs.declared.token.Token.{Token}
 use Rattle.tick_lexer.specs.Spelling.{Spelled, IsAllowed, takes_pattern}
 use Rattle.tick_lexer.specs.Script.{Whole, Reads}
 use Rattle.tick_parser.specs.Grammar.{Mark, At, Free, Is, Agree}
-use Rattle.tick_parser.proofs.Agreeing.{IsSingle, First, first, Split, split}
+use Rattle.tick_parser.proofs.Agreeing.{IsSingle, first, split}
 
 -- each token is spelled somehow, and is a pattern only where one may stand
 abbrev pub Spelt : Bool → List Token → Type 0

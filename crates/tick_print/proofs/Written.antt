@@ -1,11 +1,11 @@
 -- Texts that are read as the tokens of marks, and how they are put together.
-use Rattle.std.proofs.Common.{◌≡◌, ◌≢◌, ◌⊎◌, inl, inr, ℕ, ◌+◌, Bool, true, false, List, [], ◌∷◌, ◌++◌, length, refl, sym, ap, subst, arith, append_assoc, codes}
+use Rattle.std.proofs.Common.{◌≡◌, inl, ℕ, ◌+◌, Bool, true, false, List, [], ◌∷◌, ◌++◌, length, refl, sym, ap, subst, arith, append_assoc}
 use Rattle.tick_lexer.specs.declared.token.Kind.{Kind}
 use Rattle.tick_lexer.specs.declared.token.Kind.TheVariants.{Ident}
 use Rattle.tick_lexer.specs.declared.token.Token.{Token}
 use Rattle.tick_lexer.specs.Bytes.{is_word, is_white, NotFirst}
 use Rattle.tick_lexer.specs.Spelling.{Spelled, Ends, IsAllowed, takes_pattern, is_colon}
-use Rattle.tick_lexer.specs.Script.{Whole, Next, Reads}
+use Rattle.tick_lexer.specs.Script.{Whole, Reads}
 use Rattle.tick_parser.specs.Grammar.{Mark, At, Free, Is, Agree}
 use Rattle.tick_parser.proofs.Agreeing.{join}
 use Rattle.tick_print.proofs.Printable.{CanName}
