@@ -1,0 +1,9 @@
+pub mod Escaping
+pub mod Leaves
+pub mod Spelt
+pub mod Printable
+pub mod Written
+pub mod Printing
+pub mod PrintingScript
+pub mod Sizes
+pub mod Again
