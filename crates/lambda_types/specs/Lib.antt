@@ -1,0 +1,6 @@
+pub mod Matches
+pub mod Builds
+pub mod Functions
+pub mod Typed
+pub mod Sets
+pub mod Faults
