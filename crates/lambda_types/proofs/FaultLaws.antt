@@ -1,5 +1,6 @@
 -- A part without a fault of its own hands on the fault behind it.
-use Rattle.std.proofs.Common.{◌≡◌, ◌==◌, ◌&&◌, ℕ, Bool, true, false, cond, List, Option, Some, None, refl, ◌⊎◌, inl, inr, ap, bytes_eq, eqb→eq}
+use Rattle.std.proofs.Common.{◌≡◌, ◌==◌, ◌&&◌, ℕ, Bool, true, false, cond, List, Option, Some, None, refl, sym, ◌∙◌, ◌++◌, append_assoc, subst, ◌⊎◌, inl, inr, ap, bytes_eq}
+use Rattle.std.proofs.lemmas.Bool.{eqb-true}
 use Rattle.kap_base.specs.declared.expr.Lit.{Lit}
 use Rattle.kap_base.specs.declared.expr.Lit.TheVariants as lits
 use Rattle.kap_base.specs.Tree.{Tree, Leaf, Referred, Named, Called, Grouped, Negated, Denied, Joined, Trees, NoTrees, MoreTrees}
@@ -31,11 +32,11 @@ joins at None b ha hb = hb
 joins at (Some f) b (inl e) hb = absurd cc
 joins at (Some f) b (inr e) hb = inr e
 
-first_is_none : (a b : Option TypeFault) → first a b ≡ None → a ≡ None
+pub first_is_none : (a b : Option TypeFault) → first a b ≡ None → a ≡ None
 first_is_none None b h = refl
 first_is_none (Some f) b h = absurd cc
 
-later_is_none : (a b : Option TypeFault) → first a b ≡ None → b ≡ None
+pub later_is_none : (a b : Option TypeFault) → first a b ≡ None → b ≡ None
 later_is_none None b h = h
 later_is_none (Some f) b h = absurd cc
 
@@ -47,7 +48,7 @@ found_rises false b p at h = inl refl
 pattern_rises : (spot : Spot) (text other : List ℕ) (p at : ℕ) → pattern_fault None spot text p ≡ None → Rises at (pattern_fault (Some (record { text = other; at = at })) spot text p)
 pattern_rises Anywhere text other p at h = absurd cc
 pattern_rises TimeArgument text other p at h = absurd cc
-pattern_rises RightOfMatch text other p at h = found_rises (bytes_eq text other) (p == at) p at (λ e. eqb→eq p at e)
+pattern_rises RightOfMatch text other p at h = found_rises (bytes_eq text other) (p == at) p at (λ e. eqb-true p at e)
 
 lit_rises : (lit : Lit) (spot : Spot) (text : List ℕ) (p at : ℕ) → lit_fault None spot lit p ≡ None → Rises at (lit_fault (Some (record { text = text; at = at })) spot lit p)
 lit_rises (lits.Int number) spot text p at h = inl refl
@@ -107,3 +108,12 @@ passes_all (TimeUse at) text spot ts later h e = behind _ later _ h e
 passes_all (RegexUse at) text spot ts later h e = behind _ later _ h e
 passes_all (NewLine at) text spot ts later h e = behind _ later _ h e
 passes_all NoMemory text spot ts later h e = behind _ later _ h e
+
+-- the fault of what is left of a list, where its first part has none, is the list's
+pub passes_more : (f : TypeFault) (text : List ℕ) (spot : Spot) (ts : Trees) (t : Tree) (rest : Trees) → ts ≡ MoreTrees t rest → fault None spot t ≡ None
+    → faults (refusal_of f text) spot rest ≡ Some f → faults (refusal_of f text) spot ts ≡ Some f
+passes_more f text spot ts t rest e clean h = subst (λ (x : Trees). faults (refusal_of f text) spot x ≡ Some f) (sym e) (passes f text spot t _ clean h)
+
+-- what was added to the front of a list, taken from what was left of it
+pub grown : {X : Type 0} (old new xs more rest whole : List X) → new ≡ old ++ xs → rest ≡ xs ++ more → old ++ rest ≡ whole → new ++ more ≡ whole
+grown old new xs more rest whole e f h = subst (λ n. n ++ more ≡ whole) (sym e) (append_assoc old xs more ∙ subst (λ r. old ++ r ≡ whole) f h)

@@ -4,3 +4,4 @@ pub mod Functions
 pub mod Typed
 pub mod Sets
 pub mod Faults
+pub mod Lambdas
