@@ -213,13 +213,16 @@ no_mismatch s ty at h = go (has_value s) s.time s.pattern (there ty h)
   where
     value : (t : Ty) → is_value t ≡ true → has s t ≡ true → (has_value s || s.time || s.pattern) ≡ true
     value t v k = subst (λ (x : Bool). (x || s.time || s.pattern) ≡ true) (sym (value_has s t v k)) refl
+
     last : (a c : Bool) → (a || true || c) ≡ true
     last true c = refl
     last false c = refl
+
     very_last : (a b : Bool) → (a || b || true) ≡ true
     very_last true b = refl
     very_last false true = refl
     very_last false false = refl
+
     -- something is in the set
     there : (t : Ty) → has s t ≡ true → (has_value s || s.time || s.pattern) ≡ true
     there Int k = value Int refl k
@@ -227,6 +230,7 @@ no_mismatch s ty at h = go (has_value s) s.time s.pattern (there ty h)
     there Str k = value Str refl k
     there Time k = subst (λ (x : Bool). (has_value s || x || s.pattern) ≡ true) (sym k) (last (has_value s) s.pattern)
     there Regex k = subst (λ (x : Bool). (has_value s || s.time || x) ≡ true) (sym k) (very_last (has_value s) s.time)
+
     go : (a b c : Bool) → (a || b || c) ≡ true → cond (not (a || b || c)) (Some (Mismatch at)) None ≡ None
     go a b c h = subst (λ (x : Bool). cond (not x) (Some (Mismatch at)) None ≡ None) (sym h) refl
 
@@ -434,7 +438,7 @@ clean_if_typed tree t = clean tree Anywhere t.0 t.1.0 t.1.1.0 t.1.1.1
 pub untyped : (tree : Tree) (f : TypeFault) (text : List ℕ) → fault (refusal_of f text) Anywhere tree ≡ Some f → is_pattern f ≡ false → HasSomeType tree → ⊥
 untyped tree f text h p t =
     let none : fault (refusal_of f text) Anywhere tree ≡ None
-      = subst (λ (r : Option Refusal). fault r Anywhere tree ≡ None) (sym (plain f text p)) (clean_if_typed tree t) in
+    = subst (λ (r : Option Refusal). fault r Anywhere tree ≡ None) (sym (plain f text p)) (clean_if_typed tree t) in
     cc
 
 -- the types of values in the set are those that the lambda has

@@ -63,11 +63,7 @@ fn pattern_of<'a>(patterns: &'a [Pattern], text: &str) -> Option<&'a Pattern>
 /// - `NoFunction` at a call of no function, then `Arity` at one with more or fewer arguments than its function takes;
 /// - `Mismatch` at an operator or a call that has no type although its parts have, and at a duration or a name that the
 ///   script was to define.
-pub fn infer<P: Patterns>(
-    alloc: Global,
-    expr: &Expr,
-    pats: &mut P,
-) -> Result<Lambda, TypeFault>
+pub fn infer<P: Patterns>(alloc: Global, expr: &Expr, pats: &mut P) -> Result<Lambda, TypeFault>
     ensures same { IfOk result (λ lambda. tree_in lambda ≡ tree_of expr.now) }
     ensures typed { IfOk result (λ lambda. HasSomeType (tree_of expr.now)) }
     ensures kept { IfOk result (λ lambda. P.refusals pats.new ≡ P.refusals pats.old) }

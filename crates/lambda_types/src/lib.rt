@@ -4,7 +4,6 @@
 mod fault;
 mod functions;
 mod inference;
-
 mod lambda;
 mod patterns;
 mod types;
@@ -16,3 +15,6 @@ pub use inference::{infer, typed_without_fault};
 pub use lambda::Lambda;
 pub use patterns::{Pattern, PatternFault, Patterns, RegexPatterns};
 pub use types::Ty;
+
+#[cfg(test)]
+mod tests;

@@ -11,7 +11,7 @@ use Rattle.lambda_types.proofs.walk.+walk.Goals as goal
 pub walk_all-loop-rest-preserved : goal.walk_all-loop-rest-preserved
 walk_all-loop-rest-preserved g t c =
     let parts : trees_of c.loop-rest.rest.now ≡ MoreTrees (tree_of c.deref.result.now) (trees_of c.deref-rest.result.now)
-      = rw (c.deref.ensures, c.deref-rest.ensures) (ap (λ (e : Exprs). trees_of e) c.in-More.is) in
+    = rw (c.deref.ensures, c.deref-rest.ensures) (ap (λ (e : Exprs). trees_of e) c.in-More.is) in
     let size = ap (λ (t : Trees). weights t) parts in
     record {
       no_more = omega (arith, size, c.loop-rest.invariant.no_more);

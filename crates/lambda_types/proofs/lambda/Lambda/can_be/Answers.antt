@@ -7,6 +7,7 @@ use Rattle.lambda_types.proofs.lambda.Lambda.can_be.Goals as goal
 
 pub returns : goal.returns
 returns c =
-    let told : c.has.result ≡ has (values c.args.self.now.types) c.args.ty = c.has.ensures ∙ ap (λ (s : Types). has s c.args.ty) c.values.ensures in
-    (λ h. can_be (tree_of c.args.self.now.expr) c.args.self.now.types c.args.ty c.args.self.now.has_types (sym told ∙ h),
-    λ t. told ∙ is_there (tree_of c.args.self.now.expr) c.args.self.now.types c.args.ty c.args.self.now.has_types t)
+    let told : c.has.result ≡ has (values c.args.self.now.types) c.args.ty = c.has.ensures ∙ ap (λ (s : Types). has s c.args.ty) c.values.ensures in (
+      λ h. can_be (tree_of c.args.self.now.expr) c.args.self.now.types c.args.ty c.args.self.now.has_types (sym told ∙ h),
+      λ t. told ∙ is_there (tree_of c.args.self.now.expr) c.args.self.now.types c.args.ty c.args.self.now.has_types t,
+    )
