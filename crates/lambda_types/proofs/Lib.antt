@@ -1,0 +1,5 @@
+pub mod MatchLaws
+pub mod FaultLaws
+pub mod TypeLaws
+pub mod CleanLaws
+pub mod Weights

@@ -1,0 +1,21 @@
+-- What a pattern's text says of other texts.
+use Rattle.std.specs.Prelude.{◌≡◌, ◌⊎◌, ℕ, ◌^◌, ◌-◌, ◌<◌, List, Bool, false, is_some, slice_index}
+use Rattle.std.specs.Option.{option_map_or}
+use Rattle.std.specs.Str.{chars}
+use Rattle.regex.specs.Patterns.{find_str, default_config}
+use Rattle.regex.specs.Strings.{regex_pattern, regex_source}
+use Rattle.regex.specs.declared.string.regex.Regex.{Regex}
+use Rattle.regex_syntax.specs.Grammar.{read}
+
+-- Whether the pattern of this text matches anywhere in a text, by the syntax of Rust's regex crate under its default
+-- options. A text that is no pattern matches nothing.
+unfoldable pub matches : List ℕ → List ℕ → Bool
+matches pattern text = option_map_or (λ (re, names). is_some (find_str re.value text 0)) (read default_config (chars pattern)) false
+
+-- the regex finds a match exactly where its text says that there is one
+abbrev pub MatchesAsWritten : Regex → Type 0
+MatchesAsWritten r = (text : List ℕ) → ((k : ℕ) → slice_index text k < 256) → is_some (find_str (regex_pattern r) text 0) ≡ matches (regex_source r) text
+
+-- the count rose, where one that stands at its end counts as risen
+abbrev pub Rose : ℕ → ℕ → Type 0
+Rose before after = (before < after) ⊎ (after ≡ 2 ^ 64 - 1)
