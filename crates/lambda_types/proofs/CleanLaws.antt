@@ -1,6 +1,6 @@
 -- A lambda has a type exactly where no fault stands in it.
-use Rattle.std.proofs.Common.{◌≡◌, ◌⊎◌, inl, inr, ⊎_elim, ◌==◌, ◌&&◌, ◌||◌, ℕ, suc, Bool, true, false, not, cond, List, [], ◌∷◌, length, Option, Some, None, refl, sym, ◌∙◌, subst, ap}
-use Rattle.std.specs.Prelude.{bytes_eq, codes}
+use Rattle.std.proofs.Common.{◌≡◌, ⊎_elim, ◌==◌, ◌&&◌, ◌||◌, ℕ, suc, Bool, true, false, not, cond, List, [], ◌∷◌, length, Option, Some, None, refl, sym, ◌∙◌, subst, ap}
+use Rattle.std.specs.Prelude.{codes}
 use Rattle.std.proofs.lemmas.Slice.Eq.{bytes_eq-Decides}
 use Rattle.std.proofs.lemmas.Bool.{eq-eqb}
 use Rattle.kap_base.specs.Texts.{has_line_feed}
@@ -17,17 +17,17 @@ use Rattle.lambda_types.specs.declared.types.Types.{Types}
 use Rattle.lambda_types.specs.declared.walk.Spot.{Spot}
 use Rattle.lambda_types.specs.declared.walk.Spot.TheVariants.{Anywhere, TimeArgument, RightOfMatch}
 use Rattle.lambda_types.specs.declared.fault.TypeFault.{TypeFault}
-use Rattle.lambda_types.specs.declared.fault.TypeFault.TheVariants.{Mismatch, Arity, NoFunction, TimeUse, RegexUse, Pattern, NewLine, NoMemory}
+use Rattle.lambda_types.specs.declared.fault.TypeFault.TheVariants.{Mismatch, Arity, TimeUse, NewLine}
 use Rattle.lambda_types.specs.declared.functions.Function.{Function}
 use Rattle.lambda_types.specs.declared.functions.Function.TheVariants.{IsPresent, If, Count, Part, Of}
 use Rattle.lambda_types.specs.declared.functions.Param.{Param}
 use Rattle.lambda_types.specs.declared.functions.Param.TheVariants.{Any, Only}
 use Rattle.lambda_types.specs.Functions.{function_named, params, gives, arity}
-use Rattle.lambda_types.specs.Typed.{Need, is_value, is_ordered, is_time, is_field, lit_type, Refers, Operates, Suits, AllSuit, Takes, is_reference, Asks, Has, AllHave, Typed, IsTyped, HasSomeType}
-use Rattle.lambda_types.specs.Sets.{has, has_value, is_nothing, nothing, int_if, truth_if, values, shared, only, only_some, referred, share_order, joined, suits, all_suit, chosen, is_one_time, is_none, called, types_of, all_types}
-use Rattle.lambda_types.specs.Faults.{Refusal, argument_spot, call_fault, fault, faults, first, is_pattern, lit_fault, mismatch, new_line, pattern_fault, reference_fault, refusal_of, regex_use, right_spot, time_use}
-use Rattle.lambda_types.proofs.FaultLaws.{first_is_none, later_is_none, plain}
-use Rattle.lambda_types.proofs.TypeLaws.{Members, Valued, value_of, value_has, values_has, values_is, takes_has, asks_has, is_in, are_in, has_it}
+use Rattle.lambda_types.specs.Typed.{Need, is_value, is_ordered, is_time, is_field, lit_type, Refers, Operates, AllSuit, Takes, is_reference, Asks, Has, AllHave, IsTyped, HasSomeType}
+use Rattle.lambda_types.specs.Sets.{has, has_value, nothing, int_if, truth_if, values, shared, only, only_some, referred, joined, all_suit, called, types_of, all_types}
+use Rattle.lambda_types.specs.Faults.{Refusal, argument_spot, call_fault, fault, faults, first, is_pattern, lit_fault, mismatch, reference_fault, refusal_of, right_spot, time_use}
+use Rattle.lambda_types.proofs.FaultLaws.{later_is_none, plain}
+use Rattle.lambda_types.proofs.TypeLaws.{Members, value_of, value_has, values_has, values_is, takes_has, is_in, are_in, has_it}
 
 -- where nothing is missing, and neither a time nor a pattern is there, a value is
 something : (s : Types) (at : ℕ) → s.time ≡ false → s.pattern ≡ false → mismatch at s ≡ None → has_value s ≡ true
@@ -250,10 +250,6 @@ lit_clean (lits.Bool truth) spot ty at s e = refl
 lit_clean (lits.Regex text) Anywhere ty at s e = let f : stands Anywhere ty ≡ stands Anywhere Regex = ap (λ (o : Option Ty). elim o as (λ _. Bool) [ None ↦ false | Some x ↦ stands Anywhere x ]) (sym e) in absurd cc
 lit_clean (lits.Regex text) TimeArgument ty at s e = let f : stands TimeArgument ty ≡ stands TimeArgument Regex = ap (λ (o : Option Ty). elim o as (λ _. Bool) [ None ↦ false | Some x ↦ stands TimeArgument x ]) (sym e) in absurd cc
 lit_clean (lits.Regex text) RightOfMatch ty at s e = refl
-
-not_true : (b : Bool) → not b ≡ true → b ≡ false
-not_true true h = absurd cc
-not_true false h = refl
 
 field_clean : (name : List ℕ) (spot : Spot) (at : ℕ) → is_field name ≡ true → reference_fault spot name at ≡ None
 field_clean name spot at h = go (is_time name) (has_line_feed name) h

@@ -1,5 +1,5 @@
 -- A regex that is read from a text matches as that text says.
-use Rattle.std.proofs.Common.{◌≡◌, ℕ, ◌<◌, ◌≤◌, Bool, true, false, List, length, get_or, slice_index, Option, None, Some, IsSomeAnd, is_some, refl}
+use Rattle.std.proofs.Common.{◌≡◌, ℕ, ◌<◌, ◌≤◌, true, false, List, length, get_or, Option, None, Some, IsSomeAnd, is_some}
 use Rattle.std.specs.Option.{option_map_or}
 use Rattle.std.specs.Str.{chars}
 use Rattle.regex.specs.Patterns.{Re, find_str, default_config, SameCaptures, Reads}
@@ -8,7 +8,7 @@ use Rattle.regex.specs.declared.string.regex.Regex.{Regex}
 use Rattle.regex.proofs.ForCallers.{is_match_alike}
 use Rattle.regex_syntax.specs.Grammar.{Names, read, group_count}
 use Rattle.regex_syntax.specs.Brackets.{Nested}
-use Rattle.lambda_types.specs.Matches.{matches, MatchesAsWritten}
+use Rattle.lambda_types.specs.Matches.{matches}
 
 abbrev Found : Re → List (Option (List ℕ)) → Nested Re × Names → Type 0
 Found pattern names x = (x.0.depth ≤ 250) × SameCaptures pattern x.0.value × (names ≡ x.1) × (group_count pattern ≤ length names)

@@ -1,4 +1,3 @@
-use Rattle.std.proofs.Common.{◌≡◌}
 use Rattle.std.proofs.lemmas.Result.{err_from_is_err_and}
 use Rattle.kap_base.specs.Tree.{tree_of}
 use Rattle.lambda_types.proofs.CleanLaws.{typed_if_clean, untyped}

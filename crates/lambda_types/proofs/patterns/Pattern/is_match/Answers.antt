@@ -1,4 +1,3 @@
-use Rattle.std.proofs.Common.{◌≡◌}
 use Rattle.lambda_types.proofs.patterns.Pattern.is_match.Goals as goal
 
 pub returns : goal.returns

@@ -1,4 +1,3 @@
-use Rattle.std.proofs.Common.{◌≡◌, ℕ, List}
 use Rattle.lambda_types.proofs.MatchLaws.{tested}
 use Rattle.lambda_types.proofs.patterns.Pattern.read.Goals as goal
 
