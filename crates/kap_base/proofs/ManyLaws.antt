@@ -1,11 +1,11 @@
 -- A map of many entries: put one after the other, they are what a stable sort leaves.
 use Rattle.std.proofs.Common.{◌≡◌, ℕ, ◌+◌, ◌-◌, ◌<◌, Bool, true, false, cond, not, ◌&&◌, T, subst, List, [], ◌∷◌, ◌++◌, length, get_or, take, drop, refl, sym, ap, ◌∙◌, append_assoc, append-nil, arith}
-use Rattle.std.specs.Prelude.{Option, Some, None, filter, IsTrue}
+use Rattle.std.specs.Prelude.{Option, Some, filter, IsTrue}
 use Rattle.std.specs.declared.cmp.Ordering.{Ordering}
 use Rattle.std.specs.declared.cmp.Ordering.TheVariants.{Less, Equal, Greater}
-use Rattle.std.specs.FinMap.{FinMap, put, find, is_sorted, empty, entries, insert, get, from_sorted, same_entries_map, same_map, entries-from_sorted, entries-insert, get-insert, get-empty, nat_cmp-IsAntisymmetric, slice_cmp-IsAntisymmetric}
+use Rattle.std.specs.FinMap.{FinMap, put, is_sorted, empty, insert, get, from_sorted, same_entries_map, same_map, entries-from_sorted, entries-insert, get-insert, nat_cmp-IsAntisymmetric, slice_cmp-IsAntisymmetric}
 use Rattle.std.specs.FinMap.Entries.{below_all}
-use Rattle.std.specs.Ordering.{nat_cmp, eq_by_cmp, is_lt, is_eq, ordering_reverse}
+use Rattle.std.specs.Ordering.{eq_by_cmp, is_lt, is_eq, ordering_reverse}
 use Rattle.std.specs.List.Sorted.{ties, IsStableBy}
 use Rattle.std.proofs.lemmas.Cmp.{nat_list_cmp_total}
 use Rattle.kap_base.specs.Maps.{byte_order, with_entries, is_below}

@@ -1,5 +1,6 @@
 use crate::{
-    Bytes, Duplicate, Expr, Exprs, Fields, KeyMap, Lit, Names, Op, Tags, Text, TextFault, Value,
+    Bytes, Duplicate, Expr, Exprs, Fields, KeyMap, Lit, Names, NoMemory, Op, Tags, Text, TextFault,
+    Value,
 };
 use std::alloc::Global;
 use std::test::Fail;
@@ -34,6 +35,7 @@ fn bytes_are_texts_where_they_are_utf8(rt: HostRuntime) -> Result<(), Fail> {
     );
     let printed = copied.to_string(alloc)?;
     assert_eq!(rt; printed.as_str(), "cpu");
+    assert_eq!(rt; NoMemory.to_string(alloc)?.as_str(), "no memory");
     Ok(())
 }
 

@@ -43,6 +43,7 @@ fn a_sink_keeps_a_front_where_it_fails(rt: HostRuntime) -> Result<(), Fail> {
     assert_eq!(rt; sink.bytes(), b"abcd".as_slice());
     assert!(rt; write_all(&mut sink, b"xyz").is_ok());
     assert_eq!(rt; sink.bytes(), b"abcdxyz".as_slice());
+    assert_eq!(rt; Failed.to_string(alloc)?.as_str(), "a device failed");
     Ok(())
 }
 
