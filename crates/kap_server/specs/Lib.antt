@@ -1,6 +1,11 @@
-pub mod Statuses
 pub mod Words
 pub mod Script
 pub mod Lines
+pub mod Utf8
+pub mod ScriptTexts
+pub mod Statuses
+pub mod Scripts
+pub mod ReadingIn
+pub mod Checking
 pub mod Replaying
 pub mod Command

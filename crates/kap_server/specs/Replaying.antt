@@ -9,7 +9,7 @@ use Rattle.recording_file.specs.Reading.{HasGiven}
 use Rattle.recording_file.specs.declared.fault.RecFault.TheVariants as faults
 use Rattle.recording_file.specs.Recording.{Stop, Ended, Faulty, Undecided, recording, recording_front}
 use Rattle.kap_server.specs.declared.status.Status.{Status}
-use Rattle.kap_server.specs.declared.status.Status.TheVariants.{Ok, Usage, Line, Truncated, TooLong, ScriptForm, NoMemory, ReadFault, WriteFault}
+use Rattle.kap_server.specs.declared.status.Status.TheVariants.{Ok, Usage, Script, Line, Truncated, TooLong, ScriptForm, NoMemory, ReadFault, WriteFault}
 
 -- reading the whole input stops so, and the text of all its points was appended
 abbrev pub Writes : (List Series → List ℕ) → Option (List ℕ) → Option (List ℕ) → Option (List ℕ) → Stop → Type 0
@@ -35,6 +35,7 @@ pub record WritesSoFar (text : List Series → List ℕ) (s t w v : Option (List
 abbrev pub Replayed : (List Series → List ℕ) → Status → Option (List ℕ) → Option (List ℕ) → Option (List ℕ) → Option (List ℕ) → Type 0
 Replayed text Ok s t w v = Writes text s w v Ended
 Replayed text Usage s t w v = ⊥
+Replayed text (Script fault) s t w v = ⊥
 Replayed text (Line n fault) s t w v = Writes text s w v (Faulty (faults.Line n fault))
 Replayed text (Truncated n) s t w v = Writes text s w v (Faulty (faults.Truncated n))
 Replayed text TooLong s t w v = Writes text s w v (Faulty faults.Long)

@@ -6,12 +6,16 @@ use Rattle.recording_file.specs.Recording.{Stop, Ended, Faulty, Undecided}
 use Rattle.recording_file.specs.declared.fault.RecFault.{RecFault}
 use Rattle.recording_file.specs.declared.fault.RecFault.TheVariants as faults
 use Rattle.kap_server.specs.declared.status.Status.{Status}
-use Rattle.kap_server.specs.declared.status.Status.TheVariants.{Ok, Usage, Line, Truncated, TooLong, ScriptForm, NoMemory, ReadFault, WriteFault}
+use Rattle.kap_server.specs.declared.status.Status.TheVariants.{Ok, Usage, Script, Line, Truncated, TooLong, ScriptForm, NoMemory, ReadFault, WriteFault}
+use Rattle.kap_server.specs.declared.script_fault.ScriptFault.{ScriptFault}
+use Rattle.kap_server.specs.declared.script_fault.ScriptFault.TheVariants as scripts
+use Rattle.kap_server.specs.ScriptTexts.{text_of_fault}
 
 -- the number with which the process ends
 abbrev pub number_of : Status → ℕ
 number_of Ok = 0
 number_of Usage = 2
+number_of (Script fault) = 3
 number_of (Line n fault) = 4
 number_of (Truncated n) = 5
 number_of TooLong = 10
@@ -28,10 +32,16 @@ status_of faults.Long = TooLong
 status_of faults.ReadFault = ReadFault
 status_of faults.NoMemory = NoMemory
 
+-- the status of a script's fault
+abbrev pub status_of_script : ScriptFault → Status
+status_of_script scripts.NoMemory = NoMemory
+status_of_script fault = Script fault
+
 -- what stands behind `kapd: ` on standard error
 abbrev pub text_of_status : Status → List ℕ
 text_of_status Ok = []
 text_of_status Usage = codes "usage"
+text_of_status (Script fault) = text_of_fault fault
 text_of_status (Line n fault) = fault_line (record { line = n; fault = fault })
 text_of_status (Truncated n) = codes "truncated at line " ++ decimal n
 text_of_status TooLong = codes "too long"

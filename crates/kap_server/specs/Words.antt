@@ -3,6 +3,18 @@ use Rattle.std.specs.Prelude.{ℕ, Bool, not, ◌&&◌, ◌||◌, ◌==◌, nat_
 use Rattle.std.specs.Char.{is_ascii_digit}
 use Rattle.std.specs.List.{list_all}
 use Rattle.std.specs.Str.{bytes_eq}
+use Rattle.kap_server.specs.declared.words.Ask.{Ask}
+use Rattle.kap_server.specs.declared.words.Ask.TheVariants as asks
+
+-- what the words of a command line ask for: to check a script, or to replay a recording for the task of this id, which has this
+-- script
+pub data Request : Type 0 where
+  Check : Request
+  Replay : (id script : List ℕ) → Request
+
+abbrev pub request_of : Ask → Request
+request_of asks.Check = Check
+request_of (asks.Replay id script) = Replay id.now script.now
 
 -- an ASCII letter
 abbrev pub is_letter : ℕ → Bool
@@ -24,10 +36,18 @@ is_option word = slice_index word 0 == 45 && slice_index word 1 == 45
 abbrev pub is_id : List ℕ → Bool
 is_id word = nat_lt 0 (length word) && nat_le (length word) 64 && list_all is_id_byte word
 
--- the id and the script of `replay ID SCRIPT`, where no option stands in the id's place
-abbrev pub asked : List (List ℕ) → Option (List ℕ × List ℕ)
+-- `check`
+abbrev pub asked_alone : List ℕ → Option Request
+asked_alone command = if bytes_eq command (codes "check") then Some Check else None
+
+-- `replay ID SCRIPT`, where no option stands in the id's place
+abbrev pub asked_of_two : List ℕ → List ℕ → List ℕ → Option Request
+asked_of_two command id script = if bytes_eq command (codes "replay") && is_id id && not (is_option id) then Some (Replay id script) else None
+
+-- what the words ask for, if they are those of a command
+abbrev pub asked : List (List ℕ) → Option Request
 asked [] = None
-asked (a ∷ []) = None
+asked (command ∷ []) = asked_alone command
 asked (a ∷ b ∷ []) = None
-asked (command ∷ id ∷ script ∷ []) = if bytes_eq command (codes "replay") && is_id id && not (is_option id) then Some (id, script) else None
+asked (command ∷ id ∷ script ∷ []) = asked_of_two command id script
 asked (a ∷ b ∷ c ∷ d ∷ rest) = None

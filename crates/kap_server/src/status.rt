@@ -1,8 +1,7 @@
 ghost use Rattle.std.specs.Prelude.{◌≡◌};
-ghost use Rattle.kap_server.specs.Statuses.{status_of};
+ghost use Rattle.kap_server.specs.Statuses.{status_of, status_of_script};
 
-use kap_base::NoMemory;
-use kap_io::Failed;
+use crate::script_fault::ScriptFault;
 use line_points::LineFault;
 use recording_file::RecFault;
 
@@ -13,11 +12,13 @@ pub enum Status {
     Ok,
     /// The words aren't those of a command.
     Usage,
+    /// The script isn't one: its first fault.
+    Script { fault: ScriptFault },
     /// This line of the recording, numbered from 1, is the first that is no database, no policy or no line of the line protocol.
     Line { line: u64, fault: LineFault },
     /// The recording ends inside a group of three lines: this line is missing.
     Truncated { line: u64 },
-    /// The recording has more than 1,073,741,824 bytes.
+    /// The recording has more than 1,073,741,824 bytes, or the script that was to be checked more than 65,536.
     TooLong,
     /// The script isn't of the one form that is known until scripts are compiled.
     ScriptForm,
@@ -39,6 +40,7 @@ impl Status {
         match self {
             Status::Ok => 0,
             Status::Usage => 2,
+            Status::Script { .. } => 3,
             Status::Line { .. } => 4,
             Status::Truncated { .. } => 5,
             Status::TooLong => 10,
@@ -60,6 +62,17 @@ impl From<RecFault> for Status {
             RecFault::Long => Status::TooLong,
             RecFault::ReadFault => Status::ReadFault,
             RecFault::NoMemory => Status::NoMemory,
+        }
+    }
+}
+
+impl From<ScriptFault> for Status {
+    ghost from_gives = { λ f s. s ≡ status_of_script f };
+
+    fn from(fault: ScriptFault) -> Self {
+        match fault {
+            ScriptFault::NoMemory => Status::NoMemory,
+            _ => Status::Script { fault },
         }
     }
 }

@@ -1,10 +1,13 @@
 ghost use Rattle.std.specs.Prelude.{◌<◌};
 
-use crate::{Status, command, status_text};
+use crate::{ScriptFault, Status, command, script_text, status_text};
 use kap_io::{MemSink, MemSource};
 use line_points::LineFault;
 use std::alloc::{AllocError, Global};
 use std::test::Fail;
+use tick_lexer::LexFault;
+use tick_parser::ParseFault;
+use tick_vars::VarFault;
 
 const SCRIPT: &str = "stream|from().measurement('m')|log()";
 
@@ -160,6 +163,131 @@ fn other_words_and_scripts_are_refused(rt: HostRuntime) -> Result<(), Fail> {
     assert_eq!(rt; none.status, Status::Usage);
     let other = run(alloc, &["check", "t", SCRIPT], b"", 1, &[], 1, &[])?;
     assert_eq!(rt; other.status, Status::Usage);
+    Ok(())
+}
+
+/// Checks a script that a source of so many bytes a call gives.
+fn check(alloc: Global, script: &[u8], step: usize) -> Result<Outcome, AllocError>
+    requires { 0 < step }
+{
+    run(alloc, &["check"], script, step, &[], 4096, &[])
+}
+
+#[test]
+fn a_script_is_printed_in_its_canonical_form(rt: HostRuntime) -> Result<(), Fail> {
+    let alloc = rt.alloc();
+    let script = b"var p=10\nstream//c\n|from().measurement( 'cpu' )|where(lambda:(\"x\">p)AND TRUE)";
+    let form = b"var p = 10\nstream|from().measurement('cpu')|where(lambda: (\"x\" > p) AND TRUE)\n";
+    for step in [1, 7, 100_000] {
+        let done = check(alloc, script, step)?;
+        assert_eq!(rt; done.status, Status::Ok);
+        assert_eq!(rt; done.sink.bytes(), form.as_slice());
+    }
+    let done = check(alloc, b"", 1)?;
+    assert_eq!(rt; done.status, Status::Ok);
+    assert_eq!(rt; done.sink.bytes(), b"".as_slice());
+    Ok(())
+}
+
+/// Scripts, and what is said of each.
+const REFUSED: &str = "#=> Lex.BadChar at 0
+var s = 'a=> Lex.OpenString at 8
+var p = /a=> Lex.OpenRegex at 8
+var x = 1y=> Lex.BadNumber at 8
+var x = 1.5=> Lex.FloatLiteral at 8
+var x = 08=> Lex.OctalLiteral at 8
+var x = 9223372036854775808=> Lex.WideInt at 8
+var x = 331w=> Lex.WideDuration at 8
+stream@f()=> Lex.UserFunction at 6
+1=> Parse.Expected.Statement at 0
+var 1=> Parse.Expected.Name at 4
+var x 1=> Parse.Expected.Equal at 6
+var x = *=> Parse.Expected.Value at 8
+stream|from=> Parse.Expected.Open at 11
+stream|from(1 2)=> Parse.Expected.Close at 14
+dbrp \"a\".b=> Parse.Expected.Ref at 9
+dbrp \"a\" \"b\"=> Parse.Expected.Dot at 9
+var x = lambda: )=> Parse.Expected.Operand at 16
+x|from()=> Name.Unknown at 0
+var a = 1 var a = z=> Name.Twice at 10
+var a = stream var l = lambda: a > 1=> Name.NotValue at 31
+var a = 1 a|from()=> Name.NotNode at 10
+batch|query('x')=> Name.Batch at 0";
+
+#[test]
+fn a_script_is_refused_at_its_first_fault(rt: HostRuntime) -> Result<(), Fail> {
+    let alloc = rt.alloc();
+    for row in REFUSED.lines() {
+        let (script, said) = row.split_once("=> ").ok_or("no arrow")?;
+        let done = check(alloc, script.as_bytes(), 9)?;
+        assert_eq!(rt; done.status.number(), 3, "of {script}");
+        assert_eq!(rt; done.sink.bytes(), b"".as_slice(), "of {script}");
+        let text = status_text(alloc, &done.status)?;
+        let wanted = format!(in alloc; "script: {said}")?;
+        assert_eq!(rt; text.as_slice(), wanted.as_bytes(), "of {script}");
+    }
+    Ok(())
+}
+
+#[test]
+fn bytes_that_are_no_text_are_refused_where_they_break(rt: HostRuntime) -> Result<(), Fail> {
+    let alloc = rt.alloc();
+    let first = check(alloc, b"\xff", 1)?;
+    assert_eq!(rt; first.status, Status::Script { fault: ScriptFault::NotUtf8(0) });
+    let second = check(alloc, b"\xc3(", 1)?;
+    assert_eq!(rt; second.status, Status::Script { fault: ScriptFault::NotUtf8(1) });
+    let cut = check(alloc, b"stream\xe2\x82", 5)?;
+    assert_eq!(rt; cut.status, Status::Script { fault: ScriptFault::NotUtf8(8) });
+    let text = status_text(alloc, &cut.status)?;
+    assert_eq!(rt; text.as_slice(), b"script: NotUtf8 at 8".as_slice());
+    Ok(())
+}
+
+#[test]
+fn a_script_has_at_most_65536_bytes(rt: HostRuntime) -> Result<(), Fail> {
+    let alloc = rt.alloc();
+    let mut script = b"stream|from()".to_vec(alloc)?;
+    script.resize(65_536, b' ')?;
+    let most = check(alloc, &script, 1000)?;
+    assert_eq!(rt; most.status, Status::Ok);
+    assert_eq!(rt; most.sink.bytes(), b"stream|from()\n".as_slice());
+    script.push(b' ')?;
+    let more = check(alloc, &script, 1000)?;
+    assert_eq!(rt; more.status, Status::TooLong);
+    assert_eq!(rt; more.sink.bytes(), b"".as_slice());
+    Ok(())
+}
+
+#[test]
+fn a_check_ends_where_a_device_fails(rt: HostRuntime) -> Result<(), Fail> {
+    let alloc = rt.alloc();
+    let script = b"stream|from()|log()";
+    let cut = run(alloc, &["check"], script, 5, &[3], 9, &[])?;
+    assert_eq!(rt; cut.status, Status::ReadFault);
+    assert_eq!(rt; cut.sink.bytes(), b"".as_slice());
+    let full = run(alloc, &["check"], script, 5, &[], 9, &[2])?;
+    assert_eq!(rt; full.status, Status::WriteFault);
+    assert_eq!(rt; full.sink.bytes(), b"stream|fr".as_slice());
+    let word = run(alloc, &["check", "x"], script, 5, &[], 9, &[])?;
+    assert_eq!(rt; word.status, Status::Usage);
+    Ok(())
+}
+
+#[test]
+fn faults_that_no_script_here_has_are_printed(rt: HostRuntime) -> Result<(), Fail> {
+    let alloc = rt.alloc();
+    let text = script_text(alloc, &ScriptFault::NoMemory)?;
+    assert_eq!(rt; text.as_slice(), b"script: NoMemory".as_slice());
+    let text = script_text(alloc, &ScriptFault::Lex(LexFault::NoMemory))?;
+    assert_eq!(rt; text.as_slice(), b"script: Lex.NoMemory".as_slice());
+    let text = script_text(alloc, &ScriptFault::Parse(ParseFault::NoMemory))?;
+    assert_eq!(rt; text.as_slice(), b"script: Parse.NoMemory".as_slice());
+    let text = script_text(alloc, &ScriptFault::Name(VarFault::NoMemory))?;
+    assert_eq!(rt; text.as_slice(), b"script: Name.NoMemory".as_slice());
+    let text = script_text(alloc, &ScriptFault::Parse(ParseFault::Deep(70)))?;
+    assert_eq!(rt; text.as_slice(), b"script: Parse.Deep at 70".as_slice());
+    let text = script_text(alloc, &ScriptFault::Parse(ParseFault::TooMany(9)))?;
+    assert_eq!(rt; text.as_slice(), b"script: Parse.TooMany at 9".as_slice());
     Ok(())
 }
 

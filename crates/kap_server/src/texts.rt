@@ -1,13 +1,14 @@
 ghost use Rattle.std.specs.Prelude.{◌≡◌, IfOk};
 ghost use Rattle.kap_server.specs.Statuses.{text_of_status};
 
+use crate::script_texts::script_text;
 use crate::status::Status;
 use itoa::Buffer;
 use kap_base::{Bytes, NoMemory};
 use line_points::{BodyFault, body_text};
 use std::alloc::Global;
 
-fn of_bytes(alloc: Global, bytes: &[u8]) -> Result<Bytes, NoMemory>
+pub(crate) fn of_bytes(alloc: Global, bytes: &[u8]) -> Result<Bytes, NoMemory>
     ensures { IfOk result (λ text. text ≡ bytes.now) }
 {
     let mut text = Bytes::new(alloc);
@@ -32,6 +33,7 @@ pub fn status_text(alloc: Global, status: &Status) -> Result<Bytes, NoMemory>
     match status {
         Status::Ok => of_bytes(alloc, b""),
         Status::Usage => of_bytes(alloc, b"usage"),
+        Status::Script { fault } => script_text(alloc, fault),
         Status::Line { line, fault } => body_text(
             alloc,
             &BodyFault {

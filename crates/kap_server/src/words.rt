@@ -2,13 +2,15 @@ ghost use Rattle.std.specs.Prelude.{◌≡◌, ◌&&◌, not, map, codes, string
 ghost use Rattle.std.specs.List.{list_all};
 ghost use Rattle.std.specs.Str.{bytes_eq};
 ghost use Rattle.std.specs.Option.{option_map};
-ghost use Rattle.kap_server.specs.Words.{is_letter, is_name_byte, is_id_byte, is_id, is_option, asked};
+ghost use Rattle.kap_server.specs.Words.{is_letter, is_name_byte, is_id_byte, is_id, is_option, asked, request_of};
 
-/// A replay: the id of its task, and its script.
+/// What the words of a command line ask for.
 #[derive(Clone, Copy)]
-pub(crate) struct Ask<'a> {
-    pub id: &'a str,
-    pub script: &'a str,
+pub(crate) enum Ask<'a> {
+    /// To check the script that the input gives.
+    Check,
+    /// To replay the recording that the input gives, for the task of this id, which has this script.
+    Replay { id: &'a str, script: &'a str },
 }
 
 fn is_letter(byte: u8) -> bool
@@ -65,12 +67,19 @@ fn is_replay(command: &String, id: &String) -> bool
 
 /// What the words of the command line ask for.
 pub(crate) fn asked(words: &[String]) -> Option<Ask<'_>>
-    ensures { option_map (λ ask. (ask.id.now, ask.script.now)) result ≡ asked (map string_bytes words.now) }
+    ensures { option_map request_of result ≡ asked (map string_bytes words.now) }
 {
     match words {
+        [command] => {
+            if command.as_str() == "check" {
+                Some(Ask::Check)
+            } else {
+                None
+            }
+        }
         [command, id, script] => {
             if is_replay(command, id) {
-                Some(Ask {
+                Some(Ask::Replay {
                     id: id.as_str(),
                     script: script.as_str(),
                 })
