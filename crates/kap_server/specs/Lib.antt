@@ -4,3 +4,4 @@ pub mod Script
 pub mod Lines
 pub mod Replaying
 pub mod Command
+pub mod Utf8

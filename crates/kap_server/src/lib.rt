@@ -7,6 +7,7 @@ mod replaying;
 mod script;
 mod status;
 mod texts;
+mod utf8;
 mod words;
 
 pub use commands::command;
