@@ -9,3 +9,4 @@ pub mod ReadingIn
 pub mod Checking
 pub mod Replaying
 pub mod Command
+pub mod Utf8
