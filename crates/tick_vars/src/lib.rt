@@ -1,0 +1,12 @@
+//! The names of a script, replaced by what they stand for.
+#![tactic(auto)]
+
+mod binder;
+mod fault;
+mod lambda;
+mod names;
+mod nodes;
+
+pub use binder::bind;
+pub use fault::VarFault;
+pub use nodes::{Arg, Args, Bound, Dbrp, Dbrps, Prop, Props, RawNode, RawNodes};
