@@ -9,4 +9,3 @@ pub mod ReadingIn
 pub mod Checking
 pub mod Replaying
 pub mod Command
-pub mod Utf8
