@@ -37,10 +37,10 @@ refused_tokens text script tokens fault p has refused =
     readings.not_both 64 512 4096 p.tokens script fault p.read p.within (subst (λ ts. Refused 64 512 4096 ts fault) (texts.one_list text tokens p.tokens has p.lexed) refused)
 
 ok_or_err : {A E : Type 0} (a : A) (e : E) (r : Result A E) → r ≡ Ok a → r ≡ Err e → ⊥
-ok_or_err a e r p q = let w : ◌≡◌ {A = Result A E} (Ok a) (Err e) = sym p ∙ q in absurd (cc)
+ok_or_err {A = A} {E = E} a e r p q = let w : ◌≡◌ {A = Result A E} (Ok a) (Err e) = sym p ∙ q in absurd (cc)
 
 one_err : {A E : Type 0} (a b : E) (r : Result A E) → r ≡ Err a → r ≡ Err b → a ≡ b
-one_err a b r p q = let w : ◌≡◌ {A = Result A E} (Err a) (Err b) = sym p ∙ q in cc
+one_err {A = A} {E = E} a b r p q = let w : ◌≡◌ {A = Result A E} (Err a) (Err b) = sym p ∙ q in cc
 
 accepted_or_refused : (text : List ℕ) (script : List StmtTree) (fault : ScriptFault) → Accepts text script → Refuses text fault → ⊥
 accepted_or_refused text script (NotUtf8 at) p q = q.0 p.parsed.utf8
@@ -133,7 +133,7 @@ some_status text = of_length text (nat_le (length text) 65536) refl
 -- ---- a check answers it
 
 answered : (text : List ℕ) (result status : Status) (t w v : Option (List ℕ)) → Checked result (Some text) t w v → ChecksTo text status → IsUnlessFailed result status
-answered text statuses.Ok status t w v h to = inl (one_status text statuses.Ok status (h.1.0.short, (h.1.0.script, h.1.0.accepted)) to)
+answered text statuses.Ok status t w v h to = inl (one_status text statuses.Ok status (h.1.short, (h.1.script, h.1.accepted)) to)
 answered text statuses.Usage status t w v h to = absurd h
 answered text (statuses.Script fault) status t w v h to = inl (one_status text (statuses.Script fault) status h.0 to)
 answered text (statuses.Line n fault) status t w v h to = absurd h

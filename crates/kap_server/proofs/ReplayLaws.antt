@@ -119,6 +119,7 @@ module _ (id name : List ℕ) where
 told_status : (text : List Series → List ℕ) (result : Status) (bytes : List ℕ) (t w v : Option (List ℕ)) → Replayed text result (Some bytes) t w v → IsUnlessFailed result (status_at (recording bytes).stop)
 told_status text statuses.Ok bytes t w v h = inl (ap status_at (sym h.0))
 told_status text statuses.Usage bytes t w v h = absurd h
+told_status text (statuses.Script fault) bytes t w v h = absurd h
 told_status text (statuses.Line n fault) bytes t w v h = inl (ap status_at (sym h.0))
 told_status text (statuses.Truncated n) bytes t w v h = inl (ap status_at (sym h.0))
 told_status text statuses.TooLong bytes t w v h = inl (ap status_at (sym h.0))

@@ -70,6 +70,7 @@ pub(crate) fn asked(words: &[String]) -> Option<Ask<'_>>
     ensures { option_map request_of result ≡ asked (map string_bytes words.now) }
 {
     match words {
+        [] => None,
         [command] => {
             if command.as_str() == "check" {
                 Some(Ask::Check)
@@ -77,6 +78,7 @@ pub(crate) fn asked(words: &[String]) -> Option<Ask<'_>>
                 None
             }
         }
+        [_, _] => None,
         [command, id, script] => {
             if is_replay(command, id) {
                 Some(Ask::Replay {
