@@ -1,2 +1,3 @@
 pub mod ScriptLaws
 pub mod ReplayLaws
+pub mod Utf8Laws

@@ -13,6 +13,7 @@ mod words;
 pub use commands::command;
 pub use status::Status;
 pub use texts::status_text;
+pub use utf8::bytes_break_in_one_place;
 
 #[cfg(test)]
 mod tests;

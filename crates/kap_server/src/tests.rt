@@ -1,5 +1,6 @@
 ghost use Rattle.std.specs.Prelude.{◌<◌};
 
+use crate::utf8::text_of;
 use crate::{Status, command, status_text};
 use kap_io::{MemSink, MemSource};
 use line_points::LineFault;
@@ -186,6 +187,35 @@ fn each_status_has_its_text(rt: HostRuntime) -> Result<(), Fail> {
     ] {
         assert_eq!(rt; status.number(), number);
         assert_eq!(rt; status_text(alloc, &status)?.as_slice(), text.as_bytes());
+    }
+    Ok(())
+}
+
+#[test]
+fn bytes_are_a_text_or_break_at_a_place(rt: HostRuntime) -> Result<(), Fail> {
+    for text in ["", "a", "\u{e9}", "a\u{20ac}", "\u{1f600}b"] {
+        assert_eq!(rt; text_of(text.as_bytes()), Ok(text));
+    }
+    for (bytes, place) in [
+        (b"\xff".as_slice(), 0),
+        (b"\x80".as_slice(), 0),
+        (b"\xc1\x80".as_slice(), 0),
+        (b"\xf5\x80".as_slice(), 0),
+        (b"a\x80".as_slice(), 1),
+        (b"\xc3(".as_slice(), 1),
+        (b"\xe0\x80".as_slice(), 1),
+        (b"\xed\xa0\x80".as_slice(), 1),
+        (b"\xf0\x8f".as_slice(), 1),
+        (b"\xf4\x90".as_slice(), 1),
+        (b"\xe2\x82a".as_slice(), 2),
+        (b"\xf0\x9f\x98(".as_slice(), 3),
+        (b"\xc3\xa9\xe2\x82\xac\xe2\x82(".as_slice(), 7),
+        // These end inside a character.
+        (b"a\xc3".as_slice(), 2),
+        (b"\xe2\x82".as_slice(), 2),
+        (b"\xf0\x9f\x98".as_slice(), 3),
+    ] {
+        assert_eq!(rt; text_of(bytes), Err(place), "at {bytes:?}");
     }
     Ok(())
 }
