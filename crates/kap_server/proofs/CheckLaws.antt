@@ -26,6 +26,7 @@ use Rattle.kap_server.specs.Scripts.{Parses, Accepts, Refuses}
 use Rattle.kap_server.specs.ReadingIn.{IsShort}
 use Rattle.kap_server.specs.Checking.{Checked, ChecksTo}
 use Rattle.kap_server.specs.Command.{IsUnlessFailed}
+use Rattle.kap_server.proofs.Utf8Laws.{breaks_there, one_place}
 
 -- a text has the tokens of one script
 same_script : (text : List ℕ) (a b : List StmtTree) → Parses text a → Parses text b → a ≡ b
@@ -51,7 +52,7 @@ accepted_or_refused text script (Name fault) p q =
 accepted_or_refused text script NoMemory p q = absurd q
 
 one_refusal : (text : List ℕ) (a b : ScriptFault) → Refuses text a → Refuses text b → a ≡ b
-one_refusal text (NotUtf8 at) (NotUtf8 place) p q = ap NotUtf8 (p.1 ∙ sym q.1)
+one_refusal text (NotUtf8 at) (NotUtf8 place) p q = ap NotUtf8 (one_place text at place p.1 q.1)
 one_refusal text (NotUtf8 at) (Lex fault) p q = absurd (p.0 q.0)
 one_refusal text (NotUtf8 at) (Parse fault) p q = absurd (p.0 q.0)
 one_refusal text (NotUtf8 at) (Name fault) p q = absurd (p.0 q.1.utf8)
@@ -121,7 +122,9 @@ of_text text short utf8 (inr fault) = (statuses.Script (Lex fault.0), (short, (u
 
 of_bytes : (text : List ℕ) → IsShort text → (b : Bool) → is_utf8 text ≡ b → Outcome text
 of_bytes text short true is = let utf8 = IsUtf8-from_is_utf8 text is in of_text text short utf8 (texts.some_answer text)
-of_bytes text short false is = (statuses.Script (NotUtf8 (broken_at text)), (short, ((λ utf8. let w = sym is ∙ is_utf8-from_IsUtf8 text utf8 in absurd (cc)), refl)))
+of_bytes text short false is =
+    let refuted : ¬ (IsUtf8 text) = λ utf8. let w = sym is ∙ is_utf8-from_IsUtf8 text utf8 in absurd (cc) in
+    (statuses.Script (NotUtf8 (broken_at text)), (short, (refuted, breaks_there text refuted)))
 
 of_length : (text : List ℕ) (b : Bool) → nat_le (length text) 65536 ≡ b → Outcome text
 of_length text true is = let short : length text ≤ 65536 = grind (arith, nat_tests) in of_bytes text short (is_utf8 text) refl

@@ -1,3 +1,4 @@
 pub mod ScriptLaws
 pub mod ReplayLaws
+pub mod Utf8Laws
 pub mod CheckLaws

@@ -9,7 +9,7 @@ use Rattle.tick_vars.specs.Nodes.{BoundTree}
 use Rattle.tick_vars.specs.Binding.{bound_of}
 use Rattle.kap_server.specs.declared.script_fault.ScriptFault.{ScriptFault}
 use Rattle.kap_server.specs.declared.script_fault.ScriptFault.TheVariants.{NotUtf8, Lex, Parse, Name, NoMemory}
-use Rattle.kap_server.specs.Utf8.{broken_at}
+use Rattle.kap_server.specs.Utf8.{BreaksAt}
 
 -- the text is UTF-8, and its tokens are this script's, within the parser's limits
 pub record Parses (text : List ℕ) (script : List StmtTree) : Type 0 where
@@ -27,7 +27,7 @@ pub record Accepts (text : List ℕ) (script : List StmtTree) : Type 0 where
 
 -- the first fault of a text that is no script: of its bytes, else of its tokens, else of the grammar, else of the names
 abbrev pub Refuses : List ℕ → ScriptFault → Type 0
-Refuses text (NotUtf8 at) = (¬ (IsUtf8 text)) × (at ≡ broken_at text)
+Refuses text (NotUtf8 at) = (¬ (IsUtf8 text)) × BreaksAt text at
 Refuses text (Lex fault) = IsUtf8 text × HasFirstFault text fault
 Refuses text (Parse fault) = IsUtf8 text × ((tokens : List Token) × HasTokens text tokens × Refused 64 512 4096 tokens fault)
 Refuses text (Name fault) = (script : List StmtTree) × Parses text script × (bound_of script ≡ Err fault)

@@ -10,7 +10,7 @@ ghost use Rattle.kap_server.specs.Scripts.{Accepts, Parses, Refuses};
 
 use crate::script_fault::ScriptFault;
 use crate::status::Status;
-use crate::utf8::text_of;
+use crate::utf8::{bytes_break_in_one_place, text_of};
 use kap_base::{Bytes, Text};
 use kap_io::{Failed, Sink, Source, write_all};
 use std::alloc::Global;
@@ -42,6 +42,7 @@ fn script_of(alloc: Global, bytes: &[u8]) -> Result<Tree, ScriptFault>
     ensures tree { IfOk result (λ tree. Accepts bytes.now (script_tree tree)) }
     ensures fault { IfErr result (λ f. f ≢ ScriptFault.NoMemory → Refuses bytes.now f) }
 {
+    bytes_break_in_one_place();
     let text = match text_of(bytes) {
         Ok(text) => text,
         Err(at) => return Err(ScriptFault::NotUtf8(at as u32)),

@@ -18,6 +18,7 @@ pub use script_fault::ScriptFault;
 pub use script_texts::script_text;
 pub use status::Status;
 pub use texts::status_text;
+pub use utf8::bytes_break_in_one_place;
 
 #[cfg(test)]
 mod tests;

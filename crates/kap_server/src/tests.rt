@@ -1,5 +1,6 @@
 ghost use Rattle.std.specs.Prelude.{◌<◌};
 
+use crate::utf8::text_of;
 use crate::{ScriptFault, Status, command, script_text, status_text};
 use kap_io::{MemSink, MemSource};
 use line_points::LineFault;
@@ -176,8 +177,10 @@ fn check(alloc: Global, script: &[u8], step: usize) -> Result<Outcome, AllocErro
 #[test]
 fn a_script_is_printed_in_its_canonical_form(rt: HostRuntime) -> Result<(), Fail> {
     let alloc = rt.alloc();
-    let script = b"var p=10\nstream//c\n|from().measurement( 'cpu' )|where(lambda:(\"x\">p)AND TRUE)";
-    let form = b"var p = 10\nstream|from().measurement('cpu')|where(lambda: (\"x\" > p) AND TRUE)\n";
+    let script =
+        b"var p=10\nstream//c\n|from().measurement( 'cpu' )|where(lambda:(\"x\">p)AND TRUE)";
+    let form =
+        b"var p = 10\nstream|from().measurement('cpu')|where(lambda: (\"x\" > p) AND TRUE)\n";
     for step in [1, 7, 100_000] {
         let done = check(alloc, script, step)?;
         assert_eq!(rt; done.status, Status::Ok);
@@ -233,11 +236,26 @@ fn a_script_is_refused_at_its_first_fault(rt: HostRuntime) -> Result<(), Fail> {
 fn bytes_that_are_no_text_are_refused_where_they_break(rt: HostRuntime) -> Result<(), Fail> {
     let alloc = rt.alloc();
     let first = check(alloc, b"\xff", 1)?;
-    assert_eq!(rt; first.status, Status::Script { fault: ScriptFault::NotUtf8(0) });
+    assert_eq!(rt;
+        first.status,
+        Status::Script {
+            fault: ScriptFault::NotUtf8(0)
+        }
+    );
     let second = check(alloc, b"\xc3(", 1)?;
-    assert_eq!(rt; second.status, Status::Script { fault: ScriptFault::NotUtf8(1) });
+    assert_eq!(rt;
+        second.status,
+        Status::Script {
+            fault: ScriptFault::NotUtf8(1)
+        }
+    );
     let cut = check(alloc, b"stream\xe2\x82", 5)?;
-    assert_eq!(rt; cut.status, Status::Script { fault: ScriptFault::NotUtf8(8) });
+    assert_eq!(rt;
+        cut.status,
+        Status::Script {
+            fault: ScriptFault::NotUtf8(8)
+        }
+    );
     let text = status_text(alloc, &cut.status)?;
     assert_eq!(rt; text.as_slice(), b"script: NotUtf8 at 8".as_slice());
     Ok(())
@@ -314,6 +332,35 @@ fn each_status_has_its_text(rt: HostRuntime) -> Result<(), Fail> {
     ] {
         assert_eq!(rt; status.number(), number);
         assert_eq!(rt; status_text(alloc, &status)?.as_slice(), text.as_bytes());
+    }
+    Ok(())
+}
+
+#[test]
+fn bytes_are_a_text_or_break_at_a_place(rt: HostRuntime) -> Result<(), Fail> {
+    for text in ["", "a", "\u{e9}", "a\u{20ac}", "\u{1f600}b"] {
+        assert_eq!(rt; text_of(text.as_bytes()), Ok(text));
+    }
+    for (bytes, place) in [
+        (b"\xff".as_slice(), 0),
+        (b"\x80".as_slice(), 0),
+        (b"\xc1\x80".as_slice(), 0),
+        (b"\xf5\x80".as_slice(), 0),
+        (b"a\x80".as_slice(), 1),
+        (b"\xc3(".as_slice(), 1),
+        (b"\xe0\x80".as_slice(), 1),
+        (b"\xed\xa0\x80".as_slice(), 1),
+        (b"\xf0\x8f".as_slice(), 1),
+        (b"\xf4\x90".as_slice(), 1),
+        (b"\xe2\x82a".as_slice(), 2),
+        (b"\xf0\x9f\x98(".as_slice(), 3),
+        (b"\xc3\xa9\xe2\x82\xac\xe2\x82(".as_slice(), 7),
+        // These end inside a character.
+        (b"a\xc3".as_slice(), 2),
+        (b"\xe2\x82".as_slice(), 2),
+        (b"\xf0\x9f\x98".as_slice(), 3),
+    ] {
+        assert_eq!(rt; text_of(bytes), Err(place), "at {bytes:?}");
     }
     Ok(())
 }

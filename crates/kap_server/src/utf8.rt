@@ -1,7 +1,7 @@
 //! Where bytes stop being a text.
-ghost use Rattle.std.specs.Prelude.{◌≡◌, ◌≤◌, length, IfOk, IfErr};
+ghost use Rattle.std.specs.Prelude.{◌≡◌, ◌≤◌, ℕ, List, length, IfOk, IfErr};
 ghost use Rattle.std.specs.Str.{IsUtf8};
-ghost use Rattle.kap_server.specs.Utf8.{broken_at};
+ghost use Rattle.kap_server.specs.Utf8.{BreaksAt, broken_at};
 
 use std::str;
 
@@ -26,3 +26,10 @@ pub(crate) fn text_of(bytes: &[u8]) -> Result<&str, usize>
         }
     }
 }
+
+/// The law of the place where bytes break. Bytes that aren't a text break where `broken_at` says: what stands before that place goes
+/// on to some text, and with the byte that stands there no text begins. No other place is so.
+pub fn bytes_break_in_one_place()
+    ensures place { (bytes : List ℕ) → ¬ (IsUtf8 bytes) → BreaksAt bytes (broken_at bytes) }
+    ensures one { (bytes : List ℕ) (a b : ℕ) → BreaksAt bytes a → BreaksAt bytes b → a ≡ b }
+{}

@@ -1,4 +1,5 @@
-//! `kapd - replay ID SCRIPT` replays the recording on standard input, and writes the lines of its points to standard output.
+//! `kapd - check` prints the canonical form of the script on standard input, and `kapd - replay ID SCRIPT` replays the recording
+//! there, and writes the lines of its points to standard output.
 #![tactic(auto)]
 
 use kap_io::{ReadSource, WriteSink};
@@ -12,10 +13,12 @@ const HELP: &str = "kapd PLACE COMMAND ..
 
 PLACE is `-`. Commands:
 
+  check              reads a script from standard input, and writes its canonical form
   replay ID SCRIPT   reads a recording from standard input, and writes the lines that the script logs
 
+A script that is checked is a TICKscript of at most 65,536 bytes: its tokens, its grammar and its names are looked at.
 A recording has three lines a point: the database, the retention policy, and the point in line protocol with its
-time in nanoseconds. SCRIPT is `stream|from().measurement('M')|log()`, with the name of a measurement for M.
+time in nanoseconds. SCRIPT of a replay is `stream|from().measurement('M')|log()`, with the name of a measurement for M.
 
   kapd --help        prints this
   kapd --version     prints the version
