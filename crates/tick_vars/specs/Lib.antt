@@ -1,3 +1,4 @@
 pub mod Nodes
 pub mod Names
 pub mod Binding
+pub mod Making

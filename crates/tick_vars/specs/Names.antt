@@ -1,8 +1,8 @@
 -- What the names of a script stand for.
-use Rattle.std.specs.Prelude.{ℕ, Bool, true, false, ◌||◌, if◌then◌else◌, List, Option, Some, None, is_some, option_map, Result, Ok, Err, codes, bytes_eq}
-use Rattle.std.specs.FinMap.{get}
+use Rattle.std.specs.Prelude.{ℕ, Bool, ◌||◌, if◌then◌else◌, List, Option, Some, None, is_some, option_map, Result, Ok, Err, codes, bytes_eq}
+use Rattle.std.specs.Borrow.{Bor}
+use Rattle.std.specs.HashMap.{HashMap, get_by}
 use Rattle.kap_base.specs.declared.expr.Lit.TheVariants as lits
-use Rattle.kap_base.specs.Maps.{TextMap}
 use Rattle.kap_base.specs.Tree.{Tree, Leaf, Referred, Named, Called, Grouped, Negated, Denied, Joined, Trees, NoTrees, MoreTrees}
 use Rattle.kap_base.specs.Words.{◌>>=◌}
 use Rattle.tick_vars.specs.declared.fault.VarFault.{VarFault}
@@ -14,13 +14,13 @@ use Rattle.tick_vars.specs.Nodes.{ArgTree, LitArg, StarArg, LambdaArg, NodeArg, 
 abbrev pub Scope : Type 0
 Scope = List ℕ → Option ArgTree
 
--- before the first statement: `stream` stands for node 0
-abbrev pub first_scope : Scope
-first_scope name = if bytes_eq name (codes "stream") then Some (NodeArg 0 0) else None
-
 -- behind a `var`: its name stands for this, and the others for what they did
 abbrev pub with_name : List ℕ → ArgTree → Scope → Scope
-with_name name arg scope other = if bytes_eq other name then Some arg else scope other
+with_name name arg scope other = if bytes_eq name other then Some arg else scope other
+
+-- before the first statement: `stream` stands for node 0, and no other name for anything
+abbrev pub first_scope : Scope
+first_scope = with_name (codes "stream") (NodeArg 0 0) (λ _. None)
 
 -- the name that stands for nothing, and is never unknown
 abbrev pub is_batch : List ℕ → Bool
@@ -76,5 +76,5 @@ abbrev mutual
   bound_lambdas scope (MoreTrees first rest) = bound_lambda scope first >>= λ first. bound_lambdas scope rest >>= λ rest. Ok (MoreTrees first rest)
 
 -- what each name of a map stands for
-abbrev pub scope_of : TextMap Arg → Scope
-scope_of names name = option_map arg_tree (get names name)
+abbrev pub scope_of : {S : Type 0} → HashMap (Bor (List ℕ)) Arg S → Scope
+scope_of names name = option_map arg_tree (get_by (λ key. bytes_eq name key.now) names)

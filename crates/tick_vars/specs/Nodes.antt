@@ -1,5 +1,5 @@
 -- The nodes of a script, apart from how they lie in memory.
-use Rattle.std.specs.Prelude.{ℕ, List, [], ◌∷◌, ◌++◌, map}
+use Rattle.std.specs.Prelude.{ℕ, List, map}
 use Rattle.kap_base.specs.declared.expr.Lit.{Lit}
 use Rattle.kap_base.specs.Tree.{Tree, tree_of}
 use Rattle.tick_vars.specs.declared.nodes.Arg.{Arg}

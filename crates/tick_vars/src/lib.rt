@@ -6,6 +6,7 @@ mod fault;
 mod lambda;
 mod names;
 mod nodes;
+mod values;
 
 pub use binder::bind;
 pub use fault::VarFault;
