@@ -28,13 +28,20 @@ time in nanoseconds. SCRIPT of a replay is `stream|from().measurement('M')|log()
 const VERSION: &str = "kapd 0.1.0
 ";
 
-/// The words of the command line, without the program's name; none where they can't be told.
-fn words_of<R: Env + AllocGlobal>(rt: &R) -> Option<Vec<String>> {
+/// The words of the command line, without the program's name. Words that aren't UTF-8 are no command's.
+fn words_of<R: Env + AllocGlobal>(rt: &R) -> Result<Vec<String>, Status> {
+    let args = match env::args(rt) {
+        Ok(args) => args,
+        Err(fault) if fault.kind() == io::ErrorKind::OutOfMemory => return Err(Status::NoMemory),
+        Err(_) => return Err(Status::Usage),
+    };
     let mut words = Vec::new(rt.alloc());
-    for word in env::args(rt).ok()?.skip(1) {
-        words.push(word).ok()?;
+    for word in args.skip(1) {
+        if words.push(word).is_err() {
+            return Err(Status::NoMemory);
+        }
     }
-    Some(words)
+    Ok(words)
 }
 
 /// Does what the words behind the place ask for.
@@ -53,8 +60,9 @@ fn show<R: Print>(rt: &R, text: &str) -> Status {
 }
 
 fn answer<R: Env + Input + Print + AllocGlobal>(rt: &R) -> Status {
-    let Some(words) = words_of(rt) else {
-        return Status::Usage;
+    let words = match words_of(rt) {
+        Ok(words) => words,
+        Err(status) => return status,
     };
     match words.as_slice() {
         [word] if word.as_str() == "--help" => show(rt, HELP),
