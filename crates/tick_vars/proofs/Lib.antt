@@ -1,2 +1,9 @@
 mod NodeLaws
 mod NameLaws
+mod Steps
+mod Playing
+mod Lambdas
+mod Simulation
+mod Gathering
+mod Settling
+mod Written

@@ -12,7 +12,7 @@ map_push f (y ∷ xs) x = ap (λ l. f y ∷ l) (map_push f xs x)
 
 -- a property more at a place
 pub prop_set : (nodes : List RawNode) (number : ℕ) (prop : Prop) (d : RawNode) (props : List Prop) → number < length nodes → props ≡ (get_or nodes number d).props ++ prop ∷ []
-  → node_trees (set nodes number (record (get_or nodes number d) { props = props })) ≡ with_prop number (prop_tree prop) (node_trees nodes)
+    → node_trees (set nodes number (record (get_or nodes number d) { props = props })) ≡ with_prop number (prop_tree prop) (node_trees nodes)
 prop_set [] number prop d props lt is = absurd (omega arith)
 prop_set (node ∷ nodes) zero prop d props lt is = ap (λ ps. record (node_tree node) { props = ps } ∷ node_trees nodes) (ap (map prop_tree) is ∙ map_push prop_tree node.props prop)
 prop_set (node ∷ nodes) (suc number) prop d props lt is = ap (λ l. node_tree node ∷ l) (prop_set nodes number prop d props (omega arith) is)
