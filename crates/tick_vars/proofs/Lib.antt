@@ -6,4 +6,7 @@ mod Lambdas
 mod Simulation
 mod Gathering
 mod Settling
+mod Quiet
+mod Statements
 mod Written
+mod Naming

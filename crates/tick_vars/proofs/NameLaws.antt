@@ -9,7 +9,7 @@ use Rattle.tick_vars.specs.declared.nodes.Arg.{Arg}
 use Rattle.tick_vars.specs.declared.nodes.RawNode.{RawNode}
 use Rattle.tick_vars.specs.declared.nodes.Dbrp.{Dbrp}
 use Rattle.tick_vars.specs.declared.fault.VarFault.{VarFault}
-use Rattle.tick_vars.specs.Nodes.{ArgTree, NodeArg, NodeTree, arg_tree, node_tree, node_trees}
+use Rattle.tick_vars.specs.Nodes.{NodeArg, NodeTree, arg_tree, node_tree, node_trees}
 use Rattle.tick_vars.specs.Names.{Scope, first_scope, scope_of, with_name}
 use Rattle.tick_vars.specs.Binding.{SoFar, at_first, stream_node}
 use Rattle.tick_vars.proofs.Steps.{same_value}

@@ -1,11 +1,12 @@
 -- A bound script in its own words: what it does one after the other, which takes no look at names, and what its names stand for in the end.
-use Rattle.std.specs.Prelude.{◌≡◌, ℕ, ◌+◌, ◌<◌, Bool, true, false, ◌==◌, if◌then◌else◌, List, [], ◌∷◌, ◌++◌, map, length, Option, Some, None, unwrap_or}
+use Rattle.std.specs.Prelude.{◌≡◌, ℕ, ◌+◌, ◌<◌, true, false, ◌==◌, if◌then◌else◌, List, [], ◌∷◌, ◌++◌, map, length, Option, Some, unwrap_or}
 use Rattle.kap_base.specs.declared.expr.Lit.{Lit}
+use Rattle.kap_base.specs.declared.expr.Lit.TheVariants as lits
 use Rattle.kap_base.specs.Tree.{Tree, Leaf, Referred, Named, Called, Grouped, Negated, Denied, Joined, Trees, NoTrees, MoreTrees}
 use Rattle.tick_parser.specs.Trees.{ValTree, Given, Everything, Function, Chained, ValTrees, NoVals, MoreVals, JointTrees, NoJoints, MoreJoints, StmtTree, Declared, Dbrp as DbrpStmt, Piped}
 use Rattle.tick_vars.specs.declared.nodes.Dbrp.{Dbrp}
 use Rattle.tick_vars.specs.Nodes.{ArgTree, LitArg, StarArg, LambdaArg, NodeArg, PropTree, NodeTree, BoundTree}
-use Rattle.tick_vars.specs.Names.{Scope, first_scope, with_name, handed_on}
+use Rattle.tick_vars.specs.Names.{Scope, first_scope, is_taken, with_name, handed_on}
 use Rattle.tick_vars.specs.Binding.{stream_node}
 
 -- what a chain goes on from: the node with a number, or what a name stands for
@@ -20,11 +21,13 @@ pub data Source : Type 0 where
   FromLambda : (body : Tree) (at : ℕ) → Source
   FromChain : (last : Anchor) (at : ℕ) → Source
 
--- what a script does: `|` makes a node, `.` sets a property, `var` declares a name, `dbrp` names a pair
+-- what a script does: `|` makes a node, `.` sets a property, `var` declares a name, a chain as a statement uses what it ends with, and
+-- `dbrp` names a pair
 pub data Event : Type 0 where
   Makes : (kind : List ℕ) (under : Anchor) (args : List Source) (at : ℕ) → Event
   Sets : (name : List ℕ) (on : Anchor) (args : List Source) (at : ℕ) → Event
   Declares : (name : List ℕ) (value : Source) → Event
+  Uses : (value : Source) → Event
   Sees : (dbrp : Dbrp) → Event
 
 -- how many `|` stand in a value, in values, in links
@@ -85,7 +88,7 @@ abbrev mutual
 abbrev pub done_by : ℕ → StmtTree → List Event
 done_by next (Declared name value at) = done_in next value ++ Declares name (source next value) ∷ []
 done_by next (DbrpStmt db rp at) = Sees (record { db = db; rp = rp }) ∷ []
-done_by next (Piped head links at) = done_along next (OnName head) links
+done_by next (Piped head links at) = done_along next (OnName head) links ++ Uses (source next (Chained head links at)) ∷ []
 
 -- how many `|` stand in a statement
 abbrev pub pipes_of : StmtTree → ℕ
@@ -123,7 +126,7 @@ abbrev mutual
   all_replaced scope NoTrees = NoTrees
   all_replaced scope (MoreTrees first rest) = MoreTrees (replaced scope first) (all_replaced scope rest)
 
--- the number of a node
+-- the number of the node that is there; 0 stands for what a script without faults never gives
 abbrev pub number_of : Option ArgTree → ℕ
 number_of (Some (NodeArg number at)) = number
 number_of other = 0
@@ -133,7 +136,7 @@ abbrev pub node_at : Scope → Anchor → ℕ
 node_at scope (OnNode number) = number
 node_at scope (OnName name) = number_of (scope name)
 
--- a value as an argument
+-- a value as an argument; a script without faults uses no name that stands for nothing
 abbrev pub arg_of : Scope → Source → ArgTree
 arg_of scope (FromLit lit at) = LitArg lit at
 arg_of scope (FromStar at) = StarArg at
@@ -224,31 +227,57 @@ pub record IsSettled (bound : BoundTree) : Type 0 where
   pub stream : PropsSettled (length bound.nodes) props
   pub settled : NodesSettled (length bound.nodes) 1 others
 
--- the name stands for something that may stand here, and a chain goes on from a node that is there
-abbrev pub IsNode : Scope → ℕ → Anchor → Type 0
-IsNode scope next (OnNode number) = number < next
-IsNode scope next (OnName name) = (number : ℕ) × (place : ℕ) × (scope name ≡ Some (NodeArg number place)) × (number < next)
+-- what stands for a name in a lambda: an integer, a truth value, a string or a pattern
+abbrev pub IsValue : Option ArgTree → Type 0
+IsValue (Some (LitArg (lits.Int number) place)) = Unit {0}
+IsValue (Some (LitArg (lits.Bool truth) place)) = Unit {0}
+IsValue (Some (LitArg (lits.Str text) place)) = Unit {0}
+IsValue (Some (LitArg (lits.Regex pattern) place)) = Unit {0}
+IsValue other = ⊥
 
--- a value whose names stand for something
-abbrev pub IsArg : Scope → ℕ → Source → Type 0
-IsArg scope next (FromLit lit at) = Unit {0}
-IsArg scope next (FromStar at) = Unit {0}
-IsArg scope next (FromLambda body at) = Nameless (replaced scope body)
-IsArg scope next (FromChain (OnNode number) at) = number < next
-IsArg scope next (FromChain (OnName name) at) = (arg : ArgTree) × (scope name ≡ Some arg) × Settled next arg
+-- each name in the lambda stands for a value
+abbrev mutual
+  pub HasValues : Scope → Tree → Type 0
+  HasValues scope (Leaf lit at) = Unit {0}
+  HasValues scope (Referred name at) = Unit {0}
+  HasValues scope (Named name at) = IsValue (scope name)
+  HasValues scope (Called name args at) = AllHaveValues scope args
+  HasValues scope (Grouped inner at) = HasValues scope inner
+  HasValues scope (Negated operand at) = HasValues scope operand
+  HasValues scope (Denied operand at) = HasValues scope operand
+  HasValues scope (Joined op left right at) = HasValues scope left × HasValues scope right
 
-abbrev pub AreArgs : Scope → ℕ → List Source → Type 0
-AreArgs scope next [] = Unit {0}
-AreArgs scope next (first ∷ rest) = IsArg scope next first × AreArgs scope next rest
+  pub AllHaveValues : Scope → Trees → Type 0
+  AllHaveValues scope NoTrees = Unit {0}
+  AllHaveValues scope (MoreTrees first rest) = HasValues scope first × AllHaveValues scope rest
 
--- each name that is used stands for what may stand there
-abbrev pub AreKnown : Scope → ℕ → List Event → Type 0
-AreKnown scope next [] = Unit {0}
-AreKnown scope next (Makes kind under args at ∷ events) = IsNode scope next under × AreArgs scope next args × AreKnown scope (next + 1) events
-AreKnown scope next (Sets name on args at ∷ events) = IsNode scope next on × AreArgs scope next args × AreKnown scope next events
-AreKnown scope next (Declares name value ∷ events) = IsArg scope next value × AreKnown scope next events
-AreKnown scope next (Sees dbrp ∷ events) = AreKnown scope next events
+-- what a chain goes on from is a node
+abbrev pub IsNode : Scope → Anchor → Type 0
+IsNode scope (OnNode number) = Unit {0}
+IsNode scope (OnName name) = (number : ℕ) × (place : ℕ) × (scope name ≡ Some (NodeArg number place))
 
--- all names of the script are known, by what they stand for in the end
-abbrev pub NamesAreKnown : List StmtTree → Type 0
-NamesAreKnown script = AreKnown (in_the_end first_scope (events_of script)) 1 (events_of script)
+-- what is written stands for something
+abbrev pub IsArg : Scope → Source → Type 0
+IsArg scope (FromLit lit at) = Unit {0}
+IsArg scope (FromStar at) = Unit {0}
+IsArg scope (FromLambda body at) = HasValues scope body
+IsArg scope (FromChain (OnNode number) at) = Unit {0}
+IsArg scope (FromChain (OnName name) at) = (arg : ArgTree) × (scope name ≡ Some arg)
+
+abbrev pub AreArgs : Scope → List Source → Type 0
+AreArgs scope [] = Unit {0}
+AreArgs scope (first ∷ rest) = IsArg scope first × AreArgs scope rest
+
+-- Each name is used behind its `var`, and stands for what may stand there; each `var` declares a new name.
+abbrev pub AreNamed : Scope → List Event → Type 0
+AreNamed scope [] = Unit {0}
+AreNamed scope (Makes kind under args at ∷ events) = IsNode scope under × AreArgs scope args × AreNamed scope events
+AreNamed scope (Sets name on args at ∷ events) = IsNode scope on × AreArgs scope args × AreNamed scope events
+AreNamed scope (Declares name value ∷ events) =
+    (is_taken scope name ≡ false) × IsArg scope value × AreNamed (with_name name (arg_of scope value) scope) events
+AreNamed scope (Uses value ∷ events) = IsArg scope value × AreNamed scope events
+AreNamed scope (Sees dbrp ∷ events) = AreNamed scope events
+
+-- a script whose names are all in order
+abbrev pub IsWellNamed : List StmtTree → Type 0
+IsWellNamed script = AreNamed first_scope (events_of script)
