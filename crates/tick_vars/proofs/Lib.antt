@@ -1,2 +1,12 @@
 mod NodeLaws
 mod NameLaws
+mod Steps
+mod Playing
+mod Lambdas
+mod Simulation
+mod Gathering
+mod Settling
+mod Quiet
+mod Statements
+mod Written
+mod Naming

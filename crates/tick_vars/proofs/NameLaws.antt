@@ -4,15 +4,15 @@ use Rattle.std.specs.Borrow.{Bor}
 use Rattle.std.specs.HashMap.{HashMap, UpdatesBy, get_by}
 use Rattle.std.specs.Map.{lookup}
 use Rattle.std.specs.Prelude.{bytes_eq, codes}
-use Rattle.std.specs.Result.{result_unwrap_or}
 use Rattle.std.proofs.lemmas.Map.Text.{hash_map_updates_str}
 use Rattle.tick_vars.specs.declared.nodes.Arg.{Arg}
 use Rattle.tick_vars.specs.declared.nodes.RawNode.{RawNode}
 use Rattle.tick_vars.specs.declared.nodes.Dbrp.{Dbrp}
 use Rattle.tick_vars.specs.declared.fault.VarFault.{VarFault}
-use Rattle.tick_vars.specs.Nodes.{ArgTree, NodeArg, NodeTree, arg_tree, node_tree, node_trees}
+use Rattle.tick_vars.specs.Nodes.{NodeArg, NodeTree, arg_tree, node_tree, node_trees}
 use Rattle.tick_vars.specs.Names.{Scope, first_scope, scope_of, with_name}
 use Rattle.tick_vars.specs.Binding.{SoFar, at_first, stream_node}
+use Rattle.tick_vars.proofs.Steps.{same_value}
 
 chosen : {A B : Type 0} (f : A → B) (test : Bool) (x : A) (other : Option A) → option_map f (cond test (Some x) other) ≡ cond test (Some (f x)) (option_map f other)
 chosen f true x other = refl
@@ -20,7 +20,7 @@ chosen f false x other = refl
 
 -- a name more
 pub name_put : {S : Type 0} (m n : HashMap (Bor (List ℕ)) Arg S) (name : List ℕ) (arg : Arg)
-  → UpdatesBy (λ x y. bytes_eq x.now y.now) (λ k. bytes_eq name k.now) m n (Some arg) → scope_of n ≡ with_name name (arg_tree arg) (scope_of m)
+    → UpdatesBy (λ x y. bytes_eq x.now y.now) (λ k. bytes_eq name k.now) m n (Some arg) → scope_of n ≡ with_name name (arg_tree arg) (scope_of m)
 name_put m n name arg updates i other = (ap (option_map arg_tree) (hash_map_updates_str name m n (Some arg) updates other) ∙ chosen arg_tree (bytes_eq name other) arg (get_by (λ k. bytes_eq other k.now) m)) i
 
 -- no names
@@ -29,16 +29,13 @@ no_names m is = λ i name. option_map arg_tree (lookup (λ key. bytes_eq name ke
 
 -- `stream` as the first name
 pub first_put : {S : Type 0} (m : HashMap (Bor (List ℕ)) Arg S) (scope : Scope) → m.entries ≡ []
-  → ◌≡◌ {A = Result Scope VarFault} (Ok (with_name (codes "stream") (NodeArg 0 0) (scope_of m))) (Ok scope) → ◌≡◌ {A = Result Scope VarFault} (Ok first_scope) (Ok scope)
+    → ◌≡◌ {A = Result Scope VarFault} (Ok (with_name (codes "stream") (NodeArg 0 0) (scope_of m))) (Ok scope) → ◌≡◌ {A = Result Scope VarFault} (Ok first_scope) (Ok scope)
 first_put m scope is put = sym (ap (λ s. Ok (with_name (codes "stream") (NodeArg 0 0) s)) (no_names m is)) ∙ put
-
-same_value : {A E : Type 0} (x y : A) → ◌≡◌ {A = Result A E} (Ok x) (Ok y) → x ≡ y
-same_value x y is = ap (λ r. result_unwrap_or r x) is
 
 -- what there is before the first statement
 pub begun : (scope : Scope) (node : RawNode) (before nodes : List RawNode) (dbrps : List Dbrp) → ◌≡◌ {A = Result Scope VarFault} (Ok first_scope) (Ok scope)
-  → ◌≡◌ {A = Result NodeTree VarFault} (Ok stream_node) (Ok (node_tree node)) → before ≡ [] → nodes ≡ before ++ node ∷ [] → dbrps ≡ []
-  → ◌≡◌ {A = Result SoFar VarFault} (Ok at_first) (Ok (record { scope = scope; nodes = node_trees nodes; dbrps = dbrps }))
+    → ◌≡◌ {A = Result NodeTree VarFault} (Ok stream_node) (Ok (node_tree node)) → before ≡ [] → nodes ≡ before ++ node ∷ [] → dbrps ≡ []
+    → ◌≡◌ {A = Result SoFar VarFault} (Ok at_first) (Ok (record { scope = scope; nodes = node_trees nodes; dbrps = dbrps }))
 begun scope node before nodes dbrps names is first one none =
     let stream : stream_node ∷ [] ≡ node_trees nodes = ap (λ n. n ∷ []) (same_value stream_node (node_tree node) is) ∙ sym (ap node_trees (one ∙ ap (λ l. l ++ node ∷ []) first)) in
     λ i. Ok (record { scope = same_value first_scope scope names i; nodes = stream i; dbrps = sym none i })

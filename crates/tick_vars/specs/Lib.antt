@@ -2,3 +2,4 @@ pub mod Nodes
 pub mod Names
 pub mod Binding
 pub mod Making
+pub mod Law

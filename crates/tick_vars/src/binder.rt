@@ -71,11 +71,7 @@ fn begin<'a>(alloc: Global) -> Result<Binder<'a>, VarFault>
 }
 
 /// Binds one statement more.
-fn bind_stmt<'a>(
-    alloc: Global,
-    binder: &mut Binder<'a>,
-    stmt: &'a Stmt,
-) -> Result<(), VarFault>
+fn bind_stmt<'a>(alloc: Global, binder: &mut Binder<'a>, stmt: &'a Stmt) -> Result<(), VarFault>
     ensures { Gives (λ _. made_by binder.new) result (bound_stmt (made_by binder.old) (stmt_tree stmt.now)) }
 {
     match stmt {

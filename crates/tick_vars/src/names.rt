@@ -30,11 +30,7 @@ pub(crate) fn is_taken(names: &Names, name: &Text) -> bool
 }
 
 /// What the name at this place stands for.
-pub(crate) fn look_up<'a>(
-    names: &'a Names,
-    name: &Text,
-    at: u32,
-) -> Result<&'a Arg, VarFault>
+pub(crate) fn look_up<'a>(names: &'a Names, name: &Text, at: u32) -> Result<&'a Arg, VarFault>
     ensures arg { IfOk result (λ arg. looked_up (scope_of names.now) name.now at ≡ Ok (arg_tree arg.now)) }
     ensures fault { IfErr result (λ fault. looked_up (scope_of names.now) name.now at ≡ Err fault) }
 {
