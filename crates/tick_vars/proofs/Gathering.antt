@@ -23,14 +23,14 @@ given_same p q number (node ∷ nodes) same = λ i.
     record node { props = node.props ++ same number (omega arith) i } ∷ given_same p q (number + 1) nodes (λ n le. same n (omega arith)) i
 
 given_push : (p : ℕ → List PropTree) (number next : ℕ) (nodes : List NodeTree) (node : NodeTree) → number + length nodes ≡ next
-  → given p number (nodes ++ node ∷ []) ≡ given p number nodes ++ record node { props = node.props ++ p next } ∷ []
+    → given p number (nodes ++ node ∷ []) ≡ given p number nodes ++ record node { props = node.props ++ p next } ∷ []
 given_push p number next [] node is = let e : number ≡ next = omega arith in ap (λ n. record node { props = node.props ++ p n } ∷ []) e
 given_push p number next (first ∷ nodes) node is =
     ap (λ l. record first { props = first.props ++ p number } ∷ l) (given_push p (number + 1) next nodes node (omega arith))
 
 -- a property more, on the node with the number `at`, which is the `other`th of these
 given_set : (p q : ℕ → List PropTree) (number other at : ℕ) (prop : PropTree) (nodes : List NodeTree) → number + other ≡ at
-  → q at ≡ prop ∷ p at → ((n : ℕ) → (n ≡ at → ⊥) → q n ≡ p n) → given p number (with_prop other prop nodes) ≡ given q number nodes
+    → q at ≡ prop ∷ p at → ((n : ℕ) → (n ≡ at → ⊥) → q n ≡ p n) → given p number (with_prop other prop nodes) ≡ given q number nodes
 given_set p q number other at prop [] is here there = refl
 given_set p q number zero at prop (node ∷ nodes) is here there =
     let e : number ≡ at = omega arith in
@@ -57,7 +57,7 @@ below f next (OnNode number) h = h
 below f next (OnName name) h = let e : number_of (f name) ≡ h.0 = ap number_of h.2 in let lt = h.3 in omega arith
 
 pub gathered : (f : Scope) (es : List Event) (next : ℕ) (nodes : List NodeTree) → length nodes ≡ next → AllBelow f next es
-  → play f es nodes ≡ given (λ n. props_on f n es) 0 nodes ++ nodes_made f (λ n. props_on f n es) next es
+    → play f es nodes ≡ given (λ n. props_on f n es) 0 nodes ++ nodes_made f (λ n. props_on f n es) next es
 gathered f [] next nodes len stands = given_none 0 nodes ∙ sym (append-nil (given (λ _. []) 0 nodes))
 gathered f (Makes kind under args at ∷ es) next nodes len stands =
     let node : NodeTree = record { kind = kind; parent = node_at f under; args = map (arg_of f) args; props = []; at = at } in

@@ -119,15 +119,19 @@ module _ (s : Scope) (no_batch : NoBatch s) where
     lambda_ok (Joined op left right at) h =
         let l = lambda_ok left h.0 in
         let r = lambda_ok right h.1 in
-        let u = Joined op l.0 r.0 at in
-        (u, then_ok (bound_lambda s left) (λ left. bound_lambda s right >>= λ right. Ok (Joined op left right at)) l.0 u l.1
-          (then_ok (bound_lambda s right) (λ right. Ok (Joined op l.0 right at)) r.0 u r.1 refl))
+        let u = Joined op l.0 r.0 at in (
+          u,
+          then_ok (bound_lambda s left) (λ left. bound_lambda s right >>= λ right. Ok (Joined op left right at)) l.0 u l.1
+              (then_ok (bound_lambda s right) (λ right. Ok (Joined op l.0 right at)) r.0 u r.1 refl),
+        )
 
     pub lambdas_ok : (ts : Trees) → AllHaveValues s ts → (us : Trees) × (bound_lambdas s ts ≡ Ok us)
     lambdas_ok NoTrees h = (NoTrees, refl)
     lambdas_ok (MoreTrees first rest) h =
         let l = lambda_ok first h.0 in
         let r = lambdas_ok rest h.1 in
-        let us = MoreTrees l.0 r.0 in
-        (us, then_ok (bound_lambda s first) (λ first. bound_lambdas s rest >>= λ rest. Ok (MoreTrees first rest)) l.0 us l.1
-          (then_ok (bound_lambdas s rest) (λ rest. Ok (MoreTrees l.0 rest)) r.0 us r.1 refl))
+        let us = MoreTrees l.0 r.0 in (
+          us,
+          then_ok (bound_lambda s first) (λ first. bound_lambdas s rest >>= λ rest. Ok (MoreTrees first rest)) l.0 us l.1
+              (then_ok (bound_lambdas s rest) (λ rest. Ok (MoreTrees l.0 rest)) r.0 us r.1 refl),
+        )

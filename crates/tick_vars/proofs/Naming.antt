@@ -136,7 +136,7 @@ first_node s next on false name args at rest h =
 module _ (s : Scope) (no_batch : NoBatch s) where
   -- a chain, where its links are bound
   chain_ok : (head : List ℕ) (links : JointTrees) (at next : ℕ) (nodes : List NodeTree) → ((made : Made ℕ) → (m : Made ℕ) × (bound_links s made links ≡ Ok m))
-    → AreNamed s (done_along next (OnName head) links) → IsArg s (FromChain (end_of next (OnName head) links) at) → (m : Made ArgTree) × (bound_val s nodes (Chained head links at) ≡ Ok m)
+      → AreNamed s (done_along next (OnName head) links) → IsArg s (FromChain (end_of next (OnName head) links) at) → (m : Made ArgTree) × (bound_val s nodes (Chained head links at) ≡ Ok m)
   chain_ok head NoJoints at next nodes along named is =
       let m : Made ArgTree = record { value = handed_on at is.0; nodes = nodes } in
       (m, then_ok (looked_up s head at) (λ arg. Ok (record { value = handed_on at arg; nodes = nodes })) is.0 m (told s no_batch head at is.0 is.1) refl)
@@ -219,7 +219,7 @@ stmts_ok (stmt ∷ script) s next no_batch ins len named =
     let mid = a.0 in
     let one = stmt_done s.scope s mid stmt next (λ n x h. h) ins len a.1 in
     let r = stmts_ok script mid then (subst NoBatch (sym one.scope_is) (batch_kept s.scope es no_batch parts.0)) one.in_scope
-      (length_done s.scope next (pipes_of stmt) es s.nodes mid.nodes one.done len) (subst (λ x. AreNamed x fs) (sym one.scope_is) parts.1) in
+    (length_done s.scope next (pipes_of stmt) es s.nodes mid.nodes one.done len) (subst (λ x. AreNamed x fs) (sym one.scope_is) parts.1) in
     (r.0, then_ok (bound_stmt s stmt) (λ x. bound_stmts x script) mid r.0 a.1 r.1)
 
 first_no_batch : NoBatch first_scope

@@ -88,9 +88,9 @@ length_done f next count events nodes after h is =
 
 -- a node, and what comes after it
 done_node : (f : Scope) (next count on_number at : ℕ) (name : List ℕ) (on : Anchor) (from : List Source) (args : List ArgTree) (events : List Event) (nodes after : List NodeTree)
-  → NodeBelow f next on → on_number ≡ node_at f on → ArgsBelow f next from → args ≡ map (arg_of f) from
-  → Done f (next + 1) count events (nodes ++ record { kind = name; parent = on_number; args = args; props = []; at = at } ∷ []) after
-  → Done f next (1 + count) (Makes name on from at ∷ events) nodes after
+    → NodeBelow f next on → on_number ≡ node_at f on → ArgsBelow f next from → args ≡ map (arg_of f) from
+    → Done f (next + 1) count events (nodes ++ record { kind = name; parent = on_number; args = args; props = []; at = at } ∷ []) after
+    → Done f next (1 + count) (Makes name on from at ∷ events) nodes after
 done_node f next count on_number at name on from args events nodes after is_on on_is are args_are h = record {
   after_is = h.after_is ∙ (λ i. play f events (nodes ++ record { kind = name; parent = on_is i; args = args_are i; props = []; at = at } ∷ []));
   counted = ap (λ k. 1 + k) h.counted;
@@ -99,9 +99,9 @@ done_node f next count on_number at name on from args events nodes after is_on o
 
 -- a property, and what comes after it
 done_prop : (f : Scope) (next count on_number at : ℕ) (name : List ℕ) (on : Anchor) (from : List Source) (args : List ArgTree) (events : List Event) (nodes after : List NodeTree)
-  → NodeBelow f next on → on_number ≡ node_at f on → ArgsBelow f next from → args ≡ map (arg_of f) from
-  → Done f next count events (with_prop on_number (record { name = name; args = args; at = at }) nodes) after
-  → Done f next count (Sets name on from at ∷ events) nodes after
+    → NodeBelow f next on → on_number ≡ node_at f on → ArgsBelow f next from → args ≡ map (arg_of f) from
+    → Done f next count events (with_prop on_number (record { name = name; args = args; at = at }) nodes) after
+    → Done f next count (Sets name on from at ∷ events) nodes after
 done_prop f next count on_number at name on from args events nodes after is_on on_is are args_are h = record {
   after_is = h.after_is ∙ (λ i. play f events (with_prop (on_is i) (record { name = name; args = args_are i; at = at }) nodes));
   counted = h.counted;
@@ -126,15 +126,16 @@ LinksDone f next on links made m =
 
 -- a chain, where its links are done
 chain_done : (s f : Scope) → Extends s f → (head : List ℕ) (links : JointTrees) (at next : ℕ) (nodes : List NodeTree) (m : Made ArgTree) → InScope next s
-  → ((made last : Made ℕ) → length made.nodes ≡ next → NodeBelow f next (OnName head) → made.value ≡ node_at f (OnName head) → bound_links s made links ≡ Ok last → LinksDone f next (OnName head) links made last)
-  → length nodes ≡ next → bound_val s nodes (Chained head links at) ≡ Ok m → ValDone f next (Chained head links at) nodes m
+    → ((made last : Made ℕ) → length made.nodes ≡ next → NodeBelow f next (OnName head) → made.value ≡ node_at f (OnName head) → bound_links s made links ≡ Ok last → LinksDone f next (OnName head) links made last)
+    → length nodes ≡ next → bound_val s nodes (Chained head links at) ≡ Ok m → ValDone f next (Chained head links at) nodes m
 chain_done s f extends head NoJoints at next nodes m ins along len is =
     let a = both_ok (looked_up s head at) (λ arg. Ok (record { value = handed_on at arg; nodes = nodes })) m is in
     let there = found s head at a.0 a.1 in
-    let e = same_value (record { value = handed_on at a.0; nodes = nodes }) m a.2 in
-    (sym (ap (λ x. x.value) e) ∙ sym (ap (λ o. handed_on at (unwrap_or o (StarArg at))) (extends head a.0 there)),
+    let e = same_value (record { value = handed_on at a.0; nodes = nodes }) m a.2 in (
+      sym (ap (λ x. x.value) e) ∙ sym (ap (λ o. handed_on at (unwrap_or o (StarArg at))) (extends head a.0 there)),
       (a.0, extends head a.0 there, settled_more next (next + 0) a.0 (omega arith) (ins head a.0 there)),
-      done_nothing f next nodes m.nodes (ap (λ x. x.nodes) e))
+      done_nothing f next nodes m.nodes (ap (λ x. x.nodes) e),
+    )
 chain_done s f extends head (MoreJoints node name args place rest) at next nodes m ins along len is =
     let links = MoreJoints node name args place rest in
     let go : ℕ → Result (Made ℕ) VarFault = λ number. bound_links s (record { value = number; nodes = nodes }) links in
@@ -147,10 +148,11 @@ chain_done s f extends head (MoreJoints node name args place rest) at next nodes
     let below : b.0 < next = subst (Settled next) n.1 (ins head d.0 there) in
     let r = along (record { value = b.0; nodes = nodes }) a.0 len (b.0, n.0, told, below) (sym (ap number_of told)) b.2 in
     let e = same_value (record { value = NodeArg (a.0).value at; nodes = (a.0).nodes }) m a.2 in
-    let last = end_of next (OnName head) links in
-    (sym (ap (λ x. x.value) e) ∙ ap (λ k. NodeArg k at) r.0 ∙ chain_arg f (next + pipes_along links) at last r.1,
+    let last = end_of next (OnName head) links in (
+      sym (ap (λ x. x.value) e) ∙ ap (λ k. NodeArg k at) r.0 ∙ chain_arg f (next + pipes_along links) at last r.1,
       chain_is_arg f (next + pipes_along links) at last r.1,
-      subst (λ after. Done f next (pipes_along links) (done_along next (OnName head) links) nodes after) (ap (λ x. x.nodes) e) r.2)
+      subst (λ after. Done f next (pipes_along links) (done_along next (OnName head) links) nodes after) (ap (λ x. x.nodes) e) r.2,
+    )
 
 module _ (s f : Scope) (extends : Extends s f) where
   mutual
@@ -178,13 +180,14 @@ module _ (s f : Scope) (extends : Extends s f) where
         let v = val_done first next made.nodes a.0 ins len a.1 in
         let then = next + pipes_in first in
         let r = vals_done rest then (and_arg made.value a.0) m (scope_more next then s (omega arith) ins) (length_done f next (pipes_in first) (done_in next first) made.nodes (a.0).nodes v.2 len) a.2 in
-        let same : then + pipes_among rest ≡ next + (pipes_in first + pipes_among rest) = omega arith in
-        (r.0 ∙ append_assoc made.value ((a.0).value ∷ []) (map (arg_of f) (sources then rest)) ∙ ap (λ x. made.value ++ x ∷ map (arg_of f) (sources then rest)) v.0,
+        let same : then + pipes_among rest ≡ next + (pipes_in first + pipes_among rest) = omega arith in (
+          r.0 ∙ append_assoc made.value ((a.0).value ∷ []) (map (arg_of f) (sources then rest)) ∙ ap (λ x. made.value ++ x ∷ map (arg_of f) (sources then rest)) v.0,
           (arg_more f then (next + (pipes_in first + pipes_among rest)) (source next first) (omega arith) v.1, subst (λ k. ArgsBelow f k (sources then rest)) same r.1),
-          done_both f next (pipes_in first) (pipes_among rest) (pipes_in first + pipes_among rest) (done_in next first) (done_among then rest) made.nodes (a.0).nodes m.nodes refl v.2 r.2)
+          done_both f next (pipes_in first) (pipes_among rest) (pipes_in first + pipes_among rest) (done_in next first) (done_among then rest) made.nodes (a.0).nodes m.nodes refl v.2 r.2,
+        )
 
     pub links_done : (links : JointTrees) (next : ℕ) (on : Anchor) (made m : Made ℕ) → InScope next s → length made.nodes ≡ next → NodeBelow f next on → made.value ≡ node_at f on
-      → bound_links s made links ≡ Ok m → LinksDone f next on links made m
+        → bound_links s made links ≡ Ok m → LinksDone f next on links made m
     links_done NoJoints next on made m ins len is_on on_is is =
         let e = same_value made m is in
         (sym (ap (λ x. x.value) e) ∙ on_is, node_more f next (next + 0) on (omega arith) is_on, done_nothing f next made.nodes m.nodes (ap (λ x. x.nodes) e))
@@ -197,12 +200,14 @@ module _ (s f : Scope) (extends : Extends s f) where
         let node : NodeTree = record { kind = name; parent = made.value; args = w.value; props = []; at = at } in
         let more = length_push w.nodes node in
         let r = links_done rest (then + 1) (OnNode then) (linked true name at made.value w) m (scope_more next (then + 1) s (omega arith) ins) (omega arith) (omega arith) count a.2 in
-        let same : then + 1 + pipes_along rest ≡ next + (pipes_among args + 1 + pipes_along rest) = omega arith in
-        (r.0, subst (λ k. NodeBelow f k (end_of (then + 1) (OnNode then) rest)) same r.1,
+        let same : then + 1 + pipes_along rest ≡ next + (pipes_among args + 1 + pipes_along rest) = omega arith in (
+          r.0,
+          subst (λ k. NodeBelow f k (end_of (then + 1) (OnNode then) rest)) same r.1,
           done_both f next (pipes_among args) (1 + pipes_along rest) (pipes_among args + 1 + pipes_along rest) (done_among next args) (Makes name on (sources next args) at ∷ done_along (then + 1) (OnNode then) rest)
-            made.nodes w.nodes m.nodes (omega arith) v.2
-            (done_node f then (pipes_along rest) made.value at name on (sources next args) w.value (done_along (then + 1) (OnNode then) rest) w.nodes m.nodes
-              (node_more f next then on (omega arith) is_on) on_is v.1 v.0 r.2))
+              made.nodes w.nodes m.nodes (omega arith) v.2
+              (done_node f then (pipes_along rest) made.value at name on (sources next args) w.value (done_along (then + 1) (OnNode then) rest) w.nodes m.nodes
+              (node_more f next then on (omega arith) is_on) on_is v.1 v.0 r.2),
+        )
     links_done (MoreJoints false name args at rest) next on made m ins len is_on on_is is =
         let a = both_ok (bound_vals s (record { value = []; nodes = made.nodes }) args) (λ w. bound_links s (linked false name at made.value w) rest) m is in
         let w = a.0 in
@@ -212,8 +217,10 @@ module _ (s f : Scope) (extends : Extends s f) where
         let kept = length_with_prop made.value (record { name = name; args = w.value; at = at }) w.nodes in
         let is_then = node_more f next then on (omega arith) is_on in
         let r = links_done rest then on (linked false name at made.value w) m (scope_more next then s (omega arith) ins) (kept ∙ count) is_then on_is a.2 in
-        let same : then + pipes_along rest ≡ next + (pipes_among args + 0 + pipes_along rest) = omega arith in
-        (r.0, subst (λ k. NodeBelow f k (end_of then on rest)) same r.1,
+        let same : then + pipes_along rest ≡ next + (pipes_among args + 0 + pipes_along rest) = omega arith in (
+          r.0,
+          subst (λ k. NodeBelow f k (end_of then on rest)) same r.1,
           done_both f next (pipes_among args) (pipes_along rest) (pipes_among args + 0 + pipes_along rest) (done_among next args) (Sets name on (sources next args) at ∷ done_along then on rest)
-            made.nodes w.nodes m.nodes (omega arith) v.2
-            (done_prop f then (pipes_along rest) made.value at name on (sources next args) w.value (done_along then on rest) w.nodes m.nodes is_then on_is v.1 v.0 r.2))
+              made.nodes w.nodes m.nodes (omega arith) v.2
+              (done_prop f then (pipes_along rest) made.value at name on (sources next args) w.value (done_along then on rest) w.nodes m.nodes is_then on_is v.1 v.0 r.2),
+        )

@@ -37,7 +37,7 @@ with_name_scope k s name arg ins settled other told =
 
 -- a `var` that was bound
 pub declared_ok : (s s' : SoFar) (name : List ℕ) (value : ValTree) (at : ℕ) → bound_stmt s (Declared name value at) ≡ Ok s'
-  → (made : Made ArgTree) × (bound_val s.scope s.nodes value ≡ Ok made) × (s.scope name ≡ None) × (record { scope = with_name name made.value s.scope; nodes = made.nodes; dbrps = s.dbrps } ≡ s') × (is_taken s.scope name ≡ false)
+    → (made : Made ArgTree) × (bound_val s.scope s.nodes value ≡ Ok made) × (s.scope name ≡ None) × (record { scope = with_name name made.value s.scope; nodes = made.nodes; dbrps = s.dbrps } ≡ s') × (is_taken s.scope name ≡ false)
 declared_ok s s' name value at is =
     let rest : Result SoFar VarFault = bound_val s.scope s.nodes value >>= λ made. Ok (record { scope = with_name name made.value s.scope; nodes = made.nodes; dbrps = s.dbrps }) in
     let free : (is_taken s.scope name ≡ false) × (rest ≡ Ok s') =
@@ -67,7 +67,7 @@ pub record StmtsDone (f : Scope) (next count : ℕ) (events : List Event) (s s' 
   pub done : Done f next count events s.nodes s'.nodes
 
 pub stmt_done : (f : Scope) (s s' : SoFar) (stmt : StmtTree) (next : ℕ) → Extends s.scope f → InScope next s.scope → length s.nodes ≡ next → bound_stmt s stmt ≡ Ok s'
-  → StmtsDone f next (pipes_of stmt) (done_by next stmt) s s'
+    → StmtsDone f next (pipes_of stmt) (done_by next stmt) s s'
 stmt_done f s s' (Declared name value at) next ext ins len is =
     let d = declared_ok s s' name value at is in
     let count = pipes_in value in
@@ -116,7 +116,7 @@ pipes_in_all [] = 0
 pipes_in_all (stmt ∷ script) = pipes_of stmt + pipes_in_all script
 
 pub stmts_done : (f : Scope) (script : List StmtTree) (s s' : SoFar) (next : ℕ) → Extends s'.scope f → InScope next s.scope → length s.nodes ≡ next → bound_stmts s script ≡ Ok s'
-  → StmtsDone f next (pipes_in_all script) (all_done next script) s s'
+    → StmtsDone f next (pipes_in_all script) (all_done next script) s s'
 unfolding pipes_in_all
 stmts_done f [] s s' next ext ins len is = subst (λ x. StmtsDone f next 0 [] s x) (same_value s s' is) (record {
   scope_is = refl;
