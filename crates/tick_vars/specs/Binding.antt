@@ -62,10 +62,11 @@ pub record SoFar : Type 0 where
   pub nodes : List NodeTree
   pub dbrps : List Dbrp
 
--- before the first statement: the stream alone
+-- node 0, as it stands before the first statement
 abbrev pub stream_node : NodeTree
 stream_node = record { kind = codes "stream"; parent = 0; args = []; props = []; at = 0 }
 
+-- what there is before the first statement: the stream alone
 abbrev pub at_first : SoFar
 at_first = record { scope = first_scope; nodes = stream_node ∷ []; dbrps = [] }
 

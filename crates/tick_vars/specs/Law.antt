@@ -204,6 +204,7 @@ Settled below (StarArg at) = Unit {0}
 Settled below (LambdaArg body at) = Nameless body
 Settled below (NodeArg number at) = number < below
 
+-- the same of each of a list
 abbrev pub AllSettled : ℕ → List ArgTree → Type 0
 AllSettled below [] = Unit {0}
 AllSettled below (arg ∷ args) = Settled below arg × AllSettled below args
@@ -264,6 +265,7 @@ IsArg scope (FromLambda body at) = HasValues scope body
 IsArg scope (FromChain (OnNode number) at) = Unit {0}
 IsArg scope (FromChain (OnName name) at) = (arg : ArgTree) × (scope name ≡ Some arg)
 
+-- the same of each of a list
 abbrev pub AreArgs : Scope → List Source → Type 0
 AreArgs scope [] = Unit {0}
 AreArgs scope (first ∷ rest) = IsArg scope first × AreArgs scope rest
