@@ -8,7 +8,6 @@ ghost use Rattle.kap_base.specs.Words.{Answers};
 ghost use Rattle.kap_base.specs.declared.value.Value.TheVariants.{Str};
 ghost use Rattle.lambda_types.specs.Faults.{patterns_of};
 ghost use Rattle.lambda_types.specs.Functions.{function_named};
-ghost use Rattle.lambda_types.specs.Typed.{is_time};
 ghost use Rattle.lambda_eval.specs.Runs.{tree_run};
 ghost use Rattle.lambda_eval.specs.Seen.{are_fit, is_fit, is_fit_lit, Sees, value_seen};
 ghost use Rattle.lambda_eval.specs.Values.{all_values, and_value, at_name, call_value, count_value, found, if_value, joined, lit_value, matched, only_name, or_value, part_value, pattern_in, present_value, val, vals};

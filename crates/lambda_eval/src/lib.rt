@@ -9,3 +9,6 @@ mod seen;
 
 pub use lambda_fns::EvalFault;
 pub use run::{Run, types_hold, value};
+
+#[cfg(test)]
+mod tests;

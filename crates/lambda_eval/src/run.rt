@@ -18,7 +18,9 @@ use lambda_fns::EvalFault;
 use lambda_types::{Lambda, Ready};
 use std::alloc::Global;
 
-/// The evaluations of one lambda at many points. It keeps what its patterns need to search, once they have been asked for.
+/// The evaluations of one lambda at many points (Kapacitor 1.6 TICKscript language reference: lambda expressions). It keeps
+/// what its patterns need to search, once they have been asked for: to make that anew takes much longer than to search.
+/// Contracts see it as the tree of its lambda.
 #[derive(Drop)]
 pub struct Run<'a> {
     lambda: &'a Lambda,
@@ -72,6 +74,7 @@ impl<'a> Run<'a> {
         Ok(found)
     }
 
+    /// `value`, without what types say of it.
     fn found(&mut self, alloc: Global, k: u64, point: &Point) -> Result<Value, EvalFault>
         requires early { k < 2 ^ 62 }
         ensures answer { Answers EvalFault.NoMemory result (val (tree_run self.old) k point.now) }
@@ -83,7 +86,8 @@ impl<'a> Run<'a> {
         Ok(seen.into_value(alloc)?)
     }
 
-    /// The value at a point, as `value` gives it. `k` is the number of earlier evaluations in the point's group.
+    /// The lambda's value at a point, or its first fault, as `value` gives them. `k` is the number of earlier evaluations of
+    /// the lambda in the point's group, below 2^62. After any answer the run is one of the same lambda.
     pub fn value(&mut self, alloc: Global, k: u64, point: &Point) -> Result<Value, EvalFault>
         requires early { k < 2 ^ 62 }
         ensures answer { Answers EvalFault.NoMemory result (val (tree_run self.old) k point.now) }
@@ -95,7 +99,21 @@ impl<'a> Run<'a> {
     }
 }
 
-/// The value of a lambda at a point.
+/// The value of a lambda at a point, or its first fault from left to right (Kapacitor 1.6 TICKscript language reference:
+/// lambda expressions). A reference is the field of its name, else the tag; sums, differences and products are brought into
+/// 64 bits; `OR`, `AND` and `if` evaluate only what decides. `k` is the number of earlier evaluations of the lambda in the
+/// point's group, below 2^62. Whatever the answer, the lambda stays as it was. The faults, each with its byte offset in the
+/// script:
+///
+/// - `Missing` at a reference to what is neither a field nor a tag of the point;
+/// - `Kind` at an operator or the name of a function that doesn't take the type of a value that it is given;
+/// - `ZeroDivisor` at a `/` or `%` whose right side is 0;
+/// - `Range` at a function that has no value, or at a `+` whose text would have more than 65,536 bytes;
+/// - `NoMemory` where memory ran out.
+///
+/// At a point that has what a typed lambda needs, each with its type, neither `Missing` nor `Kind` comes. A text is made only
+/// by `+` and by functions, and copied only as a value or as a function's argument. Patterns are made ready to search anew in
+/// each call: a `Run` keeps them.
 pub fn value(alloc: Global, lambda: &mut Lambda, k: u64, point: &Point) -> Result<Value, EvalFault>
     requires early { k < 2 ^ 62 }
     ensures answer { Answers EvalFault.NoMemory result (val (tree_in lambda.old) k point.now) }
@@ -106,7 +124,7 @@ pub fn value(alloc: Global, lambda: &mut Lambda, k: u64, point: &Point) -> Resul
     Run::new(alloc, lambda).value(alloc, k, point)
 }
 
-/// A lambda of a type has a value of that type, or a fault that types don't rule out, at each point that has what it needs.
+/// A lambda of a type has a value of that type, or `ZeroDivisor` or `Range`, at each point that has what it needs.
 pub fn types_hold()
     ensures { (tree : Tree) (ty : Ty) (needs : List Need) (k : ℕ) (point : Series) → Typed tree ty needs → HasNeeds point needs → HasType ty (val tree k point) }
 {}
