@@ -1,4 +1,3 @@
-use Rattle.kap_base.specs.Tree.{tree_of}
 use Rattle.lambda_eval.proofs.FitLaws.{fit}
 use Rattle.lambda_eval.proofs.run.Run.found.Goals as goal
 
