@@ -3,3 +3,4 @@ pub mod FaultLaws
 pub mod TypeLaws
 pub mod CleanLaws
 pub mod Weights
+pub mod SomeType

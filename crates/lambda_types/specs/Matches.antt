@@ -3,7 +3,8 @@ use Rattle.std.specs.Prelude.{◌≡◌, ◌⊎◌, ℕ, ◌^◌, ◌-◌, ◌<�
 use Rattle.std.specs.Option.{option_map_or}
 use Rattle.std.specs.Str.{chars}
 use Rattle.regex.specs.Patterns.{find_str, default_config}
-use Rattle.regex.specs.Strings.{regex_pattern, regex_source}
+use Rattle.regex.specs.Strings.{matcher_pattern, regex_pattern, regex_source}
+use Rattle.regex.specs.declared.string.matcher.Matcher.{Matcher}
 use Rattle.regex.specs.declared.string.regex.Regex.{Regex}
 use Rattle.regex_syntax.specs.Grammar.{read}
 
@@ -15,6 +16,10 @@ matches pattern text = option_map_or (λ (re, names). is_some (find_str re.value
 -- the regex finds a match exactly where its text says that there is one
 abbrev pub MatchesAsWritten : Regex → Type 0
 MatchesAsWritten r = (text : List ℕ) → ((k : ℕ) → slice_index text k < 256) → is_some (find_str (regex_pattern r) text 0) ≡ matches (regex_source r) text
+
+-- and so does what searches for a regex that was read in this text
+abbrev pub SearchesAsWritten : Matcher → List ℕ → Type 0
+SearchesAsWritten m pattern = (text : List ℕ) → ((k : ℕ) → slice_index text k < 256) → is_some (find_str (matcher_pattern m) text 0) ≡ matches pattern text
 
 -- the count rose, where one that stands at its end counts as risen
 abbrev pub Rose : ℕ → ℕ → Type 0

@@ -15,9 +15,10 @@ use kap_base::{Expr, Text};
 use std::alloc::Global;
 
 impl Lambda {
-    /// Its expression.
+    /// Its expression, which has some type.
     pub fn expr(&self) -> &Expr
-        ensures { tree_of result.now ≡ tree_in self.now }
+        ensures same { tree_of result.now ≡ tree_in self.now }
+        ensures typed { HasSomeType (tree_in self.now) }
     {
         &self.expr
     }

@@ -1,7 +1,7 @@
-ghost use Rattle.std.specs.Prelude.{◌≡◌};
+ghost use Rattle.std.specs.Prelude.{◌≡◌, IsTrue};
 ghost use Rattle.kap_base.specs.Tree.{tree_of};
 ghost use Rattle.lambda_types.specs.Faults.{patterns_of};
-ghost use Rattle.lambda_types.specs.Sets.{types_of};
+ghost use Rattle.lambda_types.specs.Sets.{has_value, types_of};
 
 use crate::patterns::Pattern;
 use crate::types::Types;
@@ -15,5 +15,6 @@ pub struct Lambda {
     pub(crate) types: Types,
     pub(crate) patterns: Vec<Pattern>,
     ghost has_types: { types ≡ types_of (tree_of expr) },
+    ghost has_some: { IsTrue (has_value types) },
     ghost has_patterns: { patterns.items ≡ patterns_of (tree_of expr) },
 }

@@ -13,7 +13,7 @@ pub use fault::TypeFault;
 pub use functions::Function;
 pub use inference::{infer, typed_without_fault};
 pub use lambda::Lambda;
-pub use patterns::{Pattern, PatternFault, Patterns, RegexPatterns};
+pub use patterns::{Pattern, PatternFault, Patterns, Ready, RegexPatterns};
 pub use types::Ty;
 
 #[cfg(test)]

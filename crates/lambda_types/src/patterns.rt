@@ -1,9 +1,9 @@
 ghost use Rattle.std.specs.Prelude.{◌≡◌, ◌<◌, ◌≤◌, ◌+◌, ◌-◌, ◌^◌, Contains, IfErr, IfOk, false, is_ok};
-ghost use Rattle.lambda_types.specs.Matches.{matches, MatchesAsWritten, Rose};
+ghost use Rattle.lambda_types.specs.Matches.{matches, MatchesAsWritten, Rose, SearchesAsWritten};
 ghost use Rattle.lambda_types.specs.Builds.{begun, numbers};
 
 use kap_base::{NoMemory, Text};
-use regex::Regex;
+use regex::{Matcher, Regex};
 use std::alloc::Global;
 use std::marker::Model;
 
@@ -51,12 +51,54 @@ impl Pattern {
         self.regex.as_str()
     }
 
-    /// Whether it matches anywhere in a text.
+    /// Whether it matches anywhere in a text. Each call makes anew what `ready` keeps.
     pub fn is_match(&self, alloc: Global, text: &str) -> Result<bool, NoMemory>
         ensures { IfOk result (λ found. found ≡ matches self.now text.now) }
     {
-        let mut matcher = self.regex.matcher(alloc)?;
-        Ok(matcher.is_match(text))
+        Ok(self.ready(alloc)?.is_match(text))
+    }
+
+    /// The pattern with what it needs to search many texts.
+    pub fn ready(&self, alloc: Global) -> Result<Ready<'_>, NoMemory>
+        ensures { IfOk result (λ ready. ready ≡ self.now) }
+    {
+        Ok(Ready {
+            matcher: self.regex.matcher(alloc)?,
+            pattern: self,
+        })
+    }
+}
+
+/// A pattern that is ready to search many texts. Contracts see it as the text that the pattern was read in.
+#[derive(Drop)]
+pub struct Ready<'a> {
+    matcher: Matcher<'a>,
+    pattern: &'a Pattern,
+    ghost as_written: { SearchesAsWritten matcher pattern.now },
+}
+
+impl<'a> Model for Ready<'a> {
+    ghost use Rattle.std.specs.Prelude.{List, ℕ};
+
+    ghost Value = { List ℕ };
+
+    ghost view = { λ r. r.pattern.now };
+}
+
+impl Ready<'_> {
+    /// The text that its pattern was read in, without slashes.
+    pub fn text(&self) -> &str
+        ensures { result.now ≡ self.now }
+    {
+        self.pattern.text()
+    }
+
+    /// Whether its pattern matches anywhere in a text.
+    pub fn is_match(&mut self, text: &str) -> bool
+        ensures found { result ≡ matches self.old text.now }
+        ensures same { self.new ≡ self.old }
+    {
+        self.matcher.is_match(text)
     }
 }
 

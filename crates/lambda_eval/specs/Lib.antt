@@ -1,0 +1,4 @@
+pub mod Values
+pub mod Seen
+pub mod Runs
+pub mod Soundness
