@@ -1,2 +1,3 @@
 pub mod KeyMapLaws
 pub mod ManyLaws
+pub mod Utf8Laws

@@ -3,3 +3,4 @@ pub mod Texts
 pub mod Maps
 pub mod Points
 pub mod Tree
+pub mod Utf8

@@ -11,15 +11,15 @@ abbrev pub byte_order : List ℕ → List ℕ → Ordering
 byte_order = slice_cmp nat_cmp
 
 -- A finite map from texts, in byte order. To insert at a key that is there puts the new value in the old one's place.
-abbrev pub TextMap : Type 0 → Type 0
-TextMap V = FinMap byte_order V
+abbrev pub KeyMap : Type 0 → Type 0
+KeyMap V = FinMap byte_order V
 
 -- maps from texts are told apart by their entries
-abbrev pub text_map_code : {V : Type 0} → Coded V → Coded (TextMap V)
-text_map_code v = code (coded_list coded_ℕ) v
+abbrev pub key_map_code : {V : Type 0} → Coded V → Coded (KeyMap V)
+key_map_code v = code (coded_list coded_ℕ) v
 
 -- a map with these entries, put one after the other: of equal keys the last one counts
-abbrev pub with_entries : {V : Type 0} → TextMap V → List (List ℕ × V) → TextMap V
+abbrev pub with_entries : {V : Type 0} → KeyMap V → List (List ℕ × V) → KeyMap V
 with_entries m [] = m
 with_entries m (e ∷ es) = with_entries (insert m e.0 e.1) es
 

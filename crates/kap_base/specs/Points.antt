@@ -7,14 +7,14 @@ use Rattle.std.specs.Ordering.{is_lt}
 use Rattle.kap_base.specs.declared.value.Value.{Value}
 use Rattle.kap_base.specs.declared.value.Value.TheVariants as values
 use Rattle.kap_base.specs.Texts.{is_line, is_name, is_measurement}
-use Rattle.kap_base.specs.Maps.{TextMap, byte_order}
+use Rattle.kap_base.specs.Maps.{KeyMap, byte_order}
 
-pub record Series : Type 0 where
+pub record PointValue : Type 0 where
   pub db : List ℕ
   pub rp : List ℕ
   pub name : List ℕ
-  pub tags : TextMap (List ℕ)
-  pub fields : TextMap Value
+  pub tags : KeyMap (List ℕ)
+  pub fields : KeyMap Value
   pub dims : List (List ℕ)
   pub by_name : Bool
   pub time : ℤ
@@ -42,7 +42,7 @@ abbrev pub are_dimensions : List (List ℕ) → Bool
 are_dimensions dims = rises dims && list_all is_utf8 dims
 
 -- what holds of each point
-pub record IsPoint (p : Series) : Type 0 where
+pub record IsPoint (p : PointValue) : Type 0 where
   pub db : IsTrue (is_line p.db)
   pub rp : IsTrue (is_line p.rp)
   pub name : IsTrue (is_measurement p.name)

@@ -8,14 +8,14 @@ use Rattle.kap_base.specs.declared.expr.Exprs.{Exprs, End, More'}
 -- the tree of an expression, one constructor a variant, each with its place
 mutual
   pub data Tree : Type 0 where
-    Leaf : (lit : Lit) (at : ℕ) → Tree
-    Referred : (name : List ℕ) (at : ℕ) → Tree
-    Named : (name : List ℕ) (at : ℕ) → Tree
-    Called : (name : List ℕ) (args : Trees) (at : ℕ) → Tree
-    Grouped : (inner : Tree) (at : ℕ) → Tree
-    Negated : (operand : Tree) (at : ℕ) → Tree
-    Denied : (operand : Tree) (at : ℕ) → Tree
-    Joined : (op : Op) (left right : Tree) (at : ℕ) → Tree
+    LitTree : (lit : Lit) (at : ℕ) → Tree
+    RefTree : (name : List ℕ) (at : ℕ) → Tree
+    NameTree : (name : List ℕ) (at : ℕ) → Tree
+    CallTree : (name : List ℕ) (args : Trees) (at : ℕ) → Tree
+    GroupTree : (inner : Tree) (at : ℕ) → Tree
+    NegTree : (operand : Tree) (at : ℕ) → Tree
+    NotTree : (operand : Tree) (at : ℕ) → Tree
+    BinTree : (op : Op) (left right : Tree) (at : ℕ) → Tree
 
   pub data Trees : Type 0 where
     NoTrees : Trees
@@ -24,14 +24,14 @@ mutual
 -- the tree of an expression, and the trees of a list of them
 abbrev mutual
   pub tree_of : Expr → Tree
-  tree_of (LitExpr lit at) = Leaf lit at
-  tree_of (Ref name at) = Referred name at
-  tree_of (Name name at) = Named name at
-  tree_of (Call name args at) = Called name (trees_of args) at
-  tree_of (Group' p inner at) = Grouped (tree_of inner) at
-  tree_of (Neg' p operand at) = Negated (tree_of operand) at
-  tree_of (Not' p operand at) = Denied (tree_of operand) at
-  tree_of (Bin' op p left q right at) = Joined op (tree_of left) (tree_of right) at
+  tree_of (LitExpr lit at) = LitTree lit at
+  tree_of (Ref name at) = RefTree name at
+  tree_of (Name name at) = NameTree name at
+  tree_of (Call name args at) = CallTree name (trees_of args) at
+  tree_of (Group' p inner at) = GroupTree (tree_of inner) at
+  tree_of (Neg' p operand at) = NegTree (tree_of operand) at
+  tree_of (Not' p operand at) = NotTree (tree_of operand) at
+  tree_of (Bin' op p left q right at) = BinTree op (tree_of left) (tree_of right) at
 
   pub trees_of : Exprs → Trees
   trees_of End = NoTrees

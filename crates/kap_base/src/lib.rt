@@ -5,7 +5,7 @@ mod duplicate;
 mod expr;
 mod fun;
 mod key_map;
-mod listed;
+mod item_list;
 mod memory;
 mod point;
 mod text;
@@ -15,20 +15,20 @@ pub use duplicate::Duplicate;
 pub use expr::{Expr, Exprs, Lit, Op};
 pub use fun::{Fun, TimePart};
 pub use key_map::KeyMap;
-pub use listed::Listed;
+pub use item_list::ItemList;
 pub use memory::NoMemory;
 pub use point::Point;
 pub use text::{Text, TextFault};
 pub use value::Value;
 
 /// A list of bytes.
-pub type Bytes = Listed<u8>;
+pub type Bytes = ItemList<u8>;
 
 /// A list of texts.
-pub type Names = Listed<Text>;
+pub type Names = ItemList<Text>;
 
 /// A list of points.
-pub type Points = Listed<Point>;
+pub type Points = ItemList<Point>;
 
 /// The tags of a point: texts under texts, in byte order of the keys (InfluxDB 1.8 line protocol reference: tag set).
 pub type Tags = KeyMap<Text>;

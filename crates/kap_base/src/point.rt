@@ -26,12 +26,12 @@ pub struct Point {
 
 impl Model for Point {
     ghost use Rattle.std.specs.Coded.{codes};
-    ghost use Rattle.kap_base.specs.Maps.{text_map_code};
-    ghost use Rattle.kap_base.specs.Points.{Series, IsPoint};
+    ghost use Rattle.kap_base.specs.Maps.{key_map_code};
+    ghost use Rattle.kap_base.specs.Points.{PointValue, IsPoint};
 
-    ghost Value = { Series };
+    ghost Value = { PointValue };
 
-    ghost coded = { Prim.hlevel (codes, text_map_code) };
+    ghost coded = { Prim.hlevel (codes, key_map_code) };
 
     ghost view = { λ p. record { db = p.db; rp = p.rp; name = p.name; tags = p.tags; fields = p.fields; dims = p.dims; by_name = p.by_name; time = p.time } };
 

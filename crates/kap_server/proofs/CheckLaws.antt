@@ -21,12 +21,12 @@ use Rattle.kap_server.specs.declared.script_fault.ScriptFault.{ScriptFault}
 use Rattle.kap_server.specs.declared.script_fault.ScriptFault.TheVariants.{NotUtf8, Lex, Parse, Name, NoMemory}
 use Rattle.kap_server.specs.declared.status.Status.{Status}
 use Rattle.kap_server.specs.declared.status.Status.TheVariants as statuses
-use Rattle.kap_server.specs.Utf8.{broken_at}
+use Rattle.kap_base.specs.Utf8.{broken_at}
 use Rattle.kap_server.specs.Scripts.{Parses, Accepts, Refuses}
 use Rattle.kap_server.specs.ReadingIn.{IsShort}
 use Rattle.kap_server.specs.Checking.{Checked, ChecksTo}
 use Rattle.kap_server.specs.Command.{IsUnlessFailed}
-use Rattle.kap_server.proofs.Utf8Laws.{breaks_there, one_place}
+use Rattle.kap_base.proofs.Utf8Laws.{breaks_there, one_place}
 
 -- a text has the tokens of one script
 same_script : (text : List ℕ) (a b : List StmtTree) → Parses text a → Parses text b → a ≡ b

@@ -1,4 +1,3 @@
 pub mod ScriptLaws
 pub mod ReplayLaws
-pub mod Utf8Laws
 pub mod CheckLaws

@@ -7,7 +7,7 @@ use Rattle.std.proofs.lemmas.Grind.{flat_map-append}
 use Rattle.std.proofs.lemmas.List.Elements.{filter-append}
 use Rattle.std.proofs.lemmas.List.{take-append-le}
 use Rattle.std.proofs.Math.Seq.{take-append-add}
-use Rattle.kap_base.specs.Points.{Series}
+use Rattle.kap_base.specs.Points.{PointValue}
 use Rattle.kap_io.specs.Pieces.{AppendsFront}
 use Rattle.kap_io.specs.KnownLaws.{appends_none, appends_more}
 use Rattle.recording_file.specs.declared.fault.RecFault.{RecFault}
@@ -28,7 +28,7 @@ use Rattle.kap_server.specs.Replaying.{Writes, WritesFront, Replayed, IsWritten,
 -- ---- text
 
 -- the text of points is that of the first ones and that of the others
-text-append : (id name : List ℕ) (ps qs : List Series) → text_of id name (ps ++ qs) ≡ text_of id name ps ++ text_of id name qs
+text-append : (id name : List ℕ) (ps qs : List PointValue) → text_of id name (ps ++ qs) ≡ text_of id name ps ++ text_of id name qs
 text-append id name ps qs = ap (flat_map (out_line id)) (filter-append (is_of name) ps qs) ∙ flat_map-append (out_line id) (filter (is_of name) ps) (filter (is_of name) qs)
 
 -- ---- steps
@@ -40,7 +40,7 @@ module _ (id name : List ℕ) where
 
   module _ (s t w v : Option (List ℕ)) (due : List ℕ) (at : At) (on : Underway (text_of id name) due at s t w v) where
     -- one point more
-    pub underway_more : (p : Series) (b : At) (u x : Option (List ℕ)) (left : List ℕ) → GivesPoint read at b t u p → Moves (due ++ text_of id name (p ∷ [])) left v x → Underway (text_of id name) left b s u w x
+    pub underway_more : (p : PointValue) (b : At) (u x : Option (List ℕ)) (left : List ℕ) → GivesPoint read at b t u p → Moves (due ++ text_of id name (p ∷ [])) left v x → Underway (text_of id name) left b s u w x
     underway_more p b u x left step moved = record {
       points = on.points ++ p ∷ [];
       given = given_more on.points p at b s t u on.given step;
@@ -57,9 +57,9 @@ module _ (id name : List ℕ) where
     whole_written : (x : Option (List ℕ)) → Appends v x due → Appends w x (text_of id name on.points)
     whole_written x p = subst (Appends w x) (sym on.is) (appends_more w v x on.done due on.written p)
 
-    writes : (o : Option (List ℕ)) (ps : List Series) (stop : Stop) (x : Option (List ℕ)) → StopsWith o ps stop → Appends w x (text_of id name ps) → Writes (text_of id name) o w x stop
+    writes : (o : Option (List ℕ)) (ps : List PointValue) (stop : Stop) (x : Option (List ℕ)) → StopsWith o ps stop → Appends w x (text_of id name ps) → Writes (text_of id name) o w x stop
     writes None ps stop x p q = tt
-    writes (Some input) ps stop x p q = (ap (λ (r : Reading). r.stop) p, subst (λ (l : List Series). Appends w x (text_of id name l)) (sym (ap (λ (r : Reading). r.points) p)) q)
+    writes (Some input) ps stop x p q = (ap (λ (r : Reading). r.stop) p, subst (λ (l : List PointValue). Appends w x (text_of id name l)) (sym (ap (λ (r : Reading). r.points) p)) q)
 
     -- the input ended
     pub ends_well : (u x : Option (List ℕ)) → StopsSo read at (to_come at.ended t) Ended → Appends v x due → Replayed (text_of id name) statuses.Ok s u w x
@@ -76,7 +76,7 @@ module _ (id name : List ℕ) where
           got = h.got;
           took = h.took;
           undecided = ap (λ (r : Reading). r.stop) h.undecided;
-          written = subst (λ (l : List Series). Appends w x (text_of id name l)) (sym (ap (λ (r : Reading). r.points) h.undecided)) (whole_written x q);
+          written = subst (λ (l : List PointValue). Appends w x (text_of id name l)) (sym (ap (λ (r : Reading). r.points) h.undecided)) (whole_written x q);
         }
     ends_badly faults.NoMemory b u x stays p q = tt
 
@@ -108,7 +108,7 @@ module _ (id name : List ℕ) where
   finished status result s u v w x due before after (inr p) whole part = subst (λ r. Replayed (text_of id name) r s u w x) (sym p.0) (part p.1)
 
   -- a point came, and the output failed or memory ran out
-  pub gave_up : (status : Status) (due : List ℕ) (at b : At) (s t u w v x : Option (List ℕ)) (p : Series) → Underway (text_of id name) due at s t w v → GivesPoint read at b t u p
+  pub gave_up : (status : Status) (due : List ℕ) (at b : At) (s t u w v x : Option (List ℕ)) (p : PointValue) → Underway (text_of id name) due at s t w v → GivesPoint read at b t u p
       → (status ≡ statuses.NoMemory) ⊎ (status ≡ statuses.WriteFault) → (status ≡ statuses.WriteFault → AppendsFront v x (due ++ text_of id name (p ∷ []))) → Replayed (text_of id name) status s u w x
   gave_up status due at b s t u w v x p on step (inl memory) part = subst (λ r. Replayed (text_of id name) r s u w x) (sym memory) tt
   gave_up status due at b s t u w v x p on step (inr fault) part =
@@ -116,7 +116,7 @@ module _ (id name : List ℕ) where
       subst (λ r. Replayed (text_of id name) r s u w x) (sym fault) (cut_off (due ++ text_of id name (p ∷ [])) b s u w v x (underway_more s t w v due at on p b u v (due ++ text_of id name (p ∷ [])) step still) (part fault))
 
 -- the status of a replay is that at which reading its input stops
-told_status : (text : List Series → List ℕ) (result : Status) (bytes : List ℕ) (t w v : Option (List ℕ)) → Replayed text result (Some bytes) t w v → IsUnlessFailed result (status_at (recording bytes).stop)
+told_status : (text : List PointValue → List ℕ) (result : Status) (bytes : List ℕ) (t w v : Option (List ℕ)) → Replayed text result (Some bytes) t w v → IsUnlessFailed result (status_at (recording bytes).stop)
 told_status text statuses.Ok bytes t w v h = inl (ap status_at (sym h.0))
 told_status text statuses.Usage bytes t w v h = absurd h
 told_status text (statuses.Script fault) bytes t w v h = absurd h
@@ -128,5 +128,5 @@ told_status text statuses.NoMemory bytes t w v h = inr (inl refl)
 told_status text statuses.ReadFault bytes t w v h = inr (inr (inl refl))
 told_status text statuses.WriteFault bytes t w v h = inr (inr (inr refl))
 
-pub status_is : (text : List Series → List ℕ) (result : Status) (bytes : List ℕ) (s t w v : Option (List ℕ)) → Replayed text result s t w v → s ≡ Some bytes → IsUnlessFailed result (status_at (recording bytes).stop)
+pub status_is : (text : List PointValue → List ℕ) (result : Status) (bytes : List ℕ) (s t w v : Option (List ℕ)) → Replayed text result s t w v → s ≡ Some bytes → IsUnlessFailed result (status_at (recording bytes).stop)
 status_is text result bytes s t w v h is = told_status text result bytes t w v (subst (λ o. Replayed text result o t w v) is h)

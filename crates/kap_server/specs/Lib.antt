@@ -1,7 +1,6 @@
 pub mod Words
 pub mod Script
 pub mod Lines
-pub mod Utf8
 pub mod ScriptTexts
 pub mod Statuses
 pub mod Scripts

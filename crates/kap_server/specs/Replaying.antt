@@ -1,8 +1,8 @@
 -- What stands after a replay.
 use Rattle.std.specs.Prelude.{◌≡◌, ◌⊎◌, ◌++◌, ℕ, List, Option, None, Some}
 use Rattle.std.specs.Io.KnownBytes.{Appends, Consumes}
-use Rattle.kap_base.specs.Points.{Series}
-use Rattle.kap_io.specs.Causes.{Rose}
+use Rattle.kap_base.specs.Points.{PointValue}
+use Rattle.kap_base.specs.Words.{HasRisen}
 use Rattle.kap_io.specs.Pieces.{AppendsFront}
 use Rattle.recording_file.specs.Finding.{At}
 use Rattle.recording_file.specs.Reading.{HasGiven}
@@ -12,17 +12,17 @@ use Rattle.kap_server.specs.declared.status.Status.{Status}
 use Rattle.kap_server.specs.declared.status.Status.TheVariants.{Ok, Usage, Script, Line, Truncated, TooLong, ScriptForm, NoMemory, ReadFault, WriteFault}
 
 -- reading the whole input stops so, and the text of all its points was appended
-abbrev pub Writes : (List Series → List ℕ) → Option (List ℕ) → Option (List ℕ) → Option (List ℕ) → Stop → Type 0
+abbrev pub Writes : (List PointValue → List ℕ) → Option (List ℕ) → Option (List ℕ) → Option (List ℕ) → Stop → Type 0
 Writes text None w v stop = Unit {0}
 Writes text (Some input) w v stop = ((recording input).stop ≡ stop) × Appends w v (text (recording input).points)
 
 -- a front of the text of the whole input's points was appended
-abbrev pub WritesFront : (List Series → List ℕ) → Option (List ℕ) → Option (List ℕ) → Option (List ℕ) → Type 0
+abbrev pub WritesFront : (List PointValue → List ℕ) → Option (List ℕ) → Option (List ℕ) → Option (List ℕ) → Type 0
 WritesFront text None w v = Unit {0}
 WritesFront text (Some input) w v = AppendsFront w v (text (recording input).points)
 
 -- the bytes that were read don't decide how reading goes on, and the text of the points in them was appended
-pub record WritesSoFar (text : List Series → List ℕ) (s t w v : Option (List ℕ)) : Type 0 where
+pub record WritesSoFar (text : List PointValue → List ℕ) (s t w v : Option (List ℕ)) : Type 0 where
   pub got : List ℕ
   pub took : Consumes s t got
   pub undecided : (recording_front got).stop ≡ Undecided
@@ -32,7 +32,7 @@ pub record WritesSoFar (text : List Series → List ℕ) (s t w v : Option (List
 -- ends between two groups, and the text of its points was appended; at a fault of the input that is its first fault, and the
 -- text of the points before it was appended; after a read fault that of the points that were read; after a write fault a
 -- front of the text of all points. Want of memory is free.
-abbrev pub Replayed : (List Series → List ℕ) → Status → Option (List ℕ) → Option (List ℕ) → Option (List ℕ) → Option (List ℕ) → Type 0
+abbrev pub Replayed : (List PointValue → List ℕ) → Status → Option (List ℕ) → Option (List ℕ) → Option (List ℕ) → Option (List ℕ) → Type 0
 Replayed text Ok s t w v = Writes text s w v Ended
 Replayed text Usage s t w v = ⊥
 Replayed text (Script fault) s t w v = ⊥
@@ -51,8 +51,8 @@ pub record Moves (due left : List ℕ) (w v : Option (List ℕ)) : Type 0 where
   pub rest : due ≡ piece ++ left
 
 -- the points so far are the first of the input, and the text of them was appended, but for what is due
-pub record Underway (text : List Series → List ℕ) (due : List ℕ) (at : At) (s t w v : Option (List ℕ)) : Type 0 where
-  pub points : List Series
+pub record Underway (text : List PointValue → List ℕ) (due : List ℕ) (at : At) (s t w v : Option (List ℕ)) : Type 0 where
+  pub points : List PointValue
   pub given : HasGiven points at s t
   pub done : List ℕ
   pub written : Appends w v done
@@ -60,4 +60,4 @@ pub record Underway (text : List Series → List ℕ) (due : List ℕ) (at : At)
 
 -- the rest of the text was written, or the output failed
 abbrev pub IsWritten : Status → Status → Option (List ℕ) → Option (List ℕ) → List ℕ → ℕ → ℕ → Type 0
-IsWritten status result w v due before after = ((result ≡ status) × Appends w v due) ⊎ ((result ≡ WriteFault) × AppendsFront w v due × Rose before after)
+IsWritten status result w v due before after = ((result ≡ status) × Appends w v due) ⊎ ((result ≡ WriteFault) × AppendsFront w v due × HasRisen before after)

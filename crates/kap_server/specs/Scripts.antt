@@ -9,7 +9,7 @@ use Rattle.tick_vars.specs.Nodes.{BoundTree}
 use Rattle.tick_vars.specs.Binding.{bound_of}
 use Rattle.kap_server.specs.declared.script_fault.ScriptFault.{ScriptFault}
 use Rattle.kap_server.specs.declared.script_fault.ScriptFault.TheVariants.{NotUtf8, Lex, Parse, Name, NoMemory}
-use Rattle.kap_server.specs.Utf8.{BreaksAt}
+use Rattle.kap_base.specs.Utf8.{BreaksAt}
 
 -- the text is UTF-8, and its tokens are this script's, within the parser's limits
 pub record Parses (text : List ℕ) (script : List StmtTree) : Type 0 where

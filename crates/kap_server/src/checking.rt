@@ -1,7 +1,7 @@
 //! The command `check`.
 
 ghost use Rattle.std.specs.Prelude.{◌≡◌, ◌≢◌, ◌⊎◌, ◌≤◌, None, Some, Err, IfErr, IfOk, length};
-ghost use Rattle.kap_io.specs.Causes.{Rose};
+ghost use Rattle.kap_base.specs.Words.{HasRisen};
 ghost use Rattle.recording_file.specs.Finding.{HasEnded};
 ghost use Rattle.tick_parser.specs.Trees.{script_tree};
 ghost use Rattle.kap_server.specs.Checking.{Checked, HasForm};
@@ -10,8 +10,7 @@ ghost use Rattle.kap_server.specs.Scripts.{Accepts, Parses, Refuses};
 
 use crate::script_fault::ScriptFault;
 use crate::status::Status;
-use crate::utf8::{bytes_break_in_one_place, text_of};
-use kap_base::{Bytes, Text};
+use kap_base::{Bytes, Text, bytes_break_in_one_place, utf8_text};
 use kap_io::{Failed, Sink, Source, write_all};
 use std::alloc::Global;
 use tick_lexer::lex;
@@ -43,7 +42,7 @@ fn script_of(alloc: Global, bytes: &[u8]) -> Result<Tree, ScriptFault>
     ensures fault { IfErr result (λ f. f ≢ ScriptFault.NoMemory → Refuses bytes.now f) }
 {
     bytes_break_in_one_place();
-    let text = match text_of(bytes) {
+    let text = match utf8_text(bytes) {
         Ok(text) => text,
         Err(at) => return Err(ScriptFault::NotUtf8(at as u32)),
     };
@@ -70,7 +69,7 @@ fn read_script<S: Source>(alloc: Global, input: &mut S) -> Result<Bytes, Status>
     ensures err { IfErr result (λ s. (s ≡ Status.TooLong) ⊎ ((s ≡ Status.ReadFault) ⊎ (s ≡ Status.NoMemory))) }
     ensures long { result ≡ Err Status.TooLong → IsLong (S.left input.old) }
     ensures few { result ≡ Err Status.ReadFault → ReadsFew (S.left input.old) (S.left input.new) }
-    ensures rose { result ≡ Err Status.ReadFault → Rose (S.faults input.old) (S.faults input.new) }
+    ensures rose { result ≡ Err Status.ReadFault → HasRisen (S.faults input.old) (S.faults input.new) }
     ensures later { S.faults input.old ≤ S.faults input.new }
 {
     let mut piece = [0; PIECE];
@@ -97,7 +96,7 @@ fn read_script<S: Source>(alloc: Global, input: &mut S) -> Result<Bytes, Status>
 fn write_form<K: Sink>(alloc: Global, text: &[u8], out: &mut K) -> Status
     requires { length text.now ≤ 65536 }
     ensures checked { Checked result (Some text.now) None (K.written out.old) (K.written out.new) }
-    ensures write_fault { result ≡ Status.WriteFault → Rose (K.faults out.old) (K.faults out.new) }
+    ensures write_fault { result ≡ Status.WriteFault → HasRisen (K.faults out.old) (K.faults out.new) }
 {
     match form_of(alloc, text) {
         Ok(form) => match write_all(out, form.bytes()) {
@@ -112,8 +111,8 @@ fn write_form<K: Sink>(alloc: Global, text: &[u8], out: &mut K) -> Status
 pub(crate) fn check<S: Source, K: Sink>(alloc: Global, input: &mut S, out: &mut K) -> Status
     ensures checked { Checked result (S.left input.old) (S.left input.new) (K.written out.old) (K.written out.new) }
     ensures read { result ≡ Status.Ok → HasEnded (S.left input.old) (S.left input.new) }
-    ensures read_fault { result ≡ Status.ReadFault → Rose (S.faults input.old) (S.faults input.new) }
-    ensures write_fault { result ≡ Status.WriteFault → Rose (K.faults out.old) (K.faults out.new) }
+    ensures read_fault { result ≡ Status.ReadFault → HasRisen (S.faults input.old) (S.faults input.new) }
+    ensures write_fault { result ≡ Status.WriteFault → HasRisen (K.faults out.old) (K.faults out.new) }
 {
     match read_script(alloc, input) {
         Ok(text) => write_form(alloc, text.as_slice(), out),

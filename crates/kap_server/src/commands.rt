@@ -1,6 +1,6 @@
 ghost use Rattle.std.specs.Prelude.{◌≡◌, ◌≢◌, ◌⊎◌, List, ℕ, None, Some, map, string_bytes};
 ghost use Rattle.std.specs.Io.KnownBytes.{Keeps};
-ghost use Rattle.kap_io.specs.Causes.{Rose};
+ghost use Rattle.kap_base.specs.Words.{HasRisen};
 ghost use Rattle.recording_file.specs.Finding.{HasEnded};
 ghost use Rattle.recording_file.specs.Recording.{recording};
 ghost use Rattle.kap_server.specs.Checking.{Checked, ChecksTo};
@@ -34,8 +34,8 @@ fn replay_by<S: Source, K: Sink>(
     ensures replayed { (name : List ℕ) → IsFilter script.now name → Replayed (text_of id.now name) result (S.left input.old) (S.left input.new) (K.written out.old) (K.written out.new) }
     ensures status { (name bytes : List ℕ) → IsFilter script.now name → S.left input.old ≡ Some bytes → IsUnlessFailed result (status_at (recording bytes).stop) }
     ensures read { result ≡ Status.Ok → HasEnded (S.left input.old) (S.left input.new) }
-    ensures read_fault { result ≡ Status.ReadFault → Rose (S.faults input.old) (S.faults input.new) }
-    ensures write_fault { result ≡ Status.WriteFault → Rose (K.faults out.old) (K.faults out.new) }
+    ensures read_fault { result ≡ Status.ReadFault → HasRisen (S.faults input.old) (S.faults input.new) }
+    ensures write_fault { result ≡ Status.WriteFault → HasRisen (K.faults out.old) (K.faults out.new) }
 {
     match measurement_of(script.as_bytes()) {
         Some(name) => replay(alloc, id.as_bytes(), name, input, out),
@@ -74,8 +74,8 @@ pub fn command<S: Source, K: Sink>(
     // At Ok the input was read to its end.
     ensures read { result ≡ Status.Ok → HasEnded (S.left input.old) (S.left input.new) }
     // A fault of the input or the output comes only where its count rose in this call.
-    ensures read_fault { result ≡ Status.ReadFault → Rose (S.faults input.old) (S.faults input.new) }
-    ensures write_fault { result ≡ Status.WriteFault → Rose (K.faults out.old) (K.faults out.new) }
+    ensures read_fault { result ≡ Status.ReadFault → HasRisen (S.faults input.old) (S.faults input.new) }
+    ensures write_fault { result ≡ Status.WriteFault → HasRisen (K.faults out.old) (K.faults out.new) }
 {
     match asked(words) {
         None => Status::Usage,

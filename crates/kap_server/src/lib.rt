@@ -10,7 +10,6 @@ mod script_fault;
 mod script_texts;
 mod status;
 mod texts;
-mod utf8;
 mod words;
 
 pub use commands::{command, texts_check_in_one_way};
@@ -18,7 +17,6 @@ pub use script_fault::ScriptFault;
 pub use script_texts::script_text;
 pub use status::Status;
 pub use texts::status_text;
-pub use utf8::bytes_break_in_one_place;
 
 #[cfg(test)]
 mod tests;

@@ -1,5 +1,6 @@
 ghost use Rattle.std.specs.Prelude.{◌≡◌, ◌⊎◌, [], ◌∷◌, ◌++◌, ◌≤◌, Err, IfErr, OnOk, OnErr};
-ghost use Rattle.kap_io.specs.Causes.{HasCause, Rose};
+ghost use Rattle.kap_base.specs.Words.{HasRisen};
+ghost use Rattle.kap_io.specs.Causes.{HasCause};
 ghost use Rattle.kap_io.specs.Pieces.{AppendsFront};
 ghost use Rattle.recording_file.specs.Finding.{HasEnded};
 ghost use Rattle.kap_server.specs.Lines.{text_of};
@@ -51,7 +52,7 @@ fn replay_point<K: Sink>(
     ensures err { IfErr result (λ s. (s ≡ Status.NoMemory) ⊎ (s ≡ Status.WriteFault)) }
     ensures cut { result ≡ Err Status.WriteFault → AppendsFront (K.written out.old) (K.written out.new) (text.old ++ text_of id.now name.now (point.now ∷ [])) }
     ensures later { K.faults out.old ≤ K.faults out.new }
-    ensures rose { result ≡ Err Status.WriteFault → Rose (K.faults out.old) (K.faults out.new) }
+    ensures rose { result ≡ Err Status.WriteFault → HasRisen (K.faults out.old) (K.faults out.new) }
 {
     if put_point(id, name, point, text).is_err() {
         return Err(Status::NoMemory);
@@ -72,8 +73,8 @@ pub fn replay<S: Source, K: Sink>(
 ) -> Status
     ensures replayed { Replayed (text_of id.now name.now) result (S.left input.old) (S.left input.new) (K.written out.old) (K.written out.new) }
     ensures read { result ≡ Status.Ok → HasEnded (S.left input.old) (S.left input.new) }
-    ensures read_fault { result ≡ Status.ReadFault → Rose (S.faults input.old) (S.faults input.new) }
-    ensures write_fault { result ≡ Status.WriteFault → Rose (K.faults out.old) (K.faults out.new) }
+    ensures read_fault { result ≡ Status.ReadFault → HasRisen (S.faults input.old) (S.faults input.new) }
+    ensures write_fault { result ≡ Status.WriteFault → HasRisen (K.faults out.old) (K.faults out.new) }
 {
     let mut reader = Reader::new(alloc);
     let mut text = Bytes::new(alloc);

@@ -14,7 +14,7 @@ ghost use Rattle.lambda_eval.specs.Values.{all_values, and_value, at_name, call_
 
 use crate::run::Run;
 use crate::seen::{Seen, SeenText, at_name};
-use kap_base::{Expr, Exprs, Listed, Lit, Op, Point, Text, TimePart, Value};
+use kap_base::{Expr, Exprs, ItemList, Lit, Op, Point, Text, TimePart, Value};
 use lambda_fns::{EvalFault, time_part};
 use lambda_types::Function;
 use std::alloc::Global;
@@ -232,13 +232,13 @@ fn evaluate_all<'a>(
     args: &'a Exprs,
     run: &mut Run<'_>,
     moment: &Moment<'a>,
-) -> Result<Listed<Value>, EvalFault>
+) -> Result<ItemList<Value>, EvalFault>
     requires fit { IsTrue (are_fit (patterns_of (tree_run run.old)) (trees_of args.now)) }
     ensures values { Answers EvalFault.NoMemory result (all_values (vals (trees_of args.now) moment.now.k moment.now.point.now)) }
     ensures fields { IfOk result (λ values. IsTrue (list_all is_value values)) }
     ensures kept { tree_run run.new ≡ tree_run run.old }
 {
-    let mut values = Listed::new(alloc);
+    let mut values = ItemList::new(alloc);
     let mut rest = args;
     'evaluating: while let Exprs::More(first, more) = rest {
         let seen = evaluate(alloc, first, run, moment)?;

@@ -1,6 +1,6 @@
 ghost use Rattle.std.specs.Prelude.{◌≡◌, ◌<◌, ◌^◌, ℕ, List, bytes_eq, get_or, length, IfOk, IfSome, IsTrue};
 ghost use Rattle.std.specs.List.{list_any};
-ghost use Rattle.kap_base.specs.Points.{is_value, Series};
+ghost use Rattle.kap_base.specs.Points.{is_value, PointValue};
 ghost use Rattle.kap_base.specs.Tree.{Tree};
 ghost use Rattle.kap_base.specs.Words.{Answers};
 ghost use Rattle.lambda_types.specs.Faults.{patterns_of};
@@ -126,5 +126,5 @@ pub fn value(alloc: Global, lambda: &mut Lambda, k: u64, point: &Point) -> Resul
 
 /// A lambda of a type has a value of that type, or `ZeroDivisor` or `Range`, at each point that has what it needs.
 pub fn types_hold()
-    ensures { (tree : Tree) (ty : Ty) (needs : List Need) (k : ℕ) (point : Series) → Typed tree ty needs → HasNeeds point needs → HasType ty (val tree k point) }
+    ensures { (tree : Tree) (ty : Ty) (needs : List Need) (k : ℕ) (point : PointValue) → Typed tree ty needs → HasNeeds point needs → HasType ty (val tree k point) }
 {}

@@ -20,7 +20,3 @@ MatchesAsWritten r = (text : List ℕ) → ((k : ℕ) → slice_index text k < 2
 -- and so does what searches for a regex that was read in this text
 abbrev pub SearchesAsWritten : Matcher → List ℕ → Type 0
 SearchesAsWritten m pattern = (text : List ℕ) → ((k : ℕ) → slice_index text k < 256) → is_some (find_str (matcher_pattern m) text 0) ≡ matches pattern text
-
--- the count rose, where one that stands at its end counts as risen
-abbrev pub Rose : ℕ → ℕ → Type 0
-Rose before after = (before < after) ⊎ (after ≡ 2 ^ 64 - 1)

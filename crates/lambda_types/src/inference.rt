@@ -3,7 +3,7 @@ ghost use Rattle.std.specs.List.{list_any};
 ghost use Rattle.kap_base.specs.Tree.{Tree, tree_of};
 ghost use Rattle.lambda_types.specs.Faults.{first_fault, is_pattern, patterns_of, refusal_of};
 ghost use Rattle.lambda_types.specs.Lambdas.{tree_in};
-ghost use Rattle.lambda_types.specs.Matches.{Rose};
+ghost use Rattle.kap_base.specs.Words.{HasRisen};
 ghost use Rattle.lambda_types.specs.Typed.{HasSomeType, IsTyped};
 
 use crate::fault::TypeFault;
@@ -70,7 +70,7 @@ pub fn infer<P: Patterns>(alloc: Global, expr: &Expr, pats: &mut P) -> Result<La
     ensures kept { IfOk result (λ lambda. P.refusals pats.new ≡ P.refusals pats.old) }
     ensures fault { IfErr result (λ f. f ≢ TypeFault.NoMemory → first_fault (refusal_of f (P.refused pats.new)) (tree_of expr.now) ≡ Some f) }
     ensures untyped { IfErr result (λ f. f ≢ TypeFault.NoMemory → is_pattern f ≡ false → ¬ (HasSomeType (tree_of expr.now))) }
-    ensures refused { IfErr result (λ f. is_pattern f ≡ true → Rose (P.refusals pats.old) (P.refusals pats.new)) }
+    ensures refused { IfErr result (λ f. is_pattern f ≡ true → HasRisen (P.refusals pats.old) (P.refusals pats.new)) }
     ensures counted { P.refusals pats.old ≤ P.refusals pats.new }
 {
     let mut patterns = Vec::new(alloc);

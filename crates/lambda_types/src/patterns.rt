@@ -1,5 +1,6 @@
 ghost use Rattle.std.specs.Prelude.{◌≡◌, ◌<◌, ◌≤◌, ◌+◌, ◌-◌, ◌^◌, Contains, IfErr, IfOk, false, is_ok};
-ghost use Rattle.lambda_types.specs.Matches.{matches, MatchesAsWritten, Rose, SearchesAsWritten};
+ghost use Rattle.lambda_types.specs.Matches.{matches, MatchesAsWritten, SearchesAsWritten};
+ghost use Rattle.kap_base.specs.Words.{HasRisen};
 ghost use Rattle.lambda_types.specs.Builds.{begun, numbers};
 
 use kap_base::{NoMemory, Text};
@@ -119,7 +120,7 @@ pub trait Patterns {
         ensures pattern { IfOk result (λ pattern. pattern ≡ text.now) }
         ensures kept { IfOk result (λ pattern. refusals self.new ≡ refusals self.old) }
         ensures refusal { IfErr result (λ fault. fault ≡ PatternFault.Refused
-            → Rose (refusals self.old) (refusals self.new) × (refused self.new ≡ text.now)) }
+            → HasRisen (refusals self.old) (refusals self.new) × (refused self.new ≡ text.now)) }
         ensures counted { refusals self.old ≤ refusals self.new };
 }
 
@@ -151,7 +152,7 @@ impl RegexPatterns {
         ensures builds { self.new.builds ≡ self.old.builds }
         ensures fails { self.new.fails ≡ self.old.fails }
         ensures refused { result ≡ PatternFault.Refused
-            → Rose self.old.refusals self.new.refusals × (self.new.refused.items ≡ text.now) }
+            → HasRisen self.old.refusals self.new.refusals × (self.new.refused.items ≡ text.now) }
         ensures counted { self.old.refusals ≤ self.new.refusals }
     {
         self.refused.clear();
@@ -172,7 +173,7 @@ impl Patterns for RegexPatterns {
         ensures pattern { IfOk result (λ pattern. pattern ≡ text.now) }
         ensures kept { IfOk result (λ pattern. self.new.refusals ≡ self.old.refusals) }
         ensures refusal { IfErr result (λ fault. fault ≡ PatternFault.Refused
-            → Rose self.old.refusals self.new.refusals × (self.new.refused.items ≡ text.now)) }
+            → HasRisen self.old.refusals self.new.refusals × (self.new.refused.items ≡ text.now)) }
         ensures counted { self.old.refusals ≤ self.new.refusals }
         ensures fails { begun self.old < 2 ^ 64 - 1 → Contains (numbers self.old) (begun self.old + 1) → is_ok result ≡ false }
         ensures numbered { begun self.old < 2 ^ 64 - 1 → begun self.new ≡ begun self.old + 1 }

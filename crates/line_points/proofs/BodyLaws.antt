@@ -8,7 +8,7 @@ use Rattle.std.proofs.lemmas.Grind.{common_steps}
 use Rattle.std.proofs.lemmas.List.{append-nil, length-drop}
 use Rattle.kap_base.specs.Words.{◌>>=◌}
 use Rattle.kap_base.specs.Texts.{is_empty, line_feed, has_line_feed}
-use Rattle.kap_base.specs.Points.{Series}
+use Rattle.kap_base.specs.Points.{PointValue}
 use Rattle.line_points.specs.declared.fault.LineFault.{LineFault}
 use Rattle.line_points.specs.declared.fault.BodyFault.{BodyFault}
 use Rattle.line_points.specs.declared.mode.Mode.{Mode}
@@ -102,28 +102,28 @@ line_no_feed body first line first_is line_is = rw (line_is, first_is, return_no
 -- ---- the points of the lines
 
 -- what was read before, and what is still read
-abbrev pub onto : List Series → Result (List Series) BodyFault → Result (List Series) BodyFault
+abbrev pub onto : List PointValue → Result (List PointValue) BodyFault → Result (List PointValue) BodyFault
 onto points read = read >>= λ more. Ok (points ++ more)
 
 -- the points of the rest of a body complete those that are read; before it stand some lines
-pub record LinesLeft (db rp : List ℕ) (mode : Mode) (before : ℕ) (done : List Series) (rest body : List ℕ) : Type 0 where
+pub record LinesLeft (db rp : List ℕ) (mode : Mode) (before : ℕ) (done : List PointValue) (rest body : List ℕ) : Type 0 where
   pub same : onto done (points_of db rp mode (before + 1) (body_lines rest)) ≡ points_of db rp mode 1 (body_lines body)
   pub few : before + length rest ≤ length body
 
-one_line : (db rp : List ℕ) (mode : Mode) (n : ℕ) (line : List ℕ) (lines : List (List ℕ)) (done new : List Series) → with_line done (line_of db rp mode line) ≡ Ok new → onto done (points_of db rp mode n (line ∷ lines)) ≡ onto new (points_of db rp mode (n + 1) lines)
+one_line : (db rp : List ℕ) (mode : Mode) (n : ℕ) (line : List ℕ) (lines : List (List ℕ)) (done new : List PointValue) → with_line done (line_of db rp mode line) ≡ Ok new → onto done (points_of db rp mode n (line ∷ lines)) ≡ onto new (points_of db rp mode (n + 1) lines)
 unfolding points_of
 one_line db rp mode n line lines done new added = by_read n done new (line_of db rp mode line) (points_of db rp mode (n + 1) lines) added
   where
-    regroup : (done : List Series) (o : Option Series) (read : Result (List Series) BodyFault) → onto done (read >>= λ points. Ok (before_more o points)) ≡ onto (done ++ before_more o []) read
-    regroup done (Some p) (Ok points) = ap (λ (x : List Series). Ok x) (sym (append_assoc done (p ∷ []) points))
-    regroup done None (Ok points) = ap (λ (x : List Series). Ok (x ++ points)) (sym (append-nil done))
+    regroup : (done : List PointValue) (o : Option PointValue) (read : Result (List PointValue) BodyFault) → onto done (read >>= λ points. Ok (before_more o points)) ≡ onto (done ++ before_more o []) read
+    regroup done (Some p) (Ok points) = ap (λ (x : List PointValue). Ok x) (sym (append_assoc done (p ∷ []) points))
+    regroup done None (Ok points) = ap (λ (x : List PointValue). Ok (x ++ points)) (sym (append-nil done))
     regroup done o (Err f) = refl
 
-    by_read : (n : ℕ) (done new : List Series) (r : Result (Option Series) LineFault) (read : Result (List Series) BodyFault) → with_line done r ≡ Ok new → onto done (at_line n r >>= λ point. read >>= λ points. Ok (before_more point points)) ≡ onto new read
-    by_read n done new (Ok o) read added = regroup done o read ∙ ap (λ (x : List Series). onto x read) (ok_is {E = LineFault} (done ++ before_more o []) new added)
+    by_read : (n : ℕ) (done new : List PointValue) (r : Result (Option PointValue) LineFault) (read : Result (List PointValue) BodyFault) → with_line done r ≡ Ok new → onto done (at_line n r >>= λ point. read >>= λ points. Ok (before_more point points)) ≡ onto new read
+    by_read n done new (Ok o) read added = regroup done o read ∙ ap (λ (x : List PointValue). onto x read) (ok_is {E = LineFault} (done ++ before_more o []) new added)
     by_read n done new (Err f) read added = absurd cc
 
-pub lines-next : (db rp : List ℕ) (mode : Mode) (before : ℕ) (done new : List Series) (rest body first line behind : List ℕ) → LinesLeft db rp mode before done rest body → is_empty rest ≡ false → first ≡ before_first (λ b. eqb b line_feed) rest → behind ≡ after_first (λ b. eqb b line_feed) rest → line ≡ without_return first → with_line done (line_of db rp mode line) ≡ Ok new → LinesLeft db rp mode (before + 1) new behind body
+pub lines-next : (db rp : List ℕ) (mode : Mode) (before : ℕ) (done new : List PointValue) (rest body first line behind : List ℕ) → LinesLeft db rp mode before done rest body → is_empty rest ≡ false → first ≡ before_first (λ b. eqb b line_feed) rest → behind ≡ after_first (λ b. eqb b line_feed) rest → line ≡ without_return first → with_line done (line_of db rp mode line) ≡ Ok new → LinesLeft db rp mode (before + 1) new behind body
 lines-next db rp mode before done new rest body first line behind left some first_is behind_is line_is added =
     let cut : body_lines rest ≡ line ∷ body_lines behind = rw (line_is, first_is, behind_is) (first_of_lines rest some) in
     record {
@@ -131,13 +131,13 @@ lines-next db rp mode before done new rest body first line behind left some firs
       few = omega (arith, left.few, ap length behind_is, lines-shorter rest some);
     }
 
-pub lines-fail : (db rp : List ℕ) (mode : Mode) (before : ℕ) (done : List Series) (rest body first line : List ℕ) (f : LineFault) → LinesLeft db rp mode before done rest body → is_empty rest ≡ false → first ≡ before_first (λ b. eqb b line_feed) rest → line ≡ without_return first → line_of db rp mode line ≡ Err f → points_of db rp mode 1 (body_lines body) ≡ Err (record { line = before + 1; fault = f })
+pub lines-fail : (db rp : List ℕ) (mode : Mode) (before : ℕ) (done : List PointValue) (rest body first line : List ℕ) (f : LineFault) → LinesLeft db rp mode before done rest body → is_empty rest ≡ false → first ≡ before_first (λ b. eqb b line_feed) rest → line ≡ without_return first → line_of db rp mode line ≡ Err f → points_of db rp mode 1 (body_lines body) ≡ Err (record { line = before + 1; fault = f })
 unfolding points_of
 lines-fail db rp mode before done rest body first line f left some first_is line_is read =
     let cut : body_lines rest ≡ line ∷ body_lines (after_first (λ b. eqb b line_feed) rest) = rw (line_is, first_is) (first_of_lines rest some) in
     sym left.same ∙ ap (λ (x : List (List ℕ)). onto done (points_of db rp mode (before + 1) x)) cut ∙ rw read refl
 
-pub lines-end : (db rp : List ℕ) (mode : Mode) (before : ℕ) (done : List Series) (rest body : List ℕ) → LinesLeft db rp mode before done rest body → is_empty rest ≡ true → points_of db rp mode 1 (body_lines body) ≡ Ok done
+pub lines-end : (db rp : List ℕ) (mode : Mode) (before : ℕ) (done : List PointValue) (rest body : List ℕ) → LinesLeft db rp mode before done rest body → is_empty rest ≡ true → points_of db rp mode 1 (body_lines body) ≡ Ok done
 unfolding points_of
-lines-end db rp mode before done [] body left none = sym left.same ∙ ap (λ (x : List Series). Ok x) (append-nil done)
+lines-end db rp mode before done [] body left none = sym left.same ∙ ap (λ (x : List PointValue). Ok x) (append-nil done)
 lines-end db rp mode before done (b ∷ rest) body left none = absurd cc

@@ -6,11 +6,11 @@ use Rattle.std.specs.FinMap.{empty, insert, get, len, contains_key, len-insert, 
 use Rattle.std.proofs.lemmas.Cmp.{nat_list_cmp_total}
 use Rattle.std.proofs.lemmas.Map.Text.{is_eq-slice_cmp}
 use Rattle.std.proofs.lemmas.Bool.Decides.{nat_tests}
-use Rattle.kap_base.specs.Maps.{TextMap, with_entries, byte_order}
+use Rattle.kap_base.specs.Maps.{KeyMap, with_entries, byte_order}
 use Rattle.line_points.specs.Line.{Tag, differ}
 
 abbrev Tags : Type 0
-Tags = TextMap (List ℕ)
+Tags = KeyMap (List ℕ)
 
 contains-insert : (m : Tags) (k v q : List ℕ) → contains_key (insert m k v) q ≡ (bytes_eq q k || contains_key m q)
 contains-insert m k v q =

@@ -10,7 +10,7 @@ use Rattle.std.specs.FinMap.Entries.{by_order}
 use Rattle.std.proofs.lemmas.Bool.Decides.{nat_tests}
 use Rattle.std.proofs.lemmas.Cmp.{nat_list_cmp_total}
 use Rattle.std.proofs.lemmas.List.{nil_from_length}
-use Rattle.kap_base.specs.Maps.{TextMap, with_entries, byte_order}
+use Rattle.kap_base.specs.Maps.{KeyMap, with_entries, byte_order}
 use Rattle.line_points.proofs.TestLaws.{first_of, second_of, both}
 
 pub no_entries : {V : Type 0} → entries (empty {K = List ℕ} {X = V} {R = byte_order}) ≡ []
@@ -28,10 +28,10 @@ module _ {V : Type 0} (f : List ℕ → Bool) (g : V → Bool) where
         | Greater ↦ both (f e.0 && g e.1) _ here (all-put k v es p q there)
       ]
 
-  all-insert : (m : TextMap V) (k : List ℕ) (v : V) → f k ≡ true → g v ≡ true → list_all (λ e. f e.0 && g e.1) (entries m) ≡ true → list_all (λ e. f e.0 && g e.1) (entries (insert m k v)) ≡ true
+  all-insert : (m : KeyMap V) (k : List ℕ) (v : V) → f k ≡ true → g v ≡ true → list_all (λ e. f e.0 && g e.1) (entries m) ≡ true → list_all (λ e. f e.0 && g e.1) (entries (insert m k v)) ≡ true
   all-insert m k v p q all = ap (list_all (λ e. f e.0 && g e.1)) (entries-insert nat_list_cmp_total m k v) ∙ all-put k v (entries m) p q all
 
-  all-with : (es : List (List ℕ × V)) (m : TextMap V) → list_all (λ e. f e.0 && g e.1) es ≡ true → list_all (λ e. f e.0 && g e.1) (entries m) ≡ true → list_all (λ e. f e.0 && g e.1) (entries (with_entries m es)) ≡ true
+  all-with : (es : List (List ℕ × V)) (m : KeyMap V) → list_all (λ e. f e.0 && g e.1) es ≡ true → list_all (λ e. f e.0 && g e.1) (entries m) ≡ true → list_all (λ e. f e.0 && g e.1) (entries (with_entries m es)) ≡ true
   all-with [] m each all = all
   all-with (e ∷ es) m each all =
       let here : (f e.0 && g e.1) ≡ true = first_of _ (list_all (λ e. f e.0 && g e.1) es) each in
@@ -41,10 +41,10 @@ module _ {V : Type 0} (f : List ℕ → Bool) (g : V → Bool) where
   all-entries es each = all-with es empty each (ap (list_all (λ e. f e.0 && g e.1)) no_entries)
 
 module _ {V : Type 0} where
-  insert_ge : (m : TextMap V) (k : List ℕ) (v : V) → len m ≤ len (insert m k v)
+  insert_ge : (m : KeyMap V) (k : List ℕ) (v : V) → len m ≤ len (insert m k v)
   insert_ge m k v = rw (len-insert nat_list_cmp_total m k v) (elim (contains_key m k) as (λ b. len m ≤ cond b (len m) (len m + 1)) [ true ↦ omega arith | false ↦ omega arith ])
 
-  with_ge : (es : List (List ℕ × V)) (m : TextMap V) → len m ≤ len (with_entries m es)
+  with_ge : (es : List (List ℕ × V)) (m : KeyMap V) → len m ≤ len (with_entries m es)
   with_ge [] m = omega arith
   with_ge (e ∷ es) m = omega (arith, insert_ge m e.0 e.1, with_ge es (insert m e.0 e.1))
 
@@ -53,7 +53,7 @@ module _ {V : Type 0} where
   put_some k v (e ∷ es) =
       elim (slice_cmp nat_cmp k e.0) as (λ o. 0 < length (by_order o ((k, v) ∷ e ∷ es) ((e.0, v) ∷ es) (e ∷ put (slice_cmp nat_cmp) k v es))) [ Less ↦ omega arith | Equal ↦ omega arith | Greater ↦ omega arith ]
 
-  insert_some : (m : TextMap V) (k : List ℕ) (v : V) → 0 < len (insert m k v)
+  insert_some : (m : KeyMap V) (k : List ℕ) (v : V) → 0 < len (insert m k v)
   insert_some m k v = omega (arith, len-entries (insert m k v), ap length (entries-insert nat_list_cmp_total m k v), put_some k v (entries m))
 
   pub some_entry : (e : List ℕ × V) (es : List (List ℕ × V)) → nat_lt 0 (len (with_entries empty (e ∷ es))) ≡ true

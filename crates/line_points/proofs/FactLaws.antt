@@ -7,8 +7,8 @@ use Rattle.std.specs.FinMap.{entries, empty, len}
 use Rattle.std.specs.Str.Parse.{digits_value}
 use Rattle.std.proofs.lemmas.Bool.Decides.{nat_tests}
 use Rattle.kap_base.specs.Texts.{begins_with, number_sign, has_line_feed, is_line, is_name}
-use Rattle.kap_base.specs.Maps.{TextMap, with_entries}
-use Rattle.kap_base.specs.Points.{Series, IsPoint, is_time, is_value}
+use Rattle.kap_base.specs.Maps.{KeyMap, with_entries}
+use Rattle.kap_base.specs.Points.{PointValue, IsPoint, is_time, is_value}
 use Rattle.kap_base.specs.declared.value.Value.{Value}
 use Rattle.kap_base.specs.declared.value.Value.TheVariants as values
 use Rattle.line_points.specs.declared.mode.Mode.{Mode}
@@ -87,7 +87,7 @@ time_start (some_time mode n negative digits all range) behind = refl
 
 -- ---- the point
 
-pub spelled_is_point : (db rp : List ℕ) (mode : Mode) (line : List ℕ) (p : Series) → IsOf db rp p → Spelled mode p line → IsClean line → is_line db ≡ true → is_line rp ≡ true → has_time mode ≡ true → IsPoint p
+pub spelled_is_point : (db rp : List ℕ) (mode : Mode) (line : List ℕ) (p : PointValue) → IsOf db rp p → Spelled mode p line → IsClean line → is_line db ≡ true → is_line rp ≡ true → has_time mode ≡ true → IsPoint p
 spelled_is_point db rp mode line p is s c db_is rp_is has =
     let last = s.time ++ spaces s.behind in
     let middle = space ∷ (spaces s.between ++ (s.fields ++ last)) in
@@ -99,9 +99,9 @@ spelled_is_point db rp mode line p is s c db_is rp_is has =
       db = ap is_line is.db ∙ db_is;
       rp = ap is_line is.rp ∙ rp_is;
       name = both (not (begins_with number_sign p.name)) (is_name p.name) (not_false (begins_with number_sign p.name) s.no_comment) (spelled_name s.name_spelled refl s.some_name one.before);
-      tags = ap (λ (m : TextMap (List ℕ)). list_all (λ e. is_name e.0 && is_name e.1) (entries m)) s.tags_are ∙ all-entries is_name is_name s.ts (tags_are s.tags_spelled two.before);
-      fields = ap (λ (m : TextMap Value). list_all (λ e. is_name e.0 && is_value e.1) (entries m)) s.fields_are ∙ all-entries is_name is_value s.fs (fields_are s.fields_spelled three.before);
-      some_field = ap (λ (m : TextMap Value). nat_lt 0 (len m)) s.fields_are ∙ some_field s.fields_spelled;
+      tags = ap (λ (m : KeyMap (List ℕ)). list_all (λ e. is_name e.0 && is_name e.1) (entries m)) s.tags_are ∙ all-entries is_name is_name s.ts (tags_are s.tags_spelled two.before);
+      fields = ap (λ (m : KeyMap Value). list_all (λ e. is_name e.0 && is_value e.1) (entries m)) s.fields_are ∙ all-entries is_name is_value s.fs (fields_are s.fields_spelled three.before);
+      some_field = ap (λ (m : KeyMap Value). nat_lt 0 (len m)) s.fields_are ∙ some_field s.fields_spelled;
       dims = rw is.dims refl;
       time = time_is s.time_spelled has;
     }
@@ -117,9 +117,9 @@ time_fits (pos n) h = let le : n ≤ 9 * 10 ^ 18 = leb-true _ _ h in record { sf
 time_fits (negsuc n) h = let lt : n < 9 * 10 ^ 18 = ltb-true _ _ h in record { sfits = omega arith }
 
 -- what is read makes a point
-pub read_is_point : (db rp : List ℕ) (mode : Mode) (line name : List ℕ) (tags : TextMap (List ℕ)) (fields : TextMap Value) (dims : List (List ℕ)) (time : ℤ) (behind_name behind_tags behind_fields : List ℕ) → not (has_line_feed line) ≡ true → IsUtf8 line → is_line db ≡ true → is_line rp ≡ true → has_time mode ≡ true → measurement_at (without_spaces line) ≡ Ok (name, behind_name) → tags_at behind_name ≡ Ok (tags, behind_tags) → fields_at behind_tags ≡ Ok (fields, behind_fields) → time_of mode (without_spaces behind_fields) ≡ Ok time → dims ≡ [] → IsPoint (record { db = db; rp = rp; name = name; tags = tags; fields = fields; dims = dims; by_name = false; time = to_z w64 (of_z w64 time) })
+pub read_is_point : (db rp : List ℕ) (mode : Mode) (line name : List ℕ) (tags : KeyMap (List ℕ)) (fields : KeyMap Value) (dims : List (List ℕ)) (time : ℤ) (behind_name behind_tags behind_fields : List ℕ) → not (has_line_feed line) ≡ true → IsUtf8 line → is_line db ≡ true → is_line rp ≡ true → has_time mode ≡ true → measurement_at (without_spaces line) ≡ Ok (name, behind_name) → tags_at behind_name ≡ Ok (tags, behind_tags) → fields_at behind_tags ≡ Ok (fields, behind_fields) → time_of mode (without_spaces behind_fields) ≡ Ok time → dims ≡ [] → IsPoint (record { db = db; rp = rp; name = name; tags = tags; fields = fields; dims = dims; by_name = false; time = to_z w64 (of_z w64 time) })
 read_is_point db rp mode line name tags fields dims time behind_name behind_tags behind_fields one valid db_is rp_is has name_is tags_are fields_are time_is none =
-    let made : Series = record { db = db; rp = rp; name = name; tags = tags; fields = fields; dims = []; by_name = false; time = time } in
+    let made : PointValue = record { db = db; rp = rp; name = name; tags = tags; fields = fields; dims = []; by_name = false; time = time } in
     let s = parts_spelled db rp mode line name tags fields time behind_name behind_tags behind_fields name_is tags_are fields_are time_is in
     let point = spelled_is_point db rp mode line made (record { db = refl; rp = refl; dims = refl; by_name = refl }) s (clean_from line one valid) db_is rp_is has in
     let same : to_z w64 (of_z w64 time) ≡ time = to_z-of_z w64 time (time_fits time point.time) in

@@ -8,7 +8,7 @@ use Rattle.std.specs.FinMap.{FinMap, put, is_sorted, entries, empty, insert, ent
 use Rattle.std.specs.FinMap.Entries.{below_all}
 use Rattle.std.proofs.lemmas.Cmp.{nat_list_cmp_total}
 use Rattle.std.proofs.lemmas.List.{append-nil}
-use Rattle.kap_base.specs.Maps.{TextMap, with_entries}
+use Rattle.kap_base.specs.Maps.{KeyMap, with_entries}
 use Rattle.line_points.proofs.EntryLaws.{no_entries}
 
 abbrev R : List ℕ → List ℕ → Ordering
@@ -43,10 +43,10 @@ module _ {V : Type 0} where
       let sorted : T (is_sorted R (entries done ++ (k, v) ∷ es)) = subst (λ (x : List (List ℕ × V)). T (is_sorted R x)) is (entries_sorted m) in
       is ∙ sym (ap (λ (x : List (List ℕ × V)). x ++ es) (entries-insert nat_list_cmp_total done k v ∙ put_last (entries done) k v es sorted) ∙ append_assoc (entries done) ((k, v) ∷ []) es)
 
-  filled : (es : List (List ℕ × V)) (m done : TextMap V) → entries m ≡ entries done ++ es → with_entries done es ≡ m
+  filled : (es : List (List ℕ × V)) (m done : KeyMap V) → entries m ≡ entries done ++ es → with_entries done es ≡ m
   filled [] m done is = same_entries_map done m (sym (is ∙ append-nil (entries done)))
   filled (e ∷ es) m done is = filled es m (insert done e.0 e.1) (grows m done e.0 e.1 es is)
 
   -- a map is made of its entries
-  pub with_own_entries : (m : TextMap V) → with_entries empty (entries m) ≡ m
+  pub with_own_entries : (m : KeyMap V) → with_entries empty (entries m) ≡ m
   with_own_entries m = filled (entries m) m empty (sym (ap (λ (x : List (List ℕ × V)). x ++ entries m) no_entries))

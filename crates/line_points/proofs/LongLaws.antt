@@ -6,7 +6,7 @@ use Rattle.std.specs.List.{list_all, before_first, position_or_len}
 use Rattle.std.specs.Option.{option_map_or}
 use Rattle.kap_base.specs.Words.{◌>>=◌, Answers}
 use Rattle.kap_base.specs.Texts.{is_empty, begins_with, number_sign}
-use Rattle.kap_base.specs.Points.{Series}
+use Rattle.kap_base.specs.Points.{PointValue}
 use Rattle.kap_base.specs.declared.value.Value.TheVariants as values
 use Rattle.line_points.specs.declared.fault.LineFault.{LineFault}
 use Rattle.line_points.specs.declared.fault.LineFault.TheVariants as faults
@@ -129,6 +129,6 @@ never : (db rp : List ℕ) (mode : Mode) (line : List ℕ) → stored_of db rp m
 unfolding fine is_other
 never db rp mode line e = let long = sym (stored_fine db rp mode line) ∙ ap fine e in cc
 
-pub never_long : (r : Result Series LineFault) (db rp : List ℕ) (mode : Mode) (line : List ℕ) → Answers faults.NoMemory r (stored_of db rp mode line) → IfErr r (λ e. e ≢ faults.Long)
+pub never_long : (r : Result PointValue LineFault) (db rp : List ℕ) (mode : Mode) (line : List ℕ) → Answers faults.NoMemory r (stored_of db rp mode line) → IfErr r (λ e. e ≢ faults.Long)
 never_long (Ok p) db rp mode line read = tt
 never_long (Err e) db rp mode line read = λ is. never db rp mode line (read (λ lack. absurd (let both = sym is ∙ lack in cc)) ∙ ap (λ (x : LineFault). Err x) is)

@@ -5,7 +5,7 @@ use Rattle.std.proofs.lemmas.Bool.{eqb-true}
 use Rattle.std.proofs.lemmas.List.{append-nil}
 use Rattle.kap_base.specs.Words.{◌>>=◌}
 use Rattle.kap_base.specs.Texts.{number_sign}
-use Rattle.kap_base.specs.Points.{Series}
+use Rattle.kap_base.specs.Points.{PointValue}
 use Rattle.line_points.specs.declared.fault.LineFault.{LineFault}
 use Rattle.line_points.specs.declared.fault.LineFault.TheVariants as faults
 use Rattle.line_points.specs.declared.mode.Mode.{Mode}
@@ -19,14 +19,14 @@ use Rattle.line_points.proofs.SpaceLaws.{after_spaces, spaces_skipped, only_spac
 pub some_answer : (db rp line : List ℕ) (mode : Mode) → IsAnswered db rp mode line
 some_answer db rp line mode = by_answer (line_of db rp mode line) refl
   where
-    by_answer : (r : Result (Option Series) LineFault) → line_of db rp mode line ≡ r → IsAnswered db rp mode line
+    by_answer : (r : Result (Option PointValue) LineFault) → line_of db rp mode line ≡ r → IsAnswered db rp mode line
     by_answer (Ok (Some p)) e = inl (p, e)
     by_answer (Ok None) e = inr (inl e)
     by_answer (Err f) e = inr (inr (f, e))
 
 -- ---- blank lines
 
-skipped : (a b : Bool) (r : Result Series LineFault) → cond a (Ok None) (cond b (Err faults.Long) (r >>= λ p. Ok (Some p))) ≡ Ok None → a ≡ true
+skipped : (a b : Bool) (r : Result PointValue LineFault) → cond a (Ok None) (cond b (Err faults.Long) (r >>= λ p. Ok (Some p))) ≡ Ok None → a ≡ true
 skipped true b r e = refl
 skipped false true r e = absurd cc
 skipped false false (Ok p) e = absurd cc

@@ -12,7 +12,7 @@ use Rattle.std.proofs.lemmas.List.{append-nil}
 use Rattle.std.proofs.lemmas.Str.{IsUtf8-append, IsUtf8-nil, IsUtf8-from_ascii, IsUtf8-from_is_utf8, is_utf8-from_IsUtf8}
 use Rattle.std.proofs.lemmas.Str.Ascii.{IsAscii-nil, IsAscii-cons}
 use Rattle.kap_base.specs.Texts.{backslash, line_feed, has_line_feed, is_line, is_empty, begins_with, number_sign, ends_with, is_name}
-use Rattle.kap_base.specs.Points.{Series, IsPoint, is_value}
+use Rattle.kap_base.specs.Points.{PointValue, IsPoint, is_value}
 use Rattle.kap_base.specs.declared.memory.NoMemory.{NoMemory}
 use Rattle.kap_base.specs.declared.value.Value.{Value}
 use Rattle.line_points.specs.declared.part.Part.{Part}
@@ -158,11 +158,11 @@ time_clean (some_time mode n negative digits all range) =
 
 -- ---- the line of a point
 
-pub record IsPrinted (p : Series) : Type 0 where
+pub record IsPrinted (p : PointValue) : Type 0 where
   pub clean : IsClean (Print p)
   pub spelled : Spelled Recording (ungrouped p) (Print p)
 
-pub printed : (p : Series) → IsPoint p → IsPrinted p
+pub printed : (p : PointValue) → IsPoint p → IsPrinted p
 unfolding is_sign
 printed p is =
     let name_is : is_name p.name ≡ true = second_of (not (begins_with number_sign p.name)) _ is.name in
@@ -203,12 +203,12 @@ printed p is =
 
 -- ---- what print_line promises
 
-pub record PrintsAgain (line : List ℕ) (p : Series) : Type 0 where
+pub record PrintsAgain (line : List ℕ) (p : PointValue) : Type 0 where
   pub one_line : is_line line ≡ true
   pub again : length line ≤ 65536 → line_of p.db p.rp Recording line ≡ Ok (Some (ungrouped p))
   pub stored_again : stored_of p.db p.rp Recording line ≡ Ok (ungrouped p)
 
-pub prints_again : (line : List ℕ) (p : Series) → IsPoint p → line ≡ Print p → PrintsAgain line p
+pub prints_again : (line : List ℕ) (p : PointValue) → IsPoint p → line ≡ Print p → PrintsAgain line p
 prints_again line p is line_is =
     let q = printed p is in
     let valid : is_utf8 (Print p) ≡ true = is_utf8-from_IsUtf8 (Print p) q.clean.valid in
@@ -220,18 +220,18 @@ prints_again line p is line_is =
     })
 
 -- the same of what a call answers
-pub answer_again : (r : Result (List ℕ) NoMemory) (p : Series) → OnOk r (IsPoint p) → IfOk r (λ line. line ≡ Print p) → IfOk r (λ line. PrintsAgain line p)
+pub answer_again : (r : Result (List ℕ) NoMemory) (p : PointValue) → OnOk r (IsPoint p) → IfOk r (λ line. line ≡ Print p) → IfOk r (λ line. PrintsAgain line p)
 answer_again (Ok line) p is line_is = prints_again line p is line_is
 answer_again (Err e) p is line_is = tt
 
-pub answer_one_line : (r : Result (List ℕ) NoMemory) (p : Series) → IfOk r (λ line. PrintsAgain line p) → IfOk r (λ line. is_line line ≡ true)
+pub answer_one_line : (r : Result (List ℕ) NoMemory) (p : PointValue) → IfOk r (λ line. PrintsAgain line p) → IfOk r (λ line. is_line line ≡ true)
 answer_one_line (Ok line) p q = q.one_line
 answer_one_line (Err e) p q = tt
 
-pub answer_read : (r : Result (List ℕ) NoMemory) (p : Series) → IfOk r (λ line. PrintsAgain line p) → IfOk r (λ line. length line ≤ 65536 → line_of p.db p.rp Recording line ≡ Ok (Some (ungrouped p)))
+pub answer_read : (r : Result (List ℕ) NoMemory) (p : PointValue) → IfOk r (λ line. PrintsAgain line p) → IfOk r (λ line. length line ≤ 65536 → line_of p.db p.rp Recording line ≡ Ok (Some (ungrouped p)))
 answer_read (Ok line) p q = q.again
 answer_read (Err e) p q = tt
 
-pub answer_stored : (r : Result (List ℕ) NoMemory) (p : Series) → IfOk r (λ line. PrintsAgain line p) → IfOk r (λ line. stored_of p.db p.rp Recording line ≡ Ok (ungrouped p))
+pub answer_stored : (r : Result (List ℕ) NoMemory) (p : PointValue) → IfOk r (λ line. PrintsAgain line p) → IfOk r (λ line. stored_of p.db p.rp Recording line ≡ Ok (ungrouped p))
 answer_stored (Ok line) p q = q.stored_again
 answer_stored (Err e) p q = tt

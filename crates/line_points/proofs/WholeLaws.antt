@@ -7,8 +7,8 @@ use Rattle.std.proofs.lemmas.Bool.{le-ltb, ltb-false}
 use Rattle.std.proofs.lemmas.Bool.Decides.{nat_tests}
 use Rattle.kap_base.specs.Words.{◌>>=◌}
 use Rattle.kap_base.specs.Texts.{is_empty, begins_with, number_sign}
-use Rattle.kap_base.specs.Maps.{TextMap, with_entries}
-use Rattle.kap_base.specs.Points.{Series}
+use Rattle.kap_base.specs.Maps.{KeyMap, with_entries}
+use Rattle.kap_base.specs.Points.{PointValue}
 use Rattle.kap_base.specs.declared.value.Value.{Value}
 use Rattle.line_points.specs.declared.fault.LineFault.{LineFault}
 use Rattle.line_points.specs.declared.fault.LineFault.TheVariants as faults
@@ -68,36 +68,36 @@ name_taken bytes name rest e some =
 
 -- ---- tags and fields as maps
 
-record TagMapTaken (bytes : List ℕ) (tags : TextMap (List ℕ)) (rest : List ℕ) : Type 0 where
+record TagMapTaken (bytes : List ℕ) (tags : KeyMap (List ℕ)) (rest : List ℕ) : Type 0 where
   ts : List Tag
   are : tags ≡ with_entries empty ts
   apart : differ ts ≡ true
   taken : TagsTaken bytes ts rest
 
-tag_map_taken : (bytes : List ℕ) (tags : TextMap (List ℕ)) (rest : List ℕ) → tags_at bytes ≡ Ok (tags, rest) → is_empty rest ≡ false → TagMapTaken bytes tags rest
+tag_map_taken : (bytes : List ℕ) (tags : KeyMap (List ℕ)) (rest : List ℕ) → tags_at bytes ≡ Ok (tags, rest) → is_empty rest ≡ false → TagMapTaken bytes tags rest
 unfolding tags_at
 tag_map_taken bytes tags rest e some =
     let t = bind_ok (tags_from (length bytes) bytes) (λ x. cond (differ x.0) (Ok (with_entries empty x.0, x.1)) (Err faults.Tag)) (tags, rest) e in
     let g = then_ok (differ t.0.0) faults.Tag (Ok (with_entries empty t.0.0, t.0.1)) (tags, rest) t.2 in
     let end_is = ok_is {E = LineFault} (with_entries empty t.0.0, t.0.1) (tags, rest) g.1 in
-    let some_end : is_empty t.0.1 ≡ false = ap (λ (x : TextMap (List ℕ) × List ℕ). is_empty x.1) end_is ∙ some in
+    let some_end : is_empty t.0.1 ≡ false = ap (λ (x : KeyMap (List ℕ) × List ℕ). is_empty x.1) end_is ∙ some in
     let made : TagMapTaken bytes (with_entries empty t.0.0) t.0.1 = record { ts = t.0.0; are = refl; apart = g.0; taken = tags_taken (length bytes) bytes t.0.0 t.0.1 (omega arith) t.1 some_end } in
-    subst (λ (x : TextMap (List ℕ) × List ℕ). TagMapTaken bytes x.0 x.1) end_is made
+    subst (λ (x : KeyMap (List ℕ) × List ℕ). TagMapTaken bytes x.0 x.1) end_is made
 
-record FieldMapTaken (bytes : List ℕ) (fields : TextMap Value) (rest : List ℕ) : Type 0 where
+record FieldMapTaken (bytes : List ℕ) (fields : KeyMap Value) (rest : List ℕ) : Type 0 where
   fs : List Field
   are : fields ≡ with_entries empty fs
   some : is_empty (without_spaces bytes) ≡ false
   taken : FieldsTaken (without_spaces bytes) fs rest
 
-field_map_taken : (bytes : List ℕ) (fields : TextMap Value) (rest : List ℕ) → fields_at bytes ≡ Ok (fields, rest) → FieldMapTaken bytes fields rest
+field_map_taken : (bytes : List ℕ) (fields : KeyMap Value) (rest : List ℕ) → fields_at bytes ≡ Ok (fields, rest) → FieldMapTaken bytes fields rest
 unfolding fields_at
 field_map_taken bytes fields rest e =
     let behind = without_spaces bytes in
     let g = unless_ok (is_empty behind) faults.NoField (fields_from (length behind) behind >>= λ x. Ok (with_entries empty x.0, x.1)) (fields, rest) e in
     let f = bind_ok (fields_from (length behind) behind) (λ x. Ok (with_entries empty x.0, x.1)) (fields, rest) g.1 in
     let made : FieldMapTaken bytes (with_entries empty f.0.0) f.0.1 = record { fs = f.0.0; are = refl; some = g.0; taken = fields_taken (length behind) behind f.0.0 f.0.1 f.1 } in
-    subst (λ (x : TextMap Value × List ℕ). FieldMapTaken bytes x.0 x.1) (ok_is {E = LineFault} (with_entries empty f.0.0, f.0.1) (fields, rest) f.2) made
+    subst (λ (x : KeyMap Value × List ℕ). FieldMapTaken bytes x.0 x.1) (ok_is {E = LineFault} (with_entries empty f.0.0, f.0.1) (fields, rest) f.2) made
 
 -- ---- the whole line is spelled as it is read
 
@@ -105,7 +105,7 @@ regrouped : (line before name tags between fields time behind : List ℕ) (a b c
 regrouped line before name tags between fields time behind a b c d e p q r s t u =
     p ∙ ap (λ (x : List ℕ). before ++ x) (q ∙ ap (λ (x : List ℕ). name ++ x) (r ∙ ap (λ (x : List ℕ). tags ++ x) (s ∙ ap (λ (x : List ℕ). space ∷ (between ++ x)) (t ∙ ap (λ (x : List ℕ). fields ++ x) u))))
 
-pub parts_spelled : (db rp : List ℕ) (mode : Mode) (line name : List ℕ) (tags : TextMap (List ℕ)) (fields : TextMap Value) (time : ℤ) (behind_name behind_tags behind_fields : List ℕ) → measurement_at (without_spaces line) ≡ Ok (name, behind_name) → tags_at behind_name ≡ Ok (tags, behind_tags) → fields_at behind_tags ≡ Ok (fields, behind_fields) → time_of mode (without_spaces behind_fields) ≡ Ok time → Spelled mode (record { db = db; rp = rp; name = name; tags = tags; fields = fields; dims = []; by_name = false; time = time }) line
+pub parts_spelled : (db rp : List ℕ) (mode : Mode) (line name : List ℕ) (tags : KeyMap (List ℕ)) (fields : KeyMap Value) (time : ℤ) (behind_name behind_tags behind_fields : List ℕ) → measurement_at (without_spaces line) ≡ Ok (name, behind_name) → tags_at behind_name ≡ Ok (tags, behind_tags) → fields_at behind_tags ≡ Ok (fields, behind_fields) → time_of mode (without_spaces behind_fields) ≡ Ok time → Spelled mode (record { db = db; rp = rp; name = name; tags = tags; fields = fields; dims = []; by_name = false; time = time }) line
 parts_spelled db rp mode line name tags fields time behind_name behind_tags behind_fields name_is tags_are fields_are time_is =
     let f = field_map_taken behind_tags fields behind_fields fields_are in
     let t = tag_map_taken behind_name tags behind_tags tags_are (some_before behind_tags f.some) in
@@ -136,14 +136,14 @@ parts_spelled db rp mode line name tags fields time behind_name behind_tags behi
       time_spelled = m.spells;
     }
 
-pub record IsSpelled (database policy : List ℕ) (mode : Mode) (line : List ℕ) (p : Series) : Type 0 where
+pub record IsSpelled (database policy : List ℕ) (mode : Mode) (line : List ℕ) (p : PointValue) : Type 0 where
   pub spelled : Spelled mode p line
   pub is_of : IsOf database policy p
 
-moved : (db rp : List ℕ) (mode : Mode) (line : List ℕ) (made p : Series) → made ≡ p → IsSpelled db rp mode line made → IsSpelled db rp mode line p
+moved : (db rp : List ℕ) (mode : Mode) (line : List ℕ) (made p : PointValue) → made ≡ p → IsSpelled db rp mode line made → IsSpelled db rp mode line p
 moved db rp mode line made p is h = subst (IsSpelled db rp mode line) is h
 
-pub point_spelled : (db rp : List ℕ) (mode : Mode) (line : List ℕ) (p : Series) → point_of db rp mode (without_spaces line) ≡ Ok p → IsSpelled db rp mode line p
+pub point_spelled : (db rp : List ℕ) (mode : Mode) (line : List ℕ) (p : PointValue) → point_of db rp mode (without_spaces line) ≡ Ok p → IsSpelled db rp mode line p
 unfolding point_of
 point_spelled db rp mode line p e =
     let bytes = without_spaces line in
@@ -151,24 +151,24 @@ point_spelled db rp mode line p e =
     let t = bind_ok (tags_at n.0.1) (λ tags. fields_at tags.1 >>= λ fields. time_of mode (without_spaces fields.1) >>= λ time. Ok (record { db = db; rp = rp; name = n.0.0; tags = tags.0; fields = fields.0; dims = []; by_name = false; time = time })) p n.2 in
     let f = bind_ok (fields_at t.0.1) (λ fields. time_of mode (without_spaces fields.1) >>= λ time. Ok (record { db = db; rp = rp; name = n.0.0; tags = t.0.0; fields = fields.0; dims = []; by_name = false; time = time })) p t.2 in
     let m = bind_ok (time_of mode (without_spaces f.0.1)) (λ time. Ok (record { db = db; rp = rp; name = n.0.0; tags = t.0.0; fields = f.0.0; dims = []; by_name = false; time = time })) p f.2 in
-    let made : Series = record { db = db; rp = rp; name = n.0.0; tags = t.0.0; fields = f.0.0; dims = []; by_name = false; time = m.0 } in
+    let made : PointValue = record { db = db; rp = rp; name = n.0.0; tags = t.0.0; fields = f.0.0; dims = []; by_name = false; time = m.0 } in
     moved db rp mode line made p (ok_is {E = LineFault} made p m.2) (record {
       spelled = parts_spelled db rp mode line n.0.0 t.0.0 f.0.0 m.0 n.0.1 t.0.1 f.0.1 n.1 t.1 f.1 m.1;
       is_of = record { db = refl; rp = refl; dims = refl; by_name = refl };
     })
 
-pub stored_spelled : (db rp : List ℕ) (mode : Mode) (line : List ℕ) (p : Series) → stored_of db rp mode line ≡ Ok p → IsSpelled db rp mode line p
+pub stored_spelled : (db rp : List ℕ) (mode : Mode) (line : List ℕ) (p : PointValue) → stored_of db rp mode line ≡ Ok p → IsSpelled db rp mode line p
 unfolding stored_of
 stored_spelled db rp mode line p e =
     point_spelled db rp mode line p (unless_ok (not (is_utf8 line)) faults.NotUtf8 (point_of db rp mode (without_spaces line)) p e).1
 
-read_point : (a b : Bool) (r : Result Series LineFault) (p : Series) → cond a (Ok None) (cond b (Err faults.Long) (r >>= λ q. Ok (Some q))) ≡ Ok (Some p) → r ≡ Ok p
+read_point : (a b : Bool) (r : Result PointValue LineFault) (p : PointValue) → cond a (Ok None) (cond b (Err faults.Long) (r >>= λ q. Ok (Some q))) ≡ Ok (Some p) → r ≡ Ok p
 read_point true b r p e = absurd cc
 read_point false true r p e = absurd cc
 read_point false false (Ok q) p e = cc
 read_point false false (Err d) p e = absurd cc
 
-pub line_spelled : (db rp : List ℕ) (mode : Mode) (line : List ℕ) (p : Series) → line_of db rp mode line ≡ Ok (Some p) → IsSpelled db rp mode line p
+pub line_spelled : (db rp : List ℕ) (mode : Mode) (line : List ℕ) (p : PointValue) → line_of db rp mode line ≡ Ok (Some p) → IsSpelled db rp mode line p
 unfolding line_of
 line_spelled db rp mode line p e =
     stored_spelled db rp mode line p (read_point (is_live mode && is_blank (without_spaces line)) (ltb 65536 (length line)) (stored_of db rp mode line) p e)
@@ -178,7 +178,7 @@ pub record IsAllowed (line : List ℕ) : Type 0 where
   pub valid : is_utf8 line ≡ true
   pub short : length line ≤ 65536
 
-stored_valid : (db rp : List ℕ) (mode : Mode) (line : List ℕ) (p : Series) → stored_of db rp mode line ≡ Ok p → is_utf8 line ≡ true
+stored_valid : (db rp : List ℕ) (mode : Mode) (line : List ℕ) (p : PointValue) → stored_of db rp mode line ≡ Ok p → is_utf8 line ≡ true
 unfolding stored_of
 stored_valid db rp mode line p e = not_not (is_utf8 line) (unless_ok (not (is_utf8 line)) faults.NotUtf8 (point_of db rp mode (without_spaces line)) p e).0
   where
@@ -186,12 +186,12 @@ stored_valid db rp mode line p e = not_not (is_utf8 line) (unless_ok (not (is_ut
     not_not true h = refl
     not_not false h = absurd cc
 
-not_long : (a b : Bool) (r : Result Series LineFault) (p : Series) → cond a (Ok None) (cond b (Err faults.Long) (r >>= λ q. Ok (Some q))) ≡ Ok (Some p) → b ≡ false
+not_long : (a b : Bool) (r : Result PointValue LineFault) (p : PointValue) → cond a (Ok None) (cond b (Err faults.Long) (r >>= λ q. Ok (Some q))) ≡ Ok (Some p) → b ≡ false
 not_long true b r p e = absurd cc
 not_long false true r p e = absurd cc
 not_long false false r p e = refl
 
-pub line_allowed : (db rp : List ℕ) (mode : Mode) (line : List ℕ) (p : Series) → line_of db rp mode line ≡ Ok (Some p) → IsAllowed line
+pub line_allowed : (db rp : List ℕ) (mode : Mode) (line : List ℕ) (p : PointValue) → line_of db rp mode line ≡ Ok (Some p) → IsAllowed line
 unfolding line_of
 line_allowed db rp mode line p e =
     let blank = is_live mode && is_blank (without_spaces line) in
@@ -251,11 +251,11 @@ field_map_again fs front rest between spells next none =
     let skipped = spaces_skipped between (front ++ rest) (fields_first spells rest) in
     rw (skipped, fields_some spells rest, fields_again spells (length (front ++ rest)) rest (omega arith) next none) refl
 
-same_point : (db rp : List ℕ) (p : Series) (ts : List Tag) (fs : List Field) → IsOf db rp p → p.tags ≡ with_entries empty ts → p.fields ≡ with_entries empty fs → ◌≡◌ {A = Series} (record { db = db; rp = rp; name = p.name; tags = with_entries empty ts; fields = with_entries empty fs; dims = []; by_name = false; time = p.time }) p
+same_point : (db rp : List ℕ) (p : PointValue) (ts : List Tag) (fs : List Field) → IsOf db rp p → p.tags ≡ with_entries empty ts → p.fields ≡ with_entries empty fs → ◌≡◌ {A = PointValue} (record { db = db; rp = rp; name = p.name; tags = with_entries empty ts; fields = with_entries empty fs; dims = []; by_name = false; time = p.time }) p
 same_point db rp p ts fs is tags_are fields_are = rw (← is.db, ← is.rp, ← tags_are, ← fields_are, ← is.dims, ← is.by_name) refl
 
 -- what stands behind the spaces before the measurement
-pub parts_again : (db rp : List ℕ) (mode : Mode) (p : Series) (between behind : ℕ) (name tags fields time : List ℕ) (ts : List Tag) (fs : List Field) → IsOf db rp p → Spells parts.Measurement p.name name → is_empty p.name ≡ false → begins_with number_sign p.name ≡ false → SpellsTags ts tags → differ ts ≡ true → p.tags ≡ with_entries empty ts → SpellsFields fs fields → p.fields ≡ with_entries empty fs → SpellsTime mode p.time time → point_of db rp mode (name ++ (tags ++ (space ∷ (spaces between ++ (fields ++ (time ++ spaces behind)))))) ≡ Ok p
+pub parts_again : (db rp : List ℕ) (mode : Mode) (p : PointValue) (between behind : ℕ) (name tags fields time : List ℕ) (ts : List Tag) (fs : List Field) → IsOf db rp p → Spells parts.Measurement p.name name → is_empty p.name ≡ false → begins_with number_sign p.name ≡ false → SpellsTags ts tags → differ ts ≡ true → p.tags ≡ with_entries empty ts → SpellsFields fs fields → p.fields ≡ with_entries empty fs → SpellsTime mode p.time time → point_of db rp mode (name ++ (tags ++ (space ∷ (spaces between ++ (fields ++ (time ++ spaces behind)))))) ≡ Ok p
 unfolding point_of
 parts_again db rp mode p between behind name tags fields time ts fs is name_spelled some none tags_spelled apart tags_are fields_spelled fields_are time_spelled =
     let last = time ++ spaces behind in
@@ -263,20 +263,20 @@ parts_again db rp mode p between behind name tags fields time ts fs is name_spel
     let n = name_again p.name name (tags ++ middle) name_spelled some none (next-tags tags_spelled middle refl) in
     let t = tag_map_again ts tags middle tags_spelled apart refl refl in
     let f = field_map_again fs fields last between fields_spelled (next-time time_spelled behind) (no_comma-time time_spelled behind) in
-    rw (n, t, f, time_again time_spelled behind) (ap (λ (x : Series). Ok x) (same_point db rp p ts fs is tags_are fields_are))
+    rw (n, t, f, time_again time_spelled behind) (ap (λ (x : PointValue). Ok x) (same_point db rp p ts fs is tags_are fields_are))
 
-pub spelled_point : (db rp : List ℕ) (mode : Mode) (line : List ℕ) (p : Series) → IsOf db rp p → Spelled mode p line → point_of db rp mode (without_spaces line) ≡ Ok p
+pub spelled_point : (db rp : List ℕ) (mode : Mode) (line : List ℕ) (p : PointValue) → IsOf db rp p → Spelled mode p line → point_of db rp mode (without_spaces line) ≡ Ok p
 spelled_point db rp mode line p is s =
     let rest = s.tags ++ (space ∷ (spaces s.between ++ (s.fields ++ (s.time ++ spaces s.behind)))) in
     ap (λ (x : List ℕ). point_of db rp mode (without_spaces x)) s.line_is
     ∙ ap (point_of db rp mode) (spaces_skipped s.before (s.name ++ rest) (spelled_first s.name_spelled rest s.some_name))
     ∙ parts_again db rp mode p s.between s.behind s.name s.tags s.fields s.time s.ts s.fs is s.name_spelled s.some_name s.no_comment s.tags_spelled s.keys_differ s.tags_are s.fields_spelled s.fields_are s.time_spelled
 
-pub spelled_stored : (db rp : List ℕ) (mode : Mode) (line : List ℕ) (p : Series) → IsOf db rp p → Spelled mode p line → is_utf8 line ≡ true → stored_of db rp mode line ≡ Ok p
+pub spelled_stored : (db rp : List ℕ) (mode : Mode) (line : List ℕ) (p : PointValue) → IsOf db rp p → Spelled mode p line → is_utf8 line ≡ true → stored_of db rp mode line ≡ Ok p
 unfolding stored_of
 spelled_stored db rp mode line p is s valid = rw valid (spelled_point db rp mode line p is s)
 
-never_blank : (mode : Mode) (p : Series) (line : List ℕ) → Spelled mode p line → is_blank (without_spaces line) ≡ false
+never_blank : (mode : Mode) (p : PointValue) (line : List ℕ) → Spelled mode p line → is_blank (without_spaces line) ≡ false
 never_blank mode p line s =
     let rest = s.tags ++ (space ∷ (spaces s.between ++ (s.fields ++ (s.time ++ spaces s.behind)))) in
     ap (λ (x : List ℕ). is_blank (without_spaces x)) s.line_is
@@ -287,7 +287,7 @@ no_matter : (b : Bool) → (b && false) ≡ false
 no_matter true = refl
 no_matter false = refl
 
-pub spelled_line : (db rp : List ℕ) (mode : Mode) (line : List ℕ) (p : Series) → IsOf db rp p → Spelled mode p line → is_utf8 line ≡ true → length line ≤ 65536 → line_of db rp mode line ≡ Ok (Some p)
+pub spelled_line : (db rp : List ℕ) (mode : Mode) (line : List ℕ) (p : PointValue) → IsOf db rp p → Spelled mode p line → is_utf8 line ≡ true → length line ≤ 65536 → line_of db rp mode line ≡ Ok (Some p)
 unfolding line_of
 spelled_line db rp mode line p is s valid short =
     let long : ltb 65536 (length line) ≡ false = le-ltb _ _ short in

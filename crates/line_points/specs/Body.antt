@@ -3,7 +3,7 @@ use Rattle.std.specs.Prelude.{ℕ, ◌+◌, ◌==◌, List, [], ◌∷◌, ◌++
 use Rattle.std.specs.List.{slice_split}
 use Rattle.kap_base.specs.Words.{◌>>=◌}
 use Rattle.kap_base.specs.Texts.{is_empty, line_feed}
-use Rattle.kap_base.specs.Points.{Series}
+use Rattle.kap_base.specs.Points.{PointValue}
 use Rattle.line_points.specs.declared.fault.LineFault.{LineFault}
 use Rattle.line_points.specs.declared.fault.LineFault.TheVariants as faults
 use Rattle.line_points.specs.declared.fault.BodyFault.{BodyFault}
@@ -36,18 +36,18 @@ at_line n (Ok x) = Ok x
 at_line n (Err f) = Err (record { line = n; fault = f })
 
 -- the point of a line, if there is one, before further points
-abbrev pub before_more : Option Series → List Series → List Series
+abbrev pub before_more : Option PointValue → List PointValue → List PointValue
 before_more None points = points
 before_more (Some p) points = p ∷ points
 
 -- points, and that of one more line, if there is one
-abbrev pub with_line : List Series → Result (Option Series) LineFault → Result (List Series) LineFault
+abbrev pub with_line : List PointValue → Result (Option PointValue) LineFault → Result (List PointValue) LineFault
 with_line points read = do
   point ← read
   Ok (points ++ before_more point [])
 
 -- the points of lines that are numbered from n on, or the first faulty line
-unfoldable pub points_of : List ℕ → List ℕ → Mode → ℕ → List (List ℕ) → Result (List Series) BodyFault
+unfoldable pub points_of : List ℕ → List ℕ → Mode → ℕ → List (List ℕ) → Result (List PointValue) BodyFault
 points_of db rp mode n [] = Ok []
 points_of db rp mode n (line ∷ lines) = do
   point ← at_line n (line_of db rp mode line)
@@ -55,7 +55,7 @@ points_of db rp mode n (line ∷ lines) = do
   Ok (before_more point points)
 
 -- the points of a body
-abbrev pub body_of : List ℕ → List ℕ → Mode → List ℕ → Result (List Series) BodyFault
+abbrev pub body_of : List ℕ → List ℕ → Mode → List ℕ → Result (List PointValue) BodyFault
 body_of db rp mode body = points_of db rp mode 1 (body_lines body)
 
 -- a fault's name

@@ -7,7 +7,7 @@ use Rattle.kap_base.specs.declared.value.Value.{Value}
 use Rattle.kap_base.specs.declared.value.Value.TheVariants as values
 use Rattle.kap_base.specs.Texts.{backslash, begins_with, number_sign, is_empty}
 use Rattle.kap_base.specs.Maps.{with_entries}
-use Rattle.kap_base.specs.Points.{Series}
+use Rattle.kap_base.specs.Points.{PointValue}
 use Rattle.line_points.specs.declared.part.Part.{Part}
 use Rattle.line_points.specs.declared.part.Part.TheVariants as parts
 use Rattle.line_points.specs.declared.mode.Unit.{Unit}
@@ -61,7 +61,7 @@ pub data SpellsTime : Mode → ℤ → List ℕ → Type 0 where
 
 -- A line spells a point: spaces, the measurement, the tags, one space or more, the fields, the time, spaces. Each part is
 -- a spelling of the point's part.
-pub record Spelled (mode : Mode) (p : Series) (line : List ℕ) : Type 0 where
+pub record Spelled (mode : Mode) (p : PointValue) (line : List ℕ) : Type 0 where
   pub before : ℕ
   pub name : List ℕ
   pub tags : List ℕ
@@ -86,7 +86,7 @@ pub record Spelled (mode : Mode) (p : Series) (line : List ℕ) : Type 0 where
   pub time_spelled : SpellsTime mode p.time time
 
 -- a point that is grouped by nothing, of this database and policy
-pub record IsOf (database policy : List ℕ) (p : Series) : Type 0 where
+pub record IsOf (database policy : List ℕ) (p : PointValue) : Type 0 where
   pub db : p.db ≡ database
   pub rp : p.rp ≡ policy
   pub dims : p.dims ≡ []

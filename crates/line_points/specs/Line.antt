@@ -8,8 +8,8 @@ use Rattle.kap_base.specs.declared.value.Value.{Value}
 use Rattle.kap_base.specs.declared.value.Value.TheVariants as values
 use Rattle.kap_base.specs.Words.{◌>>=◌}
 use Rattle.kap_base.specs.Texts.{is_empty, begins_with, number_sign}
-use Rattle.kap_base.specs.Maps.{TextMap, with_entries}
-use Rattle.kap_base.specs.Points.{Series, is_time}
+use Rattle.kap_base.specs.Maps.{KeyMap, with_entries}
+use Rattle.kap_base.specs.Points.{PointValue, is_time}
 use Rattle.line_points.specs.declared.fault.LineFault.{LineFault}
 use Rattle.line_points.specs.declared.fault.LineFault.TheVariants as faults
 use Rattle.line_points.specs.declared.part.Part.TheVariants as parts
@@ -62,7 +62,7 @@ differ [] = true
 differ (t ∷ ts) = not (list_any (λ u. bytes_eq u.0 t.0) ts) && differ ts
 
 -- the tags behind a measurement, under different keys
-unfoldable pub tags_at : List ℕ → Result (TextMap (List ℕ) × List ℕ) LineFault
+unfoldable pub tags_at : List ℕ → Result (KeyMap (List ℕ) × List ℕ) LineFault
 tags_at bytes = do
   tags ← tags_from (length bytes) bytes
   if differ tags.0 then Ok (with_entries empty tags.0, tags.1) else Err faults.Tag
@@ -103,7 +103,7 @@ fields_from (suc n) bytes = do
   Ok (field.0 ∷ fields.0, fields.1)
 
 -- the fields behind measurement, tags and spaces; of equal keys the last one counts
-unfoldable pub fields_at : List ℕ → Result (TextMap Value × List ℕ) LineFault
+unfoldable pub fields_at : List ℕ → Result (KeyMap Value × List ℕ) LineFault
 fields_at bytes =
     let behind = without_spaces bytes in
     if is_empty behind then Err faults.NoField
@@ -151,7 +151,7 @@ time_of mode bytes =
 -- ---- the whole line
 
 -- the point of a line that begins with no space: ungrouped, of this database and policy
-unfoldable pub point_of : List ℕ → List ℕ → Mode → List ℕ → Result Series LineFault
+unfoldable pub point_of : List ℕ → List ℕ → Mode → List ℕ → Result PointValue LineFault
 point_of db rp mode bytes = do
   name ← measurement_at bytes
   tags ← tags_at name.1
@@ -160,7 +160,7 @@ point_of db rp mode bytes = do
   Ok (record { db = db; rp = rp; name = name.0; tags = tags.0; fields = fields.0; dims = []; by_name = false; time = time })
 
 -- the point of a line of any length
-unfoldable pub stored_of : List ℕ → List ℕ → Mode → List ℕ → Result Series LineFault
+unfoldable pub stored_of : List ℕ → List ℕ → Mode → List ℕ → Result PointValue LineFault
 stored_of db rp mode line = if not (is_utf8 line) then Err faults.NotUtf8 else point_of db rp mode (without_spaces line)
 
 -- nothing, or a comment
@@ -173,7 +173,7 @@ is_live (Live unit now) = true
 is_live Recording = false
 
 -- the point of a line, or none where a Live line holds nothing or a comment
-unfoldable pub line_of : List ℕ → List ℕ → Mode → List ℕ → Result (Option Series) LineFault
+unfoldable pub line_of : List ℕ → List ℕ → Mode → List ℕ → Result (Option PointValue) LineFault
 line_of db rp mode line =
     if is_live mode && is_blank (without_spaces line) then Ok None
     else if nat_lt 65536 (length line) then Err faults.Long
@@ -184,7 +184,7 @@ line_of db rp mode line =
 -- ---- the three answers
 
 -- the line reads as the point
-abbrev pub Reads : List ℕ → List ℕ → Mode → List ℕ → Series → Type 0
+abbrev pub Reads : List ℕ → List ℕ → Mode → List ℕ → PointValue → Type 0
 Reads db rp mode line point = line_of db rp mode line ≡ Ok (Some point)
 
 -- the line holds no point, and no fault

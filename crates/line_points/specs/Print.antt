@@ -6,7 +6,7 @@ use Rattle.std.specs.FinMap.{entries}
 use Rattle.kap_base.specs.declared.value.Value.{Value}
 use Rattle.kap_base.specs.declared.value.Value.TheVariants as values
 use Rattle.kap_base.specs.Texts.{backslash}
-use Rattle.kap_base.specs.Points.{Series}
+use Rattle.kap_base.specs.Points.{PointValue}
 use Rattle.line_points.specs.declared.part.Part.{Part}
 use Rattle.line_points.specs.declared.part.Part.TheVariants as parts
 use Rattle.line_points.specs.Parts.{escapes, space, quote, comma, equals}
@@ -41,9 +41,9 @@ fields_text [] = []
 fields_text (f ∷ fs) = field_text f ++ flat_map (λ g. comma ∷ field_text g) fs
 
 -- the measurement, the tags and the fields in byte order of their keys, one space before the fields and one before the time
-abbrev pub Print : Series → List ℕ
+abbrev pub Print : PointValue → List ℕ
 Print p = escaped parts.Measurement p.name ++ (flat_map tag_text (entries p.tags) ++ (space ∷ (fields_text (entries p.fields) ++ (space ∷ signed_decimal p.time))))
 
 -- the point without what it is grouped by
-abbrev pub ungrouped : Series → Series
+abbrev pub ungrouped : PointValue → PointValue
 ungrouped p = record p { dims = []; by_name = false }

@@ -2,7 +2,7 @@ ghost use Rattle.std.specs.Prelude.{◌≡◌, ◌≢◌, ◌≤◌, Some, Ok, l
 ghost use Rattle.std.specs.Str.{is_utf8};
 ghost use Rattle.kap_base.specs.Words.{Answers};
 ghost use Rattle.kap_base.specs.Texts.{has_line_feed};
-ghost use Rattle.kap_base.specs.Points.{Series};
+ghost use Rattle.kap_base.specs.Points.{PointValue};
 ghost use Rattle.line_points.specs.Parts.{without_spaces};
 ghost use Rattle.line_points.specs.Line.{has_time, point_of, line_of, stored_of};
 ghost use Rattle.line_points.specs.Grammar.{IsOf, Spelled};
@@ -103,7 +103,7 @@ pub fn read_line(
     // What is read is spelled so by the line.
     ensures spelled { IfOk result (λ o. IfSome o (λ p. Spelled mode.now p line.now × IsOf db.now rp.now p)) }
     // Whatever spelling of a point the line is, it reads as that point.
-    ensures each_spelling { (p : Series) → IsOf db.now rp.now p → Spelled mode.now p line.now → IsTrue (is_utf8 line.now) → length line.now ≤ 65536 → Answers LineFault.NoMemory result (Ok (Some p)) }
+    ensures each_spelling { (p : PointValue) → IsOf db.now rp.now p → Spelled mode.now p line.now → IsTrue (is_utf8 line.now) → length line.now ≤ 65536 → Answers LineFault.NoMemory result (Ok (Some p)) }
 {
     read(alloc, line, db, rp, mode)
 }
@@ -120,7 +120,7 @@ pub fn read_stored(alloc: Global, line: &[u8], db: &Text, rp: &Text) -> Result<P
     // What is read is spelled so by the line.
     ensures spelled { IfOk result (λ p. Spelled Mode.Recording p line.now × IsOf db.now rp.now p) }
     // Whatever spelling of a point the line is, it reads as that point.
-    ensures each_spelling { (p : Series) → IsOf db.now rp.now p → Spelled Mode.Recording p line.now → IsTrue (is_utf8 line.now) → Answers LineFault.NoMemory result (Ok p) }
+    ensures each_spelling { (p : PointValue) → IsOf db.now rp.now p → Spelled Mode.Recording p line.now → IsTrue (is_utf8 line.now) → Answers LineFault.NoMemory result (Ok p) }
 {
     stored(alloc, line, db, rp, &Mode::Recording)
 }

@@ -12,7 +12,7 @@ use crate::part::Part;
 use crate::scanner::Scanner;
 use crate::time::time;
 use crate::word::word_value;
-use kap_base::{Fields, Listed, Tags, Text, Value};
+use kap_base::{Fields, ItemList, Tags, Text, Value};
 use std::alloc::Global;
 
 #[tactic(auto, unfolding(crate::specs::Line::measurement_at))]
@@ -45,10 +45,10 @@ fn tag(alloc: Global, scanner: &mut Scanner) -> Result<(Text, Text), LineFault>
     Ok((key, value))
 }
 
-fn all_tags(alloc: Global, scanner: &mut Scanner) -> Result<Listed<(Text, Text)>, LineFault>
+fn all_tags(alloc: Global, scanner: &mut Scanner) -> Result<ItemList<(Text, Text)>, LineFault>
     ensures { Gives result scanner.new.rest.now (tags_from (length scanner.old.rest.now) scanner.old.rest.now) }
 {
-    let mut tags = Listed::new(alloc);
+    let mut tags = ItemList::new(alloc);
     'tags: while scanner.take(b',') {
         let tag = tag(alloc, scanner)?;
         tags.push(tag)?;
@@ -57,7 +57,7 @@ fn all_tags(alloc: Global, scanner: &mut Scanner) -> Result<Listed<(Text, Text)>
 }
 
 /// The map of these tags, where no key stands twice.
-fn tag_map(alloc: Global, tags: Listed<(Text, Text)>) -> Result<Tags, LineFault>
+fn tag_map(alloc: Global, tags: ItemList<(Text, Text)>) -> Result<Tags, LineFault>
     ensures { Answers LineFault.NoMemory result (if differ tags then Ok (with_entries map.empty tags) else Err LineFault.Tag) }
 {
     let given = tags.len();
@@ -120,10 +120,10 @@ fn field(alloc: Global, scanner: &mut Scanner) -> Result<(Text, Value), LineFaul
     Ok((key, value))
 }
 
-fn all_fields(alloc: Global, scanner: &mut Scanner) -> Result<Listed<(Text, Value)>, LineFault>
+fn all_fields(alloc: Global, scanner: &mut Scanner) -> Result<ItemList<(Text, Value)>, LineFault>
     ensures { Gives result scanner.new.rest.now (fields_from (length scanner.old.rest.now) scanner.old.rest.now) }
 {
-    let mut fields = Listed::new(alloc);
+    let mut fields = ItemList::new(alloc);
     'fields: loop {
         let field = field(alloc, scanner)?;
         fields.push(field)?;

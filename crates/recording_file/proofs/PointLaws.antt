@@ -5,7 +5,7 @@ use Rattle.std.specs.Str.{is_utf8}
 use Rattle.std.proofs.lemmas.Bool.Decides.{nat_tests}
 use Rattle.std.proofs.lemmas.Str.{IsUtf8-from_is_utf8, is_utf8-from_IsUtf8}
 use Rattle.kap_base.specs.Words.{◌>>=◌, Answers}
-use Rattle.kap_base.specs.Points.{Series}
+use Rattle.kap_base.specs.Points.{PointValue}
 use Rattle.line_points.specs.declared.fault.LineFault.{LineFault}
 use Rattle.line_points.specs.declared.fault.LineFault.TheVariants as faults
 use Rattle.line_points.specs.declared.mode.Mode.TheVariants.{Recording}
@@ -30,7 +30,7 @@ named_not line h no_text = elim (is_utf8 line) as (λ b. is_utf8 line ≡ b → 
 ] refl
 
 -- a line of a recording gives its point or its fault, and never nothing
-unfoldable some_point : Result Series LineFault → Result (Option Series) LineFault
+unfoldable some_point : Result PointValue LineFault → Result (Option PointValue) LineFault
 some_point (Ok p) = Ok (Some p)
 some_point (Err f) = Err f
 
@@ -41,7 +41,7 @@ read_is db rp line = elim (nat_lt 65536 (length line)) as (λ t. cond t (Err fau
   | false ↦ elim (stored_of db rp Recording line) as (λ r. (r >>= λ p. Ok (Some p)) ≡ some_point r) [ Ok p ↦ refl | Err f ↦ refl ]
 ]
 
-pub point_read : (db rp line : List ℕ) (p : Series) → line_of db rp Recording line ≡ Ok (Some p) → pointed db rp line ≡ Ok p
+pub point_read : (db rp line : List ℕ) (p : PointValue) → line_of db rp Recording line ≡ Ok (Some p) → pointed db rp line ≡ Ok p
 unfolding some_point
 point_read db rp line p is = elim (pointed db rp line) as (λ r. some_point r ≡ Ok (Some p) → r ≡ Ok p) [ Ok q ↦ λ e. cc | Err f ↦ λ e. cc ] (sym (read_is db rp line) ∙ is)
 

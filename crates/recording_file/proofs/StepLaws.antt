@@ -5,7 +5,7 @@ use Rattle.std.specs.List.{position_or_len}
 use Rattle.std.specs.Io.KnownBytes.{Consumes}
 use Rattle.std.proofs.lemmas.Bool.Decides.{nat_tests}
 use Rattle.std.proofs.lemmas.List.{drop-append-le, take-append-le}
-use Rattle.kap_base.specs.Points.{Series}
+use Rattle.kap_base.specs.Points.{PointValue}
 use Rattle.kap_io.specs.KnownLaws.{consumes_more}
 use Rattle.line_points.specs.declared.fault.LineFault.{LineFault}
 use Rattle.recording_file.specs.declared.fault.RecFault.TheVariants as rec_faults
@@ -104,7 +104,7 @@ pub further_err : {A : Type 0} (n : ℕ) (x : Result A LineFault) (f : LineFault
 further_err n x f k is = ap (λ y. further (at_line n y) k) is
 
 -- the third line of a group gives its point
-pub policy_gives : (d r : List ℕ) (a c : At) (s t : Option (List ℕ)) (line : List ℕ) (p : Series) → GivesLine a c s t line → pointed d r line ≡ Ok p → GivesPoint (read_policy d r) a c s t p
+pub policy_gives : (d r : List ℕ) (a c : At) (s t : Option (List ℕ)) (line : List ℕ) (p : PointValue) → GivesLine a c s t line → pointed d r line ≡ Ok p → GivesPoint (read_policy d r) a c s t p
 policy_gives d r a c s t line p g is =
     let step : (seen : Seen) → read_policy d r a.line (before line seen) ≡ onto p (read c.line seen) = λ seen.
     further_ok a.line (pointed d r line) p (λ q. onto q (groups seen.stop (a.line + 1) seen.lines)) is ∙ ap (λ n. onto p (read n seen)) (sym g.number) in
@@ -130,7 +130,7 @@ module _ (R Q : ℕ → Seen → Reading) (a b c : At) (s t u : Option (List ℕ
   number_of : (seen : Seen) → R a.line (before line seen) ≡ Q b.line seen
   number_of seen = step seen ∙ ap (λ n. Q n seen) (sym g.number)
 
-  pub line_gives : (p : Series) → GivesPoint Q b c t u p → GivesPoint R a c s u p
+  pub line_gives : (p : PointValue) → GivesPoint Q b c t u p → GivesPoint R a c s u p
   line_gives p h = record {
     got = g.got ++ h.got;
     took = consumes_more _ _ _ g.got h.got g.took h.took;

@@ -2,7 +2,7 @@
 use Rattle.std.specs.Prelude.{ℕ, Bool, ◌==◌, List, [], ◌∷◌, ◌++◌, if◌then◌else◌}
 use Rattle.std.specs.List.{slice_split}
 use Rattle.kap_base.specs.Texts.{line_feed, is_empty}
-use Rattle.kap_base.specs.Points.{Series}
+use Rattle.kap_base.specs.Points.{PointValue}
 use Rattle.line_points.specs.Body.{without_return}
 use Rattle.line_points.specs.Print.{Print}
 
@@ -32,5 +32,5 @@ last_of (last ∷ []) = last
 last_of (line ∷ next ∷ more) = last_of (next ∷ more)
 
 -- the three lines of a point, each with its line feed
-abbrev pub record_text : Series → List ℕ
+abbrev pub record_text : PointValue → List ℕ
 record_text p = p.db ++ (line_feed ∷ (p.rp ++ (line_feed ∷ (Print p ++ line_feed ∷ []))))

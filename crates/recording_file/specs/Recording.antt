@@ -2,7 +2,7 @@
 use Rattle.std.specs.Prelude.{ℕ, ◌+◌, ◌^◌, Bool, true, false, List, [], ◌∷◌, length, take, Result, Ok, Err, nat_lt, nat_le, if◌then◌else◌}
 use Rattle.std.specs.Str.{is_utf8}
 use Rattle.kap_base.specs.Words.{◌>>=◌}
-use Rattle.kap_base.specs.Points.{Series}
+use Rattle.kap_base.specs.Points.{PointValue}
 use Rattle.line_points.specs.declared.fault.LineFault.{LineFault}
 use Rattle.line_points.specs.declared.fault.LineFault.TheVariants as faults
 use Rattle.line_points.specs.declared.mode.Mode.TheVariants.{Recording}
@@ -20,7 +20,7 @@ abbrev pub named : List ℕ → Result (List ℕ) LineFault
 named line = short line >>= λ text. if is_utf8 text then Ok text else Err faults.NotUtf8
 
 -- the point of a line of at most 65,536 bytes
-abbrev pub pointed : List ℕ → List ℕ → List ℕ → Result Series LineFault
+abbrev pub pointed : List ℕ → List ℕ → List ℕ → Result PointValue LineFault
 pointed db rp line = short line >>= λ text. stored_of db rp Recording text
 
 -- the fault of a line with its number
@@ -36,7 +36,7 @@ pub data Stop : Type 0 where
 
 -- the points of the groups that were wholly read, and how reading stops behind them
 pub record Reading : Type 0 where
-  pub points : List Series
+  pub points : List PointValue
   pub stop : Stop
 
 -- no point
@@ -44,7 +44,7 @@ abbrev pub stopped : Stop → Reading
 stopped stop = record { points = []; stop = stop }
 
 -- a point before others
-abbrev pub onto : Series → Reading → Reading
+abbrev pub onto : PointValue → Reading → Reading
 onto p others = record { points = p ∷ others.points; stop = others.stop }
 
 -- what follows where there is no fault

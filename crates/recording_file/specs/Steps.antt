@@ -1,7 +1,7 @@
 -- The steps of a reader: a line, and the rest of a group behind its database or behind its policy.
 use Rattle.std.specs.Prelude.{◌≡◌, ◌≢◌, ℕ, ◌+◌, ◌++◌, Bool, false, Option, None, Some, List, [], ◌∷◌, IsTrue, Result, Err}
 use Rattle.std.specs.Io.KnownBytes.{Consumes}
-use Rattle.kap_base.specs.Points.{Series}
+use Rattle.kap_base.specs.Points.{PointValue}
 use Rattle.line_points.specs.declared.fault.LineFault.{LineFault}
 use Rattle.line_points.specs.declared.fault.LineFault.TheVariants as faults
 use Rattle.recording_file.specs.declared.fault.RecFault.{RecFault}
@@ -41,7 +41,7 @@ pub record GivesLine (old new : At) (s t : Option (List ℕ)) (line : List ℕ) 
   pub opens : (more : List ℕ) → new.ended ≡ false → front (old.bytes ++ (got ++ more)) ≡ before line (front (new.bytes ++ more))
 
 -- a point was given: whatever follows, what was ahead is that point and what is ahead now
-pub record GivesPoint (R : ℕ → Seen → Reading) (old new : At) (s t : Option (List ℕ)) (p : Series) : Type 0 where
+pub record GivesPoint (R : ℕ → Seen → Reading) (old new : At) (s t : Option (List ℕ)) (p : PointValue) : Type 0 where
   pub got : List ℕ
   pub took : Consumes (to_come old.ended s) (to_come new.ended t) got
   pub stays : IsTrue old.ended → IsTrue new.ended

@@ -7,7 +7,7 @@ use crate::cursor::Cursor;
 use crate::fault::CodeFault;
 use crate::fields::put_u32;
 use crate::spelled::Spelled;
-use kap_base::{Bytes, Listed, NoMemory};
+use kap_base::{Bytes, ItemList, NoMemory};
 use std::alloc::Global;
 
 /// Appends the number of items, and the items.
@@ -31,10 +31,10 @@ fn read_items<T: Spelled + Drop>(
     alloc: Global,
     count: u32,
     from: &mut Cursor,
-) -> Result<Listed<T>, CodeFault>
+) -> Result<ItemList<T>, CodeFault>
     ensures { Reads (read_many T.read count) from.old from.new result }
 {
-    let mut items = Listed::new(alloc);
+    let mut items = ItemList::new(alloc);
     'reading: for _ in 0..count {
         let item = T::read_spelling(alloc, from)?;
         items.push(item)?;
@@ -43,7 +43,7 @@ fn read_items<T: Spelled + Drop>(
 }
 
 /// The number of items as a `u32`, and the items.
-impl<T: Spelled + Drop> Spelled for Listed<T> {
+impl<T: Spelled + Drop> Spelled for ItemList<T> {
     ghost fits = { FitsList T.fits };
 
     ghost spell = { spell_list T.spell };
@@ -56,7 +56,7 @@ impl<T: Spelled + Drop> Spelled for Listed<T> {
         put_items(self.as_slice(), to)
     }
 
-    fn read_spelling(alloc: Global, from: &mut Cursor) -> Result<Listed<T>, CodeFault> {
+    fn read_spelling(alloc: Global, from: &mut Cursor) -> Result<ItemList<T>, CodeFault> {
         let count = from.u32()?;
         read_items(alloc, count, from)
     }

@@ -3,7 +3,7 @@
 ghost use Rattle.std.specs.Prelude.{◌≡◌};
 ghost use Rattle.tick_lexer.specs.declared.token.LexFault.TheVariants.{NoMemory as no_memory};
 
-use kap_base::{Listed, Lit, NoMemory, Op, Text};
+use kap_base::{ItemList, Lit, NoMemory, Op, Text};
 
 /// What a token is, and what it says (Kapacitor 1.6 TICKscript language reference: Syntax).
 #[derive(Drop)]
@@ -45,7 +45,7 @@ pub struct Token {
 }
 
 /// The tokens of a text, in order.
-pub type Tokens = Listed<Token>;
+pub type Tokens = ItemList<Token>;
 
 /// Why a text has no tokens, at the first byte of what is no token.
 #[derive(Clone, Copy, Debug, PartialEq, Eq, Drop)]

@@ -9,7 +9,7 @@ use Rattle.tick_lexer.specs.declared.token.Token.{Token}
 use Rattle.tick_parser.specs.declared.fault.ParseFault.{ParseFault}
 use Rattle.tick_parser.specs.declared.fault.ParseFault.TheVariants.{Expected, Deep}
 use Rattle.tick_parser.specs.declared.fault.Want.TheVariants.{Value}
-use Rattle.tick_parser.specs.Trees.{ValTree, Given, Everything, Function, Chained, ValTrees, NoVals, MoreVals, JointTrees, NoJoints, MoreJoints, StmtTree, vals_onto, joints_onto}
+use Rattle.tick_parser.specs.Trees.{ValTree, LitVal, StarVal, LambdaVal, ChainVal, ValTrees, NoVals, MoreVals, JointTrees, NoJoints, MoreJoints, StmtTree, vals_onto, joints_onto}
 use Rattle.tick_parser.specs.Grammar.{At, Free, Signed, Fits, spell, Agree, Is, IsMinus, depth, binaries}
 use Rattle.tick_parser.specs.Script.{spell_val, spell_vals, spell_more, spell_joints, FitsVal, FitVals, FitJoints, depth_val, depth_vals, depth_joints, width_val, width_vals, width_joints}
 use Rattle.tick_parser.specs.Lambdas as lambdas
@@ -51,7 +51,7 @@ pub record ReadsVal (d w m : ℕ) (tokens : List Token) (done : List StmtTree) (
 
 -- a star is an argument
 abbrev pub StarFits : ValTree → Spot → Type 0
-StarFits (Everything at) (Variable name place) = ⊥
+StarFits (StarVal at) (Variable name place) = ⊥
 StarFits _ _ = Unit {0}
 
 -- turned round twice
@@ -79,11 +79,11 @@ line_settled d w m done stack spot line v e = record {
 }
 
 -- a literal behind a minus
-number_read : (done : List StmtTree) (stack : List Spot) (spot : Spot) (place at : ℕ) (kind : Kind) (lit : Lit) → IsMinus kind lit → number done stack spot place at kind ≡ ValueRead done stack spot (Given lit place)
+number_read : (done : List StmtTree) (stack : List Spot) (spot : Spot) (place at : ℕ) (kind : Kind) (lit : Lit) → IsMinus kind lit → number done stack spot place at kind ≡ ValueRead done stack spot (LitVal lit place)
 number_read done stack spot place at (Literal plain) lit e = ap (λ (x : Option Lit). signed done stack spot place at x) e
 number_read done stack spot place at _ lit e = elim e [ ]
 
-given_front : (d w m : ℕ) (done : List StmtTree) (stack : List Spot) (spot : Spot) (lit : Lit) (at : ℕ) (front : List Token) → Is front (Signed lit at) → run d w m front (Valuing done stack spot) ≡ ValueRead done stack spot (Given lit at)
+given_front : (d w m : ℕ) (done : List StmtTree) (stack : List Spot) (spot : Spot) (lit : Lit) (at : ℕ) (front : List Token) → Is front (Signed lit at) → run d w m front (Valuing done stack spot) ≡ ValueRead done stack spot (LitVal lit at)
 given_front d w m done stack spot lit at [] i = ⊎_elim (λ x. elim x [ ]) (λ x. elim x [ ]) i
 given_front d w m done stack spot lit at (t ∷ []) i =
     ⊎_elim
@@ -130,7 +130,7 @@ after_leaves d w stack tree body n at Close k e = ap (λ (h : lambdas.Held). lam
 after_leaves d w stack tree body n at Comma k e = ap (λ (h : lambdas.Held). lambdas.next_top h.stack h.tree n at) e
 after_leaves d w stack tree body n at _ k e = elim k [ ]
 
-lambda_settled : (d w m : ℕ) (done : List StmtTree) (stack : List Spot) (spot : Spot) (place : ℕ) (st : List lambdas.Frame) (tree body : Tree) (n : ℕ) → lambdas.reduce 0 st tree ≡ record { stack = []; tree = body } → Settled d w m done stack spot (Function body place) (InLambda done stack spot place (lambdas.Holding st tree n))
+lambda_settled : (d w m : ℕ) (done : List StmtTree) (stack : List Spot) (spot : Spot) (place : ℕ) (st : List lambdas.Frame) (tree body : Tree) (n : ℕ) → lambdas.reduce 0 st tree ≡ record { stack = []; tree = body } → Settled d w m done stack spot (LambdaVal body place) (InLambda done stack spot place (lambdas.Holding st tree n))
 lambda_settled d w m done stack spot place st tree body n e = record {
   leaves = λ token k.
       ap (λ (x : lambdas.State). within m done stack spot place token.start token.kind x)
@@ -139,7 +139,7 @@ lambda_settled d w m done stack spot place st tree body n e = record {
   read = tt;
 }
 
-lambda_read : (d w m : ℕ) (done : List StmtTree) (stack : List Spot) (spot : Spot) (place : ℕ) (body : Tree) (tokens : List Token) → Agree tokens (spell body) → Fits 0 body → opens stack + opens_spot spot + depth body ≤ d → binaries body ≤ w → (s : State) × (run d w m tokens (InLambda done stack spot place (lambdas.Wanting [] 0)) ≡ s) × Settled d w m done stack spot (Function body place) s
+lambda_read : (d w m : ℕ) (done : List StmtTree) (stack : List Spot) (spot : Spot) (place : ℕ) (body : Tree) (tokens : List Token) → Agree tokens (spell body) → Fits 0 body → opens stack + opens_spot spot + depth body ≤ d → binaries body ≤ w → (s : State) × (run d w m tokens (InLambda done stack spot place (lambdas.Wanting [] 0)) ≡ s) × Settled d w m done stack spot (LambdaVal body place) s
 lambda_read d w m done stack spot place body tokens h fit deep wide =
     let room = d - (opens stack + opens_spot spot) in
     let r = complete.reads body room w 0 0 [] tokens h fit tt (omega arith) (omega arith) (omega arith) in
@@ -172,37 +172,37 @@ pipe_or_dot : (m : ℕ) (done : List StmtTree) (stack : List Spot) (line : Line)
 pipe_or_dot m done stack line at true = refl
 pipe_or_dot m done stack line at false = refl
 
-star_read : (d w m : ℕ) (done : List StmtTree) (stack : List Spot) (spot : Spot) (at : ℕ) (tokens : List Token) → Agree tokens (At (Sign Mul) at ∷ []) → StarFits (Everything at) spot → run d w m tokens (Valuing done stack spot) ≡ ValueRead done stack spot (Everything at)
+star_read : (d w m : ℕ) (done : List StmtTree) (stack : List Spot) (spot : Spot) (at : ℕ) (tokens : List Token) → Agree tokens (At (Sign Mul) at ∷ []) → StarFits (StarVal at) spot → run d w m tokens (Valuing done stack spot) ≡ ValueRead done stack spot (StarVal at)
 star_read d w m done stack (Variable name place) at tokens h s = elim s [ ]
 star_read d w m done stack (Argument line call args) at tokens h s =
     let o = first (At (Sign Mul) at) [] tokens tt h in
     let spot = Argument line call args in
-    run_one d w m tokens o.token o.rest (Valuing done stack spot) (ValueRead done stack spot (Everything at)) o.joined (none_left o.rest o.rest_agrees)
+    run_one d w m tokens o.token o.rest (Valuing done stack spot) (ValueRead done stack spot (StarVal at)) o.joined (none_left o.rest o.rest_agrees)
     (both (λ (a : ℕ) (k : Kind). value done stack spot a k) o.token.start at o.token.kind (Sign Mul) o.is.1 o.is.0)
 
 argument_star : (v : ValTree) (line : Line) (call : Call) (args : ValTrees) → StarFits v (Argument line call args)
-argument_star (Given lit at) line call args = tt
-argument_star (Everything at) line call args = tt
-argument_star (Function body at) line call args = tt
-argument_star (Chained head links at) line call args = tt
+argument_star (LitVal lit at) line call args = tt
+argument_star (StarVal at) line call args = tt
+argument_star (LambdaVal body at) line call args = tt
+argument_star (ChainVal head links at) line call args = tt
 
 mutual
   pub reads_val : (v : ValTree) (d w m : ℕ) (done : List StmtTree) (stack : List Spot) (spot : Spot) (tokens : List Token) → Agree tokens (spell_val v) → FitsVal v → StarFits v spot → opens stack + opens_spot spot + depth_val v ≤ d → width_val v ≤ w → ReadsVal d w m tokens done stack spot v
-  reads_val (Given lit at) d w m done stack spot tokens h fit star deep wide =
+  reads_val (LitVal lit at) d w m done stack spot tokens h fit star deep wide =
       let back : h.1 ≡ [] = h.4 in
       let front = h.0 in record {
-        state = ValueRead done stack spot (Given lit at);
+        state = ValueRead done stack spot (LitVal lit at);
         reached =
-            run_on d w m tokens front h.1 (Valuing done stack spot) (ValueRead done stack spot (Given lit at)) h.2 (given_front d w m done stack spot lit at front h.3)
-            ∙ ap (λ (l : List Token). run d w m l (ValueRead done stack spot (Given lit at))) back;
-        settles = value_settled d w m done stack spot (Given lit at);
+            run_on d w m tokens front h.1 (Valuing done stack spot) (ValueRead done stack spot (LitVal lit at)) h.2 (given_front d w m done stack spot lit at front h.3)
+            ∙ ap (λ (l : List Token). run d w m l (ValueRead done stack spot (LitVal lit at))) back;
+        settles = value_settled d w m done stack spot (LitVal lit at);
       }
-  reads_val (Everything at) d w m done stack spot tokens h fit star deep wide = record {
-    state = ValueRead done stack spot (Everything at);
+  reads_val (StarVal at) d w m done stack spot tokens h fit star deep wide = record {
+    state = ValueRead done stack spot (StarVal at);
     reached = star_read d w m done stack spot at tokens h star;
-    settles = value_settled d w m done stack spot (Everything at);
+    settles = value_settled d w m done stack spot (StarVal at);
   }
-  reads_val (Function body at) d w m done stack spot tokens h fit star deep wide =
+  reads_val (LambdaVal body at) d w m done stack spot tokens h fit star deep wide =
       let o = first (At Lambda at) (spell body) tokens tt h in
       let s : step d w m (Valuing done stack spot) o.token ≡ InLambda done stack spot at (lambdas.Wanting [] 0) =
       both (λ (a : ℕ) (k : Kind). value done stack spot a k) o.token.start at o.token.kind Lambda o.is.1 o.is.0 in
@@ -211,7 +211,7 @@ mutual
         reached = run_first d w m tokens o.token o.rest (Valuing done stack spot) (InLambda done stack spot at (lambdas.Wanting [] 0)) o.joined s ∙ r.1;
         settles = r.2;
       }
-  reads_val (Chained head links at) d w m done stack spot tokens h fit star deep wide =
+  reads_val (ChainVal head links at) d w m done stack spot tokens h fit star deep wide =
       let o = first (At (Ident head) at) (spell_joints links) tokens tt h in
       let line : Line = record { head = head; links = NoJoints; at = at } in
       let s : step d w m (Valuing done stack spot) o.token ≡ LineRead done (spot ∷ stack) line =
@@ -219,8 +219,8 @@ mutual
       let r = reads_joints links d w m done (spot ∷ stack) head NoJoints at o.rest o.rest_agrees fit deep wide in record {
         state = LineRead done (spot ∷ stack) (record { head = head; links = joints_onto links NoJoints; at = at });
         reached = run_first d w m tokens o.token o.rest (Valuing done stack spot) (LineRead done (spot ∷ stack) line) o.joined s ∙ r;
-        settles = line_settled d w m done stack spot (record { head = head; links = joints_onto links NoJoints; at = at }) (Chained head links at)
-            (ap (λ (x : JointTrees). Chained head x at) (joints_turned links NoJoints));
+        settles = line_settled d w m done stack spot (record { head = head; links = joints_onto links NoJoints; at = at }) (ChainVal head links at)
+            (ap (λ (x : JointTrees). ChainVal head x at) (joints_turned links NoJoints));
       }
 
   reads_vals : (args : ValTrees) (d w m : ℕ) (done : List StmtTree) (stack : List Spot) (line : Line) (call : Call) (tokens : List Token) → Agree tokens (spell_vals args) → FitVals args → opens stack + 1 + depth_vals args ≤ d → width_vals args ≤ w → run d w m tokens (ParenRead done stack line call) ≡ LineRead done stack (linked line call args)

@@ -5,7 +5,7 @@ use Rattle.tick_lexer.specs.declared.token.Kind.{Kind}
 use Rattle.tick_lexer.specs.declared.token.Kind.TheVariants.{Ident, Reference, Dot, Assign, Var}
 use Rattle.tick_lexer.specs.declared.token.Token.{Token}
 use Rattle.tick_parser.specs.declared.fault.ParseFault.TheVariants.{TooMany}
-use Rattle.tick_parser.specs.Trees.{ValTree, Given, Everything, Function, Chained, JointTrees, NoJoints, StmtTree, Declared, Dbrp, Piped, joints_onto}
+use Rattle.tick_parser.specs.Trees.{ValTree, LitVal, StarVal, LambdaVal, ChainVal, JointTrees, NoJoints, StmtTree, VarStmt, DbrpStmt, ChainStmt, joints_onto}
 use Rattle.tick_parser.specs.Grammar.{At, Free, Agree}
 use Rattle.tick_parser.specs.Script.{spell_val, spell_joints, spell_stmt, spell_script, word_dbrp, IsOne, FitsStmt, FitsScript, depth_stmt, depth_script, width_stmt, width_script, Reads, Within}
 use Rattle.tick_parser.specs.Refusal.{IsStart}
@@ -33,7 +33,7 @@ pub record ReadsOn (d w m : ℕ) (tokens : List Token) (from : State) (done : Li
 between_rests : (d w m : ℕ) (done : List StmtTree) → Rests d w m done (Between done)
 between_rests d w m done = record { starts = λ token h. refl; ends = λ at. refl }
 
-variable_rests : (d w m : ℕ) (done : List StmtTree) (stack : List Spot) (name : List ℕ) (at : ℕ) (v : ValTree) (s : State) → Settled d w m done stack (Variable name at) v s → Rests d w m (done ++ Declared name v at ∷ []) s
+variable_rests : (d w m : ℕ) (done : List StmtTree) (stack : List Spot) (name : List ℕ) (at : ℕ) (v : ValTree) (s : State) → Settled d w m done stack (Variable name at) v s → Rests d w m (done ++ VarStmt name v at ∷ []) s
 variable_rests d w m done stack name at v s h = record { starts = λ token k. h.leaves token (leaves_of token.kind k); ends = λ place. h.ends place }
 
 line_rests : (d w m : ℕ) (done : List StmtTree) (line : Line) (stmt : StmtTree) → piped line ≡ stmt → Rests d w m (done ++ stmt ∷ []) (LineRead done [] line)
@@ -45,10 +45,10 @@ line_rests d w m done line stmt e = record {
 }
 
 one_star : (v : ValTree) (name : List ℕ) (at : ℕ) → IsOne v → StarFits v (Variable name at)
-one_star (Given lit place) name at h = tt
-one_star (Everything place) name at h = elim h [ ]
-one_star (Function body place) name at h = tt
-one_star (Chained head links place) name at h = tt
+one_star (LitVal lit place) name at h = tt
+one_star (StarVal place) name at h = elim h [ ]
+one_star (LambdaVal body place) name at h = tt
+one_star (ChainVal head links place) name at h = tt
 
 -- the first token of a statement
 begin_var : (d w m : ℕ) (done : List StmtTree) (s : State) (at : ℕ) (token : Token) → Rests d w m done s → length done < m → token.kind ≡ Var → token.start ≡ at → step d w m s token ≡ VarRead done at
@@ -64,7 +64,7 @@ begin_name d w m done s name at token r lt k p =
     ∙ ap (λ (b : Bool). cond b (LineRead done [] (record { head = name; links = NoJoints; at = at })) (Stopped (TooMany at))) (lt-ltb (length done) m lt)
 
 reads_stmt : (stmt : StmtTree) (d w m : ℕ) (done : List StmtTree) (s : State) (tokens : List Token) → Rests d w m done s → Agree tokens (spell_stmt stmt) → FitsStmt stmt → depth_stmt stmt ≤ d → width_stmt stmt ≤ w → length done < m → ReadsOn d w m tokens s (done ++ stmt ∷ [])
-reads_stmt (Declared name v at) d w m done s tokens r h fit deep wide lt =
+reads_stmt (VarStmt name v at) d w m done s tokens r h fit deep wide lt =
     let o = first (At Var at) (Free (Ident name) ∷ Free Assign ∷ spell_val v) tokens tt h in
     let p = first (Free (Ident name)) (Free Assign ∷ spell_val v) o.rest tt o.rest_agrees in
     let q = first (Free Assign) (spell_val v) p.rest tt p.rest_agrees in
@@ -82,7 +82,7 @@ reads_stmt (Declared name v at) d w m done s tokens r h fit deep wide lt =
           ∙ x.reached;
       rests = variable_rests d w m done [] name at v x.state x.settles;
     }
-reads_stmt (Dbrp db rp at) d w m done s tokens r h fit deep wide lt =
+reads_stmt (DbrpStmt db rp at) d w m done s tokens r h fit deep wide lt =
     let o = first (At (Ident word_dbrp) at) (Free (Reference db) ∷ Free Dot ∷ Free (Reference rp) ∷ []) tokens tt h in
     let p = first (Free (Reference db)) (Free Dot ∷ Free (Reference rp) ∷ []) o.rest tt o.rest_agrees in
     let q = first (Free Dot) (Free (Reference rp) ∷ []) p.rest tt p.rest_agrees in
@@ -91,17 +91,17 @@ reads_stmt (Dbrp db rp at) d w m done s tokens r h fit deep wide lt =
     let s1 = begin_name d w m done s word_dbrp at o.token r lt o.is.0 o.is.1 in
     let s2 : step d w m (LineRead done [] line) p.token ≡ DbRead done db at = ap (λ (k : Kind). follow m done [] line p.token.start k) p.is in
     let s3 : step d w m (DbRead done db at) q.token ≡ DotRead done db at = ap (λ (k : Kind). dotted done db at q.token.start k) q.is in
-    let s4 : step d w m (DotRead done db at) u.token ≡ Between (done ++ Dbrp db rp at ∷ []) = ap (λ (k : Kind). target done db at u.token.start k) u.is in
+    let s4 : step d w m (DotRead done db at) u.token ≡ Between (done ++ DbrpStmt db rp at ∷ []) = ap (λ (k : Kind). target done db at u.token.start k) u.is in
     record {
-      state = Between (done ++ Dbrp db rp at ∷ []);
+      state = Between (done ++ DbrpStmt db rp at ∷ []);
       reached =
           run_first d w m tokens o.token o.rest s (LineRead done [] line) o.joined s1
           ∙ run_first d w m o.rest p.token p.rest (LineRead done [] line) (DbRead done db at) p.joined s2
           ∙ run_first d w m p.rest q.token q.rest (DbRead done db at) (DotRead done db at) q.joined s3
-          ∙ run_one d w m q.rest u.token u.rest (DotRead done db at) (Between (done ++ Dbrp db rp at ∷ [])) u.joined (none_left u.rest u.rest_agrees) s4;
-      rests = between_rests d w m (done ++ Dbrp db rp at ∷ []);
+          ∙ run_one d w m q.rest u.token u.rest (DotRead done db at) (Between (done ++ DbrpStmt db rp at ∷ [])) u.joined (none_left u.rest u.rest_agrees) s4;
+      rests = between_rests d w m (done ++ DbrpStmt db rp at ∷ []);
     }
-reads_stmt (Piped head links at) d w m done s tokens r h fit deep wide lt =
+reads_stmt (ChainStmt head links at) d w m done s tokens r h fit deep wide lt =
     let o = first (At (Ident head) at) (spell_joints links) tokens tt h in
     let line : Line = record { head = head; links = NoJoints; at = at } in
     let s1 = begin_name d w m done s head at o.token r lt o.is.0 o.is.1 in
@@ -109,8 +109,8 @@ reads_stmt (Piped head links at) d w m done s tokens r h fit deep wide lt =
     record {
       state = LineRead done [] (record { head = head; links = joints_onto links NoJoints; at = at });
       reached = run_first d w m tokens o.token o.rest s (LineRead done [] line) o.joined s1 ∙ x;
-      rests = line_rests d w m done (record { head = head; links = joints_onto links NoJoints; at = at }) (Piped head links at)
-          (ap (λ (l : JointTrees). Piped head l at) (joints_turned links NoJoints));
+      rests = line_rests d w m done (record { head = head; links = joints_onto links NoJoints; at = at }) (ChainStmt head links at)
+          (ap (λ (l : JointTrees). ChainStmt head l at) (joints_turned links NoJoints));
     }
 
 pub reads_script : (script : List StmtTree) (d w m : ℕ) (done : List StmtTree) (s : State) (tokens : List Token) → Rests d w m done s → Agree tokens (spell_script script) → FitsScript script → depth_script script ≤ d → width_script script ≤ w → length done + length script ≤ m → ReadsOn d w m tokens s (done ++ script)

@@ -2,7 +2,7 @@
 use Rattle.std.proofs.Common.{◌≡◌, ◌⊎◌, inl, inr, ℕ, ◌+◌, ◌-◌, ◌≤◌, Bool, true, false, cond, ltb, Option, Some, None, List, [], ◌∷◌, ◌++◌, length, refl, sym, ap, ◌∙◌, subst, ⊎_elim, arith, lt-ltb, ltb-false}
 use Rattle.kap_base.specs.declared.expr.Lit.{Lit}
 use Rattle.kap_base.specs.declared.expr.Op.TheVariants.{Sub, Mul}
-use Rattle.kap_base.specs.Tree.{Tree, Named}
+use Rattle.kap_base.specs.Tree.{Tree, NameTree}
 use Rattle.tick_lexer.specs.declared.token.Kind.{Kind}
 use Rattle.tick_lexer.specs.declared.token.Kind.TheVariants.{Ident, Literal, Reference, Sign, Bang, Open, Close, Comma, Dot, Pipe, Assign, Var, Lambda}
 use Rattle.tick_lexer.specs.declared.token.Token.{Token}
@@ -10,7 +10,7 @@ use Rattle.tick_parser.specs.declared.fault.Want.{Want}
 use Rattle.tick_parser.specs.declared.fault.Want.TheVariants.{Statement, Name, Equal, Value, Open as WantOpen, Close as WantClose, Ref, Dot as WantDot, Operand}
 use Rattle.tick_parser.specs.declared.fault.ParseFault.{ParseFault}
 use Rattle.tick_parser.specs.declared.fault.ParseFault.TheVariants.{Expected, Deep, TooMany}
-use Rattle.tick_parser.specs.Trees.{ValTree, Function, ValTrees, NoVals, MoreVals, NoJoints, StmtTree, Declared}
+use Rattle.tick_parser.specs.Trees.{ValTree, LambdaVal, ValTrees, NoVals, MoreVals, NoJoints, StmtTree, VarStmt}
 use Rattle.tick_parser.specs.Grammar.{Agree, minus}
 use Rattle.tick_parser.specs.Script.{spell_val, spell_script}
 use Rattle.tick_parser.specs.Refusal.{IsOpening, IsStart, Fills}
@@ -87,7 +87,7 @@ argue_cause m tokens done stack line call args next at _ f e = inl (cc)
 settle_cause : (d w m : ℕ) (tokens : List Token) (done : List StmtTree) (stack : List Spot) (spot : Spot) (v : ValTree) (next : State) (at : ℕ) (kind : Kind) (f : ParseFault) → Pending d w m tokens done (spot ∷ stack) (spell_val v) → GoodVal d w stack spot v → settle m done stack spot v at kind ≡ Stopped f → Cause m tokens (wanted_spot spot) next at kind f
 settle_cause d w m tokens done [] (Variable name place) v next at kind f p g e =
     let x = declared_done d w m tokens done name place v p g in
-    begin_cause d w m tokens (done ++ Declared name v place ∷ []) next at kind f x.0 x.1 e
+    begin_cause d w m tokens (done ++ VarStmt name v place ∷ []) next at kind f x.0 x.1 e
 settle_cause d w m tokens done (top ∷ stack) (Variable name place) v next at kind f p g e = let h = p.spots in let none : top ∷ stack ≡ [] = h.0 in absurd (cc)
 settle_cause d w m tokens done stack (Argument line call args) v next at kind f p g e = argue_cause m tokens done stack line call (MoreVals v args) next at kind f e
 
@@ -181,7 +181,7 @@ deep_test true s at f g e = absurd (subst faults.IsGoing e g)
 deep_test false s at f g e = cc
 
 calling_empty : (d : ℕ) (stack : List lambdas.Frame) (n at : ℕ) (x : Tree) (f : ParseFault) → (lambdas.reduce 0 stack x).stack ≡ [] → lambdas.calling d stack n at x ≡ lambdas.Stopped f → f ≡ Deep at
-calling_empty d stack n at (Named name place) f none e = deep_test (ltb (lambdas.opens stack) d) _ at f tt e
+calling_empty d stack n at (NameTree name place) f none e = deep_test (ltb (lambdas.opens stack) d) _ at f tt e
 calling_empty d stack n at x f none e = let h = lambdas.reduce 0 stack x in absurd (leave_empty h.stack h.tree at f none e)
 
 after_empty : (d w : ℕ) (stack : List lambdas.Frame) (x : Tree) (n at : ℕ) (kind : Kind) (f : ParseFault) → (lambdas.reduce 0 stack x).stack ≡ [] → lambdas.after d w stack x n at kind ≡ lambdas.Stopped f → f ≡ Deep at
@@ -256,7 +256,7 @@ within_cause d w m tokens done stack spot place inner (lambdas.Ended body) token
     let v = lambda_valued d w m tokens i.front i.back done stack spot place body i.joined i.outer x in
     let next = within m done stack spot place token.start token.kind (lambdas.step (d + 1 - (opens stack + opens_spot spot)) (w + 1) inner token) in
     subst (λ (want : Want). Cause m tokens want next token.start token.kind f) (sym (ended_wanted room w spot inner token body i.going e))
-    (settle_cause d w m tokens done stack spot (Function body place) next token.start token.kind f v.0 v.1 h)
+    (settle_cause d w m tokens done stack spot (LambdaVal body place) next token.start token.kind f v.0 v.1 h)
 within_cause d w m tokens done stack spot place inner (lambdas.Stopped g) token f i e h =
     let depth = opens stack + opens_spot spot in
     let outer = i.outer in
@@ -311,7 +311,7 @@ left_refuses at done [] line f e = absurd (cc)
 left_refuses at done (spot ∷ stack) line f e = settled_refuses at done spot (chained line) f e
 
 held_refuses : (at : ℕ) (done : List StmtTree) (spot : Spot) (place : ℕ) (s : List lambdas.Frame) (x : Tree) (f : ParseFault) → closed at done spot place (lambdas.done_at at s x) ≡ Refuses f → f ≡ Expected (wanted_held spot s) at
-held_refuses at done spot place [] x f e = settled_refuses at done spot (Function x place) f e
+held_refuses at done spot place [] x f e = settled_refuses at done spot (LambdaVal x place) f e
 held_refuses at done spot place (frame ∷ s) x f e = cc
 
 closed_refuses : (at : ℕ) (done : List StmtTree) (spot : Spot) (place : ℕ) (inner : lambdas.State) (f : ParseFault) → faults.IsGoing inner → closed at done spot place (lambdas.finish at inner) ≡ Refuses f → f ≡ Expected (wanted_inner spot inner) at
@@ -340,7 +340,7 @@ finish_refuses d w m at tokens (Stopped x) f h g e = elim g [ ]
 
 settled_got : (d w m at : ℕ) (tokens : List Token) (done : List StmtTree) (stack : List Spot) (spot : Spot) (v : ValTree) (t : List StmtTree) → Pending d w m tokens done (spot ∷ stack) (spell_val v) → GoodVal d w stack spot v → settled at done spot v ≡ Got t → Done d w m t × Agree tokens (spell_script t)
 settled_got d w m at tokens done [] (Variable name place) v t p g e =
-    let found : done ++ Declared name v place ∷ [] ≡ t = cc in
+    let found : done ++ VarStmt name v place ∷ [] ≡ t = cc in
     subst (λ (x : List StmtTree). Done d w m x × Agree tokens (spell_script x)) found (declared_done d w m tokens done name place v p g)
 settled_got d w m at tokens done (top ∷ stack) (Variable name place) v t p g e = let h = p.spots in let none : top ∷ stack ≡ [] = h.0 in absurd (cc)
 settled_got d w m at tokens done stack (Argument line call args) v t p g e = absurd (cc)
@@ -357,7 +357,7 @@ closed_got : (d w m at : ℕ) (tokens : List Token) (done : List StmtTree) (stac
 closed_got d w m at tokens done stack spot place inner (lambdas.Got body) t i e h =
     let x = faults.finished (d - (opens stack + opens_spot spot)) w at i.back inner body i.stands i.going e in
     let v = lambda_valued d w m tokens i.front i.back done stack spot place body i.joined i.outer x in
-    settled_got d w m at tokens done stack spot (Function body place) t v.0 v.1 h
+    settled_got d w m at tokens done stack spot (LambdaVal body place) t v.0 v.1 h
 closed_got d w m at tokens done stack spot place inner (lambdas.Refuses f) t i e h = absurd (cc)
 
 -- what the reader answers where the tokens end is a script of the tokens

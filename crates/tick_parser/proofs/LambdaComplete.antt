@@ -2,7 +2,7 @@
 use Rattle.std.proofs.Common.{◌≡◌, ◌≢◌, ℕ, ◌+◌, ◌<◌, ◌≤◌, Bool, false, cond, leb, List, [], ◌∷◌, ◌++◌, refl, sym, ap, ◌∙◌, arith, lt-ltb, le-leb}
 use Rattle.kap_base.specs.declared.expr.Op.{Op}
 use Rattle.kap_base.specs.declared.expr.Op.TheVariants.{Or, And, Eq, Ne, Match, NoMatch, Lt, Le, Gt, Ge, Add, Sub, Mul, Div, Rem}
-use Rattle.kap_base.specs.Tree.{Tree, Leaf, Referred, Named, Called, Grouped, Negated, Denied, Joined, Trees, NoTrees, MoreTrees, reversed_onto}
+use Rattle.kap_base.specs.Tree.{Tree, LitTree, RefTree, NameTree, CallTree, GroupTree, NegTree, NotTree, BinTree, Trees, NoTrees, MoreTrees, reversed_onto}
 use Rattle.tick_lexer.specs.declared.token.Kind.{Kind}
 use Rattle.tick_lexer.specs.declared.token.Kind.TheVariants.{Ident, Literal, Reference, Sign, Bang, Open, Close, Comma, Dot, Assign, Pipe, Var, Lambda}
 use Rattle.tick_lexer.specs.declared.token.Token.{Token}
@@ -56,7 +56,7 @@ stays n [] t h lt = refl
 stays n (Minus at ∷ stack) t h lt = absurd (omega arith)
 stays n (Negation at ∷ stack) t h lt = absurd (omega arith)
 stays n (Left op left at ∷ stack) t h lt =
-    ap (λ (b : Bool). cond b (reduce n stack (Joined op left t at)) (record { stack = Left op left at ∷ stack; tree = t })) (not_leb n (level op) h)
+    ap (λ (b : Bool). cond b (reduce n stack (BinTree op left t at)) (record { stack = Left op left at ∷ stack; tree = t })) (not_leb n (level op) h)
 stays n (Paren at ∷ stack) t h lt = refl
 stays n (Args name done at ∷ stack) t h lt = refl
 
@@ -105,55 +105,55 @@ opened_run d w n stack held tree m (t ∷ ts) h =
 
 mutual
   pub reads : (t : Tree) (d w n k : ℕ) (stack : List Frame) (tokens : List Token) → Agree tokens (spell t) → Fits k t → Below k stack → k ≤ 6 → opens stack + depth t ≤ d → n + binaries t ≤ w → Reached d w t tokens stack n k
-  reads (Leaf lit at) d w n k stack tokens h fit below le deep wide =
+  reads (LitTree lit at) d w n k stack tokens h fit below le deep wide =
       let o = first (At (Literal lit) at) [] tokens tt h in
-      let s : step d w (Wanting stack n) o.token ≡ Holding stack (Leaf lit at) n =
+      let s : step d w (Wanting stack n) o.token ≡ Holding stack (LitTree lit at) n =
       both (λ (a : ℕ) (kind : Kind). operand d stack n a kind) o.token.start at o.token.kind (Literal lit) o.is.1 o.is.0 in
       record {
         stack = stack;
-        tree = Leaf lit at;
-        reached = run_one d w tokens o.token o.rest (Wanting stack n) (Holding stack (Leaf lit at) n) o.joined (none_left o.rest o.rest_agrees) s ∙ ap (λ (c : ℕ). Holding stack (Leaf lit at) c) (omega arith);
+        tree = LitTree lit at;
+        reached = run_one d w tokens o.token o.rest (Wanting stack n) (Holding stack (LitTree lit at) n) o.joined (none_left o.rest o.rest_agrees) s ∙ ap (λ (c : ℕ). Holding stack (LitTree lit at) c) (omega arith);
         same = λ m lt. refl;
       }
-  reads (Referred name at) d w n k stack tokens h fit below le deep wide =
+  reads (RefTree name at) d w n k stack tokens h fit below le deep wide =
       let o = first (At (Reference name) at) [] tokens tt h in
-      let s : step d w (Wanting stack n) o.token ≡ Holding stack (Referred name at) n =
+      let s : step d w (Wanting stack n) o.token ≡ Holding stack (RefTree name at) n =
       both (λ (a : ℕ) (kind : Kind). operand d stack n a kind) o.token.start at o.token.kind (Reference name) o.is.1 o.is.0 in
       record {
         stack = stack;
-        tree = Referred name at;
-        reached = run_one d w tokens o.token o.rest (Wanting stack n) (Holding stack (Referred name at) n) o.joined (none_left o.rest o.rest_agrees) s ∙ ap (λ (c : ℕ). Holding stack (Referred name at) c) (omega arith);
+        tree = RefTree name at;
+        reached = run_one d w tokens o.token o.rest (Wanting stack n) (Holding stack (RefTree name at) n) o.joined (none_left o.rest o.rest_agrees) s ∙ ap (λ (c : ℕ). Holding stack (RefTree name at) c) (omega arith);
         same = λ m lt. refl;
       }
-  reads (Named name at) d w n k stack tokens h fit below le deep wide =
+  reads (NameTree name at) d w n k stack tokens h fit below le deep wide =
       let o = first (At (Ident name) at) [] tokens tt h in
-      let s : step d w (Wanting stack n) o.token ≡ Holding stack (Named name at) n =
+      let s : step d w (Wanting stack n) o.token ≡ Holding stack (NameTree name at) n =
       both (λ (a : ℕ) (kind : Kind). operand d stack n a kind) o.token.start at o.token.kind (Ident name) o.is.1 o.is.0 in
       record {
         stack = stack;
-        tree = Named name at;
-        reached = run_one d w tokens o.token o.rest (Wanting stack n) (Holding stack (Named name at) n) o.joined (none_left o.rest o.rest_agrees) s ∙ ap (λ (c : ℕ). Holding stack (Named name at) c) (omega arith);
+        tree = NameTree name at;
+        reached = run_one d w tokens o.token o.rest (Wanting stack n) (Holding stack (NameTree name at) n) o.joined (none_left o.rest o.rest_agrees) s ∙ ap (λ (c : ℕ). Holding stack (NameTree name at) c) (omega arith);
         same = λ m lt. refl;
       }
-  reads (Called name args at) d w n k stack tokens h fit below le deep wide =
+  reads (CallTree name args at) d w n k stack tokens h fit below le deep wide =
       let o = first (At (Ident name) at) (Free Open ∷ spell_args args) tokens tt h in
       let p = first (Free Open) (spell_args args) o.rest tt o.rest_agrees in
-      let s : step d w (Wanting stack n) o.token ≡ Holding stack (Named name at) n =
+      let s : step d w (Wanting stack n) o.token ≡ Holding stack (NameTree name at) n =
       both (λ (a : ℕ) (kind : Kind). operand d stack n a kind) o.token.start at o.token.kind (Ident name) o.is.1 o.is.0 in
       let room : opens stack < d = omega arith in
-      let q : step d w (Holding stack (Named name at) n) p.token ≡ Opened (Args name NoTrees at ∷ stack) n =
-      ap (λ (kind : Kind). after d w stack (Named name at) n p.token.start kind) p.is
+      let q : step d w (Holding stack (NameTree name at) n) p.token ≡ Opened (Args name NoTrees at ∷ stack) n =
+      ap (λ (kind : Kind). after d w stack (NameTree name at) n p.token.start kind) p.is
       ∙ ap (λ (b : Bool). cond b (Opened (Args name NoTrees at ∷ stack) n) (Stopped (Deep p.token.start))) (lt-ltb (opens stack) d room) in
       record {
         stack = stack;
-        tree = Called name args at;
+        tree = CallTree name args at;
         reached =
-            run_first d w tokens o.token o.rest (Wanting stack n) (Holding stack (Named name at) n) o.joined s
-            ∙ run_first d w o.rest p.token p.rest (Holding stack (Named name at) n) (Opened (Args name NoTrees at ∷ stack) n) p.joined q
+            run_first d w tokens o.token o.rest (Wanting stack n) (Holding stack (NameTree name at) n) o.joined s
+            ∙ run_first d w o.rest p.token p.rest (Holding stack (NameTree name at) n) (Opened (Args name NoTrees at ∷ stack) n) p.joined q
             ∙ reads_args args d w n stack name at p.rest p.rest_agrees fit (omega arith) wide;
         same = λ m lt. refl;
       }
-  reads (Grouped inner at) d w n k stack tokens h fit below le deep wide =
+  reads (GroupTree inner at) d w n k stack tokens h fit below le deep wide =
       let o = first (At Open at) (spell inner ++ Free Close ∷ []) tokens tt h in
       let c = split (spell inner) (Free Close ∷ []) o.rest o.rest_agrees in
       let p = first (Free Close) [] c.back tt c.back_agrees in
@@ -161,19 +161,19 @@ mutual
       both (λ (a : ℕ) (kind : Kind). operand d stack n a kind) o.token.start at o.token.kind Open o.is.1 o.is.0
       ∙ opening_fits d (Paren at) stack n at (omega arith) in
       let r = reads inner d w n 0 (Paren at ∷ stack) c.front c.front_agrees fit tt (omega arith) (omega arith) wide in
-      let q : step d w (Holding r.stack r.tree (n + binaries inner)) p.token ≡ Holding stack (Grouped inner at) (n + binaries inner) =
+      let q : step d w (Holding r.stack r.tree (n + binaries inner)) p.token ≡ Holding stack (GroupTree inner at) (n + binaries inner) =
       ap (λ (kind : Kind). after d w r.stack r.tree (n + binaries inner) p.token.start kind) p.is
       ∙ ap (λ (x : Held). close_top x.stack x.tree (n + binaries inner) p.token.start) (r.same 0 (omega arith)) in
       record {
         stack = stack;
-        tree = Grouped inner at;
+        tree = GroupTree inner at;
         reached =
             run_first d w tokens o.token o.rest (Wanting stack n) (Wanting (Paren at ∷ stack) n) o.joined s
             ∙ run_on d w o.rest c.front c.back (Wanting (Paren at ∷ stack) n) (Holding r.stack r.tree (n + binaries inner)) c.joined r.reached
-            ∙ run_one d w c.back p.token p.rest (Holding r.stack r.tree (n + binaries inner)) (Holding stack (Grouped inner at) (n + binaries inner)) p.joined (none_left p.rest p.rest_agrees) q;
+            ∙ run_one d w c.back p.token p.rest (Holding r.stack r.tree (n + binaries inner)) (Holding stack (GroupTree inner at) (n + binaries inner)) p.joined (none_left p.rest p.rest_agrees) q;
         same = λ m lt. refl;
       }
-  reads (Negated inner at) d w n k stack tokens h fit below le deep wide =
+  reads (NegTree inner at) d w n k stack tokens h fit below le deep wide =
       let o = first (At (Sign Sub) at) (spell inner) tokens tt h in
       let s : step d w (Wanting stack n) o.token ≡ Wanting (Minus at ∷ stack) n =
       both (λ (a : ℕ) (kind : Kind). operand d stack n a kind) o.token.start at o.token.kind (Sign Sub) o.is.1 o.is.0
@@ -185,7 +185,7 @@ mutual
         reached = run_first d w tokens o.token o.rest (Wanting stack n) (Wanting (Minus at ∷ stack) n) o.joined s ∙ r.reached;
         same = λ m lt. r.same m (omega arith);
       }
-  reads (Denied inner at) d w n k stack tokens h fit below le deep wide =
+  reads (NotTree inner at) d w n k stack tokens h fit below le deep wide =
       let o = first (At Bang at) (spell inner) tokens tt h in
       let s : step d w (Wanting stack n) o.token ≡ Wanting (Negation at ∷ stack) n =
       both (λ (a : ℕ) (kind : Kind). operand d stack n a kind) o.token.start at o.token.kind Bang o.is.1 o.is.0
@@ -197,7 +197,7 @@ mutual
         reached = run_first d w tokens o.token o.rest (Wanting stack n) (Wanting (Negation at ∷ stack) n) o.joined s ∙ r.reached;
         same = λ m lt. r.same m (omega arith);
       }
-  reads (Joined op left right at) d w n k stack tokens h fit below le deep wide =
+  reads (BinTree op left right at) d w n k stack tokens h fit below le deep wide =
       let c = split (spell left) (At (Sign op) at ∷ spell right) tokens h in
       let o = first (At (Sign op) at) (spell right) c.back tt c.back_agrees in
       let bound = level_bound op in
@@ -221,16 +221,16 @@ mutual
             ∙ ap (λ (x : ℕ). Holding r.stack r.tree x) (omega arith);
         same = λ m lt.
             r.same m (omega arith)
-            ∙ ap (λ (b : Bool). cond b (reduce m stack (Joined op left right at)) (record { stack = Left op left at ∷ stack; tree = right })) (le-leb m (level op) (omega arith));
+            ∙ ap (λ (b : Bool). cond b (reduce m stack (BinTree op left right at)) (record { stack = Left op left at ∷ stack; tree = right })) (le-leb m (level op) (omega arith));
       }
 
-  reads_args : (args : Trees) (d w n : ℕ) (stack : List Frame) (name : List ℕ) (at : ℕ) (tokens : List Token) → Agree tokens (spell_args args) → AllFit args → opens stack + 1 + depth_all args ≤ d → n + binaries_all args ≤ w → run d w tokens (Opened (Args name NoTrees at ∷ stack) n) ≡ Holding stack (Called name args at) (n + binaries_all args)
+  reads_args : (args : Trees) (d w n : ℕ) (stack : List Frame) (name : List ℕ) (at : ℕ) (tokens : List Token) → Agree tokens (spell_args args) → AllFit args → opens stack + 1 + depth_all args ≤ d → n + binaries_all args ≤ w → run d w tokens (Opened (Args name NoTrees at ∷ stack) n) ≡ Holding stack (CallTree name args at) (n + binaries_all args)
   reads_args NoTrees d w n stack name at tokens h fit deep wide =
       let o = first (Free Close) [] tokens tt h in
-      let s : step d w (Opened (Args name NoTrees at ∷ stack) n) o.token ≡ Holding stack (Called name NoTrees at) n =
+      let s : step d w (Opened (Args name NoTrees at ∷ stack) n) o.token ≡ Holding stack (CallTree name NoTrees at) n =
       ap (λ (kind : Kind). opened d (Args name NoTrees at ∷ stack) n o.token.start kind) o.is in
-      run_one d w tokens o.token o.rest (Opened (Args name NoTrees at ∷ stack) n) (Holding stack (Called name NoTrees at) n) o.joined (none_left o.rest o.rest_agrees) s
-      ∙ ap (λ (c : ℕ). Holding stack (Called name NoTrees at) c) (omega arith)
+      run_one d w tokens o.token o.rest (Opened (Args name NoTrees at ∷ stack) n) (Holding stack (CallTree name NoTrees at) n) o.joined (none_left o.rest o.rest_agrees) s
+      ∙ ap (λ (c : ℕ). Holding stack (CallTree name NoTrees at) c) (omega arith)
   reads_args (MoreTrees one rest) d w n stack name at tokens h fit deep wide =
       let c = split (spell one) (spell_rest rest) tokens h in
       let base = Args name NoTrees at ∷ stack in
@@ -238,12 +238,12 @@ mutual
       let r = reads one d w n 0 base c.front c.front_agrees fit.0 tt (omega arith) (omega arith) (omega arith) in
       run_on d w tokens c.front c.back (Opened base n) (Holding r.stack r.tree count) c.joined (opened_run d w n base r.stack r.tree count c.front r.reached)
       ∙ reads_rest rest d w count stack name at NoTrees one r.stack r.tree c.back (r.same 0 (omega arith)) c.back_agrees fit.1 (omega arith) (omega arith)
-      ∙ ap (λ (x : ℕ). Holding stack (Called name (MoreTrees one rest) at) x) (omega arith)
+      ∙ ap (λ (x : ℕ). Holding stack (CallTree name (MoreTrees one rest) at) x) (omega arith)
 
-  reads_rest : (rest : Trees) (d w n : ℕ) (stack : List Frame) (name : List ℕ) (at : ℕ) (done : Trees) (last : Tree) (held : List Frame) (tree : Tree) (tokens : List Token) → reduce 0 held tree ≡ record { stack = Args name done at ∷ stack; tree = last } → Agree tokens (spell_rest rest) → AllFit rest → opens stack + 1 + depth_all rest ≤ d → n + binaries_all rest ≤ w → run d w tokens (Holding held tree n) ≡ Holding stack (Called name (reversed_onto (MoreTrees last done) rest) at) (n + binaries_all rest)
+  reads_rest : (rest : Trees) (d w n : ℕ) (stack : List Frame) (name : List ℕ) (at : ℕ) (done : Trees) (last : Tree) (held : List Frame) (tree : Tree) (tokens : List Token) → reduce 0 held tree ≡ record { stack = Args name done at ∷ stack; tree = last } → Agree tokens (spell_rest rest) → AllFit rest → opens stack + 1 + depth_all rest ≤ d → n + binaries_all rest ≤ w → run d w tokens (Holding held tree n) ≡ Holding stack (CallTree name (reversed_onto (MoreTrees last done) rest) at) (n + binaries_all rest)
   reads_rest NoTrees d w n stack name at done last held tree tokens closed h fit deep wide =
       let o = first (Free Close) [] tokens tt h in
-      let all = Called name (reversed_onto (MoreTrees last done) NoTrees) at in
+      let all = CallTree name (reversed_onto (MoreTrees last done) NoTrees) at in
       let s : step d w (Holding held tree n) o.token ≡ Holding stack all n =
       ap (λ (kind : Kind). after d w held tree n o.token.start kind) o.is
       ∙ ap (λ (x : Held). close_top x.stack x.tree n o.token.start) closed in
@@ -261,4 +261,4 @@ mutual
       run_first d w tokens o.token o.rest (Holding held tree n) (Wanting base n) o.joined s
       ∙ run_on d w o.rest c.front c.back (Wanting base n) (Holding r.stack r.tree count) c.joined r.reached
       ∙ reads_rest rest d w count stack name at (MoreTrees last done) one r.stack r.tree c.back (r.same 0 (omega arith)) c.back_agrees fit.1 (omega arith) (omega arith)
-      ∙ ap (λ (x : ℕ). Holding stack (Called name (reversed_onto (MoreTrees last done) (MoreTrees one rest)) at) x) (omega arith)
+      ∙ ap (λ (x : ℕ). Holding stack (CallTree name (reversed_onto (MoreTrees last done) (MoreTrees one rest)) at) x) (omega arith)

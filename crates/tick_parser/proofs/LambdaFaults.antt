@@ -2,7 +2,7 @@
 use Rattle.std.proofs.Common.{◌≡◌, ◌⊎◌, inl, inr, ℕ, ◌+◌, ◌<◌, ◌≤◌, Bool, true, false, cond, ltb, List, [], ◌∷◌, ◌++◌, refl, sym, ap, ◌∙◌, subst, ⊎_elim, arith, append_assoc, ltb-true, lt-ltb}
 use Rattle.std.proofs.lemmas.List.{append-nil}
 use Rattle.kap_base.specs.declared.expr.Op.TheVariants.{Sub}
-use Rattle.kap_base.specs.Tree.{Tree, Named, Called, Grouped, Negated, Denied, Joined, NoTrees, MoreTrees, reversed_onto}
+use Rattle.kap_base.specs.Tree.{Tree, NameTree, CallTree, GroupTree, NegTree, NotTree, BinTree, NoTrees, MoreTrees, reversed_onto}
 use Rattle.tick_lexer.specs.declared.token.Kind.{Kind}
 use Rattle.tick_lexer.specs.declared.token.Kind.TheVariants.{Ident, Literal, Reference, Sign, Bang, Open, Close, Comma}
 use Rattle.tick_lexer.specs.declared.token.Token.{Token}
@@ -38,11 +38,11 @@ close_all (Args name done at ∷ stack) = record { kind = Close; start = 0; «en
 
 abbrev plug : List Frame → Tree → Tree
 plug [] t = t
-plug (Minus at ∷ stack) t = plug stack (Negated t at)
-plug (Negation at ∷ stack) t = plug stack (Denied t at)
-plug (Left op left at ∷ stack) t = plug stack (Joined op left t at)
-plug (Paren at ∷ stack) t = plug stack (Grouped t at)
-plug (Args name done at ∷ stack) t = plug stack (Called name (reversed_onto (MoreTrees t done) NoTrees) at)
+plug (Minus at ∷ stack) t = plug stack (NegTree t at)
+plug (Negation at ∷ stack) t = plug stack (NotTree t at)
+plug (Left op left at ∷ stack) t = plug stack (BinTree op left t at)
+plug (Paren at ∷ stack) t = plug stack (GroupTree t at)
+plug (Args name done at ∷ stack) t = plug stack (CallTree name (reversed_onto (MoreTrees t done) NoTrees) at)
 
 record Plugged (d : ℕ) (stack : List Frame) (t : Tree) : Type 0 where
   pub fits : Fits 0 (plug stack t)
@@ -64,40 +64,40 @@ plugged [] d n t o = record {
   spelled = λ tokens h. subst (λ (l : List Token). Agree l (spell t)) (sym (append-nil tokens)) h;
 }
 plugged (Minus at ∷ stack) d n t o =
-    let p = plugged stack d 6 (Negated t at) (over_minus d n at stack t o) in
+    let p = plugged stack d 6 (NegTree t at) (over_minus d n at stack t o) in
     record { fits = p.fits; room = p.room; counted = p.counted; spelled = λ tokens h. p.spelled tokens (move tokens _ _ (sym (spell_unary (spell_stack stack) (At (Sign Sub) at) (spell t))) h) }
 plugged (Negation at ∷ stack) d n t o =
-    let p = plugged stack d 6 (Denied t at) (over_negation d n at stack t o) in
+    let p = plugged stack d 6 (NotTree t at) (over_negation d n at stack t o) in
     record { fits = p.fits; room = p.room; counted = p.counted; spelled = λ tokens h. p.spelled tokens (move tokens _ _ (sym (spell_unary (spell_stack stack) (At Bang at) (spell t))) h) }
 plugged (Left op left at ∷ stack) d n t o =
-    let p = plugged stack d (level op) (Joined op left t at) (over_left d n op left at stack t o) in
+    let p = plugged stack d (level op) (BinTree op left t at) (over_left d n op left at stack t o) in
     record { fits = p.fits; room = p.room; counted = let c = p.counted in omega arith; spelled = λ tokens h. p.spelled tokens (move tokens _ _ (sym (spell_left (spell_stack stack) (spell left) (At (Sign op) at) (spell t))) h) }
 plugged (Paren at ∷ stack) d n t o =
-    let over : Over d 6 stack (Grouped t at) = record { good = o.good; fits = fits_less t 0 n (omega arith) o.fits; below = below_six stack; top = omega arith; room = let r = o.room in omega arith } in
-    let p = plugged stack d 6 (Grouped t at) over in
+    let over : Over d 6 stack (GroupTree t at) = record { good = o.good; fits = fits_less t 0 n (omega arith) o.fits; below = below_six stack; top = omega arith; room = let r = o.room in omega arith } in
+    let p = plugged stack d 6 (GroupTree t at) over in
     record {
       fits = p.fits;
       room = p.room;
       counted = p.counted;
-      spelled = λ tokens h. regroup tokens (record { kind = Close; start = 0; «end» = 0 }) (close_all stack) (spell (plug stack (Grouped t at))) (p.spelled (tokens ++ (record { kind = Close; start = 0; «end» = 0 }) ∷ [])
-          (snoc (spell_stack (Paren at ∷ stack) ++ spell t) (spell_stack stack ++ spell (Grouped t at)) (Free Close) tokens (record { kind = Close; start = 0; «end» = 0 }) h refl (simp append_assoc)));
+      spelled = λ tokens h. regroup tokens (record { kind = Close; start = 0; «end» = 0 }) (close_all stack) (spell (plug stack (GroupTree t at))) (p.spelled (tokens ++ (record { kind = Close; start = 0; «end» = 0 }) ∷ [])
+          (snoc (spell_stack (Paren at ∷ stack) ++ spell t) (spell_stack stack ++ spell (GroupTree t at)) (Free Close) tokens (record { kind = Close; start = 0; «end» = 0 }) h refl (simp append_assoc)));
     }
 plugged (Args name done at ∷ stack) d n t o =
     let g = o.good in
     let args = reversed_onto (MoreTrees t done) NoTrees in
     let depths = depth_reversed (MoreTrees t done) NoTrees in
     let counts = binaries_reversed (MoreTrees t done) NoTrees in
-    let over : Over d 6 stack (Called name args at) = record { good = g.2; fits = all_fit (MoreTrees t done) NoTrees (fits_less t 0 n (omega arith) o.fits, g.0) tt; below = below_six stack; top = omega arith; room = let r = o.room in let m = g.1 in omega arith } in
-    let p = plugged stack d 6 (Called name args at) over in
+    let over : Over d 6 stack (CallTree name args at) = record { good = g.2; fits = all_fit (MoreTrees t done) NoTrees (fits_less t 0 n (omega arith) o.fits, g.0) tt; below = below_six stack; top = omega arith; room = let r = o.room in let m = g.1 in omega arith } in
+    let p = plugged stack d 6 (CallTree name args at) over in
     let flat : ((spell_stack stack ++ (At (Ident name) at ∷ Free Open ∷ spell_done done)) ++ spell t) ++ Free Close ∷ [] ≡ spell_stack stack ++ (At (Ident name) at ∷ Free Open ∷ (spell_done done ++ (spell t ++ Free Close ∷ []))) = simp append_assoc in
-    let whole : spell_stack stack ++ (At (Ident name) at ∷ Free Open ∷ (spell_done done ++ (spell t ++ Free Close ∷ []))) ≡ spell_stack stack ++ spell (Called name args at) =
+    let whole : spell_stack stack ++ (At (Ident name) at ∷ Free Open ∷ (spell_done done ++ (spell t ++ Free Close ∷ []))) ≡ spell_stack stack ++ spell (CallTree name args at) =
     ap (λ (l : List Mark). spell_stack stack ++ (At (Ident name) at ∷ Free Open ∷ l)) (sym (args_spelled done t NoTrees)) in
     record {
       fits = p.fits;
       room = p.room;
       counted = let c = p.counted in omega arith;
-      spelled = λ tokens h. regroup tokens (record { kind = Close; start = 0; «end» = 0 }) (close_all stack) (spell (plug stack (Called name args at))) (p.spelled (tokens ++ (record { kind = Close; start = 0; «end» = 0 }) ∷ [])
-          (snoc (spell_stack (Args name done at ∷ stack) ++ spell t) (spell_stack stack ++ spell (Called name args at)) (Free Close) tokens (record { kind = Close; start = 0; «end» = 0 }) h refl (flat ∙ whole)));
+      spelled = λ tokens h. regroup tokens (record { kind = Close; start = 0; «end» = 0 }) (close_all stack) (spell (plug stack (CallTree name args at))) (p.spelled (tokens ++ (record { kind = Close; start = 0; «end» = 0 }) ∷ [])
+          (snoc (spell_stack (Args name done at ∷ stack) ++ spell t) (spell_stack stack ++ spell (CallTree name args at)) (Free Close) tokens (record { kind = Close; start = 0; «end» = 0 }) h refl (flat ∙ whole)));
     }
 
 abbrev pub IsGoing : State → Type 0
@@ -126,7 +126,7 @@ reading_before d w a b o =
 named : (d w : ℕ) (tokens : List Token) (stack : List Frame) (n : ℕ) → Ready d w tokens stack n → Reading d w tokens
 named d w tokens stack n r =
     let token : Token = record { kind = Ident []; start = 0; «end» = 0 } in
-    reading_before d w tokens (token ∷ []) (carried d w (tokens ++ token ∷ []) stack (Named [] 0) n (operand_stands d w tokens stack n token (Ident []) r refl))
+    reading_before d w tokens (token ∷ []) (carried d w (tokens ++ token ∷ []) stack (NameTree [] 0) n (operand_stands d w tokens stack n token (Ident []) r refl))
 
 -- what is read goes on to a lambda
 pub viable : (d w : ℕ) (tokens : List Token) (s : State) → Stands d w tokens s → IsGoing s → Reading d w tokens
@@ -154,7 +154,7 @@ same_opened d e stack n at Close le = inl refl
 same_opened d e stack n at kind le = same_operand d e stack n at kind le
 
 same_calling : (d e : ℕ) (stack : List Frame) (n at : ℕ) (t : Tree) → d ≤ e → (calling e stack n at t ≡ calling d stack n at t) ⊎ ((place : ℕ) × (calling d stack n at t ≡ Stopped (Deep place)))
-same_calling d e stack n at (Named name place) le = same_test (ltb (opens stack) d) (ltb (opens stack) e) (Opened (Args name NoTrees place ∷ stack) n) at (more_test (opens stack) d e le)
+same_calling d e stack n at (NameTree name place) le = same_test (ltb (opens stack) d) (ltb (opens stack) e) (Opened (Args name NoTrees place ∷ stack) n) at (more_test (opens stack) d e le)
 same_calling d e stack n at _ le = inl refl
 
 same_after : (d w e x : ℕ) (stack : List Frame) (t : Tree) (n at : ℕ) (kind : Kind) → d ≤ e → w ≤ x → (after e x stack t n at kind ≡ after d w stack t n at kind) ⊎ ((place : ℕ) × (after d w stack t n at kind ≡ Stopped (Deep place)))
@@ -205,7 +205,7 @@ leave_fault [] t at f e = absurd (cc)
 leave_fault (frame ∷ s) t at f e = cc
 
 calling_fault : (d : ℕ) (stack : List Frame) (n at : ℕ) (t : Tree) (f : ParseFault) → calling d stack n at t ≡ Stopped f → (f ≡ Expected WantClose at) ⊎ (f ≡ Deep at)
-calling_fault d stack n at (Named name place) f e = inr (test_fault (ltb (opens stack) d) (Opened (Args name NoTrees place ∷ stack) n) at f tt e)
+calling_fault d stack n at (NameTree name place) f e = inr (test_fault (ltb (opens stack) d) (Opened (Args name NoTrees place ∷ stack) n) at f tt e)
 calling_fault d stack n at t f e = let h = reduce 0 stack t in inl (leave_fault h.stack h.tree at f e)
 
 pub close_top_fault : (stack : List Frame) (t : Tree) (n at : ℕ) (f : ParseFault) → close_top stack t n at ≡ Stopped f → f ≡ Expected WantClose at
@@ -240,7 +240,7 @@ opened_goes d stack n at Close le c e = absurd (close_empty_fault stack n at (De
 opened_goes d stack n at kind le c e = operand_goes d stack n at kind le e
 
 calling_goes : (d : ℕ) (stack : List Frame) (n at : ℕ) (t : Tree) → opens stack ≤ d → calling d stack n at t ≡ Stopped (Deep at) → IsGoing (calling (d + 1) stack n at t)
-calling_goes d stack n at (Named name place) le e = goes_test (opens stack) (d + 1) (Opened (Args name NoTrees place ∷ stack) n) (Deep at) (omega arith) tt
+calling_goes d stack n at (NameTree name place) le e = goes_test (opens stack) (d + 1) (Opened (Args name NoTrees place ∷ stack) n) (Deep at) (omega arith) tt
 calling_goes d stack n at t le e = let h = reduce 0 stack t in let f = leave_fault h.stack h.tree at (Deep at) e in absurd (cc)
 
 after_goes : (d w : ℕ) (stack : List Frame) (t : Tree) (n at : ℕ) (kind : Kind) → opens stack ≤ d → n ≤ w → after d w stack t n at kind ≡ Stopped (Deep at) → IsGoing (after (d + 1) (w + 1) stack t n at kind)
@@ -309,7 +309,7 @@ test_ended true s f t g e = subst IsGoing e g
 test_ended false s f t g e = cc
 
 calling_ended : (d : ℕ) (stack : List Frame) (n at : ℕ) (x t : Tree) → calling d stack n at x ≡ Ended t → ((reduce 0 stack x).stack ≡ []) × ((reduce 0 stack x).tree ≡ t)
-calling_ended d stack n at (Named name place) t e = absurd (test_ended (ltb (opens stack) d) (Opened (Args name NoTrees place ∷ stack) n) (Deep at) t tt e)
+calling_ended d stack n at (NameTree name place) t e = absurd (test_ended (ltb (opens stack) d) (Opened (Args name NoTrees place ∷ stack) n) (Deep at) t tt e)
 calling_ended d stack n at x t e = let h = reduce 0 stack x in leave_ended h.stack h.tree at t e
 
 pub after_ended : (d w : ℕ) (stack : List Frame) (x : Tree) (n at : ℕ) (kind : Kind) (t : Tree) → after d w stack x n at kind ≡ Ended t → ((reduce 0 stack x).stack ≡ []) × ((reduce 0 stack x).tree ≡ t)

@@ -3,7 +3,7 @@ use Rattle.std.proofs.Common.{◌≡◌, ℕ, ◌+◌, ◌≤◌, max, Bool, tru
 use Rattle.std.proofs.lemmas.List.{append-nil}
 use Rattle.kap_base.specs.declared.expr.Op.{Op}
 use Rattle.kap_base.specs.declared.expr.Op.TheVariants.{Sub}
-use Rattle.kap_base.specs.Tree.{Tree, Leaf, Referred, Named, Called, Grouped, Negated, Denied, Joined, Trees, NoTrees, MoreTrees, reversed_onto}
+use Rattle.kap_base.specs.Tree.{Tree, LitTree, RefTree, NameTree, CallTree, GroupTree, NegTree, NotTree, BinTree, Trees, NoTrees, MoreTrees, reversed_onto}
 use Rattle.tick_lexer.specs.declared.token.Kind.{Kind}
 use Rattle.tick_lexer.specs.declared.token.Kind.TheVariants.{Ident, Literal, Reference, Sign, Bang, Open, Close, Comma}
 use Rattle.tick_lexer.specs.declared.token.Token.{Token}
@@ -45,14 +45,14 @@ Good d (Paren at ∷ stack) = Good d stack
 Good d (Args name done at ∷ stack) = AllFit done × (opens stack + 1 + depth_all done ≤ d) × Good d stack
 
 pub fits_less : (t : Tree) (n m : ℕ) → n ≤ m → Fits m t → Fits n t
-fits_less (Leaf lit at) n m le h = tt
-fits_less (Referred name at) n m le h = tt
-fits_less (Named name at) n m le h = tt
-fits_less (Called name args at) n m le h = h
-fits_less (Grouped inner at) n m le h = h
-fits_less (Negated inner at) n m le h = h
-fits_less (Denied inner at) n m le h = h
-fits_less (Joined op left right at) n m le h = (omega arith, h.1, h.2)
+fits_less (LitTree lit at) n m le h = tt
+fits_less (RefTree name at) n m le h = tt
+fits_less (NameTree name at) n m le h = tt
+fits_less (CallTree name args at) n m le h = h
+fits_less (GroupTree inner at) n m le h = h
+fits_less (NegTree inner at) n m le h = h
+fits_less (NotTree inner at) n m le h = h
+fits_less (BinTree op left right at) n m le h = (omega arith, h.1, h.2)
 
 pub below_six : (stack : List Frame) → Below 6 stack
 below_six [] = tt
@@ -98,13 +98,13 @@ pub record Over (d n : ℕ) (stack : List Frame) (t : Tree) : Type 0 where
   pub top : n ≤ 6
   pub room : opens stack + depth t ≤ d
 
-pub over_minus : (d n at : ℕ) (stack : List Frame) (t : Tree) → Over d n (Minus at ∷ stack) t → Over d 6 stack (Negated t at)
+pub over_minus : (d n at : ℕ) (stack : List Frame) (t : Tree) → Over d n (Minus at ∷ stack) t → Over d 6 stack (NegTree t at)
 over_minus d n at stack t o = record { good = o.good; fits = fits_less t 6 n o.below o.fits; below = below_six stack; top = omega arith; room = let r = o.room in omega arith }
 
-pub over_negation : (d n at : ℕ) (stack : List Frame) (t : Tree) → Over d n (Negation at ∷ stack) t → Over d 6 stack (Denied t at)
+pub over_negation : (d n at : ℕ) (stack : List Frame) (t : Tree) → Over d n (Negation at ∷ stack) t → Over d 6 stack (NotTree t at)
 over_negation d n at stack t o = record { good = o.good; fits = fits_less t 6 n o.below o.fits; below = below_six stack; top = omega arith; room = let r = o.room in omega arith }
 
-pub over_left : (d n : ℕ) (op : Op) (left : Tree) (at : ℕ) (stack : List Frame) (t : Tree) → Over d n (Left op left at ∷ stack) t → Over d (level op) stack (Joined op left t at)
+pub over_left : (d n : ℕ) (op : Op) (left : Tree) (at : ℕ) (stack : List Frame) (t : Tree) → Over d n (Left op left at ∷ stack) t → Over d (level op) stack (BinTree op left t at)
 over_left d n op left at stack t o =
     let g = o.good in let b = o.below in let r = o.room in let lt = level_bound op in
     record { good = g.3; fits = (omega arith, g.0, fits_less t (level op + 1) n (omega arith) o.fits); below = g.1; top = omega arith; room = let r2 = g.2 in omega arith }
@@ -118,7 +118,7 @@ spell_left a l m b = simp append_assoc
 pub reduced : (stack : List Frame) (d n m : ℕ) (t : Tree) → Over d m stack t → n ≤ m → Reduced d n stack t (reduce n stack t)
 reduced [] d n m t o le = record { good = tt; fits = fits_less t n m le o.fits; below = tt; room = o.room; spelled = refl; counted = refl }
 reduced (Minus at ∷ stack) d n m t o le =
-    let r = reduced stack d n 6 (Negated t at) (over_minus d m at stack t o) (let top = o.top in omega arith) in
+    let r = reduced stack d n 6 (NegTree t at) (over_minus d m at stack t o) (let top = o.top in omega arith) in
     record {
       good = r.good;
       fits = r.fits;
@@ -128,7 +128,7 @@ reduced (Minus at ∷ stack) d n m t o le =
       counted = r.counted;
     }
 reduced (Negation at ∷ stack) d n m t o le =
-    let r = reduced stack d n 6 (Denied t at) (over_negation d m at stack t o) (let top = o.top in omega arith) in
+    let r = reduced stack d n 6 (NotTree t at) (over_negation d m at stack t o) (let top = o.top in omega arith) in
     record {
       good = r.good;
       fits = r.fits;
@@ -138,11 +138,11 @@ reduced (Negation at ∷ stack) d n m t o le =
       counted = r.counted;
     }
 reduced (Left op left at ∷ stack) d n m t o le =
-    let P : Bool → Type 0 = λ b. Reduced d n (Left op left at ∷ stack) t (cond b (reduce n stack (Joined op left t at)) (record { stack = Left op left at ∷ stack; tree = t })) in
+    let P : Bool → Type 0 = λ b. Reduced d n (Left op left at ∷ stack) t (cond b (reduce n stack (BinTree op left t at)) (record { stack = Left op left at ∷ stack; tree = t })) in
     let go : (b : Bool) → leb n (level op) ≡ b → P b =
     elim [
       | true ↦ λ e.
-          let r = reduced stack d n (level op) (Joined op left t at) (over_left d m op left at stack t o) (leb-true n (level op) e) in
+          let r = reduced stack d n (level op) (BinTree op left t at) (over_left d m op left at stack t o) (leb-true n (level op) e) in
           record {
             good = r.good;
             fits = r.fits;
@@ -212,9 +212,9 @@ ready_more d w tokens stack n token frame m r i e good one same =
     tt
 
 pub operand_stands : (d w : ℕ) (tokens : List Token) (stack : List Frame) (n : ℕ) (token : Token) (kind : Kind) → Ready d w tokens stack n → token.kind ≡ kind → Stands d w (tokens ++ token ∷ []) (operand d stack n token.start kind)
-operand_stands d w tokens stack n token (Ident name) r e = holds_leaf d w tokens stack n token (Named name token.start) (At (Ident name) token.start) r (e, refl) refl tt refl refl
-operand_stands d w tokens stack n token (Literal lit) r e = holds_leaf d w tokens stack n token (Leaf lit token.start) (At (Literal lit) token.start) r (e, refl) refl tt refl refl
-operand_stands d w tokens stack n token (Reference name) r e = holds_leaf d w tokens stack n token (Referred name token.start) (At (Reference name) token.start) r (e, refl) refl tt refl refl
+operand_stands d w tokens stack n token (Ident name) r e = holds_leaf d w tokens stack n token (NameTree name token.start) (At (Ident name) token.start) r (e, refl) refl tt refl refl
+operand_stands d w tokens stack n token (Literal lit) r e = holds_leaf d w tokens stack n token (LitTree lit token.start) (At (Literal lit) token.start) r (e, refl) refl tt refl refl
+operand_stands d w tokens stack n token (Reference name) r e = holds_leaf d w tokens stack n token (RefTree name token.start) (At (Reference name) token.start) r (e, refl) refl tt refl refl
 operand_stands d w tokens stack n token (Sign Sub) r e = ready_more d w tokens stack n token (Minus token.start) (At (Sign Sub) token.start) r (e, refl) refl r.good refl refl
 operand_stands d w tokens stack n token Bang r e = ready_more d w tokens stack n token (Negation token.start) (At Bang token.start) r (e, refl) refl r.good refl refl
 operand_stands d w tokens stack n token Open r e = ready_more d w tokens stack n token (Paren token.start) (At Open token.start) r (e, refl) refl r.good refl refl
@@ -227,7 +227,7 @@ close_empty_stands d w tokens (Args name NoTrees at ∷ stack) n token r c e =
       over = record { good = g.2; fits = tt; below = below_six stack; top = omega arith; room = let o = r.room in omega arith };
       spelled =
           let flat : (spell_stack stack ++ (At (Ident name) at ∷ Free Open ∷ [])) ++ Free Close ∷ [] ≡ spell_stack stack ++ (At (Ident name) at ∷ Free Open ∷ Free Close ∷ []) = simp append_assoc in
-          snoc (spell_stack (Args name NoTrees at ∷ stack)) (spell_stack stack ++ spell (Called name NoTrees at)) (Free Close) tokens token r.spelled e flat;
+          snoc (spell_stack (Args name NoTrees at ∷ stack)) (spell_stack stack ++ spell (CallTree name NoTrees at)) (Free Close) tokens token r.spelled e flat;
       counted = let k = r.counted in omega arith;
       few = r.few;
     }
@@ -242,14 +242,14 @@ leave_stands d w at tokens [] x = tt
 leave_stands d w at tokens (frame ∷ s) x = tt
 
 calling_stands : (d w : ℕ) (tokens : List Token) (stack : List Frame) (n : ℕ) (token : Token) (t : Tree) → Carries d w tokens stack t n → token.kind ≡ Open → Stands d w (tokens ++ token ∷ []) (calling d stack n token.start t)
-calling_stands d w tokens stack n token (Named name at) c e =
+calling_stands d w tokens stack n token (NameTree name at) c e =
     tested (Stands d w (tokens ++ token ∷ [])) (ltb (opens stack) d) (Opened (Args name NoTrees at ∷ stack) n) (Deep token.start)
     (λ (lt : ltb (opens stack) d ≡ true).
     let k = ltb-true (opens stack) d lt in
     let flat : (spell_stack stack ++ (At (Ident name) at ∷ [])) ++ Free Open ∷ [] ≡ spell_stack stack ++ (At (Ident name) at ∷ Free Open ∷ []) = simp append_assoc in (
       record {
         good = (tt, omega arith, c.over.good);
-        spelled = snoc (spell_stack stack ++ spell (Named name at)) (spell_stack (Args name NoTrees at ∷ stack)) (Free Open) tokens token c.spelled e flat;
+        spelled = snoc (spell_stack stack ++ spell (NameTree name at)) (spell_stack (Args name NoTrees at ∷ stack)) (Free Open) tokens token c.spelled e flat;
         counted = let m = c.counted in omega arith;
         room = omega arith;
         few = c.few;
@@ -298,7 +298,7 @@ close_stands d w tokens stack n token t (Args name done at ∷ s) x c r e =
     let counts = binaries_reversed (MoreTrees x done) NoTrees in
     let args = reversed_onto (MoreTrees x done) NoTrees in
     let flat : (spell_stack s ++ (At (Ident name) at ∷ Free Open ∷ spell_done done)) ++ (spell x ++ Free Close ∷ []) ≡ spell_stack s ++ (At (Ident name) at ∷ Free Open ∷ (spell_done done ++ (spell x ++ Free Close ∷ []))) = simp append_assoc in
-    let whole : spell_stack s ++ (At (Ident name) at ∷ Free Open ∷ (spell_done done ++ (spell x ++ Free Close ∷ []))) ≡ spell_stack s ++ spell (Called name args at) =
+    let whole : spell_stack s ++ (At (Ident name) at ∷ Free Open ∷ (spell_done done ++ (spell x ++ Free Close ∷ []))) ≡ spell_stack s ++ spell (CallTree name args at) =
     ap (λ (l : List Mark). spell_stack s ++ (At (Ident name) at ∷ Free Open ∷ l)) (sym (args_spelled done x NoTrees)) in
     record {
       over = record { good = g.2; fits = all_fit (MoreTrees x done) NoTrees (r.fits, g.0) tt; below = below_six s; top = omega arith; room = let m = g.1 in omega arith };

@@ -7,7 +7,7 @@ use Rattle.tick_lexer.specs.declared.token.Kind.TheVariants.{Ident, Sign, Bang, 
 use Rattle.tick_lexer.specs.declared.token.Token.{Token}
 use Rattle.tick_parser.specs.declared.fault.ParseFault.{ParseFault}
 use Rattle.tick_parser.specs.declared.fault.ParseFault.TheVariants.{Expected, Deep, TooMany, NoMemory}
-use Rattle.tick_parser.specs.Trees.{ValTree, Function, NoVals, NoJoints, StmtTree, Declared}
+use Rattle.tick_parser.specs.Trees.{ValTree, LambdaVal, NoVals, NoJoints, StmtTree, VarStmt}
 use Rattle.tick_parser.specs.Script.{depth_script, width_script, Reads, Within}
 use Rattle.tick_parser.specs.Refusal.{Begins, Opens, IsWhole, IsOpening, IsStart, Fills, Ends, GoesOn, Stops, end_of, Lacks, Refused}
 use Rattle.tick_parser.specs.Lambdas as lambdas
@@ -27,7 +27,7 @@ begin_room d m done at (Sign op) k = tt
 begin_room d m done at _ k = elim k [ ]
 
 settle_room : (d m : ℕ) (done : List StmtTree) (stack : List Spot) (spot : Spot) (v : ValTree) (at : ℕ) (kind : Kind) → IsOpening kind → HasRoom d (settle m done stack spot v at kind)
-settle_room d m done stack (Variable name place) v at kind k = begin_room d m (done ++ Declared name v place ∷ []) at kind k
+settle_room d m done stack (Variable name place) v at kind k = begin_room d m (done ++ VarStmt name v place ∷ []) at kind k
 settle_room d m done stack (Argument line call args) v at Open k = tt
 settle_room d m done stack (Argument line call args) v at Bang k = tt
 settle_room d m done stack (Argument line call args) v at (Sign op) k = tt
@@ -56,7 +56,7 @@ value_room d done stack spot at (Sign op) k = tt
 value_room d done stack spot at _ k = elim k [ ]
 
 within_room : (d m : ℕ) (done : List StmtTree) (stack : List Spot) (spot : Spot) (place at : ℕ) (kind : Kind) (next : lambdas.State) → IsOpening kind → HasRoom d (within m done stack spot place at kind next)
-within_room d m done stack spot place at kind (lambdas.Ended body) k = settle_room d m done stack spot (Function body place) at kind k
+within_room d m done stack spot place at kind (lambdas.Ended body) k = settle_room d m done stack spot (LambdaVal body place) at kind k
 within_room d m done stack spot place at kind (lambdas.Stopped f) k = tt
 within_room d m done stack spot place at kind (lambdas.Wanting st n) k = tt
 within_room d m done stack spot place at kind (lambdas.Opened st n) k = tt

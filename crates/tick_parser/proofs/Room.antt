@@ -5,7 +5,7 @@ use Rattle.tick_lexer.specs.declared.token.Kind.TheVariants.{Ident, Reference, O
 use Rattle.tick_lexer.specs.declared.token.Token.{Token}
 use Rattle.tick_parser.specs.declared.fault.ParseFault.{ParseFault}
 use Rattle.tick_parser.specs.declared.fault.ParseFault.TheVariants.{Deep, TooMany}
-use Rattle.tick_parser.specs.Trees.{ValTree, Function, NoJoints, StmtTree, Declared}
+use Rattle.tick_parser.specs.Trees.{ValTree, LambdaVal, NoJoints, StmtTree, VarStmt}
 use Rattle.tick_parser.specs.Lambdas as lambdas
 use Rattle.tick_parser.specs.Machine.{Line, Call, Spot, Variable, Argument, State, Between, VarRead, NameRead, DbRead, DotRead, Valuing, MinusRead, ValueRead, InLambda, LineRead, LinkRead, CallRead, ParenRead, Stopped, chained, piped, opens_spot, opens, begin, settle, leave, is_dbrp, follow, opening, within, step, run}
 use Rattle.tick_parser.proofs.LambdaFaults as faults
@@ -33,7 +33,7 @@ begin_count m n done at (Ident name) le = same_many (ltb (length done) m) (ltb (
 begin_count m n done at _ le = inl refl
 
 settle_count : (m n : ℕ) (done : List StmtTree) (stack : List Spot) (spot : Spot) (v : ValTree) (at : ℕ) (kind : Kind) → m ≤ n → (settle n done stack spot v at kind ≡ settle m done stack spot v at kind) ⊎ IsFull (settle m done stack spot v at kind)
-settle_count m n done stack (Variable name place) v at kind le = begin_count m n (done ++ Declared name v place ∷ []) at kind le
+settle_count m n done stack (Variable name place) v at kind le = begin_count m n (done ++ VarStmt name v place ∷ []) at kind le
 settle_count m n done stack (Argument line call args) v at kind le = inl refl
 
 leave_count : (m n : ℕ) (done : List StmtTree) (stack : List Spot) (line : Line) (at : ℕ) (kind : Kind) → m ≤ n → (leave n done stack line at kind ≡ leave m done stack line at kind) ⊎ IsFull (leave m done stack line at kind)
@@ -52,7 +52,7 @@ follow_count m n done stack line at (Reference db) le =
 follow_count m n done stack line at kind le = leave_count m n done stack line at kind le
 
 within_count : (m n : ℕ) (done : List StmtTree) (stack : List Spot) (spot : Spot) (place at : ℕ) (kind : Kind) (s : lambdas.State) → m ≤ n → (within n done stack spot place at kind s ≡ within m done stack spot place at kind s) ⊎ IsFull (within m done stack spot place at kind s)
-within_count m n done stack spot place at kind (lambdas.Ended body) le = settle_count m n done stack spot (Function body place) at kind le
+within_count m n done stack spot place at kind (lambdas.Ended body) le = settle_count m n done stack spot (LambdaVal body place) at kind le
 within_count m n done stack spot place at kind (lambdas.Stopped f) le = inl refl
 within_count m n done stack spot place at kind (lambdas.Wanting st k) le = inl refl
 within_count m n done stack spot place at kind (lambdas.Opened st k) le = inl refl

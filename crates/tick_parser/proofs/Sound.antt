@@ -11,7 +11,7 @@ use Rattle.tick_lexer.specs.declared.token.Kind.TheVariants.{Ident, Literal, Ref
 use Rattle.tick_lexer.specs.declared.token.Token.{Token}
 use Rattle.tick_parser.specs.declared.fault.ParseFault.{ParseFault}
 use Rattle.tick_parser.specs.declared.fault.ParseFault.TheVariants.{Deep, TooMany}
-use Rattle.tick_parser.specs.Trees.{ValTree, Given, Everything, Function, Chained, ValTrees, NoVals, MoreVals, JointTrees, NoJoints, MoreJoints, StmtTree, Declared, Dbrp, vals_onto, joints_onto}
+use Rattle.tick_parser.specs.Trees.{ValTree, LitVal, StarVal, LambdaVal, ChainVal, ValTrees, NoVals, MoreVals, JointTrees, NoJoints, MoreJoints, StmtTree, VarStmt, DbrpStmt, vals_onto, joints_onto}
 use Rattle.tick_parser.specs.Grammar.{Mark, At, Free, Signed, spell, Agree, Is, IsMinus, minus}
 use Rattle.tick_parser.specs.Script.{spell_val, spell_vals, spell_more, spell_joints, spell_stmt, spell_script, word_dbrp, FitsVal, FitVals, FitJoints, IsOne, FitsStmt, FitsScript, depth_val, depth_vals, depth_joints, depth_stmt, depth_script, width_val, width_vals, width_joints, width_stmt, width_script}
 use Rattle.tick_parser.specs.Lambdas as lambdas
@@ -231,10 +231,10 @@ begin_stands d w m tokens done token (Ident name) h a e =
 begin_stands d w m tokens done token _ h a e = tt
 
 one_of : (v : ValTree) (name : List ℕ) (at : ℕ) → StarFits v (Variable name at) → IsOne v
-one_of (Given lit place) name at h = tt
-one_of (Everything place) name at h = elim h [ ]
-one_of (Function body place) name at h = tt
-one_of (Chained head links place) name at h = tt
+one_of (LitVal lit place) name at h = tt
+one_of (StarVal place) name at h = elim h [ ]
+one_of (LambdaVal body place) name at h = tt
+one_of (ChainVal head links place) name at h = tt
 
 -- marks that are grouped anew
 regroup : (o l c r v m : List Mark) → ((o ++ (l ++ (c ++ r))) ++ v) ++ m ≡ o ++ (l ++ (c ++ (r ++ (v ++ m))))
@@ -286,18 +286,18 @@ argue_stands d w m tokens done stack line call args v token Comma p g e =
     }
 argue_stands d w m tokens done stack line call args v token _ p g e = tt
 
-pub declared_done : (d w m : ℕ) (tokens : List Token) (done : List StmtTree) (name : List ℕ) (at : ℕ) (v : ValTree) → Pending d w m tokens done (Variable name at ∷ []) (spell_val v) → GoodVal d w [] (Variable name at) v → Done d w m (done ++ Declared name v at ∷ []) × Agree tokens (spell_script (done ++ Declared name v at ∷ []))
+pub declared_done : (d w m : ℕ) (tokens : List Token) (done : List StmtTree) (name : List ℕ) (at : ℕ) (v : ValTree) → Pending d w m tokens done (Variable name at ∷ []) (spell_val v) → GoodVal d w [] (Variable name at) v → Done d w m (done ++ VarStmt name v at ∷ []) × Agree tokens (spell_script (done ++ VarStmt name v at ∷ []))
 declared_done d w m tokens done name at v p g =
     let gd = g.deep in (
-      done_more d w m done (Declared name v at) p.before p.room (one_of v name at g.star, g.fits) (omega arith) g.wide,
-      move tokens ((spell_script done ++ (At Var at ∷ Free (Ident name) ∷ Free Assign ∷ [])) ++ spell_val v) (spell_script (done ++ Declared name v at ∷ []))
-          (append_assoc (spell_script done) (At Var at ∷ Free (Ident name) ∷ Free Assign ∷ []) (spell_val v) ∙ sym (script_spelled done (Declared name v at))) p.spelled,
+      done_more d w m done (VarStmt name v at) p.before p.room (one_of v name at g.star, g.fits) (omega arith) g.wide,
+      move tokens ((spell_script done ++ (At Var at ∷ Free (Ident name) ∷ Free Assign ∷ [])) ++ spell_val v) (spell_script (done ++ VarStmt name v at ∷ []))
+          (append_assoc (spell_script done) (At Var at ∷ Free (Ident name) ∷ Free Assign ∷ []) (spell_val v) ∙ sym (script_spelled done (VarStmt name v at))) p.spelled,
     )
 
 pub settle_stands : (d w m : ℕ) (tokens : List Token) (done : List StmtTree) (stack : List Spot) (spot : Spot) (v : ValTree) (token : Token) (kind : Kind) → Pending d w m tokens done (spot ∷ stack) (spell_val v) → GoodVal d w stack spot v → token.kind ≡ kind → Stands d w m (tokens ++ token ∷ []) (settle m done stack spot v token.start kind)
 settle_stands d w m tokens done [] (Variable name at) v token kind p g e =
     let x = declared_done d w m tokens done name at v p g in
-    begin_stands d w m tokens (done ++ Declared name v at ∷ []) token kind x.0 x.1 e
+    begin_stands d w m tokens (done ++ VarStmt name v at ∷ []) token kind x.0 x.1 e
 settle_stands d w m tokens done (top ∷ stack) (Variable name at) v token kind p g e = let h = p.spots in let none : top ∷ stack ≡ [] = h.0 in absurd (cc)
 settle_stands d w m tokens done stack (Argument line call args) v token kind p g e = argue_stands d w m tokens done stack line call args v token kind p g e
 
@@ -493,9 +493,9 @@ dotted_stands d w m tokens done db at token _ p e = tt
 
 target_stands : (d w m : ℕ) (tokens : List Token) (done : List StmtTree) (db : List ℕ) (at : ℕ) (token : Token) (kind : Kind) → Pending d w m tokens done [] (At (Ident word_dbrp) at ∷ Free (Reference db) ∷ Free Dot ∷ []) → token.kind ≡ kind → Stands d w m (tokens ++ token ∷ []) (target done db at token.start kind)
 target_stands d w m tokens done db at token (Reference rp) p e =
-    let q = pending_more d w m tokens done [] (At (Ident word_dbrp) at ∷ Free (Reference db) ∷ Free Dot ∷ []) (spell_stmt (Dbrp db rp at)) (Free (Reference rp)) token p e refl in (
-      done_more d w m done (Dbrp db rp at) p.before p.room tt (omega arith) (omega arith),
-      move (tokens ++ token ∷ []) (spell_script done ++ spell_stmt (Dbrp db rp at)) (spell_script (done ++ Dbrp db rp at ∷ [])) (sym (script_spelled done (Dbrp db rp at))) q.spelled,
+    let q = pending_more d w m tokens done [] (At (Ident word_dbrp) at ∷ Free (Reference db) ∷ Free Dot ∷ []) (spell_stmt (DbrpStmt db rp at)) (Free (Reference rp)) token p e refl in (
+      done_more d w m done (DbrpStmt db rp at) p.before p.room tt (omega arith) (omega arith),
+      move (tokens ++ token ∷ []) (spell_script done ++ spell_stmt (DbrpStmt db rp at)) (spell_script (done ++ DbrpStmt db rp at ∷ [])) (sym (script_spelled done (DbrpStmt db rp at))) q.spelled,
     )
 target_stands d w m tokens done db at token _ p e = tt
 
@@ -507,15 +507,15 @@ link_stands d w m tokens done stack line node token (Ident name) p g e = (
 link_stands d w m tokens done stack line node token _ p g e = tt
 
 -- a whole lambda as a value
-pub lambda_valued : (d w m : ℕ) (tokens front back : List Token) (done : List StmtTree) (stack : List Spot) (spot : Spot) (at : ℕ) (body : Tree) → tokens ≡ front ++ back → Pending d w m front done (spot ∷ stack) (At Lambda at ∷ []) → faults.Whole (d - (opens stack + opens_spot spot)) w back body → Pending d w m tokens done (spot ∷ stack) (spell_val (Function body at)) × GoodVal d w stack spot (Function body at)
+pub lambda_valued : (d w m : ℕ) (tokens front back : List Token) (done : List StmtTree) (stack : List Spot) (spot : Spot) (at : ℕ) (body : Tree) → tokens ≡ front ++ back → Pending d w m front done (spot ∷ stack) (At Lambda at ∷ []) → faults.Whole (d - (opens stack + opens_spot spot)) w back body → Pending d w m tokens done (spot ∷ stack) (spell_val (LambdaVal body at)) × GoodVal d w stack spot (LambdaVal body at)
 lambda_valued d w m tokens front back done stack spot at body j p x =
     let h = p.spots in
     let k = spot_room d w stack spot h.0 in
     let room = x.room in
     let before = spell_open done (spot ∷ stack) in
     let agrees : Agree (front ++ back) ((before ++ At Lambda at ∷ []) ++ spell body) = join (before ++ At Lambda at ∷ []) (spell body) front back p.spelled x.spelled in
-    let whole : Agree (front ++ back) (before ++ spell_val (Function body at)) = move (front ++ back) ((before ++ At Lambda at ∷ []) ++ spell body) (before ++ spell_val (Function body at)) (append_assoc before (At Lambda at ∷ []) (spell body)) agrees in (
-      record { before = p.before; room = p.room; spots = p.spots; spelled = subst (λ (l : List Token). Agree l (before ++ spell_val (Function body at))) (sym j) whole },
+    let whole : Agree (front ++ back) (before ++ spell_val (LambdaVal body at)) = move (front ++ back) ((before ++ At Lambda at ∷ []) ++ spell body) (before ++ spell_val (LambdaVal body at)) (append_assoc before (At Lambda at ∷ []) (spell body)) agrees in (
+      record { before = p.before; room = p.room; spots = p.spots; spelled = subst (λ (l : List Token). Agree l (before ++ spell_val (LambdaVal body at))) (sym j) whole },
       record { fits = x.fits; star = tt; deep = omega arith; wide = x.few },
     )
 
@@ -539,7 +539,7 @@ within_stands d w m tokens done stack spot at inner (lambdas.Holding st t n) tok
 within_stands d w m tokens done stack spot at inner (lambdas.Ended body) token i e =
     let x = faults.ended (d - (opens stack + opens_spot spot)) w i.back inner token body i.stands i.going e in
     let v = lambda_valued d w m tokens i.front i.back done stack spot at body i.joined i.outer x in
-    settle_stands d w m tokens done stack spot (Function body at) token token.kind v.0 v.1 refl
+    settle_stands d w m tokens done stack spot (LambdaVal body at) token token.kind v.0 v.1 refl
 within_stands d w m tokens done stack spot at inner (lambdas.Stopped f) token i e = tt
 
 pub step_stands : (d w m : ℕ) (tokens : List Token) (s : State) (token : Token) → Stands d w m tokens s → Stands d w m (tokens ++ token ∷ []) (step d w m s token)

@@ -7,7 +7,7 @@ use Rattle.tick_lexer.specs.declared.token.Kind.{Kind}
 use Rattle.tick_lexer.specs.declared.token.Kind.TheVariants.{Ident, Literal, Reference, Open, Close, Dot, Assign}
 use Rattle.tick_lexer.specs.declared.token.Token.{Token}
 use Rattle.tick_parser.specs.declared.fault.ParseFault.TheVariants.{Deep}
-use Rattle.tick_parser.specs.Trees.{ValTree, Given, Function, NoVals, MoreVals, StmtTree, Declared, vals_onto}
+use Rattle.tick_parser.specs.Trees.{ValTree, LitVal, LambdaVal, NoVals, MoreVals, StmtTree, VarStmt, vals_onto}
 use Rattle.tick_parser.specs.Grammar.{Agree}
 use Rattle.tick_parser.specs.Script.{spell_val, spell_script}
 use Rattle.tick_parser.specs.Refusal.{Opens}
@@ -56,7 +56,7 @@ line_viable [] d w m tokens done line p g = let x = line_done d w m tokens done 
 line_viable (Variable name at ∷ []) d w m tokens done line p g =
     let x = line_valued d w m tokens done [] (Variable name at) line p g in
     let y = declared_done d w m tokens done name at (chained line) x.0 x.1 in
-    done_opens d w m tokens (done ++ Declared name (chained line) at ∷ []) y.0 y.1
+    done_opens d w m tokens (done ++ VarStmt name (chained line) at ∷ []) y.0 y.1
 line_viable (Variable name at ∷ top ∷ stack) d w m tokens done line p g = let h = p.spots in let none : top ∷ stack ≡ [] = h.0 in absurd (cc)
 line_viable (Argument outer call args ∷ stack) d w m tokens done line p g =
     let x = line_valued d w m tokens done stack (Argument outer call args) line p g in
@@ -67,7 +67,7 @@ line_viable (Argument outer call args ∷ stack) d w m tokens done line p g =
 value_viable : (d w m : ℕ) (tokens : List Token) (done : List StmtTree) (stack : List Spot) (spot : Spot) (v : ValTree) → Pending d w m tokens done (spot ∷ stack) (spell_val v) → GoodVal d w stack spot v → Opens d w tokens
 value_viable d w m tokens done [] (Variable name at) v p g =
     let y = declared_done d w m tokens done name at v p g in
-    done_opens d w m tokens (done ++ Declared name v at ∷ []) y.0 y.1
+    done_opens d w m tokens (done ++ VarStmt name v at ∷ []) y.0 y.1
 value_viable d w m tokens done (top ∷ stack) (Variable name at) v p g = let h = p.spots in let none : top ∷ stack ≡ [] = h.0 in absurd (cc)
 value_viable d w m tokens done stack (Argument line call args) v p g =
     let y = step_stands d w m tokens (ValueRead done stack (Argument line call args) v) (sample Close) (p, g) in
@@ -80,7 +80,7 @@ zero = Literal (Int (pos 0))
 ready_viable : (d w m : ℕ) (tokens : List Token) (done : List StmtTree) (stack : List Spot) (spot : Spot) → Ready d w m tokens done stack spot → Opens d w tokens
 ready_viable d w m tokens done stack spot h =
     let y = step_stands d w m tokens (Valuing done stack spot) (sample zero) h in
-    opens_before d w tokens (sample zero ∷ []) (value_viable d w m (tokens ++ sample zero ∷ []) done stack spot (Given (Int (pos 0)) 0) y.0 y.1)
+    opens_before d w tokens (sample zero ∷ []) (value_viable d w m (tokens ++ sample zero ∷ []) done stack spot (LitVal (Int (pos 0)) 0) y.0 y.1)
 
 paren_viable : (d w m : ℕ) (tokens : List Token) (done : List StmtTree) (stack : List Spot) (line : Line) (call : Call) → Stands d w m tokens (ParenRead done stack line call) → Opens d w tokens
 paren_viable d w m tokens done stack line call h =
@@ -111,7 +111,7 @@ lambda_viable d w m tokens done stack spot at inner i =
     let joined : tokens ++ r.more ≡ i.front ++ (i.back ++ r.more) =
     ap (λ (l : List Token). l ++ r.more) i.joined ∙ append_assoc i.front i.back r.more in
     let v = lambda_valued d w m (tokens ++ r.more) i.front (i.back ++ r.more) done stack spot at r.tree joined i.outer r.whole in
-    opens_before d w tokens r.more (value_viable d w m (tokens ++ r.more) done stack spot (Function r.tree at) v.0 v.1)
+    opens_before d w tokens r.more (value_viable d w m (tokens ++ r.more) done stack spot (LambdaVal r.tree at) v.0 v.1)
 
 -- where the reader stands within the limits, some script within them goes on
 pub viable : (d w m : ℕ) (tokens : List Token) (s : State) → Stands d w m tokens s → IsGoing s → HasRoom d s → Opens d w tokens
@@ -127,7 +127,7 @@ viable d w m tokens (DotRead done db at) h g room = dot_viable d w m tokens done
 viable d w m tokens (Valuing done stack spot) h g room = ready_viable d w m tokens done stack spot h
 viable d w m tokens (MinusRead done stack spot at) h g room =
     let y = step_stands d w m tokens (MinusRead done stack spot at) (sample zero) h in
-    opens_before d w tokens (sample zero ∷ []) (value_viable d w m (tokens ++ sample zero ∷ []) done stack spot (Given (Int (pos 0)) at) y.0 y.1)
+    opens_before d w tokens (sample zero ∷ []) (value_viable d w m (tokens ++ sample zero ∷ []) done stack spot (LitVal (Int (pos 0)) at) y.0 y.1)
 viable d w m tokens (ValueRead done stack spot v) h g room = value_viable d w m tokens done stack spot v h.0 h.1
 viable d w m tokens (InLambda done stack spot at inner) h g room = lambda_viable d w m tokens done stack spot at inner h
 viable d w m tokens (LineRead done stack line) h g room = line_viable stack d w m tokens done line h.0 h.1

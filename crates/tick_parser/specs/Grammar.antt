@@ -4,7 +4,7 @@ use Rattle.kap_base.specs.declared.expr.Lit.{Lit}
 use Rattle.kap_base.specs.declared.expr.Lit.TheVariants.{Int, Dur}
 use Rattle.kap_base.specs.declared.expr.Op.{Op}
 use Rattle.kap_base.specs.declared.expr.Op.TheVariants.{Or, And, Eq, Ne, Match, NoMatch, Lt, Le, Gt, Ge, Add, Sub, Mul, Div, Rem}
-use Rattle.kap_base.specs.Tree.{Tree, Leaf, Referred, Named, Called, Grouped, Negated, Denied, Joined, Trees, NoTrees, MoreTrees}
+use Rattle.kap_base.specs.Tree.{Tree, LitTree, RefTree, NameTree, CallTree, GroupTree, NegTree, NotTree, BinTree, Trees, NoTrees, MoreTrees}
 use Rattle.tick_lexer.specs.declared.token.Kind.{Kind}
 use Rattle.tick_lexer.specs.declared.token.Kind.TheVariants.{Ident, Literal, Reference, Sign, Bang, Open, Close, Comma}
 use Rattle.tick_lexer.specs.declared.token.Token.{Token}
@@ -31,14 +31,14 @@ level Rem = 5
 -- of one level group to the left. Level 6 is that of an operand.
 abbrev mutual
   pub Fits : ℕ → Tree → Type 0
-  Fits n (Leaf lit at) = Unit {0}
-  Fits n (Referred name at) = Unit {0}
-  Fits n (Named name at) = Unit {0}
-  Fits n (Called name args at) = AllFit args
-  Fits n (Grouped inner at) = Fits 0 inner
-  Fits n (Negated operand at) = Fits 6 operand
-  Fits n (Denied operand at) = Fits 6 operand
-  Fits n (Joined op left right at) = (n ≤ level op) × Fits (level op) left × Fits (level op + 1) right
+  Fits n (LitTree lit at) = Unit {0}
+  Fits n (RefTree name at) = Unit {0}
+  Fits n (NameTree name at) = Unit {0}
+  Fits n (CallTree name args at) = AllFit args
+  Fits n (GroupTree inner at) = Fits 0 inner
+  Fits n (NegTree operand at) = Fits 6 operand
+  Fits n (NotTree operand at) = Fits 6 operand
+  Fits n (BinTree op left right at) = (n ≤ level op) × Fits (level op) left × Fits (level op + 1) right
 
   pub AllFit : Trees → Type 0
   AllFit NoTrees = Unit {0}
@@ -56,14 +56,14 @@ pub data Mark : Type 0 where
 -- a lambda's tokens
 abbrev mutual
   pub spell : Tree → List Mark
-  spell (Leaf lit at) = At (Literal lit) at ∷ []
-  spell (Referred name at) = At (Reference name) at ∷ []
-  spell (Named name at) = At (Ident name) at ∷ []
-  spell (Called name args at) = At (Ident name) at ∷ Free Open ∷ spell_args args
-  spell (Grouped inner at) = At Open at ∷ (spell inner ++ Free Close ∷ [])
-  spell (Negated operand at) = At (Sign Sub) at ∷ spell operand
-  spell (Denied operand at) = At Bang at ∷ spell operand
-  spell (Joined op left right at) = spell left ++ At (Sign op) at ∷ spell right
+  spell (LitTree lit at) = At (Literal lit) at ∷ []
+  spell (RefTree name at) = At (Reference name) at ∷ []
+  spell (NameTree name at) = At (Ident name) at ∷ []
+  spell (CallTree name args at) = At (Ident name) at ∷ Free Open ∷ spell_args args
+  spell (GroupTree inner at) = At Open at ∷ (spell inner ++ Free Close ∷ [])
+  spell (NegTree operand at) = At (Sign Sub) at ∷ spell operand
+  spell (NotTree operand at) = At Bang at ∷ spell operand
+  spell (BinTree op left right at) = spell left ++ At (Sign op) at ∷ spell right
 
   -- arguments, and the parenthesis behind them
   pub spell_args : Trees → List Mark
@@ -115,14 +115,14 @@ Agree tokens (m ∷ ms) = (front : List Token) × (back : List Token) × (tokens
 -- how many parentheses and unary operators are open at most at a token of the tree
 abbrev mutual
   pub depth : Tree → ℕ
-  depth (Leaf lit at) = 0
-  depth (Referred name at) = 0
-  depth (Named name at) = 0
-  depth (Called name args at) = depth_all args + 1
-  depth (Grouped inner at) = depth inner + 1
-  depth (Negated operand at) = depth operand + 1
-  depth (Denied operand at) = depth operand + 1
-  depth (Joined op left right at) = max (depth left) (depth right)
+  depth (LitTree lit at) = 0
+  depth (RefTree name at) = 0
+  depth (NameTree name at) = 0
+  depth (CallTree name args at) = depth_all args + 1
+  depth (GroupTree inner at) = depth inner + 1
+  depth (NegTree operand at) = depth operand + 1
+  depth (NotTree operand at) = depth operand + 1
+  depth (BinTree op left right at) = max (depth left) (depth right)
 
   pub depth_all : Trees → ℕ
   depth_all NoTrees = 0
@@ -131,14 +131,14 @@ abbrev mutual
 -- how many binary operators the tree has
 abbrev mutual
   pub binaries : Tree → ℕ
-  binaries (Leaf lit at) = 0
-  binaries (Referred name at) = 0
-  binaries (Named name at) = 0
-  binaries (Called name args at) = binaries_all args
-  binaries (Grouped inner at) = binaries inner
-  binaries (Negated operand at) = binaries operand
-  binaries (Denied operand at) = binaries operand
-  binaries (Joined op left right at) = binaries left + 1 + binaries right
+  binaries (LitTree lit at) = 0
+  binaries (RefTree name at) = 0
+  binaries (NameTree name at) = 0
+  binaries (CallTree name args at) = binaries_all args
+  binaries (GroupTree inner at) = binaries inner
+  binaries (NegTree operand at) = binaries operand
+  binaries (NotTree operand at) = binaries operand
+  binaries (BinTree op left right at) = binaries left + 1 + binaries right
 
   pub binaries_all : Trees → ℕ
   binaries_all NoTrees = 0

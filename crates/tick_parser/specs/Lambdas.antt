@@ -2,7 +2,7 @@
 use Rattle.std.specs.Prelude.{ℕ, ◌+◌, cond, ltb, leb, List, [], ◌∷◌}
 use Rattle.kap_base.specs.declared.expr.Op.{Op}
 use Rattle.kap_base.specs.declared.expr.Op.TheVariants.{Sub}
-use Rattle.kap_base.specs.Tree.{Tree, Leaf, Referred, Named, Called, Grouped, Negated, Denied, Joined, Trees, NoTrees, MoreTrees, reversed_onto}
+use Rattle.kap_base.specs.Tree.{Tree, LitTree, RefTree, NameTree, CallTree, GroupTree, NegTree, NotTree, BinTree, Trees, NoTrees, MoreTrees, reversed_onto}
 use Rattle.tick_lexer.specs.declared.token.Kind.{Kind}
 use Rattle.tick_lexer.specs.declared.token.Kind.TheVariants.{Ident, Literal, Reference, Sign, Bang, Open, Close, Comma}
 use Rattle.tick_lexer.specs.declared.token.Token.{Token}
@@ -49,10 +49,10 @@ opens (Args name done at ∷ stack) = opens stack + 1
 -- closes unary operators, and binary ones that bind as tightly as this level
 abbrev pub reduce : ℕ → List Frame → Tree → Held
 reduce n [] tree = record { stack = []; tree = tree }
-reduce n (Minus at ∷ stack) tree = reduce n stack (Negated tree at)
-reduce n (Negation at ∷ stack) tree = reduce n stack (Denied tree at)
+reduce n (Minus at ∷ stack) tree = reduce n stack (NegTree tree at)
+reduce n (Negation at ∷ stack) tree = reduce n stack (NotTree tree at)
 reduce n (Left op left at ∷ stack) tree =
-    cond (leb n (level op)) (reduce n stack (Joined op left tree at)) (record { stack = Left op left at ∷ stack; tree = tree })
+    cond (leb n (level op)) (reduce n stack (BinTree op left tree at)) (record { stack = Left op left at ∷ stack; tree = tree })
 reduce n (Paren at ∷ stack) tree = record { stack = Paren at ∷ stack; tree = tree }
 reduce n (Args name done at ∷ stack) tree = record { stack = Args name done at ∷ stack; tree = tree }
 
@@ -62,9 +62,9 @@ opening deep frame stack count at = cond (ltb (opens stack) deep) (Wanting (fram
 
 -- a token where an operand comes
 abbrev pub operand : ℕ → List Frame → ℕ → ℕ → Kind → State
-operand deep stack count at (Literal lit) = Holding stack (Leaf lit at) count
-operand deep stack count at (Reference name) = Holding stack (Referred name at) count
-operand deep stack count at (Ident name) = Holding stack (Named name at) count
+operand deep stack count at (Literal lit) = Holding stack (LitTree lit at) count
+operand deep stack count at (Reference name) = Holding stack (RefTree name at) count
+operand deep stack count at (Ident name) = Holding stack (NameTree name at) count
 operand deep stack count at Open = opening deep (Paren at) stack count at
 operand deep stack count at (Sign Sub) = opening deep (Minus at) stack count at
 operand deep stack count at Bang = opening deep (Negation at) stack count at
@@ -77,7 +77,7 @@ leave _ tree at = Stopped (Expected WantClose at)
 
 -- a parenthesis behind an operand: the arguments of a name
 abbrev pub calling : ℕ → List Frame → ℕ → ℕ → Tree → State
-calling deep stack count at (Named name place) =
+calling deep stack count at (NameTree name place) =
     cond (ltb (opens stack) deep) (Opened (Args name NoTrees place ∷ stack) count) (Stopped (Deep at))
 calling deep stack count at tree = let held = reduce 0 stack tree in leave held.stack held.tree at
 
@@ -89,9 +89,9 @@ joining wide op count at held =
 -- the innermost parenthesis is closed
 abbrev pub close_top : List Frame → Tree → ℕ → ℕ → State
 close_top [] tree count at = Ended tree
-close_top (Paren place ∷ stack) tree count at = Holding stack (Grouped tree place) count
+close_top (Paren place ∷ stack) tree count at = Holding stack (GroupTree tree place) count
 close_top (Args name done place ∷ stack) tree count at =
-    Holding stack (Called name (reversed_onto (MoreTrees tree done) NoTrees) place) count
+    Holding stack (CallTree name (reversed_onto (MoreTrees tree done) NoTrees) place) count
 close_top _ tree count at = Stopped (Expected WantClose at)
 
 -- a comma behind an argument
@@ -102,7 +102,7 @@ next_top _ tree count at = Stopped (Expected WantClose at)
 
 -- a call without arguments is closed
 abbrev pub close_empty : List Frame → ℕ → ℕ → State
-close_empty (Args name done place ∷ stack) count at = Holding stack (Called name (reversed_onto done NoTrees) place) count
+close_empty (Args name done place ∷ stack) count at = Holding stack (CallTree name (reversed_onto done NoTrees) place) count
 close_empty _ count at = Stopped (Expected Operand at)
 
 -- a token behind an operand

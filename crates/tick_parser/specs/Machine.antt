@@ -8,7 +8,7 @@ use Rattle.tick_lexer.specs.declared.token.Token.{Token}
 use Rattle.tick_parser.specs.declared.fault.Want.TheVariants.{Statement, Name, Equal, Value, Open as WantOpen, Close as WantClose, Ref, Dot as WantDot}
 use Rattle.tick_parser.specs.declared.fault.ParseFault.{ParseFault}
 use Rattle.tick_parser.specs.declared.fault.ParseFault.TheVariants.{Expected, Deep, TooMany}
-use Rattle.tick_parser.specs.Trees.{ValTree, Given, Everything, Function, Chained, ValTrees, NoVals, MoreVals, JointTrees, NoJoints, MoreJoints, StmtTree, Declared, Dbrp, Piped, vals_onto, joints_onto}
+use Rattle.tick_parser.specs.Trees.{ValTree, LitVal, StarVal, LambdaVal, ChainVal, ValTrees, NoVals, MoreVals, JointTrees, NoJoints, MoreJoints, StmtTree, VarStmt, DbrpStmt, ChainStmt, vals_onto, joints_onto}
 use Rattle.tick_parser.specs.Grammar.{minus}
 use Rattle.tick_parser.specs.Script.{word_dbrp}
 use Rattle.tick_parser.specs.Lambdas as lambdas
@@ -67,11 +67,11 @@ linked line call args = record { head = line.head; links = MoreJoints call.node 
 
 -- a chain as a value
 abbrev pub chained : Line → ValTree
-chained line = Chained line.head (joints_onto line.links NoJoints) line.at
+chained line = ChainVal line.head (joints_onto line.links NoJoints) line.at
 
 -- a chain as a statement
 abbrev pub piped : Line → StmtTree
-piped line = Piped line.head (joints_onto line.links NoJoints) line.at
+piped line = ChainStmt line.head (joints_onto line.links NoJoints) line.at
 
 -- how many parentheses are open
 abbrev pub opens_spot : Spot → ℕ
@@ -97,7 +97,7 @@ argue done stack line call args at _ = Stopped (Expected WantClose at)
 
 -- a token behind a value
 abbrev pub settle : ℕ → List StmtTree → List Spot → Spot → ValTree → ℕ → Kind → State
-settle many done stack (Variable name place) value at kind = begin many (done ++ Declared name value place ∷ []) at kind
+settle many done stack (Variable name place) value at kind = begin many (done ++ VarStmt name value place ∷ []) at kind
 settle many done stack (Argument line call args) value at kind = argue done stack line call (MoreVals value args) at kind
 
 -- there are no links
@@ -126,11 +126,11 @@ follow many done stack line at kind = leave many done stack line at kind
 -- a star where a value comes
 abbrev pub star : List StmtTree → List Spot → Spot → ℕ → State
 star done stack (Variable name place) at = Stopped (Expected Value at)
-star done stack (Argument line call args) at = ValueRead done stack (Argument line call args) (Everything at)
+star done stack (Argument line call args) at = ValueRead done stack (Argument line call args) (StarVal at)
 
 -- a token where a value comes
 abbrev pub value : List StmtTree → List Spot → Spot → ℕ → Kind → State
-value done stack spot at (Literal lit) = ValueRead done stack spot (Given lit at)
+value done stack spot at (Literal lit) = ValueRead done stack spot (LitVal lit at)
 value done stack spot at (Sign Sub) = MinusRead done stack spot at
 value done stack spot at (Sign Mul) = star done stack spot at
 value done stack spot at Lambda = InLambda done stack spot at (lambdas.Wanting [] 0)
@@ -139,7 +139,7 @@ value done stack spot at _ = Stopped (Expected Value at)
 
 -- a literal behind a minus
 abbrev pub signed : List StmtTree → List Spot → Spot → ℕ → ℕ → Option Lit → State
-signed done stack spot place at (Some lit) = ValueRead done stack spot (Given lit place)
+signed done stack spot place at (Some lit) = ValueRead done stack spot (LitVal lit place)
 signed done stack spot place at None = Stopped (Expected Value at)
 
 abbrev pub number : List StmtTree → List Spot → Spot → ℕ → ℕ → Kind → State
@@ -158,7 +158,7 @@ opened done stack line call at kind = value done stack (Argument line call NoVal
 
 -- a token in a lambda, by what the lambda makes of it
 abbrev pub within : ℕ → List StmtTree → List Spot → Spot → ℕ → ℕ → Kind → lambdas.State → State
-within many done stack spot place at kind (lambdas.Ended tree) = settle many done stack spot (Function tree place) at kind
+within many done stack spot place at kind (lambdas.Ended tree) = settle many done stack spot (LambdaVal tree place) at kind
 within many done stack spot place at kind (lambdas.Stopped fault) = Stopped fault
 within many done stack spot place at kind inner = InLambda done stack spot place inner
 
@@ -176,7 +176,7 @@ dotted done db place at Dot = DotRead done db place
 dotted done db place at _ = Stopped (Expected WantDot at)
 
 abbrev pub target : List StmtTree → List ℕ → ℕ → ℕ → Kind → State
-target done db place at (Reference rp) = Between (done ++ Dbrp db rp place ∷ [])
+target done db place at (Reference rp) = Between (done ++ DbrpStmt db rp place ∷ [])
 target done db place at _ = Stopped (Expected Ref at)
 
 abbrev pub link : List StmtTree → List Spot → Line → Bool → ℕ → Kind → State
@@ -213,7 +213,7 @@ pub data Answer : Type 0 where
 
 -- the tokens end behind a value
 abbrev pub settled : ℕ → List StmtTree → Spot → ValTree → Answer
-settled at done (Variable name place) value = Got (done ++ Declared name value place ∷ [])
+settled at done (Variable name place) value = Got (done ++ VarStmt name value place ∷ [])
 settled at done (Argument line call args) value = Refuses (Expected WantClose at)
 
 -- the tokens end behind a chain
@@ -223,7 +223,7 @@ left at done (spot ∷ stack) line = settled at done spot (chained line)
 
 -- the tokens end in a lambda
 abbrev pub closed : ℕ → List StmtTree → Spot → ℕ → lambdas.Answer → Answer
-closed at done spot place (lambdas.Got tree) = settled at done spot (Function tree place)
+closed at done spot place (lambdas.Got tree) = settled at done spot (LambdaVal tree place)
 closed at done spot place (lambdas.Refuses fault) = Refuses fault
 
 -- the tokens end here

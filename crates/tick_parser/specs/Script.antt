@@ -3,16 +3,16 @@ use Rattle.std.specs.Prelude.{ℕ, ◌+◌, ◌≤◌, max, cond, List, [], ◌�
 use Rattle.kap_base.specs.declared.expr.Op.TheVariants.{Mul}
 use Rattle.tick_lexer.specs.declared.token.Kind.TheVariants.{Ident, Reference, Sign, Open, Close, Comma, Dot, Pipe, Assign, Var, Lambda}
 use Rattle.tick_lexer.specs.declared.token.Token.{Token}
-use Rattle.tick_parser.specs.Trees.{ValTree, Given, Everything, Function, Chained, ValTrees, NoVals, MoreVals, JointTrees, NoJoints, MoreJoints, StmtTree, Declared, Dbrp, Piped}
+use Rattle.tick_parser.specs.Trees.{ValTree, LitVal, StarVal, LambdaVal, ChainVal, ValTrees, NoVals, MoreVals, JointTrees, NoJoints, MoreJoints, StmtTree, VarStmt, DbrpStmt, ChainStmt}
 use Rattle.tick_parser.specs.Grammar.{Fits, Mark, At, Free, Signed, spell, Agree, depth, binaries}
 
 -- the tokens of values and links
 abbrev mutual
   pub spell_val : ValTree → List Mark
-  spell_val (Given lit at) = Signed lit at ∷ []
-  spell_val (Everything at) = At (Sign Mul) at ∷ []
-  spell_val (Function body at) = At Lambda at ∷ spell body
-  spell_val (Chained head links at) = At (Ident head) at ∷ spell_joints links
+  spell_val (LitVal lit at) = Signed lit at ∷ []
+  spell_val (StarVal at) = At (Sign Mul) at ∷ []
+  spell_val (LambdaVal body at) = At Lambda at ∷ spell body
+  spell_val (ChainVal head links at) = At (Ident head) at ∷ spell_joints links
 
   -- arguments, and the parenthesis behind them
   pub spell_vals : ValTrees → List Mark
@@ -36,9 +36,9 @@ word_dbrp = 100 ∷ 98 ∷ 114 ∷ 112 ∷ []
 
 -- a statement's tokens
 abbrev pub spell_stmt : StmtTree → List Mark
-spell_stmt (Declared name value at) = At Var at ∷ Free (Ident name) ∷ Free Assign ∷ spell_val value
-spell_stmt (Dbrp db rp at) = At (Ident word_dbrp) at ∷ Free (Reference db) ∷ Free Dot ∷ Free (Reference rp) ∷ []
-spell_stmt (Piped head links at) = At (Ident head) at ∷ spell_joints links
+spell_stmt (VarStmt name value at) = At Var at ∷ Free (Ident name) ∷ Free Assign ∷ spell_val value
+spell_stmt (DbrpStmt db rp at) = At (Ident word_dbrp) at ∷ Free (Reference db) ∷ Free Dot ∷ Free (Reference rp) ∷ []
+spell_stmt (ChainStmt head links at) = At (Ident head) at ∷ spell_joints links
 
 -- a script's tokens
 abbrev pub spell_script : List StmtTree → List Mark
@@ -48,10 +48,10 @@ spell_script (stmt ∷ script) = spell_stmt stmt ++ spell_script script
 -- each lambda fits the precedences of its operators
 abbrev mutual
   pub FitsVal : ValTree → Type 0
-  FitsVal (Given lit at) = Unit {0}
-  FitsVal (Everything at) = Unit {0}
-  FitsVal (Function body at) = Fits 0 body
-  FitsVal (Chained head links at) = FitJoints links
+  FitsVal (LitVal lit at) = Unit {0}
+  FitsVal (StarVal at) = Unit {0}
+  FitsVal (LambdaVal body at) = Fits 0 body
+  FitsVal (ChainVal head links at) = FitJoints links
 
   pub FitVals : ValTrees → Type 0
   FitVals NoVals = Unit {0}
@@ -63,14 +63,14 @@ abbrev mutual
 
 -- a star is no value of a variable
 abbrev pub IsOne : ValTree → Type 0
-IsOne (Everything at) = ⊥
+IsOne (StarVal at) = ⊥
 IsOne _ = Unit {0}
 
 -- the statement is one of the grammar
 abbrev pub FitsStmt : StmtTree → Type 0
-FitsStmt (Declared name value at) = IsOne value × FitsVal value
-FitsStmt (Dbrp db rp at) = Unit {0}
-FitsStmt (Piped head links at) = FitJoints links
+FitsStmt (VarStmt name value at) = IsOne value × FitsVal value
+FitsStmt (DbrpStmt db rp at) = Unit {0}
+FitsStmt (ChainStmt head links at) = FitJoints links
 
 -- each statement is one of the grammar
 abbrev pub FitsScript : List StmtTree → Type 0
@@ -81,10 +81,10 @@ FitsScript (stmt ∷ script) = FitsStmt stmt × FitsScript script
 -- value isn't counted
 abbrev mutual
   pub depth_val : ValTree → ℕ
-  depth_val (Given lit at) = 0
-  depth_val (Everything at) = 0
-  depth_val (Function body at) = depth body
-  depth_val (Chained head links at) = depth_joints links
+  depth_val (LitVal lit at) = 0
+  depth_val (StarVal at) = 0
+  depth_val (LambdaVal body at) = depth body
+  depth_val (ChainVal head links at) = depth_joints links
 
   pub depth_vals : ValTrees → ℕ
   depth_vals NoVals = 0
@@ -95,9 +95,9 @@ abbrev mutual
   depth_joints (MoreJoints node name args at rest) = max (depth_vals args + 1) (depth_joints rest)
 
 abbrev pub depth_stmt : StmtTree → ℕ
-depth_stmt (Declared name value at) = depth_val value
-depth_stmt (Dbrp db rp at) = 0
-depth_stmt (Piped head links at) = depth_joints links
+depth_stmt (VarStmt name value at) = depth_val value
+depth_stmt (DbrpStmt db rp at) = 0
+depth_stmt (ChainStmt head links at) = depth_joints links
 
 abbrev pub depth_script : List StmtTree → ℕ
 depth_script [] = 0
@@ -106,10 +106,10 @@ depth_script (stmt ∷ script) = max (depth_stmt stmt) (depth_script script)
 -- how many binary operators a lambda has at most
 abbrev mutual
   pub width_val : ValTree → ℕ
-  width_val (Given lit at) = 0
-  width_val (Everything at) = 0
-  width_val (Function body at) = binaries body
-  width_val (Chained head links at) = width_joints links
+  width_val (LitVal lit at) = 0
+  width_val (StarVal at) = 0
+  width_val (LambdaVal body at) = binaries body
+  width_val (ChainVal head links at) = width_joints links
 
   pub width_vals : ValTrees → ℕ
   width_vals NoVals = 0
@@ -120,9 +120,9 @@ abbrev mutual
   width_joints (MoreJoints node name args at rest) = max (width_vals args) (width_joints rest)
 
 abbrev pub width_stmt : StmtTree → ℕ
-width_stmt (Declared name value at) = width_val value
-width_stmt (Dbrp db rp at) = 0
-width_stmt (Piped head links at) = width_joints links
+width_stmt (VarStmt name value at) = width_val value
+width_stmt (DbrpStmt db rp at) = 0
+width_stmt (ChainStmt head links at) = width_joints links
 
 abbrev pub width_script : List StmtTree → ℕ
 width_script [] = 0

@@ -6,17 +6,17 @@ use Rattle.tick_parser.specs.declared.script.Chain.{Chain}
 use Rattle.tick_parser.specs.declared.script.Joint.{Joint}
 use Rattle.tick_parser.specs.declared.script.Links.{Links, End as EndLinks, More' as MoreLink'}
 use Rattle.tick_parser.specs.declared.script.Stmt.{Stmt}
-use Rattle.tick_parser.specs.declared.script.Stmt.TheVariants.{Var as VarStmt, Dbrp as DbrpStmt, Chain as ChainStmt}
-use Rattle.tick_parser.specs.declared.script.Val.{Val, Lit as LitVal, Star, Lambda, Chain' as ChainVal}
+use Rattle.tick_parser.specs.declared.script.Stmt.TheVariants.{Var as OfVar, Dbrp as OfDbrp, Chain as OfChainStmt}
+use Rattle.tick_parser.specs.declared.script.Val.{Val, Lit as OfLit, Star, Lambda, Chain' as OfChain}
 use Rattle.tick_parser.specs.declared.script.Vals.{Vals, End, More'}
 
 -- a value, values, and the nodes and properties of a chain
 mutual
   pub data ValTree : Type 0 where
-    Given : (lit : Lit) (at : ℕ) → ValTree
-    Everything : (at : ℕ) → ValTree
-    Function : (body : Tree) (at : ℕ) → ValTree
-    Chained : (head : List ℕ) (links : JointTrees) (at : ℕ) → ValTree
+    LitVal : (lit : Lit) (at : ℕ) → ValTree
+    StarVal : (at : ℕ) → ValTree
+    LambdaVal : (body : Tree) (at : ℕ) → ValTree
+    ChainVal : (head : List ℕ) (links : JointTrees) (at : ℕ) → ValTree
 
   pub data ValTrees : Type 0 where
     NoVals : ValTrees
@@ -29,17 +29,17 @@ mutual
 
 -- a statement
 pub data StmtTree : Type 0 where
-  Declared : (name : List ℕ) (value : ValTree) (at : ℕ) → StmtTree
-  Dbrp : (db rp : List ℕ) (at : ℕ) → StmtTree
-  Piped : (head : List ℕ) (links : JointTrees) (at : ℕ) → StmtTree
+  VarStmt : (name : List ℕ) (value : ValTree) (at : ℕ) → StmtTree
+  DbrpStmt : (db rp : List ℕ) (at : ℕ) → StmtTree
+  ChainStmt : (head : List ℕ) (links : JointTrees) (at : ℕ) → StmtTree
 
 -- the trees of values and of links
 abbrev mutual
   pub val_tree : Val → ValTree
-  val_tree (LitVal lit at) = Given lit at
-  val_tree (Star at) = Everything at
-  val_tree (Lambda body at) = Function (tree_of body) at
-  val_tree (ChainVal head links at) = Chained head (joints_tree links) at
+  val_tree (OfLit lit at) = LitVal lit at
+  val_tree (Star at) = StarVal at
+  val_tree (Lambda body at) = LambdaVal (tree_of body) at
+  val_tree (OfChain head links at) = ChainVal head (joints_tree links) at
 
   pub vals_tree : Vals → ValTrees
   vals_tree End = NoVals
@@ -51,7 +51,7 @@ abbrev mutual
 
 -- the tree of a chain as a value
 abbrev pub chain_tree : Chain → ValTree
-chain_tree chain = Chained chain.head (joints_tree chain.links) chain.at
+chain_tree chain = ChainVal chain.head (joints_tree chain.links) chain.at
 
 -- the tree of one node or property
 abbrev pub joint_tree : Joint → JointTrees
@@ -59,9 +59,9 @@ joint_tree joint = MoreJoints joint.node joint.name (vals_tree joint.args) joint
 
 -- the tree of a statement
 abbrev pub stmt_tree : Stmt → StmtTree
-stmt_tree (VarStmt name value at) = Declared name (val_tree value) at
-stmt_tree (DbrpStmt db rp at) = Dbrp db rp at
-stmt_tree (ChainStmt chain) = Piped chain.head (joints_tree chain.links) chain.at
+stmt_tree (OfVar name value at) = VarStmt name (val_tree value) at
+stmt_tree (OfDbrp db rp at) = DbrpStmt db rp at
+stmt_tree (OfChainStmt chain) = ChainStmt chain.head (joints_tree chain.links) chain.at
 
 -- the trees of a script's statements
 abbrev pub script_tree : List Stmt → List StmtTree

@@ -3,12 +3,12 @@
 ghost use Rattle.std.specs.Prelude.{◌≡◌, IfOk};
 ghost use Rattle.tick_parser.specs.Trees.{NoJoints, NoVals, chain_tree, joint_tree, joints_onto, joints_tree, stmt_tree, val_tree, vals_onto, vals_tree};
 
-use kap_base::{Duplicate, Expr, Listed, Lit, NoMemory, Text};
+use kap_base::{Duplicate, Expr, ItemList, Lit, NoMemory, Text};
 use std::alloc::Global;
 use std::mem;
 
 /// The statements of a script, in order.
-pub type Tree = Listed<Stmt>;
+pub type Tree = ItemList<Stmt>;
 
 /// A statement (Kapacitor 1.6 TICKscript language reference: Statements). Each place is a byte offset in the script.
 #[derive(Drop)]

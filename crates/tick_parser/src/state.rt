@@ -7,7 +7,7 @@ use crate::fault::{ParseFault, Want};
 use crate::lambda::Lambda;
 use crate::script::{Chain, Stmt, Tree, Val, Vals};
 use crate::steps;
-use kap_base::{Listed, Text};
+use kap_base::{ItemList, Text};
 use std::alloc::Global;
 use tick_lexer::Token;
 
@@ -99,7 +99,7 @@ impl State {
         ensures { Answers result (finish end (state_of self)) }
     {
         match self {
-            State::Between(done) => Ok(Listed::from_items(done)),
+            State::Between(done) => Ok(ItemList::from_items(done)),
             State::VarRead(..) | State::LinkRead(..) => Err(ParseFault::Expected(Want::Name, end)),
             State::NameRead(..) => Err(ParseFault::Expected(Want::Equal, end)),
             State::DbRead(..) => Err(ParseFault::Expected(Want::Dot, end)),

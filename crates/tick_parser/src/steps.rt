@@ -1,7 +1,7 @@
 //! What the parser does at each token outside lambdas.
 
 ghost use Rattle.std.specs.Prelude.{◌≡◌, ◌+◌, ◌&&◌, ◌++◌, ◌∷◌, [], IfOk, bytes_eq};
-ghost use Rattle.tick_parser.specs.Trees.{Declared, MoreVals, NoJoints, chain_tree, joints_tree, script_tree, val_tree, vals_tree};
+ghost use Rattle.tick_parser.specs.Trees.{VarStmt, MoreVals, NoJoints, chain_tree, joints_tree, script_tree, val_tree, vals_tree};
 ghost use Rattle.tick_parser.specs.Grammar.{minus};
 ghost use Rattle.tick_parser.specs.Script.{word_dbrp};
 ghost use Rattle.tick_parser.specs.Machine.{argue, assign, begin, chained, closed, declare, dotted, follow, is_bare, leave, left, link, linked, number, opened, opening, opens, settle, settled, star, step, target, value, State as MachineState};
@@ -15,7 +15,7 @@ use crate::lambda::{Lambda, Turn};
 use crate::script::{Chain, Joint, Links, Stmt, Tree, Val, Vals};
 use crate::stack::Stack;
 use crate::state::{Call, Open, Spot, State};
-use kap_base::{Duplicate, Listed, Lit, NoMemory, Op, Text};
+use kap_base::{Duplicate, ItemList, Lit, NoMemory, Op, Text};
 use std::alloc::Global;
 use tick_lexer::{Kind, Token};
 
@@ -88,7 +88,7 @@ fn is_word(chain: &Chain) -> bool
 /// The statements with one more variable.
 #[tactic(auto, using(crate::proofs::Stacks::script_push))]
 fn declared(mut done: Vec<Stmt>, name: Text, value: Val, at: u32) -> Result<Vec<Stmt>, NoMemory>
-    ensures { IfOk result (λ more. script_tree more.items ≡ script_tree done.items ++ Declared name (val_tree value) at ∷ []) }
+    ensures { IfOk result (λ more. script_tree more.items ≡ script_tree done.items ++ VarStmt name (val_tree value) at ∷ []) }
 {
     done.push(Stmt::Var { name, value, at })?;
     Ok(done)
@@ -464,7 +464,7 @@ impl Open {
         match spot {
             Spot::Variable(name, at) => {
                 let done = declared(self.done, name, value, at)?;
-                Ok(Listed::from_items(done))
+                Ok(ItemList::from_items(done))
             }
             Spot::Argument(..) => Err(ParseFault::Expected(Want::Close, end)),
         }
@@ -496,7 +496,7 @@ impl Open {
         match self.stack.pop() {
             None => {
                 self.done.push(Stmt::Chain(whole_of(chain)))?;
-                Ok(Listed::from_items(self.done))
+                Ok(ItemList::from_items(self.done))
             }
             Some(spot) => self.settled(spot, Val::Chain(whole_of(chain)), end),
         }

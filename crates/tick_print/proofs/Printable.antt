@@ -2,12 +2,12 @@
 use Rattle.std.proofs.Common.{◌≡◌, ⊎_elim, inl, ℕ, Bool, true, false, cond, List, [], ◌∷◌, ◌++◌, subst}
 use Rattle.kap_base.specs.declared.expr.Lit.{Lit}
 use Rattle.kap_base.specs.declared.expr.Op.TheVariants.{Sub}
-use Rattle.kap_base.specs.Tree.{Tree, Leaf, Referred, Named, Called, Grouped, Negated, Denied, Joined, Trees, NoTrees, MoreTrees}
+use Rattle.kap_base.specs.Tree.{Tree, LitTree, RefTree, NameTree, CallTree, GroupTree, NegTree, NotTree, BinTree, Trees, NoTrees, MoreTrees}
 use Rattle.tick_lexer.specs.declared.token.Kind.{Kind}
 use Rattle.tick_lexer.specs.declared.token.Kind.TheVariants.{Ident, Var, Lambda, Literal, Reference, Sign, Bang, Assign, Open, Close, Comma, Dot, Pipe}
 use Rattle.tick_lexer.specs.declared.token.Token.{Token}
 use Rattle.tick_lexer.specs.Spelling.{IsName, is_reserved, EndsPlain, Spelled, IsAllowed, takes_pattern}
-use Rattle.tick_parser.specs.Trees.{ValTree, Given, Everything, Function, Chained, ValTrees, NoVals, MoreVals, JointTrees, NoJoints, MoreJoints, StmtTree, Declared, Dbrp, Piped}
+use Rattle.tick_parser.specs.Trees.{ValTree, LitVal, StarVal, LambdaVal, ChainVal, ValTrees, NoVals, MoreVals, JointTrees, NoJoints, MoreJoints, StmtTree, VarStmt, DbrpStmt, ChainStmt}
 use Rattle.tick_parser.specs.Grammar.{At, Free, Signed, spell, spell_args, spell_rest, IsOneToken, AreTwoTokens, IsMinus, Agree}
 use Rattle.tick_parser.specs.Script.{spell_val, spell_vals, spell_more, spell_joints, spell_stmt, spell_script, word_dbrp}
 use Rattle.tick_print.specs.Print.{lit_text}
@@ -21,14 +21,14 @@ CanName name = IsName name × (is_reserved name ≡ false)
 -- each leaf is spelled by its text; a pattern stands where the flag or the token before it lets one stand
 abbrev mutual
   pub CanPrint : Bool → Tree → Type 0
-  CanPrint pattern (Leaf lit at) = Spelled (Literal lit) (lit_text lit) × IsAllowed pattern (Literal lit)
-  CanPrint pattern (Referred name at) = EndsPlain name
-  CanPrint pattern (Named name at) = CanName name
-  CanPrint pattern (Called name args at) = CanName name × CanPrintAll args
-  CanPrint pattern (Grouped inner at) = CanPrint true inner
-  CanPrint pattern (Negated operand at) = CanPrint false operand
-  CanPrint pattern (Denied operand at) = CanPrint false operand
-  CanPrint pattern (Joined op left right at) = CanPrint pattern left × CanPrint (takes_pattern (Sign op)) right
+  CanPrint pattern (LitTree lit at) = Spelled (Literal lit) (lit_text lit) × IsAllowed pattern (Literal lit)
+  CanPrint pattern (RefTree name at) = EndsPlain name
+  CanPrint pattern (NameTree name at) = CanName name
+  CanPrint pattern (CallTree name args at) = CanName name × CanPrintAll args
+  CanPrint pattern (GroupTree inner at) = CanPrint true inner
+  CanPrint pattern (NegTree operand at) = CanPrint false operand
+  CanPrint pattern (NotTree operand at) = CanPrint false operand
+  CanPrint pattern (BinTree op left right at) = CanPrint pattern left × CanPrint (takes_pattern (Sign op)) right
 
   pub CanPrintAll : Trees → Type 0
   CanPrintAll NoTrees = Unit {0}
@@ -36,10 +36,10 @@ abbrev mutual
 
 abbrev mutual
   pub CanVal : ValTree → Type 0
-  CanVal (Given lit at) = IsValue lit
-  CanVal (Everything at) = Unit {0}
-  CanVal (Function body at) = CanPrint false body
-  CanVal (Chained head links at) = CanName head × CanJoints links
+  CanVal (LitVal lit at) = IsValue lit
+  CanVal (StarVal at) = Unit {0}
+  CanVal (LambdaVal body at) = CanPrint false body
+  CanVal (ChainVal head links at) = CanName head × CanJoints links
 
   pub CanVals : ValTrees → Type 0
   CanVals NoVals = Unit {0}
@@ -50,9 +50,9 @@ abbrev mutual
   CanJoints (MoreJoints node name args at rest) = CanName name × CanVals args × CanJoints rest
 
 abbrev pub CanStmt : StmtTree → Type 0
-CanStmt (Declared name value at) = CanName name × CanVal value
-CanStmt (Dbrp db rp at) = EndsPlain db × EndsPlain rp
-CanStmt (Piped head links at) = CanName head × CanJoints links
+CanStmt (VarStmt name value at) = CanName name × CanVal value
+CanStmt (DbrpStmt db rp at) = EndsPlain db × EndsPlain rp
+CanStmt (ChainStmt head links at) = CanName head × CanJoints links
 
 abbrev pub CanScript : List StmtTree → Type 0
 CanScript [] = Unit {0}
@@ -63,31 +63,31 @@ name_of name s h = (h.1, h.2)
 
 mutual
   can_print : (tree : Tree) (ts : List Token) (pattern : Bool) → Agree ts (spell tree) → Spelt pattern ts → CanPrint pattern tree
-  can_print (Leaf lit at) ts pattern h s =
+  can_print (LitTree lit at) ts pattern h s =
       let l = lead_at (Literal lit) at [] ts pattern h s in
       (lit_spelled lit l.bytes l.spelled, l.allowed)
-  can_print (Referred name at) ts pattern h s =
+  can_print (RefTree name at) ts pattern h s =
       let l = lead_at (Reference name) at [] ts pattern h s in
       let quoted = l.spelled in
       quoted.1
-  can_print (Named name at) ts pattern h s =
+  can_print (NameTree name at) ts pattern h s =
       let l = lead_at (Ident name) at [] ts pattern h s in
       name_of name l.bytes l.spelled
-  can_print (Called name args at) ts pattern h s =
+  can_print (CallTree name args at) ts pattern h s =
       let l = lead_at (Ident name) at (Free Open ∷ spell_args args) ts pattern h s in
       let o = lead_free Open (spell_args args) l.rest false l.agrees l.spelt in
       (name_of name l.bytes l.spelled, can_args args o.rest o.agrees o.spelt)
-  can_print (Grouped inner at) ts pattern h s =
+  can_print (GroupTree inner at) ts pattern h s =
       let o = lead_at Open at (spell inner ++ Free Close ∷ []) ts pattern h s in
       let p = parts (spell inner) (Free Close ∷ []) o.rest true o.agrees o.spelt in
       can_print inner p.front true p.front_agrees p.front_spelt
-  can_print (Negated inner at) ts pattern h s =
+  can_print (NegTree inner at) ts pattern h s =
       let o = lead_at (Sign Sub) at (spell inner) ts pattern h s in
       can_print inner o.rest false o.agrees o.spelt
-  can_print (Denied inner at) ts pattern h s =
+  can_print (NotTree inner at) ts pattern h s =
       let o = lead_at Bang at (spell inner) ts pattern h s in
       can_print inner o.rest false o.agrees o.spelt
-  can_print (Joined op left right at) ts pattern h s =
+  can_print (BinTree op left right at) ts pattern h s =
       let p = parts (spell left) (At (Sign op) at ∷ spell right) ts pattern h s in
       let o = lead_at (Sign op) at (spell right) p.back p.flag p.back_agrees p.back_spelt in
       (can_print left p.front pattern p.front_agrees p.front_spelt, can_print right o.rest (takes_pattern (Sign op)) o.agrees o.spelt)
@@ -126,12 +126,12 @@ can_value lit at ts pattern h s =
 
 mutual
   can_val : (val : ValTree) (ts : List Token) (pattern : Bool) → Agree ts (spell_val val) → Spelt pattern ts → CanVal val
-  can_val (Given lit at) ts pattern h s = can_value lit at ts pattern h s
-  can_val (Everything at) ts pattern h s = tt
-  can_val (Function body at) ts pattern h s =
+  can_val (LitVal lit at) ts pattern h s = can_value lit at ts pattern h s
+  can_val (StarVal at) ts pattern h s = tt
+  can_val (LambdaVal body at) ts pattern h s =
       let l = lead_at Lambda at (spell body) ts pattern h s in
       can_print body l.rest false l.agrees l.spelt
-  can_val (Chained head links at) ts pattern h s =
+  can_val (ChainVal head links at) ts pattern h s =
       let l = lead_at (Ident head) at (spell_joints links) ts pattern h s in
       (name_of head l.bytes l.spelled, can_joints links l.rest false l.agrees l.spelt)
 
@@ -158,12 +158,12 @@ mutual
       (name_of name l.bytes l.spelled, can_vals args p.front true p.front_agrees p.front_spelt, can_joints others p.back p.flag p.back_agrees p.back_spelt)
 
 can_stmt : (stmt : StmtTree) (ts : List Token) (pattern : Bool) → Agree ts (spell_stmt stmt) → Spelt pattern ts → CanStmt stmt
-can_stmt (Declared name value at) ts pattern h s =
+can_stmt (VarStmt name value at) ts pattern h s =
     let v = lead_at Var at (Free (Ident name) ∷ Free Assign ∷ spell_val value) ts pattern h s in
     let n = lead_free (Ident name) (Free Assign ∷ spell_val value) v.rest false v.agrees v.spelt in
     let e = lead_free Assign (spell_val value) n.rest false n.agrees n.spelt in
     (name_of name n.bytes n.spelled, can_val value e.rest true e.agrees e.spelt)
-can_stmt (Dbrp db rp at) ts pattern h s =
+can_stmt (DbrpStmt db rp at) ts pattern h s =
     let w = lead_at (Ident word_dbrp) at (Free (Reference db) ∷ Free Dot ∷ Free (Reference rp) ∷ []) ts pattern h s in
     let a = lead_free (Reference db) (Free Dot ∷ Free (Reference rp) ∷ []) w.rest false w.agrees w.spelt in
     let d = lead_free Dot (Free (Reference rp) ∷ []) a.rest false a.agrees a.spelt in
@@ -171,7 +171,7 @@ can_stmt (Dbrp db rp at) ts pattern h s =
     let first = a.spelled in
     let second = b.spelled in
     (first.1, second.1)
-can_stmt (Piped head links at) ts pattern h s =
+can_stmt (ChainStmt head links at) ts pattern h s =
     let l = lead_at (Ident head) at (spell_joints links) ts pattern h s in
     (name_of head l.bytes l.spelled, can_joints links l.rest false l.agrees l.spelt)
 

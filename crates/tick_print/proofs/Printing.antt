@@ -7,7 +7,7 @@ use Rattle.kap_base.specs.declared.expr.Lit.{Lit}
 use Rattle.kap_base.specs.declared.expr.Lit.TheVariants.{Int, Dur, Str, Bool as Truth, Regex}
 use Rattle.kap_base.specs.declared.expr.Op.{Op}
 use Rattle.kap_base.specs.declared.expr.Op.TheVariants.{Or, And, Eq, Ne, Match, NoMatch, Lt, Le, Gt, Ge, Add, Sub, Mul, Div, Rem}
-use Rattle.kap_base.specs.Tree.{Tree, Leaf, Referred, Named, Called, Grouped, Negated, Denied, Joined, Trees, NoTrees, MoreTrees}
+use Rattle.kap_base.specs.Tree.{Tree, LitTree, RefTree, NameTree, CallTree, GroupTree, NegTree, NotTree, BinTree, Trees, NoTrees, MoreTrees}
 use Rattle.tick_lexer.specs.declared.token.Kind.TheVariants.{Ident, Literal, Reference, Sign, Bang, Open, Close, Comma}
 use Rattle.tick_lexer.specs.Bytes.{is_letter, is_digit, is_word, NotFirst, starts_micro}
 use Rattle.tick_lexer.specs.Spelling.{IsName, IsDuration, unit_bytes, operator_bytes, Quoted, Tripled, Spelled, is_dot, is_colon, is_single_quote, is_equals, is_tilde, Ends, IsAllowed, takes_pattern}
@@ -120,14 +120,14 @@ lit_starts (Truth b) s h = truth_starts b s h
 lit_starts (Regex text) s h = let q = h.0 in subst (λ (l : List ℕ). Starts l) (sym q.0) (refl, refl)
 
 text_starts : (tree : Tree) (pattern : Bool) → CanPrint pattern tree → Starts (tree_text tree)
-text_starts (Leaf lit at) pattern h = lit_starts lit (lit_text lit) h.0
-text_starts (Referred name at) pattern h = (refl, refl)
-text_starts (Named name at) pattern h = name_starts name h.0
-text_starts (Called name args at) pattern h = let n = h.0 in starts_append name (codes "(" ++ args_text args) (name_starts name n.0)
-text_starts (Grouped inner at) pattern h = (refl, refl)
-text_starts (Negated operand at) pattern h = (refl, refl)
-text_starts (Denied operand at) pattern h = (refl, refl)
-text_starts (Joined op left right at) pattern h = starts_append (tree_text left) (codes " " ++ (operator_bytes op ++ (codes " " ++ tree_text right))) (text_starts left pattern h.0)
+text_starts (LitTree lit at) pattern h = lit_starts lit (lit_text lit) h.0
+text_starts (RefTree name at) pattern h = (refl, refl)
+text_starts (NameTree name at) pattern h = name_starts name h.0
+text_starts (CallTree name args at) pattern h = let n = h.0 in starts_append name (codes "(" ++ args_text args) (name_starts name n.0)
+text_starts (GroupTree inner at) pattern h = (refl, refl)
+text_starts (NegTree operand at) pattern h = (refl, refl)
+text_starts (NotTree operand at) pattern h = (refl, refl)
+text_starts (BinTree op left right at) pattern h = starts_append (tree_text left) (codes " " ++ (operator_bytes op ++ (codes " " ++ tree_text right))) (text_starts left pattern h.0)
 
 no_second : (text : List ℕ) → Starts text → NotFirst is_equals text × NotFirst is_tilde text
 no_second [] h = elim h [ ]
@@ -153,69 +153,69 @@ rest_follows (MoreTrees one others) rest = inr (inr (inl refl))
 
 mutual
   pub printed : (tree : Tree) (pattern : Bool) (at : ℕ) (rest : List ℕ) → CanPrint pattern tree → Follows rest → Printed tree pattern at rest
-  printed (Leaf lit place) pattern at rest h f = record {
-    again = Leaf lit at;
+  printed (LitTree lit place) pattern at rest h f = record {
+    again = LitTree lit at;
     same = refl;
     fits = λ n x. tt;
     written = at_one (Literal lit) (lit_text lit) rest pattern at h.0 (lit_ends lit (lit_text lit) rest f) h.1;
   }
-  printed (Referred name place) pattern at rest h f = record {
-    again = Referred name at;
+  printed (RefTree name place) pattern at rest h f = record {
+    again = RefTree name at;
     same = refl;
     fits = λ n x. tt;
     written = at_one (Reference name) (in_quotes 34 name) rest pattern at (refl, h) tt tt;
   }
-  printed (Named name place) pattern at rest h f = record {
-    again = Named name at;
+  printed (NameTree name place) pattern at rest h f = record {
+    again = NameTree name at;
     same = refl;
     fits = λ n x. tt;
     written = at_name name rest pattern at h (name_ends rest f);
   }
-  printed (Called name args place) pattern at rest h f =
+  printed (CallTree name args place) pattern at rest h f =
       let n = at_name name ((codes "(" ++ args_text args) ++ rest) pattern at h.0 (refl, refl) in
       let o = free_one Open (codes "(") (args_text args ++ rest) false n.stop refl tt tt in
       let a = printed_args args o.stop rest h.1 in
       record {
-        again = Called name a.again at;
-        same = ap (λ (x : Trees). Called name x 0) a.same;
+        again = CallTree name a.again at;
+        same = ap (λ (x : Trees). CallTree name x 0) a.same;
         fits = λ n x. a.fits x;
         written =
             both name (codes "(" ++ args_text args) (At (Ident name) at ∷ []) (Free Open ∷ spell_args a.again) pattern false false at rest n
             (both (codes "(") (args_text args) (Free Open ∷ []) (spell_args a.again) false true false n.stop rest o a.written);
       }
-  printed (Grouped inner place) pattern at rest h f =
+  printed (GroupTree inner place) pattern at rest h f =
       let o = at_one Open (codes "(") ((tree_text inner ++ codes ")") ++ rest) pattern at refl tt tt in
       let i = printed inner true o.stop (codes ")" ++ rest) h (inr (inl refl)) in
       let w = i.written in
       let c = free_one Close (codes ")") rest false w.stop refl tt tt in
       record {
-        again = Grouped i.again at;
-        same = ap (λ (x : Tree). Grouped x 0) i.same;
+        again = GroupTree i.again at;
+        same = ap (λ (x : Tree). GroupTree x 0) i.same;
         fits = λ n x. i.fits 0 x;
         written =
             both (codes "(") (tree_text inner ++ codes ")") (At Open at ∷ []) (spell i.again ++ Free Close ∷ []) pattern true false at rest o
             (both (tree_text inner) (codes ")") (spell i.again) (Free Close ∷ []) true false false o.stop rest w c);
       }
-  printed (Negated inner place) pattern at rest h f =
+  printed (NegTree inner place) pattern at rest h f =
       let m = at_one (Sign Sub) (codes "-") (tree_text inner ++ rest) pattern at refl tt tt in
       let i = printed inner false m.stop rest h f in
       record {
-        again = Negated i.again at;
-        same = ap (λ (x : Tree). Negated x 0) i.same;
+        again = NegTree i.again at;
+        same = ap (λ (x : Tree). NegTree x 0) i.same;
         fits = λ n x. i.fits 6 x;
         written = both (codes "-") (tree_text inner) (At (Sign Sub) at ∷ []) (spell i.again) pattern false false at rest m i.written;
       }
-  printed (Denied inner place) pattern at rest h f =
+  printed (NotTree inner place) pattern at rest h f =
       let ends = no_second (tree_text inner ++ rest) (starts_append (tree_text inner) rest (text_starts inner false h)) in
       let m = at_one Bang (codes "!") (tree_text inner ++ rest) pattern at refl ends tt in
       let i = printed inner false m.stop rest h f in
       record {
-        again = Denied i.again at;
-        same = ap (λ (x : Tree). Denied x 0) i.same;
+        again = NotTree i.again at;
+        same = ap (λ (x : Tree). NotTree x 0) i.same;
         fits = λ n x. i.fits 6 x;
         written = both (codes "!") (tree_text inner) (At Bang at ∷ []) (spell i.again) pattern false false at rest m i.written;
       }
-  printed (Joined op left right place) pattern at rest h f =
+  printed (BinTree op left right place) pattern at rest h f =
       let right_text = codes " " ++ tree_text right in
       let tail = operator_bytes op ++ right_text in
       let l = printed left pattern at ((codes " " ++ tail) ++ rest) h.0 (inl refl) in
@@ -226,8 +226,8 @@ mutual
       let behind = white 32 (tree_text right) (spell r.again) (takes_pattern (Sign op)) false t.stop rest refl r.written in
       let signed = both (operator_bytes op) right_text (At (Sign op) sign_at ∷ []) (spell r.again) false (takes_pattern (Sign op)) false sign_at rest t behind in
       record {
-        again = Joined op l.again r.again sign_at;
-        same = ap (λ (x : Tree). Joined op x (bare r.again) 0) l.same ∙ ap (λ (x : Tree). Joined op (bare left) x 0) r.same;
+        again = BinTree op l.again r.again sign_at;
+        same = ap (λ (x : Tree). BinTree op x (bare r.again) 0) l.same ∙ ap (λ (x : Tree). BinTree op (bare left) x 0) r.same;
         fits = λ n x. (x.0, l.fits (level op) x.1, r.fits (level op + 1) x.2);
         written =
             both (tree_text left) (codes " " ++ tail) (spell l.again) (At (Sign op) sign_at ∷ spell r.again) pattern false false at rest w

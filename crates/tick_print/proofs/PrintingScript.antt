@@ -8,7 +8,7 @@ use Rattle.tick_lexer.specs.declared.token.Kind.{Kind}
 use Rattle.tick_lexer.specs.declared.token.Kind.TheVariants.{Ident, Var, Lambda, Literal, Reference, Sign, Assign, Open, Close, Comma, Dot, Pipe}
 use Rattle.tick_lexer.specs.declared.token.Token.{Token}
 use Rattle.tick_lexer.specs.Spelling.{Spelled, IsAllowed}
-use Rattle.tick_parser.specs.Trees.{ValTree, Given, Everything, Function, Chained, ValTrees, NoVals, MoreVals, JointTrees, NoJoints, MoreJoints, StmtTree, Declared, Dbrp, Piped}
+use Rattle.tick_parser.specs.Trees.{ValTree, LitVal, StarVal, LambdaVal, ChainVal, ValTrees, NoVals, MoreVals, JointTrees, NoJoints, MoreJoints, StmtTree, VarStmt, DbrpStmt, ChainStmt}
 use Rattle.tick_parser.specs.Grammar.{minus, IsMinus, Agree, Mark, At, Free, Signed, spell}
 use Rattle.tick_parser.specs.Script.{spell_val, spell_vals, spell_more, spell_joints, word_dbrp, spell_stmt, spell_script, FitsVal, FitVals, FitJoints, IsOne, FitsStmt, FitsScript}
 use Rattle.tick_parser.proofs.Agreeing.{first}
@@ -93,38 +93,38 @@ joint_written false at rest = free_one Dot (codes ".") rest false at refl tt tt
 
 mutual
   printed_val : (val : ValTree) (at : ℕ) (rest : List ℕ) → CanVal val → Follows rest → ValPrinted val at rest
-  printed_val (Given lit place) at rest h f = record {
-    again = Given lit at;
+  printed_val (LitVal lit place) at rest h f = record {
+    again = LitVal lit at;
     same = refl;
     fits = λ x. tt;
     single = λ x. tt;
     written = given_written lit at rest h f;
   }
-  printed_val (Everything place) at rest h f = record {
-    again = Everything at;
+  printed_val (StarVal place) at rest h f = record {
+    again = StarVal at;
     same = refl;
     fits = λ x. tt;
     single = λ x. x;
     written = at_one (Sign Mul) (codes "*") rest true at refl tt tt;
   }
-  printed_val (Function body place) at rest h f =
+  printed_val (LambdaVal body place) at rest h f =
       let l = at_one Lambda (codes "lambda:") ((codes " " ++ tree_text body) ++ rest) true at refl tt tt in
       let b = printed body false (l.stop + 1) rest h f in
       record {
-        again = Function b.again at;
-        same = ap (λ (x : Tree). Function x 0) b.same;
+        again = LambdaVal b.again at;
+        same = ap (λ (x : Tree). LambdaVal x 0) b.same;
         fits = λ x. b.fits 0 x;
         single = λ x. tt;
         written =
             both (codes "lambda:") (codes " " ++ tree_text body) (At Lambda at ∷ []) (spell b.again) true false false at rest l
             (white 32 (tree_text body) (spell b.again) false false l.stop rest refl b.written);
       }
-  printed_val (Chained head links place) at rest h f =
+  printed_val (ChainVal head links place) at rest h f =
       let n = at_name head (joints_text links ++ rest) true at h.0 (joints_end links rest f) in
       let j = printed_joints links n.stop rest h.1 f in
       record {
-        again = Chained head j.again at;
-        same = ap (λ (x : JointTrees). Chained head x 0) j.same;
+        again = ChainVal head j.again at;
+        same = ap (λ (x : JointTrees). ChainVal head x 0) j.same;
         fits = λ x. j.fits x;
         single = λ x. tt;
         written = both head (joints_text links) (At (Ident head) at ∷ []) (spell_joints j.again) true false false at rest n j.written;
@@ -205,7 +205,7 @@ pub record StmtPrinted (stmt : StmtTree) (at : ℕ) (rest : List ℕ) : Type 0 w
   pub written : Written (stmt_text stmt) (spell_stmt again) false false at rest
 
 printed_stmt : (stmt : StmtTree) (at : ℕ) (rest : List ℕ) → CanStmt stmt → Follows rest → StmtPrinted stmt at rest
-printed_stmt (Declared name value place) at rest h f =
+printed_stmt (VarStmt name value place) at rest h f =
     let set = codes " = " ++ val_text value in
     let after_equal = codes " " ++ val_text value in
     let equal_text = codes "=" ++ after_equal in
@@ -219,12 +219,12 @@ printed_stmt (Declared name value place) at rest h f =
     let begun = both name set (Free (Ident name) ∷ []) (Free Assign ∷ spell_val p.again) false false false (v.stop + 1) rest n spaced in
     let behind = white 32 (name ++ set) (Free (Ident name) ∷ Free Assign ∷ spell_val p.again) false false v.stop rest refl begun in
     record {
-      again = Declared name p.again at;
-      same = ap (λ (x : ValTree). Declared name x 0) p.same;
+      again = VarStmt name p.again at;
+      same = ap (λ (x : ValTree). VarStmt name x 0) p.same;
       fits = λ x. (p.single x.0, p.fits x.1);
       written = both (codes "var") (codes " " ++ (name ++ set)) (At Var at ∷ []) (Free (Ident name) ∷ Free Assign ∷ spell_val p.again) false false false at rest v behind;
     }
-printed_stmt (Dbrp db rp place) at rest h f =
+printed_stmt (DbrpStmt db rp place) at rest h f =
     let policy = in_quotes 34 rp in
     let dotted = codes "." ++ policy in
     let named = in_quotes 34 db ++ dotted in
@@ -235,19 +235,19 @@ printed_stmt (Dbrp db rp place) at rest h f =
     let second = both (codes ".") policy (Free Dot ∷ []) (Free (Reference rp) ∷ []) false false false a.stop rest d b in
     let first = both (in_quotes 34 db) dotted (Free (Reference db) ∷ []) (Free Dot ∷ Free (Reference rp) ∷ []) false false false (w.stop + 1) rest a second in
     record {
-      again = Dbrp db rp at;
+      again = DbrpStmt db rp at;
       same = refl;
       fits = λ x. tt;
       written =
           both (codes "dbrp") (codes " " ++ named) (At (Ident word_dbrp) at ∷ []) (Free (Reference db) ∷ Free Dot ∷ Free (Reference rp) ∷ []) false false false at rest w
           (white 32 named (Free (Reference db) ∷ Free Dot ∷ Free (Reference rp) ∷ []) false false w.stop rest refl first);
     }
-printed_stmt (Piped head links place) at rest h f =
+printed_stmt (ChainStmt head links place) at rest h f =
     let n = at_name head (joints_text links ++ rest) false at h.0 (joints_end links rest f) in
     let j = printed_joints links n.stop rest h.1 f in
     record {
-      again = Piped head j.again at;
-      same = ap (λ (x : JointTrees). Piped head x 0) j.same;
+      again = ChainStmt head j.again at;
+      same = ap (λ (x : JointTrees). ChainStmt head x 0) j.same;
       fits = λ x. j.fits x;
       written = both head (joints_text links) (At (Ident head) at ∷ []) (spell_joints j.again) false false false at rest n j.written;
     }

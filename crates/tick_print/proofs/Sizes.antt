@@ -1,7 +1,7 @@
 -- The parser's limits speak of no place.
 use Rattle.std.proofs.Common.{◌≡◌, ℕ, ◌+◌, ◌≤◌, max, suc, List, [], ◌∷◌, length, refl, sym, ap, ◌∙◌, subst}
-use Rattle.kap_base.specs.Tree.{Tree, Leaf, Referred, Named, Called, Grouped, Negated, Denied, Joined, Trees, NoTrees, MoreTrees}
-use Rattle.tick_parser.specs.Trees.{ValTree, Given, Everything, Function, Chained, ValTrees, NoVals, MoreVals, JointTrees, NoJoints, MoreJoints, StmtTree, Declared, Dbrp, Piped}
+use Rattle.kap_base.specs.Tree.{Tree, LitTree, RefTree, NameTree, CallTree, GroupTree, NegTree, NotTree, BinTree, Trees, NoTrees, MoreTrees}
+use Rattle.tick_parser.specs.Trees.{ValTree, LitVal, StarVal, LambdaVal, ChainVal, ValTrees, NoVals, MoreVals, JointTrees, NoJoints, MoreJoints, StmtTree, VarStmt, DbrpStmt, ChainStmt}
 use Rattle.tick_parser.specs.Grammar.{depth, depth_all, binaries, binaries_all}
 use Rattle.tick_parser.specs.Script.{depth_val, depth_vals, depth_joints, depth_stmt, depth_script, width_val, width_vals, width_joints, width_stmt, width_script, Within}
 use Rattle.tick_print.specs.Places.{bare, bare_all, bare_val, bare_vals, bare_joints, bare_stmt, bare_script}
@@ -12,14 +12,14 @@ pair f a b c d e g = ap (λ (n : ℕ). f n c) e ∙ ap (λ (n : ℕ). f b n) g
 
 mutual
   same_depth : (tree : Tree) → depth (bare tree) ≡ depth tree
-  same_depth (Leaf lit at) = refl
-  same_depth (Referred name at) = refl
-  same_depth (Named name at) = refl
-  same_depth (Called name args at) = ap (λ (n : ℕ). n + 1) (same_depths args)
-  same_depth (Grouped inner at) = ap (λ (n : ℕ). n + 1) (same_depth inner)
-  same_depth (Negated operand at) = ap (λ (n : ℕ). n + 1) (same_depth operand)
-  same_depth (Denied operand at) = ap (λ (n : ℕ). n + 1) (same_depth operand)
-  same_depth (Joined op left right at) = pair max _ _ _ _ (same_depth left) (same_depth right)
+  same_depth (LitTree lit at) = refl
+  same_depth (RefTree name at) = refl
+  same_depth (NameTree name at) = refl
+  same_depth (CallTree name args at) = ap (λ (n : ℕ). n + 1) (same_depths args)
+  same_depth (GroupTree inner at) = ap (λ (n : ℕ). n + 1) (same_depth inner)
+  same_depth (NegTree operand at) = ap (λ (n : ℕ). n + 1) (same_depth operand)
+  same_depth (NotTree operand at) = ap (λ (n : ℕ). n + 1) (same_depth operand)
+  same_depth (BinTree op left right at) = pair max _ _ _ _ (same_depth left) (same_depth right)
 
   same_depths : (args : Trees) → depth_all (bare_all args) ≡ depth_all args
   same_depths NoTrees = refl
@@ -27,14 +27,14 @@ mutual
 
 mutual
   same_binaries : (tree : Tree) → binaries (bare tree) ≡ binaries tree
-  same_binaries (Leaf lit at) = refl
-  same_binaries (Referred name at) = refl
-  same_binaries (Named name at) = refl
-  same_binaries (Called name args at) = all_binaries args
-  same_binaries (Grouped inner at) = same_binaries inner
-  same_binaries (Negated operand at) = same_binaries operand
-  same_binaries (Denied operand at) = same_binaries operand
-  same_binaries (Joined op left right at) = pair (λ m n. m + 1 + n) _ _ _ _ (same_binaries left) (same_binaries right)
+  same_binaries (LitTree lit at) = refl
+  same_binaries (RefTree name at) = refl
+  same_binaries (NameTree name at) = refl
+  same_binaries (CallTree name args at) = all_binaries args
+  same_binaries (GroupTree inner at) = same_binaries inner
+  same_binaries (NegTree operand at) = same_binaries operand
+  same_binaries (NotTree operand at) = same_binaries operand
+  same_binaries (BinTree op left right at) = pair (λ m n. m + 1 + n) _ _ _ _ (same_binaries left) (same_binaries right)
 
   all_binaries : (args : Trees) → binaries_all (bare_all args) ≡ binaries_all args
   all_binaries NoTrees = refl
@@ -42,10 +42,10 @@ mutual
 
 mutual
   val_depth : (val : ValTree) → depth_val (bare_val val) ≡ depth_val val
-  val_depth (Given lit at) = refl
-  val_depth (Everything at) = refl
-  val_depth (Function body at) = same_depth body
-  val_depth (Chained head links at) = joints_depth links
+  val_depth (LitVal lit at) = refl
+  val_depth (StarVal at) = refl
+  val_depth (LambdaVal body at) = same_depth body
+  val_depth (ChainVal head links at) = joints_depth links
 
   vals_depth : (vals : ValTrees) → depth_vals (bare_vals vals) ≡ depth_vals vals
   vals_depth NoVals = refl
@@ -57,10 +57,10 @@ mutual
 
 mutual
   val_width : (val : ValTree) → width_val (bare_val val) ≡ width_val val
-  val_width (Given lit at) = refl
-  val_width (Everything at) = refl
-  val_width (Function body at) = same_binaries body
-  val_width (Chained head links at) = joints_width links
+  val_width (LitVal lit at) = refl
+  val_width (StarVal at) = refl
+  val_width (LambdaVal body at) = same_binaries body
+  val_width (ChainVal head links at) = joints_width links
 
   vals_width : (vals : ValTrees) → width_vals (bare_vals vals) ≡ width_vals vals
   vals_width NoVals = refl
@@ -71,14 +71,14 @@ mutual
   joints_width (MoreJoints node name args at rest) = pair max _ _ _ _ (vals_width args) (joints_width rest)
 
 stmt_depth : (stmt : StmtTree) → depth_stmt (bare_stmt stmt) ≡ depth_stmt stmt
-stmt_depth (Declared name value at) = val_depth value
-stmt_depth (Dbrp db rp at) = refl
-stmt_depth (Piped head links at) = joints_depth links
+stmt_depth (VarStmt name value at) = val_depth value
+stmt_depth (DbrpStmt db rp at) = refl
+stmt_depth (ChainStmt head links at) = joints_depth links
 
 stmt_width : (stmt : StmtTree) → width_stmt (bare_stmt stmt) ≡ width_stmt stmt
-stmt_width (Declared name value at) = val_width value
-stmt_width (Dbrp db rp at) = refl
-stmt_width (Piped head links at) = joints_width links
+stmt_width (VarStmt name value at) = val_width value
+stmt_width (DbrpStmt db rp at) = refl
+stmt_width (ChainStmt head links at) = joints_width links
 
 script_depth : (script : List StmtTree) → depth_script (bare_script script) ≡ depth_script script
 script_depth [] = refl

@@ -1,19 +1,19 @@
 -- Scripts without the places of their parts.
 use Rattle.std.specs.Prelude.{List, [], ◌∷◌}
-use Rattle.kap_base.specs.Tree.{Tree, Leaf, Referred, Named, Called, Grouped, Negated, Denied, Joined, Trees, NoTrees, MoreTrees}
-use Rattle.tick_parser.specs.Trees.{ValTree, Given, Everything, Function, Chained, ValTrees, NoVals, MoreVals, JointTrees, NoJoints, MoreJoints, StmtTree, Declared, Dbrp, Piped}
+use Rattle.kap_base.specs.Tree.{Tree, LitTree, RefTree, NameTree, CallTree, GroupTree, NegTree, NotTree, BinTree, Trees, NoTrees, MoreTrees}
+use Rattle.tick_parser.specs.Trees.{ValTree, LitVal, StarVal, LambdaVal, ChainVal, ValTrees, NoVals, MoreVals, JointTrees, NoJoints, MoreJoints, StmtTree, VarStmt, DbrpStmt, ChainStmt}
 
 -- an expression with every place set to 0
 abbrev mutual
   pub bare : Tree → Tree
-  bare (Leaf lit at) = Leaf lit 0
-  bare (Referred name at) = Referred name 0
-  bare (Named name at) = Named name 0
-  bare (Called name args at) = Called name (bare_all args) 0
-  bare (Grouped inner at) = Grouped (bare inner) 0
-  bare (Negated operand at) = Negated (bare operand) 0
-  bare (Denied operand at) = Denied (bare operand) 0
-  bare (Joined op left right at) = Joined op (bare left) (bare right) 0
+  bare (LitTree lit at) = LitTree lit 0
+  bare (RefTree name at) = RefTree name 0
+  bare (NameTree name at) = NameTree name 0
+  bare (CallTree name args at) = CallTree name (bare_all args) 0
+  bare (GroupTree inner at) = GroupTree (bare inner) 0
+  bare (NegTree operand at) = NegTree (bare operand) 0
+  bare (NotTree operand at) = NotTree (bare operand) 0
+  bare (BinTree op left right at) = BinTree op (bare left) (bare right) 0
 
   pub bare_all : Trees → Trees
   bare_all NoTrees = NoTrees
@@ -22,10 +22,10 @@ abbrev mutual
 -- values and links with every place set to 0
 abbrev mutual
   pub bare_val : ValTree → ValTree
-  bare_val (Given lit at) = Given lit 0
-  bare_val (Everything at) = Everything 0
-  bare_val (Function body at) = Function (bare body) 0
-  bare_val (Chained head links at) = Chained head (bare_joints links) 0
+  bare_val (LitVal lit at) = LitVal lit 0
+  bare_val (StarVal at) = StarVal 0
+  bare_val (LambdaVal body at) = LambdaVal (bare body) 0
+  bare_val (ChainVal head links at) = ChainVal head (bare_joints links) 0
 
   pub bare_vals : ValTrees → ValTrees
   bare_vals NoVals = NoVals
@@ -37,9 +37,9 @@ abbrev mutual
 
 -- a statement with every place set to 0
 abbrev pub bare_stmt : StmtTree → StmtTree
-bare_stmt (Declared name value at) = Declared name (bare_val value) 0
-bare_stmt (Dbrp db rp at) = Dbrp db rp 0
-bare_stmt (Piped head links at) = Piped head (bare_joints links) 0
+bare_stmt (VarStmt name value at) = VarStmt name (bare_val value) 0
+bare_stmt (DbrpStmt db rp at) = DbrpStmt db rp 0
+bare_stmt (ChainStmt head links at) = ChainStmt head (bare_joints links) 0
 
 -- a script with every place set to 0: two scripts are equal here where they are the same, places aside
 abbrev pub bare_script : List StmtTree → List StmtTree

@@ -4,11 +4,11 @@ use Rattle.std.specs.Fmt.{decimal, signed_decimal}
 use Rattle.kap_base.specs.declared.expr.Lit.{Lit}
 use Rattle.kap_base.specs.declared.expr.Lit.TheVariants.{Int, Dur, Str, Bool as Truth, Regex}
 use Rattle.kap_base.specs.Texts.{backslash, ends_with}
-use Rattle.kap_base.specs.Tree.{Tree, Leaf, Referred, Named, Called, Grouped, Negated, Denied, Joined, Trees, NoTrees, MoreTrees}
+use Rattle.kap_base.specs.Tree.{Tree, LitTree, RefTree, NameTree, CallTree, GroupTree, NegTree, NotTree, BinTree, Trees, NoTrees, MoreTrees}
 use Rattle.tick_lexer.specs.declared.unit.Unit as units
 use Rattle.tick_lexer.specs.declared.unit.Unit.TheVariants.{Week, Day, Hour, Minute, Second, Milli, Micro}
 use Rattle.tick_lexer.specs.Spelling.{unit_bytes, unit_nanos, operator_bytes, escaped}
-use Rattle.tick_parser.specs.Trees.{ValTree, Given, Everything, Function, Chained, ValTrees, NoVals, MoreVals, JointTrees, NoJoints, MoreJoints, StmtTree, Declared, Dbrp, Piped}
+use Rattle.tick_parser.specs.Trees.{ValTree, LitVal, StarVal, LambdaVal, ChainVal, ValTrees, NoVals, MoreVals, JointTrees, NoJoints, MoreJoints, StmtTree, VarStmt, DbrpStmt, ChainStmt}
 
 -- the text in these quotes, with a backslash before each quote in it
 abbrev pub in_quotes : ℕ → List ℕ → List ℕ
@@ -56,14 +56,14 @@ lit_text (Regex text) = in_quotes 47 text
 -- an expression: binary operators stand between single spaces, unary ones directly before their operand
 abbrev mutual
   pub tree_text : Tree → List ℕ
-  tree_text (Leaf lit at) = lit_text lit
-  tree_text (Referred name at) = in_quotes 34 name
-  tree_text (Named name at) = name
-  tree_text (Called name args at) = name ++ (codes "(" ++ args_text args)
-  tree_text (Grouped inner at) = codes "(" ++ (tree_text inner ++ codes ")")
-  tree_text (Negated operand at) = codes "-" ++ tree_text operand
-  tree_text (Denied operand at) = codes "!" ++ tree_text operand
-  tree_text (Joined op left right at) = tree_text left ++ (codes " " ++ (operator_bytes op ++ (codes " " ++ tree_text right)))
+  tree_text (LitTree lit at) = lit_text lit
+  tree_text (RefTree name at) = in_quotes 34 name
+  tree_text (NameTree name at) = name
+  tree_text (CallTree name args at) = name ++ (codes "(" ++ args_text args)
+  tree_text (GroupTree inner at) = codes "(" ++ (tree_text inner ++ codes ")")
+  tree_text (NegTree operand at) = codes "-" ++ tree_text operand
+  tree_text (NotTree operand at) = codes "!" ++ tree_text operand
+  tree_text (BinTree op left right at) = tree_text left ++ (codes " " ++ (operator_bytes op ++ (codes " " ++ tree_text right)))
 
   -- arguments, and the parenthesis behind them
   pub args_text : Trees → List ℕ
@@ -78,10 +78,10 @@ abbrev mutual
 -- a value; a chain has no spaces between its parts
 abbrev mutual
   pub val_text : ValTree → List ℕ
-  val_text (Given lit at) = lit_text lit
-  val_text (Everything at) = codes "*"
-  val_text (Function body at) = codes "lambda: " ++ tree_text body
-  val_text (Chained head links at) = head ++ joints_text links
+  val_text (LitVal lit at) = lit_text lit
+  val_text (StarVal at) = codes "*"
+  val_text (LambdaVal body at) = codes "lambda: " ++ tree_text body
+  val_text (ChainVal head links at) = head ++ joints_text links
 
   -- arguments, and the parenthesis behind them
   pub vals_text : ValTrees → List ℕ
@@ -100,9 +100,9 @@ abbrev mutual
 
 -- a statement
 abbrev pub stmt_text : StmtTree → List ℕ
-stmt_text (Declared name value at) = codes "var " ++ (name ++ (codes " = " ++ val_text value))
-stmt_text (Dbrp db rp at) = codes "dbrp " ++ (in_quotes 34 db ++ (codes "." ++ in_quotes 34 rp))
-stmt_text (Piped head links at) = head ++ joints_text links
+stmt_text (VarStmt name value at) = codes "var " ++ (name ++ (codes " = " ++ val_text value))
+stmt_text (DbrpStmt db rp at) = codes "dbrp " ++ (in_quotes 34 db ++ (codes "." ++ in_quotes 34 rp))
+stmt_text (ChainStmt head links at) = head ++ joints_text links
 
 -- a script: its statements, each with a line feed
 abbrev pub script_text : List StmtTree → List ℕ

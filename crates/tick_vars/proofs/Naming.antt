@@ -3,7 +3,7 @@ use Rattle.std.proofs.Common.{◌≡◌, ℕ, ◌+◌, Bool, true, false, cond, 
 use Rattle.std.specs.Prelude.{is_some, codes, bytes_eq}
 use Rattle.std.proofs.lemmas.Slice.Eq.{bytes_eq-Decides}
 use Rattle.kap_base.specs.Words.{◌>>=◌}
-use Rattle.tick_parser.specs.Trees.{ValTree, Given, Everything, Function, Chained, ValTrees, NoVals, MoreVals, JointTrees, NoJoints, MoreJoints, StmtTree, Declared, Dbrp as DbrpStmt, Piped}
+use Rattle.tick_parser.specs.Trees.{ValTree, LitVal, StarVal, LambdaVal, ChainVal, ValTrees, NoVals, MoreVals, JointTrees, NoJoints, MoreJoints, StmtTree, VarStmt, DbrpStmt, ChainStmt}
 use Rattle.tick_vars.specs.declared.fault.VarFault.{VarFault}
 use Rattle.tick_vars.specs.declared.fault.VarFault.TheVariants.{Twice}
 use Rattle.tick_vars.specs.Nodes.{ArgTree, LitArg, StarArg, LambdaArg, NodeArg, NodeTree, BoundTree}
@@ -87,7 +87,7 @@ batch_kept s (Uses value ∷ es) no_batch h = batch_kept s es no_batch h.1
 batch_kept s (Sees dbrp ∷ es) no_batch h = batch_kept s es no_batch h
 
 stmt_named : (s s' : SoFar) (stmt : StmtTree) (next : ℕ) → InScope next s.scope → length s.nodes ≡ next → bound_stmt s stmt ≡ Ok s' → AreNamed s.scope (done_by next stmt)
-stmt_named s s' (Declared name value at) next ins len is =
+stmt_named s s' (VarStmt name value at) next ins len is =
     let d = declared_ok s s' name value at is in
     let v = val_done s.scope s.scope (λ n a h. h) value next s.nodes d.0 ins len d.1 in
     let es = done_in next value in
@@ -96,8 +96,8 @@ stmt_named s s' (Declared name value at) next ins len is =
     let last : AreNamed s.scope (Declares name src ∷ []) = (d.4, arg_named s.scope (next + pipes_in value) src v.1, tt) in
     named_append s.scope es (Declares name src ∷ []) (quiet_named s.scope next es quiet (v.2).stands) (subst (λ x. AreNamed x (Declares name src ∷ [])) (sym (quiet_scope s.scope es quiet)) last)
 stmt_named s s' (DbrpStmt db rp at) next ins len is = tt
-stmt_named s s' (Piped head links at) next ins len is =
-    let chain = Chained head links at in
+stmt_named s s' (ChainStmt head links at) next ins len is =
+    let chain = ChainVal head links at in
     let a = both_ok (bound_val s.scope s.nodes chain) (λ made. Ok (record s { nodes = made.nodes })) s' is in
     let v = val_done s.scope s.scope (λ n a h. h) chain next s.nodes a.0 ins len a.1 in
     let es = done_along next (OnName head) links in
@@ -136,7 +136,7 @@ first_node s next on false name args at rest h =
 module _ (s : Scope) (no_batch : NoBatch s) where
   -- a chain, where its links are bound
   chain_ok : (head : List ℕ) (links : JointTrees) (at next : ℕ) (nodes : List NodeTree) → ((made : Made ℕ) → (m : Made ℕ) × (bound_links s made links ≡ Ok m))
-      → AreNamed s (done_along next (OnName head) links) → IsArg s (FromChain (end_of next (OnName head) links) at) → (m : Made ArgTree) × (bound_val s nodes (Chained head links at) ≡ Ok m)
+      → AreNamed s (done_along next (OnName head) links) → IsArg s (FromChain (end_of next (OnName head) links) at) → (m : Made ArgTree) × (bound_val s nodes (ChainVal head links at) ≡ Ok m)
   chain_ok head NoJoints at next nodes along named is =
       let m : Made ArgTree = record { value = handed_on at is.0; nodes = nodes } in
       (m, then_ok (looked_up s head at) (λ arg. Ok (record { value = handed_on at arg; nodes = nodes })) is.0 m (told s no_batch head at is.0 is.1) refl)
@@ -153,13 +153,13 @@ module _ (s : Scope) (no_batch : NoBatch s) where
 
   mutual
     val_ok : (v : ValTree) (next : ℕ) (nodes : List NodeTree) → AreNamed s (done_in next v) → IsArg s (source next v) → (m : Made ArgTree) × (bound_val s nodes v ≡ Ok m)
-    val_ok (Given lit at) next nodes named is = (record { value = LitArg lit at; nodes = nodes }, refl)
-    val_ok (Everything at) next nodes named is = (record { value = StarArg at; nodes = nodes }, refl)
-    val_ok (Function body at) next nodes named is =
+    val_ok (LitVal lit at) next nodes named is = (record { value = LitArg lit at; nodes = nodes }, refl)
+    val_ok (StarVal at) next nodes named is = (record { value = StarArg at; nodes = nodes }, refl)
+    val_ok (LambdaVal body at) next nodes named is =
         let b = lambda_ok s no_batch body is in
         let m : Made ArgTree = record { value = LambdaArg b.0 at; nodes = nodes } in
         (m, then_ok (bound_lambda s body) (λ body. Ok (record { value = LambdaArg body at; nodes = nodes })) b.0 m b.1 refl)
-    val_ok (Chained head links at) next nodes named is = chain_ok head links at next nodes (λ made. links_ok links next (OnName head) made named) named is
+    val_ok (ChainVal head links at) next nodes named is = chain_ok head links at next nodes (λ made. links_ok links next (OnName head) made named) named is
 
     vals_ok : (vs : ValTrees) (next : ℕ) (made : Made (List ArgTree)) → AreNamed s (done_among next vs) → AreArgs s (sources next vs) → (m : Made (List ArgTree)) × (bound_vals s made vs ≡ Ok m)
     vals_ok NoVals next made named are = (made, refl)
@@ -190,7 +190,7 @@ module _ (s : Scope) (no_batch : NoBatch s) where
         (r.0, then_ok (bound_vals s (record { value = []; nodes = made.nodes }) args) (λ w. bound_links s (linked false name at made.value w) rest) a.0 r.0 a.1 r.1)
 
 stmt_ok : (s : SoFar) (stmt : StmtTree) (next : ℕ) → NoBatch s.scope → AreNamed s.scope (done_by next stmt) → (s' : SoFar) × (bound_stmt s stmt ≡ Ok s')
-stmt_ok s (Declared name value at) next no_batch named =
+stmt_ok s (VarStmt name value at) next no_batch named =
     let es = done_in next value in
     let last : List Event = Declares name (source next value) ∷ [] in
     let here = named_rest s.scope es last (quiet_in value next) named in
@@ -199,8 +199,8 @@ stmt_ok s (Declared name value at) next no_batch named =
     let go : Made ArgTree → Result SoFar VarFault = λ made. Ok (record { scope = with_name name made.value s.scope; nodes = made.nodes; dbrps = s.dbrps }) in
     (s', ap (λ b. cond b (Err (Twice at)) (bound_val s.scope s.nodes value >>= go)) here.0 ∙ then_ok (bound_val s.scope s.nodes value) go v.0 s' v.1 refl)
 stmt_ok s (DbrpStmt db rp at) next no_batch named = (record s { dbrps = s.dbrps ++ record { db = db; rp = rp } ∷ [] }, refl)
-stmt_ok s (Piped head links at) next no_batch named =
-    let chain = Chained head links at in
+stmt_ok s (ChainStmt head links at) next no_batch named =
+    let chain = ChainVal head links at in
     let es = done_along next (OnName head) links in
     let last : List Event = Uses (source next chain) ∷ [] in
     let here = named_rest s.scope es last (quiet_along links next (OnName head)) named in

@@ -1,6 +1,6 @@
 -- Events of values, which declare nothing, and events one after the other.
 use Rattle.std.proofs.Common.{◌≡◌, ℕ, ◌+◌, true, false, List, [], ◌∷◌, ◌++◌, refl, ap}
-use Rattle.tick_parser.specs.Trees.{ValTree, Given, Everything, Function, Chained, ValTrees, NoVals, MoreVals, JointTrees, NoJoints, MoreJoints}
+use Rattle.tick_parser.specs.Trees.{ValTree, LitVal, StarVal, LambdaVal, ChainVal, ValTrees, NoVals, MoreVals, JointTrees, NoJoints, MoreJoints}
 use Rattle.tick_vars.specs.Names.{Scope, with_name}
 use Rattle.tick_vars.specs.Law.{Anchor, OnName, OnNode, Event, Makes, Sets, Declares, Uses, Sees, arg_of, dbrps_seen, done_along, done_among, done_in, in_the_end, pipes_among, pipes_in, sources}
 
@@ -22,10 +22,10 @@ quiet_append (Sees dbrp ∷ es) fs a b = absurd a
 
 mutual
   pub quiet_in : (v : ValTree) (next : ℕ) → Quiet (done_in next v)
-  quiet_in (Given lit at) next = tt
-  quiet_in (Everything at) next = tt
-  quiet_in (Function body at) next = tt
-  quiet_in (Chained head links at) next = quiet_along links next (OnName head)
+  quiet_in (LitVal lit at) next = tt
+  quiet_in (StarVal at) next = tt
+  quiet_in (LambdaVal body at) next = tt
+  quiet_in (ChainVal head links at) next = quiet_along links next (OnName head)
 
   pub quiet_among : (vs : ValTrees) (next : ℕ) → Quiet (done_among next vs)
   quiet_among NoVals next = tt

@@ -2,7 +2,7 @@
 use Rattle.std.proofs.Common.{◌≡◌, ℕ, ◌+◌, ◌<◌, ◌≤◌, true, false, List, [], ◌∷◌, ◌++◌, map, length, Some, unwrap_or, Result, Ok, refl, sym, ap, subst, ◌∙◌, arith}
 use Rattle.std.proofs.lemmas.List.{append-nil, append_assoc, length_push}
 use Rattle.kap_base.specs.Words.{◌>>=◌}
-use Rattle.tick_parser.specs.Trees.{ValTree, Given, Everything, Function, Chained, ValTrees, NoVals, MoreVals, JointTrees, NoJoints, MoreJoints}
+use Rattle.tick_parser.specs.Trees.{ValTree, LitVal, StarVal, LambdaVal, ChainVal, ValTrees, NoVals, MoreVals, JointTrees, NoJoints, MoreJoints}
 use Rattle.tick_vars.specs.declared.fault.VarFault.{VarFault}
 use Rattle.tick_vars.specs.Nodes.{ArgTree, LitArg, StarArg, LambdaArg, NodeArg, NodeTree}
 use Rattle.tick_vars.specs.Names.{Scope, as_node, bound_lambda, handed_on, looked_up}
@@ -127,7 +127,7 @@ LinksDone f next on links made m =
 -- a chain, where its links are done
 chain_done : (s f : Scope) → Extends s f → (head : List ℕ) (links : JointTrees) (at next : ℕ) (nodes : List NodeTree) (m : Made ArgTree) → InScope next s
     → ((made last : Made ℕ) → length made.nodes ≡ next → NodeBelow f next (OnName head) → made.value ≡ node_at f (OnName head) → bound_links s made links ≡ Ok last → LinksDone f next (OnName head) links made last)
-    → length nodes ≡ next → bound_val s nodes (Chained head links at) ≡ Ok m → ValDone f next (Chained head links at) nodes m
+    → length nodes ≡ next → bound_val s nodes (ChainVal head links at) ≡ Ok m → ValDone f next (ChainVal head links at) nodes m
 chain_done s f extends head NoJoints at next nodes m ins along len is =
     let a = both_ok (looked_up s head at) (λ arg. Ok (record { value = handed_on at arg; nodes = nodes })) m is in
     let there = found s head at a.0 a.1 in
@@ -157,18 +157,18 @@ chain_done s f extends head (MoreJoints node name args place rest) at next nodes
 module _ (s f : Scope) (extends : Extends s f) where
   mutual
     pub val_done : (v : ValTree) (next : ℕ) (nodes : List NodeTree) (m : Made ArgTree) → InScope next s → length nodes ≡ next → bound_val s nodes v ≡ Ok m → ValDone f next v nodes m
-    val_done (Given lit at) next nodes m ins len is =
+    val_done (LitVal lit at) next nodes m ins len is =
         let e = same_value (record { value = LitArg lit at; nodes = nodes }) m is in
         (sym (ap (λ x. x.value) e), tt, done_nothing f next nodes m.nodes (ap (λ x. x.nodes) e))
-    val_done (Everything at) next nodes m ins len is =
+    val_done (StarVal at) next nodes m ins len is =
         let e = same_value (record { value = StarArg at; nodes = nodes }) m is in
         (sym (ap (λ x. x.value) e), tt, done_nothing f next nodes m.nodes (ap (λ x. x.nodes) e))
-    val_done (Function body at) next nodes m ins len is =
+    val_done (LambdaVal body at) next nodes m ins len is =
         let a = both_ok (bound_lambda s body) (λ body. Ok (record { value = LambdaArg body at; nodes = nodes })) m is in
         let r = lambda_replaced s f extends body a.0 a.1 in
         let e = same_value (record { value = LambdaArg a.0 at; nodes = nodes }) m a.2 in
         (sym (ap (λ x. x.value) e) ∙ ap (λ b. LambdaArg b at) r.0, r.1, done_nothing f next nodes m.nodes (ap (λ x. x.nodes) e))
-    val_done (Chained head links at) next nodes m ins len is =
+    val_done (ChainVal head links at) next nodes m ins len is =
         chain_done s f extends head links at next nodes m ins (λ made last long is_on on_is h. links_done links next (OnName head) made last ins long is_on on_is h) len is
 
     pub vals_done : (vs : ValTrees) (next : ℕ) (made m : Made (List ArgTree)) → InScope next s → length made.nodes ≡ next → bound_vals s made vs ≡ Ok m → ValsDone f next vs made m

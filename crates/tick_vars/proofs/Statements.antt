@@ -4,7 +4,7 @@ use Rattle.std.specs.Prelude.{is_some, bytes_eq}
 use Rattle.kap_base.specs.Words.{◌>>=◌}
 use Rattle.std.proofs.lemmas.List.{append-nil, append_assoc}
 use Rattle.std.proofs.lemmas.Slice.Eq.{bytes_eq-Decides}
-use Rattle.tick_parser.specs.Trees.{ValTree, Chained, StmtTree, Declared, Dbrp as DbrpStmt, Piped}
+use Rattle.tick_parser.specs.Trees.{ValTree, ChainVal, StmtTree, VarStmt, DbrpStmt, ChainStmt}
 use Rattle.tick_vars.specs.declared.fault.VarFault.{VarFault}
 use Rattle.tick_vars.specs.declared.fault.VarFault.TheVariants.{Twice}
 use Rattle.tick_vars.specs.Nodes.{ArgTree}
@@ -36,7 +36,7 @@ with_name_scope k s name arg ins settled other told =
     ]
 
 -- a `var` that was bound
-pub declared_ok : (s s' : SoFar) (name : List ℕ) (value : ValTree) (at : ℕ) → bound_stmt s (Declared name value at) ≡ Ok s'
+pub declared_ok : (s s' : SoFar) (name : List ℕ) (value : ValTree) (at : ℕ) → bound_stmt s (VarStmt name value at) ≡ Ok s'
     → (made : Made ArgTree) × (bound_val s.scope s.nodes value ≡ Ok made) × (s.scope name ≡ None) × (record { scope = with_name name made.value s.scope; nodes = made.nodes; dbrps = s.dbrps } ≡ s') × (is_taken s.scope name ≡ false)
 declared_ok s s' name value at is =
     let rest : Result SoFar VarFault = bound_val s.scope s.nodes value >>= λ made. Ok (record { scope = with_name name made.value s.scope; nodes = made.nodes; dbrps = s.dbrps }) in
@@ -46,12 +46,12 @@ declared_ok s s' name value at is =
     (a.0, a.1, fresh (is_batch name) (s.scope name) free.0, same_value _ s' a.2, free.0)
 
 pub stmt_extends : (s s' : SoFar) (stmt : StmtTree) → bound_stmt s stmt ≡ Ok s' → Extends s.scope s'.scope
-stmt_extends s s' (Declared name value at) is =
+stmt_extends s s' (VarStmt name value at) is =
     let d = declared_ok s s' name value at is in
     subst (λ (x : SoFar). Extends s.scope x.scope) d.3 (with_name_extends s.scope name (d.0).value d.2)
 stmt_extends s s' (DbrpStmt db rp at) is = subst (λ (x : SoFar). Extends s.scope x.scope) (same_value _ s' is) (λ name arg told. told)
-stmt_extends s s' (Piped head links at) is =
-    let a = both_ok (bound_val s.scope s.nodes (Chained head links at)) (λ made. Ok (record s { nodes = made.nodes })) s' is in
+stmt_extends s s' (ChainStmt head links at) is =
+    let a = both_ok (bound_val s.scope s.nodes (ChainVal head links at)) (λ made. Ok (record s { nodes = made.nodes })) s' is in
     subst (λ (x : SoFar). Extends s.scope x.scope) (same_value _ s' a.2) (λ name arg told. told)
 
 pub stmts_extend : (script : List StmtTree) (s s' : SoFar) → bound_stmts s script ≡ Ok s' → Extends s.scope s'.scope
@@ -68,7 +68,7 @@ pub record StmtsDone (f : Scope) (next count : ℕ) (events : List Event) (s s' 
 
 pub stmt_done : (f : Scope) (s s' : SoFar) (stmt : StmtTree) (next : ℕ) → Extends s.scope f → InScope next s.scope → length s.nodes ≡ next → bound_stmt s stmt ≡ Ok s'
     → StmtsDone f next (pipes_of stmt) (done_by next stmt) s s'
-stmt_done f s s' (Declared name value at) next ext ins len is =
+stmt_done f s s' (VarStmt name value at) next ext ins len is =
     let d = declared_ok s s' name value at is in
     let count = pipes_in value in
     let src = source next value in
@@ -94,8 +94,8 @@ stmt_done f s s' (DbrpStmt db rp at) next ext ins len is =
       in_scope = scope_more next (next + 0) s.scope (omega arith) ins;
       done = record { after_is = refl; counted = refl; stands = tt };
     })
-stmt_done f s s' (Piped head links at) next ext ins len is =
-    let chain = Chained head links at in
+stmt_done f s s' (ChainStmt head links at) next ext ins len is =
+    let chain = ChainVal head links at in
     let a = both_ok (bound_val s.scope s.nodes chain) (λ made. Ok (record s { nodes = made.nodes })) s' is in
     let v = val_done s.scope f ext chain next s.nodes a.0 ins len a.1 in
     let events = done_along next (OnName head) links in

@@ -1,7 +1,7 @@
 -- A script with its names bound, or the first fault: statement by statement from left to right, with the names and nodes so far.
 use Rattle.std.specs.Prelude.{ℕ, zero, suc, Bool, true, false, if◌then◌else◌, List, [], ◌∷◌, ◌++◌, length, Result, Ok, Err, codes}
 use Rattle.kap_base.specs.Words.{◌>>=◌}
-use Rattle.tick_parser.specs.Trees.{ValTree, Given, Everything, Function, Chained, ValTrees, NoVals, MoreVals, JointTrees, NoJoints, MoreJoints, StmtTree, Declared, Dbrp as DbrpStmt, Piped}
+use Rattle.tick_parser.specs.Trees.{ValTree, LitVal, StarVal, LambdaVal, ChainVal, ValTrees, NoVals, MoreVals, JointTrees, NoJoints, MoreJoints, StmtTree, VarStmt, DbrpStmt, ChainStmt}
 use Rattle.tick_vars.specs.declared.fault.VarFault.{VarFault}
 use Rattle.tick_vars.specs.declared.fault.VarFault.TheVariants.{Twice}
 use Rattle.tick_vars.specs.declared.nodes.Dbrp.{Dbrp}
@@ -38,11 +38,11 @@ and_arg args made = record { value = args ++ made.value ∷ []; nodes = made.nod
 -- values as arguments, and what is linked to a node; each goes on from what was made so far
 abbrev mutual
   pub bound_val : Scope → List NodeTree → ValTree → Result (Made ArgTree) VarFault
-  bound_val scope nodes (Given lit at) = Ok (record { value = LitArg lit at; nodes = nodes })
-  bound_val scope nodes (Everything at) = Ok (record { value = StarArg at; nodes = nodes })
-  bound_val scope nodes (Function body at) = bound_lambda scope body >>= λ body. Ok (record { value = LambdaArg body at; nodes = nodes })
-  bound_val scope nodes (Chained head NoJoints at) = looked_up scope head at >>= λ arg. Ok (record { value = handed_on at arg; nodes = nodes })
-  bound_val scope nodes (Chained head (MoreJoints node name args place rest) at) =
+  bound_val scope nodes (LitVal lit at) = Ok (record { value = LitArg lit at; nodes = nodes })
+  bound_val scope nodes (StarVal at) = Ok (record { value = StarArg at; nodes = nodes })
+  bound_val scope nodes (LambdaVal body at) = bound_lambda scope body >>= λ body. Ok (record { value = LambdaArg body at; nodes = nodes })
+  bound_val scope nodes (ChainVal head NoJoints at) = looked_up scope head at >>= λ arg. Ok (record { value = handed_on at arg; nodes = nodes })
+  bound_val scope nodes (ChainVal head (MoreJoints node name args place rest) at) =
       looked_up scope head at >>= as_node at >>= (λ number. bound_links scope (record { value = number; nodes = nodes }) (MoreJoints node name args place rest)) >>= λ made.
       Ok (record { value = NodeArg made.value at; nodes = made.nodes })
 
@@ -72,12 +72,12 @@ at_first = record { scope = first_scope; nodes = stream_node ∷ []; dbrps = [] 
 
 -- behind one statement more
 abbrev pub bound_stmt : SoFar → StmtTree → Result SoFar VarFault
-bound_stmt so_far (Declared name value at) =
+bound_stmt so_far (VarStmt name value at) =
     if is_taken so_far.scope name then Err (Twice at) else (bound_val so_far.scope so_far.nodes value >>= λ made.
     Ok (record { scope = with_name name made.value so_far.scope; nodes = made.nodes; dbrps = so_far.dbrps }))
 bound_stmt so_far (DbrpStmt db rp at) = Ok (record so_far { dbrps = so_far.dbrps ++ record { db = db; rp = rp } ∷ [] })
-bound_stmt so_far (Piped head links at) =
-    bound_val so_far.scope so_far.nodes (Chained head links at) >>= λ made. Ok (record so_far { nodes = made.nodes })
+bound_stmt so_far (ChainStmt head links at) =
+    bound_val so_far.scope so_far.nodes (ChainVal head links at) >>= λ made. Ok (record so_far { nodes = made.nodes })
 
 -- behind all of these statements
 abbrev pub bound_stmts : SoFar → List StmtTree → Result SoFar VarFault

@@ -2,8 +2,8 @@
 use Rattle.std.specs.Prelude.{◌≡◌, ℕ, ◌+◌, ◌<◌, true, false, ◌==◌, if◌then◌else◌, List, [], ◌∷◌, ◌++◌, map, length, Option, Some, unwrap_or}
 use Rattle.kap_base.specs.declared.expr.Lit.{Lit}
 use Rattle.kap_base.specs.declared.expr.Lit.TheVariants as lits
-use Rattle.kap_base.specs.Tree.{Tree, Leaf, Referred, Named, Called, Grouped, Negated, Denied, Joined, Trees, NoTrees, MoreTrees}
-use Rattle.tick_parser.specs.Trees.{ValTree, Given, Everything, Function, Chained, ValTrees, NoVals, MoreVals, JointTrees, NoJoints, MoreJoints, StmtTree, Declared, Dbrp as DbrpStmt, Piped}
+use Rattle.kap_base.specs.Tree.{Tree, LitTree, RefTree, NameTree, CallTree, GroupTree, NegTree, NotTree, BinTree, Trees, NoTrees, MoreTrees}
+use Rattle.tick_parser.specs.Trees.{ValTree, LitVal, StarVal, LambdaVal, ChainVal, ValTrees, NoVals, MoreVals, JointTrees, NoJoints, MoreJoints, StmtTree, VarStmt, DbrpStmt, ChainStmt}
 use Rattle.tick_vars.specs.declared.nodes.Dbrp.{Dbrp}
 use Rattle.tick_vars.specs.Nodes.{ArgTree, LitArg, StarArg, LambdaArg, NodeArg, PropTree, NodeTree, BoundTree}
 use Rattle.tick_vars.specs.Names.{Scope, first_scope, is_taken, with_name, handed_on}
@@ -33,10 +33,10 @@ pub data Event : Type 0 where
 -- how many `|` stand in a value, in values, in links
 abbrev mutual
   pub pipes_in : ValTree → ℕ
-  pipes_in (Given lit at) = 0
-  pipes_in (Everything at) = 0
-  pipes_in (Function body at) = 0
-  pipes_in (Chained head links at) = pipes_along links
+  pipes_in (LitVal lit at) = 0
+  pipes_in (StarVal at) = 0
+  pipes_in (LambdaVal body at) = 0
+  pipes_in (ChainVal head links at) = pipes_along links
 
   pub pipes_among : ValTrees → ℕ
   pipes_among NoVals = 0
@@ -55,10 +55,10 @@ end_of next on (MoreJoints false name args at rest) = end_of (next + pipes_among
 
 -- a value as the script has it, where this number is next
 abbrev pub source : ℕ → ValTree → Source
-source next (Given lit at) = FromLit lit at
-source next (Everything at) = FromStar at
-source next (Function body at) = FromLambda body at
-source next (Chained head links at) = FromChain (end_of next (OnName head) links) at
+source next (LitVal lit at) = FromLit lit at
+source next (StarVal at) = FromStar at
+source next (LambdaVal body at) = FromLambda body at
+source next (ChainVal head links at) = FromChain (end_of next (OnName head) links) at
 
 -- values, from left to right
 abbrev pub sources : ℕ → ValTrees → List Source
@@ -68,10 +68,10 @@ sources next (MoreVals first rest) = source next first ∷ sources (next + pipes
 -- what is done in a value, in values, along links
 abbrev mutual
   pub done_in : ℕ → ValTree → List Event
-  done_in next (Given lit at) = []
-  done_in next (Everything at) = []
-  done_in next (Function body at) = []
-  done_in next (Chained head links at) = done_along next (OnName head) links
+  done_in next (LitVal lit at) = []
+  done_in next (StarVal at) = []
+  done_in next (LambdaVal body at) = []
+  done_in next (ChainVal head links at) = done_along next (OnName head) links
 
   pub done_among : ℕ → ValTrees → List Event
   done_among next NoVals = []
@@ -86,15 +86,15 @@ abbrev mutual
 
 -- what a statement does
 abbrev pub done_by : ℕ → StmtTree → List Event
-done_by next (Declared name value at) = done_in next value ++ Declares name (source next value) ∷ []
+done_by next (VarStmt name value at) = done_in next value ++ Declares name (source next value) ∷ []
 done_by next (DbrpStmt db rp at) = Sees (record { db = db; rp = rp }) ∷ []
-done_by next (Piped head links at) = done_along next (OnName head) links ++ Uses (source next (Chained head links at)) ∷ []
+done_by next (ChainStmt head links at) = done_along next (OnName head) links ++ Uses (source next (ChainVal head links at)) ∷ []
 
 -- how many `|` stand in a statement
 abbrev pub pipes_of : StmtTree → ℕ
-pipes_of (Declared name value at) = pipes_in value
+pipes_of (VarStmt name value at) = pipes_in value
 pipes_of (DbrpStmt db rp at) = 0
-pipes_of (Piped head links at) = pipes_along links
+pipes_of (ChainStmt head links at) = pipes_along links
 
 -- what statements do
 abbrev pub all_done : ℕ → List StmtTree → List Event
@@ -107,20 +107,20 @@ events_of script = all_done 1 script
 
 -- a name in a lambda as the literal that it stands for
 abbrev pub literal_for : List ℕ → ℕ → Option ArgTree → Tree
-literal_for name at (Some (LitArg lit place)) = Leaf lit at
-literal_for name at other = Named name at
+literal_for name at (Some (LitArg lit place)) = LitTree lit at
+literal_for name at other = NameTree name at
 
 -- a lambda with literals in the place of names, and nothing else changed
 abbrev mutual
   pub replaced : Scope → Tree → Tree
-  replaced scope (Leaf lit at) = Leaf lit at
-  replaced scope (Referred name at) = Referred name at
-  replaced scope (Named name at) = literal_for name at (scope name)
-  replaced scope (Called name args at) = Called name (all_replaced scope args) at
-  replaced scope (Grouped inner at) = Grouped (replaced scope inner) at
-  replaced scope (Negated operand at) = Negated (replaced scope operand) at
-  replaced scope (Denied operand at) = Denied (replaced scope operand) at
-  replaced scope (Joined op left right at) = Joined op (replaced scope left) (replaced scope right) at
+  replaced scope (LitTree lit at) = LitTree lit at
+  replaced scope (RefTree name at) = RefTree name at
+  replaced scope (NameTree name at) = literal_for name at (scope name)
+  replaced scope (CallTree name args at) = CallTree name (all_replaced scope args) at
+  replaced scope (GroupTree inner at) = GroupTree (replaced scope inner) at
+  replaced scope (NegTree operand at) = NegTree (replaced scope operand) at
+  replaced scope (NotTree operand at) = NotTree (replaced scope operand) at
+  replaced scope (BinTree op left right at) = BinTree op (replaced scope left) (replaced scope right) at
 
   pub all_replaced : Scope → Trees → Trees
   all_replaced scope NoTrees = NoTrees
@@ -184,14 +184,14 @@ as_written script =
 -- no name stands in the lambda
 abbrev mutual
   pub Nameless : Tree → Type 0
-  Nameless (Leaf lit at) = Unit {0}
-  Nameless (Referred name at) = Unit {0}
-  Nameless (Named name at) = ⊥
-  Nameless (Called name args at) = AllNameless args
-  Nameless (Grouped inner at) = Nameless inner
-  Nameless (Negated operand at) = Nameless operand
-  Nameless (Denied operand at) = Nameless operand
-  Nameless (Joined op left right at) = Nameless left × Nameless right
+  Nameless (LitTree lit at) = Unit {0}
+  Nameless (RefTree name at) = Unit {0}
+  Nameless (NameTree name at) = ⊥
+  Nameless (CallTree name args at) = AllNameless args
+  Nameless (GroupTree inner at) = Nameless inner
+  Nameless (NegTree operand at) = Nameless operand
+  Nameless (NotTree operand at) = Nameless operand
+  Nameless (BinTree op left right at) = Nameless left × Nameless right
 
   pub AllNameless : Trees → Type 0
   AllNameless NoTrees = Unit {0}
@@ -239,14 +239,14 @@ IsValue other = ⊥
 -- each name in the lambda stands for a value
 abbrev mutual
   pub HasValues : Scope → Tree → Type 0
-  HasValues scope (Leaf lit at) = Unit {0}
-  HasValues scope (Referred name at) = Unit {0}
-  HasValues scope (Named name at) = IsValue (scope name)
-  HasValues scope (Called name args at) = AllHaveValues scope args
-  HasValues scope (Grouped inner at) = HasValues scope inner
-  HasValues scope (Negated operand at) = HasValues scope operand
-  HasValues scope (Denied operand at) = HasValues scope operand
-  HasValues scope (Joined op left right at) = HasValues scope left × HasValues scope right
+  HasValues scope (LitTree lit at) = Unit {0}
+  HasValues scope (RefTree name at) = Unit {0}
+  HasValues scope (NameTree name at) = IsValue (scope name)
+  HasValues scope (CallTree name args at) = AllHaveValues scope args
+  HasValues scope (GroupTree inner at) = HasValues scope inner
+  HasValues scope (NegTree operand at) = HasValues scope operand
+  HasValues scope (NotTree operand at) = HasValues scope operand
+  HasValues scope (BinTree op left right at) = HasValues scope left × HasValues scope right
 
   pub AllHaveValues : Scope → Trees → Type 0
   AllHaveValues scope NoTrees = Unit {0}

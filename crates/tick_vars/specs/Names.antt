@@ -3,7 +3,7 @@ use Rattle.std.specs.Prelude.{ℕ, Bool, ◌||◌, if◌then◌else◌, List, Op
 use Rattle.std.specs.Borrow.{Bor}
 use Rattle.std.specs.HashMap.{HashMap, get_by}
 use Rattle.kap_base.specs.declared.expr.Lit.TheVariants as lits
-use Rattle.kap_base.specs.Tree.{Tree, Leaf, Referred, Named, Called, Grouped, Negated, Denied, Joined, Trees, NoTrees, MoreTrees}
+use Rattle.kap_base.specs.Tree.{Tree, LitTree, RefTree, NameTree, CallTree, GroupTree, NegTree, NotTree, BinTree, Trees, NoTrees, MoreTrees}
 use Rattle.kap_base.specs.Words.{◌>>=◌}
 use Rattle.tick_vars.specs.declared.fault.VarFault.{VarFault}
 use Rattle.tick_vars.specs.declared.fault.VarFault.TheVariants.{Unknown, NotValue, NotNode, Batch}
@@ -53,23 +53,23 @@ as_node at other = Err (NotNode at)
 
 -- the value for which a name at this place of a lambda stands: an integer, a string, a truth value or a pattern
 abbrev pub as_value : ℕ → ArgTree → Result Tree VarFault
-as_value at (LitArg (lits.Int number) place) = Ok (Leaf (lits.Int number) at)
-as_value at (LitArg (lits.Str text) place) = Ok (Leaf (lits.Str text) at)
-as_value at (LitArg (lits.Bool truth) place) = Ok (Leaf (lits.Bool truth) at)
-as_value at (LitArg (lits.Regex pattern) place) = Ok (Leaf (lits.Regex pattern) at)
+as_value at (LitArg (lits.Int number) place) = Ok (LitTree (lits.Int number) at)
+as_value at (LitArg (lits.Str text) place) = Ok (LitTree (lits.Str text) at)
+as_value at (LitArg (lits.Bool truth) place) = Ok (LitTree (lits.Bool truth) at)
+as_value at (LitArg (lits.Regex pattern) place) = Ok (LitTree (lits.Regex pattern) at)
 as_value at other = Err (NotValue at)
 
 -- a lambda with its values in the place of names, or the first fault from left to right
 abbrev mutual
   pub bound_lambda : Scope → Tree → Result Tree VarFault
-  bound_lambda scope (Leaf lit at) = Ok (Leaf lit at)
-  bound_lambda scope (Referred name at) = Ok (Referred name at)
-  bound_lambda scope (Named name at) = looked_up scope name at >>= as_value at
-  bound_lambda scope (Called name args at) = bound_lambdas scope args >>= λ args. Ok (Called name args at)
-  bound_lambda scope (Grouped inner at) = bound_lambda scope inner >>= λ inner. Ok (Grouped inner at)
-  bound_lambda scope (Negated operand at) = bound_lambda scope operand >>= λ operand. Ok (Negated operand at)
-  bound_lambda scope (Denied operand at) = bound_lambda scope operand >>= λ operand. Ok (Denied operand at)
-  bound_lambda scope (Joined op left right at) = bound_lambda scope left >>= λ left. bound_lambda scope right >>= λ right. Ok (Joined op left right at)
+  bound_lambda scope (LitTree lit at) = Ok (LitTree lit at)
+  bound_lambda scope (RefTree name at) = Ok (RefTree name at)
+  bound_lambda scope (NameTree name at) = looked_up scope name at >>= as_value at
+  bound_lambda scope (CallTree name args at) = bound_lambdas scope args >>= λ args. Ok (CallTree name args at)
+  bound_lambda scope (GroupTree inner at) = bound_lambda scope inner >>= λ inner. Ok (GroupTree inner at)
+  bound_lambda scope (NegTree operand at) = bound_lambda scope operand >>= λ operand. Ok (NegTree operand at)
+  bound_lambda scope (NotTree operand at) = bound_lambda scope operand >>= λ operand. Ok (NotTree operand at)
+  bound_lambda scope (BinTree op left right at) = bound_lambda scope left >>= λ left. bound_lambda scope right >>= λ right. Ok (BinTree op left right at)
 
   pub bound_lambdas : Scope → Trees → Result Trees VarFault
   bound_lambdas scope NoTrees = Ok NoTrees

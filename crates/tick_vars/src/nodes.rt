@@ -1,6 +1,6 @@
 //! What a script is once its names are bound: nodes with their arguments and properties.
 
-use kap_base::{Expr, Listed, Lit, Text};
+use kap_base::{Expr, ItemList, Lit, Text};
 
 /// An argument of a node or a property. The number last in each variant is a place, a byte offset in the script. What stands
 /// for a name has the place of that name, but for a lambda, which keeps its own.
@@ -17,7 +17,7 @@ pub enum Arg {
 }
 
 /// The arguments of a node or a property, in order.
-pub type Args = Listed<Arg>;
+pub type Args = ItemList<Arg>;
 
 /// A property that is set on a node.
 #[derive(Drop)]
@@ -31,7 +31,7 @@ pub struct Prop {
 }
 
 /// The properties that are set on a node, in the order of the script.
-pub type Props = Listed<Prop>;
+pub type Props = ItemList<Prop>;
 
 /// A node of a script (Kapacitor 1.6 TICKscript language reference: Nodes), of any kind and with any arguments: what kinds
 /// there are, and what they take, isn't asked here.
@@ -50,7 +50,7 @@ pub struct RawNode {
 }
 
 /// The nodes of a script by their numbers, in the order in which they are made.
-pub type RawNodes = Listed<RawNode>;
+pub type RawNodes = ItemList<RawNode>;
 
 /// A database and a retention policy that a task sees.
 #[derive(Drop)]
@@ -60,7 +60,7 @@ pub struct Dbrp {
 }
 
 /// The databases and retention policies that a task sees, in the order of the script.
-pub type Dbrps = Listed<Dbrp>;
+pub type Dbrps = ItemList<Dbrp>;
 
 /// A script with its names bound.
 #[derive(Drop)]

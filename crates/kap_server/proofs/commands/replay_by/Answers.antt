@@ -1,5 +1,5 @@
 use Rattle.std.proofs.Common.{◌≡◌, ℕ, List, ◌∙◌, subst}
-use Rattle.kap_base.specs.Points.{Series}
+use Rattle.kap_base.specs.Points.{PointValue}
 use Rattle.kap_server.specs.Lines.{text_of}
 use Rattle.kap_server.specs.Script.{IsFilter}
 use Rattle.kap_server.specs.Replaying.{Replayed}
@@ -16,5 +16,5 @@ returns-in-Some-clause-replayed g c = λ name filters.
 
 pub returns-in-Some-clause-status : goal.returns-in-Some-clause-status
 returns-in-Some-clause-status g c = λ name bytes filters told.
-    let text : List Series → List ℕ = text_of c.as_bytes-in-Some.result.now c.in-Some.name.now in
+    let text : List PointValue → List ℕ = text_of c.as_bytes-in-Some.result.now c.in-Some.name.now in
     status_is text c.replay.result bytes (g.S.Source.left c.args.input.now) (g.S.Source.left c.replay.new.input) (g.K.Sink.written c.args.out.now) (g.K.Sink.written c.replay.new.out) c.replay.ensures.replayed told

@@ -1,5 +1,5 @@
-use Rattle.kap_server.proofs.Utf8Laws.{breaks_there, one_place}
-use Rattle.kap_server.proofs.utf8.bytes_break_in_one_place.Goals as goal
+use Rattle.kap_base.proofs.Utf8Laws.{breaks_there, one_place}
+use Rattle.kap_base.proofs.utf8.bytes_break_in_one_place.Goals as goal
 
 pub returns-clause-place : goal.returns-clause-place
 returns-clause-place c = breaks_there

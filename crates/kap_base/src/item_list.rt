@@ -7,11 +7,11 @@ use std::marker::Model;
 
 /// A list, which contracts see as its items in order.
 #[derive(Drop)]
-pub struct Listed<T> {
+pub struct ItemList<T> {
     items: Vec<T>,
 }
 
-impl<T> Model for Listed<T> {
+impl<T> Model for ItemList<T> {
     ghost use Rattle.std.specs.Prelude.{List};
 
     ghost Value = { List T };
@@ -19,21 +19,21 @@ impl<T> Model for Listed<T> {
     ghost view = { λ l. l.items.items };
 }
 
-impl<T: Drop> Listed<T> {
+impl<T: Drop> ItemList<T> {
     /// The empty list.
-    pub fn new(alloc: Global) -> Listed<T>
+    pub fn new(alloc: Global) -> ItemList<T>
         ensures { result ≡ [] }
     {
-        Listed {
+        ItemList {
             items: Vec::new(alloc),
         }
     }
 
     /// The list of these items.
-    pub fn from_items(items: Vec<T>) -> Listed<T>
+    pub fn from_items(items: Vec<T>) -> ItemList<T>
         ensures { result ≡ items.items }
     {
-        Listed { items }
+        ItemList { items }
     }
 
     /// Its items.
@@ -81,7 +81,7 @@ impl<T: Drop> Listed<T> {
     }
 }
 
-impl Listed<u8> {
+impl ItemList<u8> {
     /// Adds bytes at the end. An `Err` changes nothing.
     pub fn append(&mut self, more: &[u8]) -> Result<(), NoMemory>
         ensures ok { OnOk result (self.new ≡ self.old ++ more.now) }
@@ -92,9 +92,9 @@ impl Listed<u8> {
     }
 }
 
-impl<T: Duplicate + Drop> Duplicate for Listed<T> {
-    fn copy(&self, alloc: Global) -> Result<Listed<T>, NoMemory> {
-        Ok(Listed {
+impl<T: Duplicate + Drop> Duplicate for ItemList<T> {
+    fn copy(&self, alloc: Global) -> Result<ItemList<T>, NoMemory> {
+        Ok(ItemList {
             items: copies(alloc, &self.items)?,
         })
     }

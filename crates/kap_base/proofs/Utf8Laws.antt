@@ -11,7 +11,7 @@ use Rattle.std.proofs.str.Laws.{Follows}
 use Rattle.std.proofs.str.Faults.{Ranged, no_char}
 use Rattle.std.proofs.str.Valid.{of_one, of_two, of_three, of_four}
 use Rattle.std.proofs.iter.FirstChar.{no_text, after_text}
-use Rattle.kap_server.specs.Utf8.{BeginsText, BreaksAt, begun_len, broken_at}
+use Rattle.kap_base.specs.Utf8.{BeginsText, BreaksAt, begun_len, broken_at}
 
 -- the byte y may stand behind the first byte x
 record Second (x y : ℕ) : Type 0 where

@@ -1,7 +1,7 @@
 //! Where bytes stop being a text.
 ghost use Rattle.std.specs.Prelude.{◌≡◌, ◌≤◌, ℕ, List, length, IfOk, IfErr};
 ghost use Rattle.std.specs.Str.{IsUtf8};
-ghost use Rattle.kap_server.specs.Utf8.{BreaksAt, broken_at};
+ghost use Rattle.kap_base.specs.Utf8.{BreaksAt, broken_at};
 
 use std::str;
 
@@ -9,7 +9,7 @@ use std::str;
 /// with the bytes up to it and itself. Where the bytes end inside a character no such byte stands, and the place is their length
 /// (Unicode, table 3-7: well-formed UTF-8 byte sequences).
 #[tactic(auto, unfolding(crate::specs::Utf8::broken_at, crate::specs::Utf8::begun_len))]
-pub(crate) fn text_of(bytes: &[u8]) -> Result<&str, usize>
+pub fn utf8_text(bytes: &[u8]) -> Result<&str, usize>
     ensures text { IfOk result (λ text. (text.now ≡ bytes.now) × IsUtf8 bytes.now) }
     ensures broken { IfErr result (λ at. (at ≡ broken_at bytes.now) × ¬ (IsUtf8 bytes.now)) }
     ensures within { IfErr result (λ at. at ≤ length bytes.now) }
