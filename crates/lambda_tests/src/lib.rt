@@ -1,0 +1,2 @@
+//! Tests of the crates of lambdas: what no clause says.
+#![tactic(auto)]

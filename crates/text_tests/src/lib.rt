@@ -1,0 +1,2 @@
+//! Tests of the crates that read and write texts and bytes: what no clause says.
+#![tactic(auto)]
