@@ -32,13 +32,13 @@ without_return-last (x ∷ y ∷ front) b =
 abbrev parts_behind : List ℕ → List (List ℕ)
 parts_behind body = cond (ltb (position_or_len (λ b. eqb b line_feed) body) (length body)) (slice_split (λ b. eqb b line_feed) (after_first (λ b. eqb b line_feed) body)) []
 
-drop_two : (n b : ℕ) (bs : List ℕ) → drop ((1 + n) + 1) (b ∷ bs) ≡ drop (n + 1) bs
+pub drop_two : (n b : ℕ) (bs : List ℕ) → drop ((1 + n) + 1) (b ∷ bs) ≡ drop (n + 1) bs
 drop_two n b bs = let e : (1 + n) + 1 ≡ suc (n + 1) = omega arith in rw e refl
 
-less_zero : (m : ℕ) → ltb 0 (suc m) ≡ true
+pub less_zero : (m : ℕ) → ltb 0 (suc m) ≡ true
 less_zero m = grind (arith, nat_tests)
 
-less_one : (n m : ℕ) → ltb (1 + n) (suc m) ≡ ltb n m
+pub less_one : (n m : ℕ) → ltb (1 + n) (suc m) ≡ ltb n m
 less_one n m = grind (arith, nat_tests)
 
 first_part : (body : List ℕ) → slice_split (λ b. eqb b line_feed) body ≡ before_first (λ b. eqb b line_feed) body ∷ parts_behind body

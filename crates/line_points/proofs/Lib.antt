@@ -23,3 +23,8 @@ pub mod BodyLaws
 pub mod OneLaws
 pub mod LongLaws
 pub mod PrintLaws
+pub mod BeforeLaws
+pub mod FloatLaws
+pub mod FieldFaultLaws
+pub mod TimeFaultLaws
+pub mod RowLaws

@@ -13,12 +13,11 @@ use Rattle.line_points.specs.declared.fault.LineFault.TheVariants as faults
 use Rattle.line_points.specs.declared.mode.Unit.{Unit as TimeUnit}
 use Rattle.line_points.specs.declared.mode.Mode.{Mode}
 use Rattle.line_points.specs.declared.mode.Mode.TheVariants.{Live, Recording}
-use Rattle.line_points.specs.Parts.{comma, space, begins, is_space, without_spaces}
+use Rattle.line_points.specs.Parts.{comma, space, begins, is_space, without_spaces, is_at_separator}
 use Rattle.line_points.specs.Numbers.{is_digits, number_of, signed}
 use Rattle.line_points.specs.Line.{nanoseconds, unit_of, missing_time, scaled, word_time, time_of}
 use Rattle.line_points.specs.Grammar.{minus, spaces, SpellsTime, no_time, some_time}
 use Rattle.line_points.proofs.TestLaws.{second_of, ok_is, guard_ok, then_ok}
-use Rattle.line_points.proofs.TagLaws.{is_next}
 use Rattle.line_points.proofs.ValueLaws.{number_taken, number_again}
 use Rattle.line_points.proofs.PlaceLaws.{word_ends}
 use Rattle.line_points.proofs.SpaceLaws.{after_spaces, spaces_skipped, only_spaces, are_spaces, spaces_are, some_before, behind_spaces, place_end}
@@ -30,7 +29,7 @@ pub record TimeTaken (mode : Mode) (t : ℤ) (rest : List ℕ) : Type 0 where
   pub is : rest ≡ time ++ spaces behind
   pub spells : SpellsTime mode t time
 
-empty_nil : (bytes : List ℕ) → is_empty bytes ≡ true → bytes ≡ []
+pub empty_nil : (bytes : List ℕ) → is_empty bytes ≡ true → bytes ≡ []
 empty_nil [] h = refl
 empty_nil (b ∷ bs) h = absurd cc
 
@@ -57,7 +56,7 @@ word_taken mode t word more e = by_number mode t word more (number_of word) refl
     by_number mode t word more (Some number) read e = number_time mode t word more number read e
     by_number mode t word more None read e = absurd cc
 
-given_taken : (mode : Mode) (t : ℤ) (rest : List ℕ) → is_next rest ≡ true → begins_with comma rest ≡ false → is_empty (without_spaces rest) ≡ false → list_all is_space (drop (position_or_len is_space (without_spaces rest)) (without_spaces rest)) ≡ true → word_time mode (before_first is_space (without_spaces rest)) ≡ Ok t → TimeTaken mode t rest
+given_taken : (mode : Mode) (t : ℤ) (rest : List ℕ) → is_at_separator rest ≡ true → begins_with comma rest ≡ false → is_empty (without_spaces rest) ≡ false → list_all is_space (drop (position_or_len is_space (without_spaces rest)) (without_spaces rest)) ≡ true → word_time mode (before_first is_space (without_spaces rest)) ≡ Ok t → TimeTaken mode t rest
 given_taken mode t rest next none some all e =
     let bytes = without_spaces rest in
     let word = before_first is_space bytes in
@@ -71,7 +70,7 @@ given_taken mode t rest next none some all e =
       spells = word_taken mode t word s.more e;
     }
 
-pub time_taken : (mode : Mode) (t : ℤ) (rest : List ℕ) → is_next rest ≡ true → begins_with comma rest ≡ false → time_of mode (without_spaces rest) ≡ Ok t → TimeTaken mode t rest
+pub time_taken : (mode : Mode) (t : ℤ) (rest : List ℕ) → is_at_separator rest ≡ true → begins_with comma rest ≡ false → time_of mode (without_spaces rest) ≡ Ok t → TimeTaken mode t rest
 unfolding time_of
 time_taken mode t rest next none e =
     let bytes = without_spaces rest in
@@ -92,16 +91,16 @@ digits_whole (d ∷ digits) all =
     let here : not (is_space d) ≡ true = grind (arith, nat_tests) in
     rw here (digits_whole digits (second_of _ _ all))
 
-number_whole : (negative : Bool) (digits : List ℕ) → is_digits digits ≡ true → list_all (λ b. not (is_space b)) (minus negative ++ digits) ≡ true
+pub number_whole : (negative : Bool) (digits : List ℕ) → is_digits digits ≡ true → list_all (λ b. not (is_space b)) (minus negative ++ digits) ≡ true
 number_whole true digits all = digits_whole digits (second_of _ _ all)
 number_whole false digits all = digits_whole digits (second_of _ _ all)
 
-number_first : (negative : Bool) (digits rest : List ℕ) → is_digits digits ≡ true → begins is_space ((minus negative ++ digits) ++ rest) ≡ false
+pub number_first : (negative : Bool) (digits rest : List ℕ) → is_digits digits ≡ true → begins is_space ((minus negative ++ digits) ++ rest) ≡ false
 number_first true digits rest all = refl
 number_first false [] rest all = absurd cc
 number_first false (d ∷ digits) rest all = grind (arith, nat_tests)
 
-number_some : (negative : Bool) (digits rest : List ℕ) → is_digits digits ≡ true → is_empty ((minus negative ++ digits) ++ rest) ≡ false
+pub number_some : (negative : Bool) (digits rest : List ℕ) → is_digits digits ≡ true → is_empty ((minus negative ++ digits) ++ rest) ≡ false
 number_some true digits rest all = refl
 number_some false [] rest all = absurd cc
 number_some false (d ∷ digits) rest all = refl
@@ -124,11 +123,11 @@ time_again (some_time mode n negative digits all range) behind =
     ∙ ap (time_of mode) (spaces_skipped n ((minus negative ++ digits) ++ spaces behind) (number_first negative digits (spaces behind) all))
     ∙ given_again mode negative digits behind all range
 
-next-spaces : (n : ℕ) → is_next (spaces n) ≡ true
+next-spaces : (n : ℕ) → is_at_separator (spaces n) ≡ true
 next-spaces zero = refl
 next-spaces (suc n) = refl
 
-pub next-time : {mode : Mode} {t : ℤ} {time : List ℕ} → SpellsTime mode t time → (behind : ℕ) → is_next (time ++ spaces behind) ≡ true
+pub next-time : {mode : Mode} {t : ℤ} {time : List ℕ} → SpellsTime mode t time → (behind : ℕ) → is_at_separator (time ++ spaces behind) ≡ true
 next-time (no_time unit now) behind = next-spaces behind
 next-time (some_time mode n negative digits all range) behind = refl
 

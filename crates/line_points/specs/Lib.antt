@@ -8,3 +8,4 @@ pub mod Print
 pub mod Body
 pub mod Reading
 pub mod Answered
+pub mod FaultRows

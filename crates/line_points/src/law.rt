@@ -6,6 +6,7 @@ ghost use Rattle.line_points.specs.declared.mode.Mode.{Mode};
 ghost use Rattle.line_points.specs.Line.{Reads, Blank, Faulty, is_live};
 ghost use Rattle.line_points.specs.Grammar.{IsOf, Spelled};
 ghost use Rattle.line_points.specs.Answered.{IsAnswered, IsBlankLine};
+ghost use Rattle.line_points.specs.FaultRows.{FaultOfLine, FaultOfStored};
 
 /// The law of lines. Each line reads as a point, is blank or is faulty, and exactly one of the three; it reads as one point and
 /// has one fault. It is blank exactly where the mode is Live and the line is spaces, or spaces and a comment.
@@ -23,4 +24,10 @@ pub fn one_answer()
 /// the point is ungrouped and of the database and policy at hand, and the line is UTF-8 and has at most 65,536 bytes.
 pub fn each_spelling()
     ensures { (db rp line : List ℕ) (mode : Mode) (p : PointValue) → (Reads db rp mode line p) ↔ (Spelled mode p line × IsOf db rp p × IsTrue (is_utf8 line) × (length line ≤ 65536)) }
+{}
+
+/// The law of faults. A line has a fault exactly where its row of the table of faults says so: the line is spelled up to a place, and
+/// there stands what the row says.
+pub fn fault_rows()
+    ensures { (db rp line : List ℕ) (mode : Mode) (f : LineFault) → (Faulty db rp mode line f) ↔ (FaultOfLine mode line f) }
 {}

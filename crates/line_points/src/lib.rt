@@ -22,6 +22,3 @@ pub use law::{each_spelling, one_answer};
 pub use line::{read_line, read_stored};
 pub use mode::{Mode, Unit};
 pub use print::{print_line, put_line};
-
-#[cfg(test)]
-mod tests;
