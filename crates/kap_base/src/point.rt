@@ -5,9 +5,6 @@ use crate::{Fields, Names, Tags};
 use std::alloc::Global;
 use std::marker::Model;
 
-/// How far a time may lie from 1970-01-01T00:00:00Z, before or behind it, in nanoseconds.
-pub const TIME_LIMIT: i64 = 9_000_000_000_000_000_000;
-
 /// A point (InfluxDB 1.8: line protocol reference; Kapacitor 1.6: the dimensions and the name by which a task groups it).
 #[derive(Debug, PartialEq, Eq, Drop)]
 pub struct Point {
