@@ -1,9 +1,13 @@
 //! Texts, lists, maps, points and expressions: that their calls find memory, and what they print.
 
+ghost use Rattle.std.specs.Prelude.{◌≡◌};
+ghost use Rattle.kap_base.specs.Texts.{has_line_feed};
+
 use kap_base::{
     Bytes, Duplicate, Expr, Exprs, Fields, ItemList, KeyMap, Lit, Names, NoMemory, Op, Point,
-    SharedExpr, SharedText, Tags, Text, TextFault, Value, utf8_text,
+    SharedExpr, SharedText, Text, TextFault, Value, utf8_text,
 };
+use line_points::{Mode, read_line};
 use std::alloc::Global;
 use std::test::Fail;
 
@@ -61,25 +65,24 @@ fn the_last_of_equal_keys_counts(rt: HostRuntime) -> Result<(), Fail> {
     Ok(())
 }
 
-fn point(alloc: Global) -> Result<Point, Fail> {
-    let mut tags = Tags::new(alloc);
-    tags.insert(text(alloc, "host")?, text(alloc, "a")?)?;
-    Ok(Point {
-        db: text(alloc, "d")?,
-        rp: text(alloc, "r")?,
-        name: text(alloc, "cpu")?,
-        tags,
-        fields: fields(alloc, &[("x", 1)])?,
-        dims: Names::new(alloc),
-        by_name: false,
-        time: 5,
-    })
+fn has_feed(bytes: &[u8]) -> bool
+    ensures { result ≡ has_line_feed bytes.now }
+{
+    bytes.iter().any(|b| *b == b'\n')
+}
+
+fn point(rt: &(impl AllocGlobal + Abort)) -> Result<Point, Fail> {
+    let name = text(rt.alloc(), "d")?;
+    let line = b"cpu,host=a x=1i 5".as_slice();
+    assert!(rt; !has_feed(line) && !has_feed(name.bytes()));
+    let point = read_line(rt.alloc(), line, &name, &name, &Mode::Recording);
+    Ok(point.ok().flatten().ok_or("no point")?)
 }
 
 #[test]
 fn points_are_copied(rt: HostRuntime) -> Result<(), Fail> {
     let alloc = rt.alloc();
-    let first = point(alloc)?;
+    let first = point(&rt)?;
     let mut other = first.copy(alloc)?;
     assert!(rt; first == other);
     other.time = 6;
@@ -115,7 +118,7 @@ fn expressions_are_copied_and_shared(rt: HostRuntime) -> Result<(), Fail> {
     assert!(rt; *other.expr() == sum(alloc)?);
     let name = SharedText::new(alloc, text(alloc, "warn")?)?;
     assert!(rt; send(name.copy(alloc)?) == name);
-    let points = ItemList::from_items(Vec::from_array(alloc, [send(point(alloc)?)])?);
+    let points = ItemList::from_items(Vec::from_array(alloc, [send(point(&rt)?)])?);
     assert_eq!(rt; points.len(), 1);
     Ok(())
 }
