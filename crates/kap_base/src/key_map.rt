@@ -5,7 +5,7 @@ ghost use Rattle.std.specs.Ordering.{nat_cmp, is_lt};
 ghost use Rattle.std.specs.List.Sorted.{IsStableBy};
 ghost use Rattle.std.specs.Cmp.Lexicographic.{lists_equiv, lists_per, nat_list_eq_equiv, pointwise, slice_cmp};
 ghost use Rattle.std.specs.Option.{option_copied};
-ghost use Rattle.kap_base.specs.Maps.{with_entries, is_below};
+ghost use Rattle.kap_base.specs.Maps.{byte_order, with_entries, is_below};
 ghost use Rattle.kap_base.specs.Places.{StandsAt, WouldStandAt};
 
 use crate::duplicate::Duplicate;
@@ -49,7 +49,7 @@ fn is_below<V>(key: &Text, others: &[(Text, V)]) -> bool
 
 /// Whether each key stands below the next one.
 fn rises<V>(entries: &[(Text, V)]) -> bool
-    ensures { result ≡ map.is_sorted (slice_cmp nat_cmp) entries.now }
+    ensures { result ≡ map.is_sorted byte_order entries.now }
 {
     let mut rest = entries;
     'passing: while let Some((first, others)) = rest.split_first() {
@@ -64,7 +64,8 @@ fn rises<V>(entries: &[(Text, V)]) -> bool
 /// The same entries in the byte order of their keys; those of one key keep their order.
 fn sort_entries<V: Drop>(mut entries: Vec<(Text, V)>) -> Result<Vec<(Text, V)>, NoMemory>
     ensures same { IfOk result (λ s. length s.items ≡ length entries.items) }
-    ensures stable { IfOk result (λ s. IsStableBy (λ x y. is_lt (slice_cmp nat_cmp x.0 y.0)) entries.items s.items) }
+    ensures stable { IfOk result (λ s. IsStableBy
+        (λ x y. is_lt (slice_cmp nat_cmp x.0 y.0)) entries.items s.items) }
 {
     entries.sort_by(|one, other| one.0.cmp(&other.0))?;
     Ok(entries)
@@ -72,7 +73,7 @@ fn sort_entries<V: Drop>(mut entries: Vec<(Text, V)>) -> Result<Vec<(Text, V)>, 
 
 /// The entries put one after the other.
 fn last_of_each<V: Drop>(alloc: Global, entries: Vec<(Text, V)>) -> Result<Vec<(Text, V)>, NoMemory>
-    ensures rising { IfOk result (λ kept. IsTrue (map.is_sorted (slice_cmp nat_cmp) kept.items)) }
+    ensures rising { IfOk result (λ kept. IsTrue (map.is_sorted byte_order kept.items)) }
     ensures same { IfOk result (λ kept. map.from_sorted kept.items ≡ with_entries map.empty entries.items) }
 {
     let mut kept = Vec::new(alloc);
@@ -84,7 +85,7 @@ fn last_of_each<V: Drop>(alloc: Global, entries: Vec<(Text, V)>) -> Result<Vec<(
 
 /// Where the key stands among entries in byte order, or where it would stand.
 fn search<V>(entries: &[(Text, V)], key: &Text) -> Result<usize, usize>
-    requires { IsTrue (map.is_sorted (slice_cmp nat_cmp) entries.now) }
+    requires { IsTrue (map.is_sorted byte_order entries.now) }
     ensures stands { IfOk result (λ at. StandsAt key.now entries.now at) }
     ensures absent { IfErr result (λ at. WouldStandAt key.now entries.now at) }
 {
@@ -92,8 +93,8 @@ fn search<V>(entries: &[(Text, V)], key: &Text) -> Result<usize, usize>
 }
 
 fn put<V: Drop>(entries: &mut Vec<(Text, V)>, key: Text, value: V) -> Result<(), NoMemory>
-    requires { IsTrue (map.is_sorted (slice_cmp nat_cmp) entries.old.items) }
-    ensures ok { OnOk result (entries.new.items ≡ map.put (slice_cmp nat_cmp) key value entries.old.items) }
+    requires { IsTrue (map.is_sorted byte_order entries.old.items) }
+    ensures ok { OnOk result (entries.new.items ≡ map.put byte_order key value entries.old.items) }
     ensures err { OnErr result (entries.new.items ≡ entries.old.items) }
 {
     match search(entries, &key) {
@@ -110,8 +111,8 @@ fn put<V: Drop>(entries: &mut Vec<(Text, V)>, key: Text, value: V) -> Result<(),
 
 /// The same, at one comparison where no key stands above this one.
 fn put_behind<V: Drop>(entries: &mut Vec<(Text, V)>, key: Text, value: V) -> Result<(), NoMemory>
-    requires { IsTrue (map.is_sorted (slice_cmp nat_cmp) entries.old.items) }
-    ensures ok { OnOk result (entries.new.items ≡ map.put (slice_cmp nat_cmp) key value entries.old.items) }
+    requires { IsTrue (map.is_sorted byte_order entries.old.items) }
+    ensures ok { OnOk result (entries.new.items ≡ map.put byte_order key value entries.old.items) }
     ensures err { OnErr result (entries.new.items ≡ entries.old.items) }
 {
     let count = entries.len();
@@ -133,8 +134,8 @@ fn put_behind<V: Drop>(entries: &mut Vec<(Text, V)>, key: Text, value: V) -> Res
 }
 
 fn value_at<'a, V>(entries: &'a [(Text, V)], key: &Text) -> Option<&'a V>
-    requires { IsTrue (map.is_sorted (slice_cmp nat_cmp) entries.now) }
-    ensures { option_copied result ≡ map.find (slice_cmp nat_cmp) key.now entries.now }
+    requires { IsTrue (map.is_sorted byte_order entries.now) }
+    ensures { option_copied result ≡ map.find byte_order key.now entries.now }
 {
     match search(entries, key) {
         Ok(at) => Some(&entries[at].1),
@@ -167,7 +168,7 @@ impl<V: Drop> KeyMap<V> {
 
     /// The map of these entries, or None exactly where their keys don't rise.
     pub fn from_rising(entries: Vec<(Text, V)>) -> Option<KeyMap<V>>
-        ensures rises { is_some result ≡ map.is_sorted (slice_cmp nat_cmp) entries.items }
+        ensures rises { is_some result ≡ map.is_sorted byte_order entries.items }
         ensures same { IfSome result (λ m. m ≡ map.from_sorted entries.items) }
     {
         if rises(&entries) {

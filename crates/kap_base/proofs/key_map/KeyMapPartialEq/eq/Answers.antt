@@ -1,4 +1,3 @@
-use Rattle.std.proofs.Common.{◌∙◌}
 use Rattle.kap_base.proofs.KeyMapLaws.{entries-of}
 use Rattle.kap_base.proofs.key_map.KeyMapPartialEq.eq.Goals as goal
 
