@@ -12,14 +12,14 @@ use Rattle.line_points.specs.declared.fault.LineFault.{LineFault}
 use Rattle.line_points.specs.declared.fault.LineFault.TheVariants as faults
 use Rattle.line_points.specs.declared.part.Part.{Part}
 use Rattle.line_points.specs.declared.part.Part.TheVariants as parts
-use Rattle.line_points.specs.Parts.{comma, equals, stops, escapes, opens_escape, text_at, is_at_separator}
+use Rattle.line_points.specs.Parts.{comma, equals, stops, opens_escape, text_at, is_at_separator}
 use Rattle.line_points.specs.Line.{Tag, differ, tag_at, tags_from, tags_at}
 use Rattle.line_points.specs.Grammar.{Spells}
 use Rattle.line_points.specs.FaultRows.{stands_before, SpellsBefore, none_before, byte_before, escape_before, TagsBefore, no_tag_before, tag_before, NewTag}
 use Rattle.line_points.proofs.TestLaws.{first_of, second_of, first_false, both, not_true, not_false, ok_is, bind_ok, guard_ok}
 use Rattle.line_points.proofs.SpellLaws.{ends_here, keep, Reading, at_end, at_stop, over_escape, over_plain, reading, text_taken, spelling_again, step_plain, step_escape, no_text}
 use Rattle.line_points.proofs.TagLaws.{no_equals, next_here, here_next, begins_some, behind_first, one_tag}
-use Rattle.line_points.proofs.LineLaws.{onto, with_first, ended, comma-shorter}
+use Rattle.line_points.proofs.LineLaws.{onto, with_first, comma-shorter}
 
 -- ---- texts
 
@@ -322,8 +322,8 @@ differ_front (t ∷ ts) more h =
     let none : not (list_any (λ u. bytes_eq u.0 t.0) (ts ++ more)) ≡ true = first_of _ (differ (ts ++ more)) h in
     let both_none : (list_any (λ u. bytes_eq u.0 t.0) ts || list_any (λ u. bytes_eq u.0 t.0) more) ≡ false = sym (list_any-append (λ (u : Tag). bytes_eq u.0 t.0) ts more) ∙ not_true (list_any (λ u. bytes_eq u.0 t.0) (ts ++ more)) none in
     both (not (list_any (λ u. bytes_eq u.0 t.0) ts)) (differ ts)
-        (not_false (list_any (λ u. bytes_eq u.0 t.0) ts) (first_false (list_any (λ u. bytes_eq u.0 t.0) ts) (list_any (λ u. bytes_eq u.0 t.0) more) both_none))
-        (differ_front ts more (second_of (not (list_any (λ u. bytes_eq u.0 t.0) (ts ++ more))) _ h))
+    (not_false (list_any (λ u. bytes_eq u.0 t.0) ts) (first_false (list_any (λ u. bytes_eq u.0 t.0) ts) (list_any (λ u. bytes_eq u.0 t.0) more) both_none))
+    (differ_front ts more (second_of (not (list_any (λ u. bytes_eq u.0 t.0) (ts ++ more))) _ h))
 
 is_new : (ts : List Tag) (t : Tag) (bytes rest : List ℕ) → tag_at bytes ≡ Ok (t, rest) → differ (ts ++ t ∷ []) ≡ true → NewTag ts bytes
 is_new ts t bytes rest read new =

@@ -1,6 +1,6 @@
 -- Where a field is faulty: which fault is read, and what stands there.
-use Rattle.std.proofs.Common.{◌≡◌, ℕ, zero, suc, ◌+◌, ◌<◌, ◌≤◌, Bool, true, false, not, cond, ◌&&◌, ◌||◌, Option, Some, None, List, [], ◌∷◌, ◌++◌, length, drop, Ok, Err, refl, sym, ap, subst, ◌∙◌, append_assoc, arith, inl, inr}
-use Rattle.std.specs.Prelude.{Result, codes, option_and_then}
+use Rattle.std.proofs.Common.{◌≡◌, ℕ, zero, suc, ◌<◌, ◌≤◌, Bool, true, false, not, cond, ◌&&◌, ◌||◌, Option, Some, None, List, [], ◌∷◌, ◌++◌, length, drop, Ok, Err, refl, sym, ap, subst, ◌∙◌, append_assoc, arith, inl, inr}
+use Rattle.std.specs.Prelude.{Result, codes}
 use Rattle.std.specs.List.{before_first, position_or_len}
 use Rattle.std.specs.Option.{option_map_or}
 use Rattle.std.specs.FinMap.{empty}
@@ -15,18 +15,18 @@ use Rattle.line_points.specs.declared.fault.LineFault.{LineFault}
 use Rattle.line_points.specs.declared.fault.LineFault.TheVariants as faults
 use Rattle.line_points.specs.declared.part.Part.TheVariants as parts
 use Rattle.line_points.specs.Parts.{begins, comma, equals, quote, space, is_space, is_separator, without_spaces, text_at, is_at_separator}
-use Rattle.line_points.specs.Numbers.{is_digits, number_of, signed, fits, before_last_byte, is_true, is_false}
+use Rattle.line_points.specs.Numbers.{is_digits, signed, fits, is_true, is_false}
 use Rattle.line_points.specs.Words.{int_value, integer_of, other_value, word_value, is_float, is_unsigned}
 use Rattle.line_points.specs.Line.{Field, quoted_at, word_at, value_at, field_at, fields_from, fields_at}
-use Rattle.line_points.specs.Grammar.{Spells, SpellsValue, SpellsFields, one_field, more_fields, spaces}
+use Rattle.line_points.specs.Grammar.{Spells, SpellsFields, one_field, more_fields, spaces}
 use Rattle.line_points.specs.FaultRows.{SpellsFloat, SpellsUnsigned, unsigned_word, SpellsSome, FieldOf, FieldPlace, first_place, later_place, FieldFault, float_value, unsigned_value, no_field}
-use Rattle.line_points.proofs.TestLaws.{first_of, second_of, not_true, ok_is, err_is, made_err}
+use Rattle.line_points.proofs.TestLaws.{first_of, second_of, not_true, err_is, made_err}
 use Rattle.line_points.proofs.NumberLaws.{before_last_byte-last}
 use Rattle.line_points.proofs.PlaceLaws.{word_ends}
 use Rattle.line_points.proofs.SpellLaws.{text_taken, spelling_again}
 use Rattle.line_points.proofs.TagLaws.{begins_some, behind_first}
 use Rattle.line_points.proofs.SpaceLaws.{spaces_skipped, only_spaces}
-use Rattle.line_points.proofs.ValueLaws.{no_separator, next_word, place_end, value_again}
+use Rattle.line_points.proofs.ValueLaws.{no_separator, next_word, place_end}
 use Rattle.line_points.proofs.FieldLaws.{FieldTaken, field_taken, field_again, one_read}
 use Rattle.line_points.proofs.LineLaws.{with_first, more_fields as fields_behind, comma-shorter, no_field as no_field_read}
 use Rattle.line_points.proofs.WholeLaws.{fields_first, fields_some}
@@ -94,7 +94,7 @@ float_again : (bytes : List ℕ) → FieldOf SpellsFloat bytes → field_at byte
 float_again bytes o =
     ap field_at o.is
     ∙ value_fault o.k o.key o.value o.rest faults.FloatField o.some_key o.key_spelled
-        (word_again o.value o.rest faults.FloatField (float_whole o.value_spelled) (float_first o.value_spelled) (float_read o.value o.value_spelled) o.ends)
+    (word_again o.value o.rest faults.FloatField (float_whole o.value_spelled) (float_first o.value_spelled) (float_read o.value o.value_spelled) o.ends)
 
 unsigned_value_again : (word rest : List ℕ) → SpellsUnsigned word → is_at_separator rest ≡ true → value_at (word ++ rest) ≡ Err faults.UnsignedField
 unsigned_value_again word rest (unsigned_word digits all) next =
@@ -178,10 +178,10 @@ field_fault bytes f read = by_test (begins_with equals (text_at parts.Key bytes)
         let found : begins_with equals k.1 ≡ true = first_of _ (not (is_empty k.0)) h in
         let kt = text_taken parts.Key bytes (begins_some equals k.1 found) in
         value_here bytes k.0 kt.spelling (drop 1 k.1) f read
-            (kt.is ∙ ap (λ (x : List ℕ). kt.spelling ++ x) (behind_first equals k.1 found))
-            (not_true (is_empty k.0) (second_of (begins_with equals k.1) _ h))
-            kt.spells
-            (made_err {B = Field × List ℕ} (value_at (drop 1 k.1)) (λ (value : Value × List ℕ). let x : Field × List ℕ = ((k.0, value.0), value.1) in x) f e)
+        (kt.is ∙ ap (λ (x : List ℕ). kt.spelling ++ x) (behind_first equals k.1 found))
+        (not_true (is_empty k.0) (second_of (begins_with equals k.1) _ h))
+        kt.spells
+        (made_err {B = Field × List ℕ} (value_at (drop 1 k.1)) (λ (value : Value × List ℕ). let x : Field × List ℕ = ((k.0, value.0), value.1) in x) f e)
 
 pub field_fault_read : (bytes : List ℕ) (f : LineFault) → FieldFault bytes f → field_at bytes ≡ Err f
 field_fault_read bytes _ (float_value o) = float_again bytes o
@@ -209,14 +209,14 @@ data BadField (f : LineFault) : List ℕ → Type 0 where
 prepended : (bytes after behind : List ℕ) (fd : Field) (f : LineFault) → FieldTaken bytes fd after → after ≡ comma ∷ behind → BadField f behind → BadField f bytes
 prepended bytes after behind fd f t is (bad_now _ fault) =
     subst (BadField f) (append_assoc t.key (equals ∷ t.value) (comma ∷ behind) ∙ ap (λ (x : List ℕ). t.key ++ (equals ∷ (t.value ++ x))) (sym is) ∙ sym t.is)
-        (bad_later (fd ∷ []) (t.key ++ (equals ∷ t.value)) behind (one_field fd.0 fd.1 t.key t.value t.some_key t.key_spells t.value_spells) fault)
+    (bad_later (fd ∷ []) (t.key ++ (equals ∷ t.value)) behind (one_field fd.0 fd.1 t.key t.value t.some_key t.key_spells t.value_spells) fault)
 prepended bytes after _ fd f t is (bad_later fs fields rest spells fault) =
     subst (BadField f)
-        (append_assoc t.key (equals ∷ (t.value ++ (comma ∷ fields))) (comma ∷ rest)
-        ∙ ap (λ (x : List ℕ). t.key ++ (equals ∷ x)) (append_assoc t.value (comma ∷ fields) (comma ∷ rest))
-        ∙ ap (λ (x : List ℕ). t.key ++ (equals ∷ (t.value ++ x))) (sym is)
-        ∙ sym t.is)
-        (bad_later (fd ∷ fs) (t.key ++ (equals ∷ (t.value ++ (comma ∷ fields)))) rest (more_fields fd.0 fd.1 t.key t.value fs fields t.some_key t.key_spells t.value_spells spells) fault)
+    (append_assoc t.key (equals ∷ (t.value ++ (comma ∷ fields))) (comma ∷ rest)
+    ∙ ap (λ (x : List ℕ). t.key ++ (equals ∷ x)) (append_assoc t.value (comma ∷ fields) (comma ∷ rest))
+    ∙ ap (λ (x : List ℕ). t.key ++ (equals ∷ (t.value ++ x))) (sym is)
+    ∙ sym t.is)
+    (bad_later (fd ∷ fs) (t.key ++ (equals ∷ (t.value ++ (comma ∷ fields)))) rest (more_fields fd.0 fd.1 t.key t.value fs fields t.some_key t.key_spells t.value_spells spells) fault)
 
 field_shorter : (bytes after : List ℕ) (fd : Field) → FieldTaken bytes fd after → length after < length bytes
 field_shorter bytes after fd t = omega (arith, ap length t.is, length-append t.key (equals ∷ (t.value ++ after)), length-append t.value after)
@@ -262,8 +262,8 @@ fields_fault bytes f e = by_test (is_empty (without_spaces bytes)) refl e
     by_test true none e = subst (FieldsFault bytes) (err_is {A = KeyMap Value × List ℕ} faults.NoField f e) (no_fields none)
     by_test false some e =
         placed bytes (without_spaces bytes) f refl some (no_space bytes)
-            (bad_fields (length (without_spaces bytes)) (without_spaces bytes) f (omega arith)
-                (made_err {B = KeyMap Value × List ℕ} (fields_from (length (without_spaces bytes)) (without_spaces bytes)) (λ (x : List Field × List ℕ). let y : KeyMap Value × List ℕ = (with_entries empty x.0, x.1) in y) f e))
+        (bad_fields (length (without_spaces bytes)) (without_spaces bytes) f (omega arith)
+        (made_err {B = KeyMap Value × List ℕ} (fields_from (length (without_spaces bytes)) (without_spaces bytes)) (λ (x : List Field × List ℕ). let y : KeyMap Value × List ℕ = (with_entries empty x.0, x.1) in y) f e))
 
 -- ---- such fields are faulty
 
@@ -307,7 +307,7 @@ place_fault (first_place rest some none) more f fault =
     skipped_fault more rest f (not_space rest none) some (first_fault (length rest) rest f (some_length rest some) (field_fault_read rest f fault))
 place_fault (later_place fs fields rest spells) more f fault =
     skipped_fault more (fields ++ (comma ∷ rest)) f (fields_first spells (comma ∷ rest)) (fields_some spells (comma ∷ rest))
-        (over_fields spells (length (fields ++ (comma ∷ rest))) rest f (omega arith) (field_fault_read rest f fault))
+    (over_fields spells (length (fields ++ (comma ∷ rest))) rest f (omega arith) (field_fault_read rest f fault))
 
 pub no_fields_read : (n : ℕ) → fields_at (spaces n) ≡ Err faults.NoField
 unfolding fields_at

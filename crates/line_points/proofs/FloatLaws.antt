@@ -1,8 +1,8 @@
 -- Words that spell a floating-point number or an unsigned integer, against the tests for them.
-use Rattle.std.proofs.Common.{◌≡◌, ℕ, suc, ◌+◌, Bool, true, false, not, cond, ◌&&◌, ◌||◌, Option, Some, None, List, [], ◌∷◌, ◌++◌, length, take, drop, Ok, Err, refl, sym, ap, subst, ◌∙◌, append_assoc, eqb, ltb, arith}
-use Rattle.std.specs.Prelude.{Result, codes, bytes_eq, position}
+use Rattle.std.proofs.Common.{◌≡◌, ℕ, ◌+◌, Bool, true, false, not, cond, ◌&&◌, ◌||◌, Option, Some, None, List, [], ◌∷◌, ◌++◌, length, take, drop, refl, sym, ap, subst, ◌∙◌, append_assoc, eqb, ltb, arith}
+use Rattle.std.specs.Prelude.{codes}
 use Rattle.std.specs.Char.{is_ascii_digit}
-use Rattle.std.specs.List.{list_all, list_any, position_or_len}
+use Rattle.std.specs.List.{list_all, position_or_len}
 use Rattle.std.specs.Option.{option_map, option_map_or}
 use Rattle.std.proofs.lemmas.Bool.{eqb-true}
 use Rattle.std.proofs.lemmas.Bool.Decides.{nat_tests}
@@ -106,8 +106,8 @@ mantissa_bytes : {m : List ℕ} → SpellsMantissa m → list_all is_mantissa_by
 mantissa_bytes (whole_mantissa digits all) = every is_ascii_digit is_mantissa_byte digit_in digits (second_of _ _ all)
 mantissa_bytes (pointed_mantissa whole fraction all_whole all) =
     all_of_both is_mantissa_byte whole (codes "." ++ fraction)
-        (every is_ascii_digit is_mantissa_byte digit_in whole all_whole)
-        (every is_ascii_digit is_mantissa_byte digit_in fraction (second_of _ _ all))
+    (every is_ascii_digit is_mantissa_byte digit_in whole all_whole)
+    (every is_ascii_digit is_mantissa_byte digit_in fraction (second_of _ _ all))
 
 digits_first : (digits : List ℕ) → is_digits digits ≡ true → begins is_ascii_digit digits ≡ true
 digits_first [] all = absurd cc
@@ -181,7 +181,7 @@ mantissa_spelled m h = by_cut m (cut is_point m) refl h
         let c = is_cut is_point m whole fraction e in
         let same : c.byte ≡ 46 = eqb-true _ _ c.found in
         subst SpellsMantissa (sym (c.is ∙ ap (λ (x : ℕ). whole ++ (x ∷ fraction)) same))
-            (pointed_mantissa whole fraction (whole_digits whole (first_of (is_empty whole || is_digits whole) _ h)) (second_of (is_empty whole || is_digits whole) _ h))
+        (pointed_mantissa whole fraction (whole_digits whole (first_of (is_empty whole || is_digits whole) _ h)) (second_of (is_empty whole || is_digits whole) _ h))
 
 exponent_spelled : (mark : ℕ) (rest : List ℕ) → is_exponent_mark mark ≡ true → is_digits (without is_sign rest) ≡ true → SpellsExponent (mark ∷ rest)
 exponent_spelled mark [] found h = absurd cc
@@ -199,7 +199,7 @@ float_spelled word h = by_cut word (without is_minus word) (minus_taken word).ne
     by_cut word number negative is (Some (m, rest)) e h =
         let c = is_cut is_exponent_mark number m rest e in
         subst SpellsFloat (sym (is ∙ ap (λ (x : List ℕ). minus negative ++ x) c.is))
-            (with_exponent negative m (c.byte ∷ rest) (mantissa_spelled m (first_of (is_mantissa m) _ h)) (exponent_spelled c.byte rest c.found (second_of (is_mantissa m) _ h)))
+        (with_exponent negative m (c.byte ∷ rest) (mantissa_spelled m (first_of (is_mantissa m) _ h)) (exponent_spelled c.byte rest c.found (second_of (is_mantissa m) _ h)))
 
 pub unsigned_spelled : (word : List ℕ) → is_unsigned word ≡ true → SpellsUnsigned word
 unsigned_spelled word h = by_front word (before_last_byte 117 word) refl h
@@ -307,7 +307,7 @@ pub float_whole : {word : List ℕ} → SpellsFloat word → list_all (λ b. not
 float_whole (without_exponent negative m spells) = all_of_both (λ b. not (is_separator b)) (minus negative) m (minus_whole negative) (mantissa_whole spells)
 float_whole (with_exponent negative m exponent spells exponent_spells) =
     all_of_both (λ b. not (is_separator b)) (minus negative) (m ++ exponent) (minus_whole negative)
-        (all_of_both (λ b. not (is_separator b)) m exponent (mantissa_whole spells) (exponent_whole exponent_spells))
+    (all_of_both (λ b. not (is_separator b)) m exponent (mantissa_whole spells) (exponent_whole exponent_spells))
 
 pub unsigned_whole : (digits : List ℕ) → is_digits digits ≡ true → list_all (λ b. not (is_separator b)) (digits ++ codes "u") ≡ true
 unsigned_whole digits all = all_of_both (λ b. not (is_separator b)) digits (codes "u") (digits_whole digits all) refl

@@ -15,6 +15,7 @@ use Rattle.kap_base.specs.Texts.{backslash, is_empty, ends_with, is_name, is_lin
 use Rattle.kap_base.specs.Points.{is_value, is_time}
 use Rattle.kap_base.specs.declared.value.Value.{Value}
 use Rattle.kap_base.specs.declared.value.Value.TheVariants as values
+use Rattle.kap_base.specs.declared.limits.TheConstants.{TIME_LIMIT}
 use Rattle.line_points.specs.declared.part.Part.{Part}
 use Rattle.line_points.specs.declared.part.Part.TheVariants as parts
 use Rattle.line_points.specs.declared.mode.Mode.TheVariants.{Recording}
@@ -151,7 +152,7 @@ all_fields_spell (f ∷ fs) some each = fields_spell f fs each
 
 -- ---- the time
 
-time_from : (negative : Bool) (n : ℕ) → n ≤ 9 * 10 ^ 18 → SpellsTime Recording (signed (negative, n)) (space ∷ (minus negative ++ decimal n))
+time_from : (negative : Bool) (n : ℕ) → n ≤ TIME_LIMIT → SpellsTime Recording (signed (negative, n)) (space ∷ (minus negative ++ decimal n))
 time_from negative n le =
     let is : digits_value 10 (decimal n) * 1 ≡ n = omega (arith, digits_value-decimal own n (omega arith)) in
     subst (λ (x : ℕ). SpellsTime Recording (signed (negative, x)) (space ∷ (minus negative ++ decimal n))) is
@@ -159,4 +160,4 @@ time_from negative n le =
 
 pub time_spells : (t : ℤ) → is_time t ≡ true → SpellsTime Recording t (space ∷ signed_decimal t)
 time_spells (pos n) small = time_from false n (leb-true _ _ small)
-time_spells (negsuc n) small = let lt : n < 9 * 10 ^ 18 = ltb-true _ _ small in time_from true (suc n) (omega arith)
+time_spells (negsuc n) small = let lt : n < TIME_LIMIT = ltb-true _ _ small in time_from true (suc n) (omega arith)

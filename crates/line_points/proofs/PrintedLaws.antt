@@ -15,6 +15,7 @@ use Rattle.kap_base.specs.Texts.{backslash, line_feed, has_line_feed, is_line, i
 use Rattle.kap_base.specs.Points.{PointValue, IsPoint, is_value}
 use Rattle.kap_base.specs.declared.memory.NoMemory.{NoMemory}
 use Rattle.kap_base.specs.declared.value.Value.{Value}
+use Rattle.line_points.specs.declared.line.TheConstants.{LINE_LIMIT}
 use Rattle.line_points.specs.declared.part.Part.{Part}
 use Rattle.line_points.specs.declared.part.Part.TheVariants as parts
 use Rattle.line_points.specs.declared.mode.Mode.{Mode}
@@ -205,7 +206,7 @@ printed p is =
 
 pub record PrintsAgain (line : List ℕ) (p : PointValue) : Type 0 where
   pub one_line : is_line line ≡ true
-  pub again : length line ≤ 65536 → line_of p.db p.rp Recording line ≡ Ok (Some (ungrouped p))
+  pub again : length line ≤ LINE_LIMIT → line_of p.db p.rp Recording line ≡ Ok (Some (ungrouped p))
   pub stored_again : stored_of p.db p.rp Recording line ≡ Ok (ungrouped p)
 
 pub prints_again : (line : List ℕ) (p : PointValue) → IsPoint p → line ≡ Print p → PrintsAgain line p
@@ -228,7 +229,7 @@ pub answer_one_line : (r : Result (List ℕ) NoMemory) (p : PointValue) → IfOk
 answer_one_line (Ok line) p q = q.one_line
 answer_one_line (Err e) p q = tt
 
-pub answer_read : (r : Result (List ℕ) NoMemory) (p : PointValue) → IfOk r (λ line. PrintsAgain line p) → IfOk r (λ line. length line ≤ 65536 → line_of p.db p.rp Recording line ≡ Ok (Some (ungrouped p)))
+pub answer_read : (r : Result (List ℕ) NoMemory) (p : PointValue) → IfOk r (λ line. PrintsAgain line p) → IfOk r (λ line. length line ≤ LINE_LIMIT → line_of p.db p.rp Recording line ≡ Ok (Some (ungrouped p)))
 answer_read (Ok line) p q = q.again
 answer_read (Err e) p q = tt
 

@@ -1,5 +1,5 @@
 -- A line has the fault of its row in the table of faults, and no other.
-use Rattle.std.proofs.Common.{◌≡◌, ℕ, zero, suc, ◌<◌, ◌≤◌, Bool, true, false, not, cond, ◌&&◌, ◌||◌, ◌⊎◌, Option, Some, None, List, [], ◌∷◌, ◌++◌, length, Ok, Err, refl, sym, ap, subst, ◌∙◌, arith, inl, inr, ltb, eqb}
+use Rattle.std.proofs.Common.{◌≡◌, ℕ, zero, suc, Bool, true, false, not, cond, ◌&&◌, ◌||◌, ◌⊎◌, Option, Some, None, List, [], ◌∷◌, ◌++◌, length, Ok, Err, refl, sym, ap, subst, ◌∙◌, arith, inl, inr, ltb, eqb}
 use Rattle.std.specs.Prelude.{Result, ℤ}
 use Rattle.std.specs.Str.{is_utf8}
 use Rattle.std.proofs.lemmas.Bool.{ltb-true, ltb-false, le-ltb, lt-ltb}
@@ -11,25 +11,25 @@ use Rattle.kap_base.specs.Texts.{is_empty, begins_with, number_sign}
 use Rattle.kap_base.specs.Maps.{KeyMap, with_entries}
 use Rattle.kap_base.specs.Points.{PointValue}
 use Rattle.kap_base.specs.declared.value.Value.{Value}
+use Rattle.line_points.specs.declared.line.TheConstants.{LINE_LIMIT}
 use Rattle.line_points.specs.declared.fault.LineFault.{LineFault}
 use Rattle.line_points.specs.declared.fault.LineFault.TheVariants as faults
 use Rattle.line_points.specs.declared.part.Part.TheVariants as parts
 use Rattle.line_points.specs.declared.mode.Mode.{Mode}
 use Rattle.line_points.specs.Parts.{comma, space, begins, is_space, stops, without_spaces, text_from, text_at, is_at_separator}
-use Rattle.line_points.specs.Line.{Tag, Field, differ, measurement_at, tags_from, tags_at, fields_at, time_of, point_of, stored_of, line_of, is_live, is_blank, Faulty}
-use Rattle.line_points.specs.Grammar.{SpellsFields, spaces}
-use Rattle.line_points.specs.Answered.{IsBlankLine}
-use Rattle.line_points.specs.FaultRows.{SpellsBefore, none_before, byte_before, escape_before, TagsBefore, SpelledUpTo, NoMeasurement, NewTag, FieldPlace, first_place, later_place, FieldFault, TimeFault, FaultOfText, measurement_row, tag_row, no_field_row, field_row, time_row, FaultOfStored, utf8_row, text_row, FaultOfLine, long_row, short_row}
-use Rattle.line_points.proofs.TestLaws.{first_of, second_of, first_false, second_false, both, not_true, not_false, ok_is, err_is, bind_ok, bind_err, made_err, else_ok, then_ok}
-use Rattle.line_points.proofs.SpellLaws.{Reading, at_end, at_stop, over_escape, over_plain, reading, ends_here, step_stop}
-use Rattle.line_points.proofs.SpaceLaws.{after_spaces, spaces_skipped, only_spaces, behind_spaces, some_before}
+use Rattle.line_points.specs.Line.{Tag, differ, measurement_at, tags_from, tags_at, fields_at, time_of, point_of, stored_of, line_of, is_live, is_blank, Faulty}
+use Rattle.line_points.specs.Grammar.{IsBlank, spaces}
+use Rattle.line_points.specs.FaultRows.{SpellsBefore, none_before, byte_before, escape_before, TagsBefore, SpelledUpTo, NoMeasurement, FieldPlace, first_place, later_place, FaultOfText, measurement_row, tag_row, no_field_row, field_row, time_row, FaultOfStored, utf8_row, text_row, FaultOfLine, long_row, short_row}
+use Rattle.line_points.proofs.TestLaws.{first_of, first_false, second_false, not_true, ok_is, err_is, bind_ok, bind_err, made_err, else_ok, then_ok}
+use Rattle.line_points.proofs.SpellLaws.{Reading, at_end, at_stop, over_escape, over_plain, reading, step_stop}
+use Rattle.line_points.proofs.SpaceLaws.{after_spaces, spaces_skipped, behind_spaces, some_before}
 use Rattle.line_points.proofs.BeforeLaws.{text_read, text_again, TagsRead, tags_read, tags_are_bad, bad_tags_again, next-before, over_tags}
 use Rattle.line_points.proofs.FieldFaultLaws.{FieldsFault, no_fields, bad_field, fields_fault, place_fault, no_fields_read}
 use Rattle.line_points.proofs.TimeFaultLaws.{time_fault, time_fault_read}
 use Rattle.line_points.proofs.WholeLaws.{no_sign, here_next, next_here, field_map_taken, field_map_again, fields_some}
 use Rattle.line_points.proofs.TimeLaws.{empty_nil}
 use Rattle.line_points.proofs.LineLaws.{onto, ended}
-use Rattle.line_points.proofs.OneLaws.{blank_is, is_blank_line}
+use Rattle.line_points.proofs.BlankLaws.{blank_is, is_blank_line}
 
 -- ---- the measurement
 
@@ -249,25 +249,25 @@ no_comma-spaces (suc n) = refl
 row_fault : (db rp : List ℕ) (mode : Mode) (line : List ℕ) (f : LineFault) → FaultOfText mode line f → point_of db rp mode (without_spaces line) ≡ Err f
 row_fault db rp mode line _ (measurement_row n) =
     no_name_point db rp mode (without_spaces line) faults.Measurement
-        (ap (λ (x : List ℕ). measurement_at (without_spaces x)) n.line_is ∙ ap measurement_at (spaces_skipped n.before n.rest (no_space_begins n.rest n.none)) ∙ none_again n.rest n.none)
+    (ap (λ (x : List ℕ). measurement_at (without_spaces x)) n.line_is ∙ ap measurement_at (spaces_skipped n.before n.rest (no_space_begins n.rest n.none)) ∙ none_again n.rest n.none)
 row_fault db rp mode line _ (tag_row ts rest s none) =
     no_tags_point db rp mode (without_spaces line) faults.Tag s.text (s.tags ++ (comma ∷ rest)) (name_up_to line ts (comma ∷ rest) s)
-        (bad_tags_again (s.tags ++ (comma ∷ rest)) (record { ts = ts; tags = s.tags; rest = rest; is = refl; spells = s.tags_spelled; apart = s.keys_differ; none = none }))
+    (bad_tags_again (s.tags ++ (comma ∷ rest)) (record { ts = ts; tags = s.tags; rest = rest; is = refl; spells = s.tags_spelled; apart = s.keys_differ; none = none }))
 row_fault db rp mode line _ (no_field_row ts n s) =
     no_fields_point db rp mode (without_spaces line) faults.NoField s.text (s.tags ++ spaces n) (spaces n) (with_entries empty ts) (name_up_to line ts (spaces n) s)
-        (tags_up_to s.tags (spaces n) ts s.tags_spelled s.keys_differ s.ends (no_comma-spaces n))
-        (no_fields_read n)
+    (tags_up_to s.tags (spaces n) ts s.tags_spelled s.keys_differ s.ends (no_comma-spaces n))
+    (no_fields_read n)
 row_fault db rp mode line _ (field_row f ts more fields rest s place fault) =
     let behind = space ∷ (spaces more ++ fields) in
     no_fields_point db rp mode (without_spaces line) f s.text (s.tags ++ behind) behind (with_entries empty ts) (name_up_to line ts behind s)
-        (tags_up_to s.tags behind ts s.tags_spelled s.keys_differ refl refl)
-        (place_fault place more f fault)
+    (tags_up_to s.tags behind ts s.tags_spelled s.keys_differ refl refl)
+    (place_fault place more f fault)
 row_fault db rp mode line _ (time_row f ts more fs fields rest s spells next none fault) =
     let behind = space ∷ (spaces more ++ (fields ++ rest)) in
     no_time_point db rp mode (without_spaces line) f s.text (s.tags ++ behind) behind rest (with_entries empty ts) (with_entries empty fs) (name_up_to line ts behind s)
-        (tags_up_to s.tags behind ts s.tags_spelled s.keys_differ refl refl)
-        (field_map_again fs fields rest more spells next none)
-        (time_fault_read mode rest f next none fault)
+    (tags_up_to s.tags behind ts s.tags_spelled s.keys_differ refl refl)
+    (field_map_again fs fields rest more spells next none)
+    (time_fault_read mode rest f next none fault)
 
 -- ---- lines of any length, and lines
 
@@ -288,18 +288,18 @@ pub line_row : (db rp : List ℕ) (mode : Mode) (line : List ℕ) (f : LineFault
 unfolding line_of
 line_row db rp mode line f e = by_blank (is_live mode && is_blank (without_spaces line)) refl e
   where
-    not_blank : (is_live mode ≡ true) × IsBlankLine line → ⊥
+    not_blank : IsBlank mode line → ⊥
     not_blank blank = let read = is_blank_line db rp line mode blank in cc
 
-    by_long : (b : Bool) → ltb 65536 (length line) ≡ b → cond b (Err faults.Long) (stored_of db rp mode line >>= λ p. Ok (Some p)) ≡ Err f → FaultOfLine mode line f
+    by_long : (b : Bool) → ltb LINE_LIMIT (length line) ≡ b → cond b (Err faults.Long) (stored_of db rp mode line >>= λ p. Ok (Some p)) ≡ Err f → FaultOfLine mode line f
     by_long true long e = subst (FaultOfLine mode line) (err_is {A = Option PointValue} faults.Long f e) (long_row not_blank (ltb-true _ _ long))
     by_long false short e = short_row f not_blank (ltb-false _ _ short) (stored_row db rp mode line f (made_err (stored_of db rp mode line) (λ (p : PointValue). Some p) f e))
 
-    by_blank : (b : Bool) → (is_live mode && is_blank (without_spaces line)) ≡ b → cond b (Ok None) (cond (ltb 65536 (length line)) (Err faults.Long) (stored_of db rp mode line >>= λ p. Ok (Some p))) ≡ Err f → FaultOfLine mode line f
+    by_blank : (b : Bool) → (is_live mode && is_blank (without_spaces line)) ≡ b → cond b (Ok None) (cond (ltb LINE_LIMIT (length line)) (Err faults.Long) (stored_of db rp mode line >>= λ p. Ok (Some p))) ≡ Err f → FaultOfLine mode line f
     by_blank true blank e = absurd cc
-    by_blank false some e = by_long (ltb 65536 (length line)) refl e
+    by_blank false some e = by_long (ltb LINE_LIMIT (length line)) refl e
 
-never_blank : (db rp : List ℕ) (mode : Mode) (line : List ℕ) → ((is_live mode ≡ true) × IsBlankLine line → ⊥) → (is_live mode && is_blank (without_spaces line)) ≡ false
+never_blank : (db rp : List ℕ) (mode : Mode) (line : List ℕ) → (IsBlank mode line → ⊥) → (is_live mode && is_blank (without_spaces line)) ≡ false
 unfolding line_of
 never_blank db rp mode line none = elim (is_live mode && is_blank (without_spaces line)) as (λ t. (is_live mode && is_blank (without_spaces line)) ≡ t → t ≡ false) [
   | false ↦ λ _. refl

@@ -1,5 +1,5 @@
 -- Tags that are read are spelled so, and tags that are spelled are read.
-use Rattle.std.proofs.Common.{◌≡◌, ℕ, zero, suc, ◌<◌, ◌≤◌, Bool, true, false, not, cond, ◌&&◌, List, [], ◌∷◌, ◌++◌, length, drop, Ok, refl, sym, ap, subst, ◌∙◌, append_assoc, arith}
+use Rattle.std.proofs.Common.{◌≡◌, ℕ, zero, suc, ◌<◌, ◌≤◌, true, false, not, cond, ◌&&◌, List, [], ◌∷◌, ◌++◌, length, drop, Ok, refl, sym, ap, subst, ◌∙◌, append_assoc, arith}
 use Rattle.std.proofs.lemmas.List.{length-append}
 use Rattle.std.proofs.lemmas.Bool.Decides.{nat_tests}
 use Rattle.kap_base.specs.Words.{◌>>=◌}
@@ -7,7 +7,7 @@ use Rattle.kap_base.specs.Texts.{is_empty, begins_with}
 use Rattle.line_points.specs.declared.fault.LineFault.{LineFault}
 use Rattle.line_points.specs.declared.fault.LineFault.TheVariants as faults
 use Rattle.line_points.specs.declared.part.Part.TheVariants as parts
-use Rattle.line_points.specs.Parts.{comma, equals, is_separator, text_at, is_at_separator}
+use Rattle.line_points.specs.Parts.{comma, equals, text_at, is_at_separator}
 use Rattle.line_points.specs.Line.{Tag, tag_at, tags_from}
 use Rattle.line_points.specs.Grammar.{Spells, SpellsTags, no_tags, more_tags}
 use Rattle.line_points.proofs.TestLaws.{first_of, second_of, not_true, ok_is, bind_ok, guard_ok}

@@ -1,11 +1,12 @@
 -- Where the time is faulty: which fault is read, and what stands behind the fields.
-use Rattle.std.proofs.Common.{◌≡◌, ℕ, zero, suc, ◌*◌, ◌^◌, Bool, true, false, not, cond, ◌&&◌, Option, Some, None, List, [], ◌∷◌, ◌++◌, length, drop, Ok, Err, refl, sym, ap, subst, ◌∙◌, append_assoc, arith}
+use Rattle.std.proofs.Common.{◌≡◌, ℕ, ◌*◌, Bool, true, false, cond, Option, Some, None, List, ◌∷◌, ◌++◌, length, drop, Ok, Err, refl, sym, ap, subst, ◌∙◌, append_assoc}
 use Rattle.std.specs.Prelude.{ℤ, nat_le, Result}
 use Rattle.std.specs.List.{list_all, before_first, position_or_len}
 use Rattle.std.specs.Option.{option_map_or}
 use Rattle.std.specs.Str.Parse.{digits_value}
 use Rattle.std.proofs.lemmas.List.{append-nil, take-append-drop}
 use Rattle.kap_base.specs.Texts.{is_empty, begins_with}
+use Rattle.kap_base.specs.declared.limits.TheConstants.{TIME_LIMIT}
 use Rattle.line_points.specs.declared.fault.LineFault.{LineFault}
 use Rattle.line_points.specs.declared.fault.LineFault.TheVariants as faults
 use Rattle.line_points.specs.declared.mode.Unit.{Unit as TimeUnit}
@@ -20,7 +21,7 @@ use Rattle.line_points.proofs.TestLaws.{err_is}
 use Rattle.line_points.proofs.ValueLaws.{number_taken, number_again}
 use Rattle.line_points.proofs.PlaceLaws.{word_ends}
 use Rattle.line_points.proofs.SpaceLaws.{after_spaces, spaces_skipped, only_spaces, are_spaces, spaces_are, some_before, behind_spaces, place_end}
-use Rattle.line_points.proofs.TimeLaws.{empty_nil, number_whole, number_first, number_some, TimeTaken, time_taken}
+use Rattle.line_points.proofs.TimeLaws.{empty_nil, number_whole, number_first, number_some, time_taken}
 
 -- ---- what is read of spaces, and of a number
 
@@ -46,7 +47,7 @@ missing_else (Live unit now) e = cc
 missing_else Recording e = cc
 
 scaled_else : (unit : TimeUnit) (n : Bool × ℕ) → scaled unit n ≡ Err faults.Time → ⊥
-scaled_else unit n e = by_test (nat_le (n.1 * nanoseconds unit) (9 * 10 ^ 18)) e
+scaled_else unit n e = by_test (nat_le (n.1 * nanoseconds unit) TIME_LIMIT) e
   where
     by_test : (b : Bool) → cond b (Ok (signed (n.0, n.1 * nanoseconds unit))) (Err faults.TimeRange) ≡ Err faults.Time → ⊥
     by_test true e = cc
@@ -56,8 +57,8 @@ none_here : (mode : Mode) (bytes : List ℕ) (f : LineFault) → time_of mode (w
 none_here mode bytes f read is =
     let so : time_of mode (without_spaces bytes) ≡ Err faults.Time = read ∙ ap (λ (x : LineFault). Err x) (sym is) in
     subst (TimeFault mode bytes) is (no_time
-        (λ n spaces. missing_else mode (sym (spaces_read mode bytes n spaces) ∙ so))
-        (λ t. scaled_else (unit_of mode) (t.negative, digits_value 10 t.digits) (sym (number_read mode bytes t) ∙ so)))
+    (λ n spaces. missing_else mode (sym (spaces_read mode bytes n spaces) ∙ so))
+    (λ t. scaled_else (unit_of mode) (t.negative, digits_value 10 t.digits) (sym (number_read mode bytes t) ∙ so)))
 
 -- ---- what is faulty
 
@@ -85,9 +86,9 @@ far_fault mode bytes word number f c read e =
     let n = number_taken word number read in
     let size : digits_value 10 n.digits ≡ number.1 = ap (λ (x : Bool × ℕ). x.1) n.value in
     let t : TimeWord bytes = record { more = c.more; negative = number.0; digits = n.digits; behind = c.behind; is = c.is ∙ ap (λ (x : List ℕ). space ∷ (spaces c.more ++ (x ++ spaces c.behind))) n.is; all = n.all } in
-    by_test (nat_le (number.1 * nanoseconds (unit_of mode)) (9 * 10 ^ 18)) refl e (λ far. far_time t (ap (λ (x : ℕ). nat_le (x * nanoseconds (unit_of mode)) (9 * 10 ^ 18)) size ∙ far))
+    by_test (nat_le (number.1 * nanoseconds (unit_of mode)) TIME_LIMIT) refl e (λ far. far_time t (ap (λ (x : ℕ). nat_le (x * nanoseconds (unit_of mode)) TIME_LIMIT) size ∙ far))
   where
-    by_test : (b : Bool) → nat_le (number.1 * nanoseconds (unit_of mode)) (9 * 10 ^ 18) ≡ b → cond b (Ok (signed (number.0, number.1 * nanoseconds (unit_of mode)))) (Err faults.TimeRange) ≡ Err f → (nat_le (number.1 * nanoseconds (unit_of mode)) (9 * 10 ^ 18) ≡ false → TimeFault mode bytes faults.TimeRange) → TimeFault mode bytes f
+    by_test : (b : Bool) → nat_le (number.1 * nanoseconds (unit_of mode)) TIME_LIMIT ≡ b → cond b (Ok (signed (number.0, number.1 * nanoseconds (unit_of mode)))) (Err faults.TimeRange) ≡ Err f → (nat_le (number.1 * nanoseconds (unit_of mode)) TIME_LIMIT ≡ false → TimeFault mode bytes faults.TimeRange) → TimeFault mode bytes f
     by_test true range e made = absurd cc
     by_test false range e made = subst (TimeFault mode bytes) (err_is {A = ℤ} faults.TimeRange f e) (made range)
 
@@ -111,7 +112,7 @@ time_fault mode bytes f next none read = by_empty (is_empty (without_spaces byte
 
 -- ---- such a time is faulty
 
-far_read : (unit : TimeUnit) (n : Bool × ℕ) → nat_le (n.1 * nanoseconds unit) (9 * 10 ^ 18) ≡ false → scaled unit n ≡ Err faults.TimeRange
+far_read : (unit : TimeUnit) (n : Bool × ℕ) → nat_le (n.1 * nanoseconds unit) TIME_LIMIT ≡ false → scaled unit n ≡ Err faults.TimeRange
 far_read unit n far = rw far refl
 
 pub time_fault_read : (mode : Mode) (bytes : List ℕ) (f : LineFault) → is_at_separator bytes ≡ true → begins_with comma bytes ≡ false → TimeFault mode bytes f → time_of mode (without_spaces bytes) ≡ Err f

@@ -1,5 +1,5 @@
 -- A time that is read is spelled so, and a time that is spelled is read.
-use Rattle.std.proofs.Common.{◌≡◌, ℕ, zero, suc, ◌*◌, ◌^◌, Bool, true, false, not, cond, Option, Some, None, List, [], ◌∷◌, ◌++◌, length, drop, Ok, Err, refl, sym, ap, subst, ◌∙◌, append_assoc, arith}
+use Rattle.std.proofs.Common.{◌≡◌, ℕ, zero, suc, ◌*◌, Bool, true, false, not, cond, Option, Some, None, List, [], ◌∷◌, ◌++◌, length, drop, Ok, Err, refl, sym, ap, subst, ◌∙◌, append_assoc, arith}
 use Rattle.std.specs.Prelude.{ℤ, nat_le}
 use Rattle.std.specs.Char.{is_ascii_digit}
 use Rattle.std.specs.List.{list_all, before_first, position_or_len}
@@ -8,6 +8,7 @@ use Rattle.std.specs.Str.Parse.{digits_value}
 use Rattle.std.proofs.lemmas.Bool.Decides.{nat_tests}
 use Rattle.std.proofs.lemmas.List.{append-nil, take-append-drop}
 use Rattle.kap_base.specs.Texts.{is_empty, begins_with}
+use Rattle.kap_base.specs.declared.limits.TheConstants.{TIME_LIMIT}
 use Rattle.line_points.specs.declared.fault.LineFault.{LineFault}
 use Rattle.line_points.specs.declared.fault.LineFault.TheVariants as faults
 use Rattle.line_points.specs.declared.mode.Unit.{Unit as TimeUnit}
@@ -42,9 +43,9 @@ missing_taken Recording t rest n is e = absurd cc
 number_time : (mode : Mode) (t : ℤ) (word : List ℕ) (more : ℕ) (number : Bool × ℕ) → number_of word ≡ Some number → scaled (unit_of mode) number ≡ Ok t → SpellsTime mode t (space ∷ (spaces more ++ word))
 number_time mode t word more number read e =
     let n = number_taken word number read in
-    let g = guard_ok (nat_le (number.1 * nanoseconds (unit_of mode)) (9 * 10 ^ 18)) faults.TimeRange (signed (number.0, number.1 * nanoseconds (unit_of mode))) t e in
+    let g = guard_ok (nat_le (number.1 * nanoseconds (unit_of mode)) TIME_LIMIT) faults.TimeRange (signed (number.0, number.1 * nanoseconds (unit_of mode))) t e in
     let size : digits_value 10 n.digits ≡ number.1 = ap (λ (x : Bool × ℕ). x.1) n.value in
-    let range : nat_le (digits_value 10 n.digits * nanoseconds (unit_of mode)) (9 * 10 ^ 18) ≡ true = ap (λ (x : ℕ). nat_le (x * nanoseconds (unit_of mode)) (9 * 10 ^ 18)) size ∙ g.0 in
+    let range : nat_le (digits_value 10 n.digits * nanoseconds (unit_of mode)) TIME_LIMIT ≡ true = ap (λ (x : ℕ). nat_le (x * nanoseconds (unit_of mode)) TIME_LIMIT) size ∙ g.0 in
     let value : signed (number.0, digits_value 10 n.digits * nanoseconds (unit_of mode)) ≡ t = ap (λ (x : ℕ). signed (number.0, x * nanoseconds (unit_of mode))) size ∙ g.1 in
     subst (λ (x : List ℕ). SpellsTime mode t (space ∷ (spaces more ++ x))) (sym n.is)
     (subst (λ (x : ℤ). SpellsTime mode x (space ∷ (spaces more ++ (minus number.0 ++ n.digits)))) value (some_time mode more number.0 n.digits n.all range))
@@ -105,7 +106,7 @@ number_some true digits rest all = refl
 number_some false [] rest all = absurd cc
 number_some false (d ∷ digits) rest all = refl
 
-given_again : (mode : Mode) (negative : Bool) (digits : List ℕ) (behind : ℕ) → is_digits digits ≡ true → nat_le (digits_value 10 digits * nanoseconds (unit_of mode)) (9 * 10 ^ 18) ≡ true → time_of mode ((minus negative ++ digits) ++ spaces behind) ≡ Ok (signed (negative, digits_value 10 digits * nanoseconds (unit_of mode)))
+given_again : (mode : Mode) (negative : Bool) (digits : List ℕ) (behind : ℕ) → is_digits digits ≡ true → nat_le (digits_value 10 digits * nanoseconds (unit_of mode)) TIME_LIMIT ≡ true → time_of mode ((minus negative ++ digits) ++ spaces behind) ≡ Ok (signed (negative, digits_value 10 digits * nanoseconds (unit_of mode)))
 unfolding time_of
 given_again mode negative digits behind all range =
     let word = minus negative ++ digits in

@@ -10,6 +10,7 @@ use Rattle.kap_base.specs.Texts.{is_empty, begins_with, number_sign}
 use Rattle.kap_base.specs.Maps.{KeyMap, with_entries}
 use Rattle.kap_base.specs.Points.{PointValue}
 use Rattle.kap_base.specs.declared.value.Value.{Value}
+use Rattle.line_points.specs.declared.line.TheConstants.{LINE_LIMIT}
 use Rattle.line_points.specs.declared.fault.LineFault.{LineFault}
 use Rattle.line_points.specs.declared.fault.LineFault.TheVariants as faults
 use Rattle.line_points.specs.declared.part.Part.TheVariants as parts
@@ -171,14 +172,14 @@ read_point false false (Err d) p e = absurd cc
 pub line_spelled : (db rp : List ℕ) (mode : Mode) (line : List ℕ) (p : PointValue) → line_of db rp mode line ≡ Ok (Some p) → IsSpelled db rp mode line p
 unfolding line_of
 line_spelled db rp mode line p e =
-    stored_spelled db rp mode line p (read_point (is_live mode && is_blank (without_spaces line)) (ltb 65536 (length line)) (stored_of db rp mode line) p e)
+    stored_spelled db rp mode line p (read_point (is_live mode && is_blank (without_spaces line)) (ltb LINE_LIMIT (length line)) (stored_of db rp mode line) p e)
 
 -- a line that reads as a point is UTF-8, and not too long
 pub record IsAllowed (line : List ℕ) : Type 0 where
   pub valid : is_utf8 line ≡ true
-  pub short : length line ≤ 65536
+  pub short : length line ≤ LINE_LIMIT
 
-stored_valid : (db rp : List ℕ) (mode : Mode) (line : List ℕ) (p : PointValue) → stored_of db rp mode line ≡ Ok p → is_utf8 line ≡ true
+pub stored_valid : (db rp : List ℕ) (mode : Mode) (line : List ℕ) (p : PointValue) → stored_of db rp mode line ≡ Ok p → is_utf8 line ≡ true
 unfolding stored_of
 stored_valid db rp mode line p e = not_not (is_utf8 line) (unless_ok (not (is_utf8 line)) faults.NotUtf8 (point_of db rp mode (without_spaces line)) p e).0
   where
@@ -196,8 +197,8 @@ unfolding line_of
 line_allowed db rp mode line p e =
     let blank = is_live mode && is_blank (without_spaces line) in
     record {
-      valid = stored_valid db rp mode line p (read_point blank (ltb 65536 (length line)) (stored_of db rp mode line) p e);
-      short = ltb-false _ _ (not_long blank (ltb 65536 (length line)) (stored_of db rp mode line) p e);
+      valid = stored_valid db rp mode line p (read_point blank (ltb LINE_LIMIT (length line)) (stored_of db rp mode line) p e);
+      short = ltb-false _ _ (not_long blank (ltb LINE_LIMIT (length line)) (stored_of db rp mode line) p e);
     }
 
 -- ---- a line is read as it is spelled
@@ -287,9 +288,9 @@ no_matter : (b : Bool) → (b && false) ≡ false
 no_matter true = refl
 no_matter false = refl
 
-pub spelled_line : (db rp : List ℕ) (mode : Mode) (line : List ℕ) (p : PointValue) → IsOf db rp p → Spelled mode p line → is_utf8 line ≡ true → length line ≤ 65536 → line_of db rp mode line ≡ Ok (Some p)
+pub spelled_line : (db rp : List ℕ) (mode : Mode) (line : List ℕ) (p : PointValue) → IsOf db rp p → Spelled mode p line → is_utf8 line ≡ true → length line ≤ LINE_LIMIT → line_of db rp mode line ≡ Ok (Some p)
 unfolding line_of
 spelled_line db rp mode line p is s valid short =
-    let long : ltb 65536 (length line) ≡ false = le-ltb _ _ short in
+    let long : ltb LINE_LIMIT (length line) ≡ false = le-ltb _ _ short in
     let read = spelled_stored db rp mode line p is s valid in
     rw (never_blank mode p line s, no_matter (is_live mode), long, read) refl

@@ -1,12 +1,14 @@
 -- Which fault a line has: the table of faults, row by row. Nothing here reads: a row says up to where the line is spelled
 -- as the grammar has it, and what stands there in the place of what must. So it is the first fault from left to right.
-use Rattle.std.specs.Prelude.{◌≡◌, ◌≤◌, ◌<◌, ℕ, ◌*◌, ◌^◌, Bool, true, false, not, ◌&&◌, ◌||◌, ◌==◌, List, [], ◌∷◌, ◌++◌, ◌⊎◌, length, nat_le, codes}
+use Rattle.std.specs.Prelude.{◌≡◌, ◌≤◌, ◌<◌, ℕ, ◌*◌, Bool, true, false, not, ◌&&◌, ◌||◌, ◌==◌, List, [], ◌∷◌, ◌++◌, ◌⊎◌, length, nat_le, codes}
 use Rattle.std.specs.Char.{is_ascii_digit}
 use Rattle.std.specs.List.{list_all}
 use Rattle.std.specs.Str.{is_utf8}
 use Rattle.std.specs.Str.Parse.{digits_value}
 use Rattle.kap_base.specs.declared.value.Value.{Value}
 use Rattle.kap_base.specs.Texts.{backslash, begins_with, is_empty, number_sign}
+use Rattle.kap_base.specs.declared.limits.TheConstants.{TIME_LIMIT}
+use Rattle.line_points.specs.declared.line.TheConstants.{LINE_LIMIT}
 use Rattle.line_points.specs.declared.fault.LineFault.{LineFault}
 use Rattle.line_points.specs.declared.fault.LineFault.TheVariants as faults
 use Rattle.line_points.specs.declared.part.Part.{Part}
@@ -16,9 +18,8 @@ use Rattle.line_points.specs.declared.mode.Mode.TheVariants.{Recording}
 use Rattle.line_points.specs.Parts.{begins, comma, equals, space, escapes, stops, is_at_separator}
 use Rattle.line_points.specs.Numbers.{is_digits}
 use Rattle.line_points.specs.Words.{is_exponent_mark, is_sign}
-use Rattle.line_points.specs.Line.{Tag, Field, differ, is_live, nanoseconds, unit_of}
-use Rattle.line_points.specs.Grammar.{Spells, SpellsFields, SpellsValue, minus, spaces}
-use Rattle.line_points.specs.Answered.{IsBlankLine}
+use Rattle.line_points.specs.Line.{Tag, Field, differ, nanoseconds, unit_of}
+use Rattle.line_points.specs.Grammar.{Spells, SpellsFields, SpellsValue, IsBlank, minus, spaces}
 
 -- ---- what is spelled before the fault
 
@@ -136,7 +137,7 @@ pub record TimeWord (bytes : List ℕ) : Type 0 where
 -- What stands behind the fields: no time, in Recording mode; a time out of range; or something else.
 pub data TimeFault (mode : Mode) (bytes : List ℕ) : LineFault → Type 0 where
   missing_time : (n : ℕ) → mode ≡ Recording → bytes ≡ spaces n → TimeFault mode bytes faults.NoTime
-  far_time : (t : TimeWord bytes) → nat_le (digits_value 10 t.digits * nanoseconds (unit_of mode)) (9 * 10 ^ 18) ≡ false → TimeFault mode bytes faults.TimeRange
+  far_time : (t : TimeWord bytes) → nat_le (digits_value 10 t.digits * nanoseconds (unit_of mode)) TIME_LIMIT ≡ false → TimeFault mode bytes faults.TimeRange
   no_time : ((n : ℕ) → bytes ≡ spaces n → ⊥) → (TimeWord bytes → ⊥) → TimeFault mode bytes faults.Time
 
 -- ---- the rows
@@ -156,5 +157,5 @@ pub data FaultOfStored (mode : Mode) (line : List ℕ) : LineFault → Type 0 wh
 
 -- The rows of a line: first whether it is too long. A blank line of Live mode has no fault.
 pub data FaultOfLine (mode : Mode) (line : List ℕ) : LineFault → Type 0 where
-  long_row : ((is_live mode ≡ true) × IsBlankLine line → ⊥) → 65536 < length line → FaultOfLine mode line faults.Long
-  short_row : (f : LineFault) → ((is_live mode ≡ true) × IsBlankLine line → ⊥) → length line ≤ 65536 → FaultOfStored mode line f → FaultOfLine mode line f
+  long_row : (IsBlank mode line → ⊥) → LINE_LIMIT < length line → FaultOfLine mode line faults.Long
+  short_row : (f : LineFault) → (IsBlank mode line → ⊥) → length line ≤ LINE_LIMIT → FaultOfStored mode line f → FaultOfLine mode line f

@@ -7,5 +7,5 @@ pub mod Grammar
 pub mod Print
 pub mod Body
 pub mod Reading
-pub mod Answered
 pub mod FaultRows
+pub mod Answered

@@ -18,7 +18,7 @@ mod word;
 
 pub use body::{body_text, read_body, without_return};
 pub use fault::{BodyFault, LineFault};
-pub use law::{each_spelling, one_answer};
-pub use line::{read_line, read_stored};
+pub use law::{blank_lines, each_spelling, fault_rows, one_meaning};
+pub use line::{LINE_LIMIT, read_line, read_stored};
 pub use mode::{Mode, Unit};
 pub use print::{print_line, put_line};

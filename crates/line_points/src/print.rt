@@ -3,6 +3,7 @@ ghost use Rattle.std.specs.List.{flat_map, list_any};
 ghost use Rattle.std.specs.Fmt.{signed_decimal};
 ghost use Rattle.kap_base.specs.Texts.{is_line};
 ghost use Rattle.kap_base.specs.Points.{IsPoint};
+ghost use Rattle.line_points.specs.declared.line.TheConstants.{LINE_LIMIT};
 ghost use Rattle.line_points.specs.Parts.{escapes};
 ghost use Rattle.line_points.specs.Line.{Reads, stored_of};
 ghost use Rattle.line_points.specs.Print.{escaped, value_text, tag_text, field_text, fields_text, Print, ungrouped};
@@ -136,9 +137,11 @@ fn canonical_line(alloc: Global, point: &Point) -> Result<Bytes, NoMemory>
 pub fn print_line(alloc: Global, point: &Point) -> Result<Bytes, NoMemory>
     ensures line { IfOk result (λ line. line ≡ Print point.now) }
     ensures one_line { IfOk result (λ line. IsTrue (is_line line)) }
-    // Read again it gives the point, ungrouped: by `read_line` in Recording mode up to 65,536 bytes, by `read_stored` always.
-    ensures again { IfOk result (λ line. length line ≤ 65536 → Reads point.now.db point.now.rp Mode.Recording line (ungrouped point.now)) }
-    ensures stored_again { IfOk result (λ line. stored_of point.now.db point.now.rp Mode.Recording line ≡ Ok (ungrouped point.now)) }
+    // Read again it gives the point, ungrouped: by `read_line` in Recording mode up to `LINE_LIMIT` bytes, by `read_stored` always.
+    ensures again { IfOk result (λ line. length line ≤ LINE_LIMIT →
+        Reads point.now.db point.now.rp Mode.Recording line (ungrouped point.now)) }
+    ensures stored_again { IfOk result (λ line.
+        stored_of point.now.db point.now.rp Mode.Recording line ≡ Ok (ungrouped point.now)) }
 {
     canonical_line(alloc, point)
 }
