@@ -1,5 +1,5 @@
 -- What is printed is a spelling of the point, and clean.
-use Rattle.std.proofs.Common.{◌≡◌, ℕ, suc, ◌*◌, ◌^◌, ◌<◌, ◌≤◌, Bool, true, false, not, cond, ◌&&◌, ◌||◌, List, [], ◌∷◌, ◌++◌, length, refl, sym, ap, subst, ◌∙◌, append_assoc, eqb, arith, rules}
+use Rattle.std.proofs.Common.{◌≡◌, ℕ, suc, ◌*◌, ◌^◌, ◌<◌, ◌≤◌, Bool, true, false, not, cond, ◌&&◌, ◌||◌, List, [], ◌∷◌, ◌++◌, length, take, refl, sym, ap, subst, ◌∙◌, append_assoc, eqb, arith, rules}
 use Rattle.std.specs.Prelude.{ℤ, pos, negsuc, codes}
 use Rattle.std.specs.Char.{is_ascii_digit}
 use Rattle.std.specs.List.{list_all, list_any, flat_map}
@@ -8,6 +8,7 @@ use Rattle.std.specs.Str.Parse.{digits_value}
 use Rattle.std.proofs.lemmas.Bool.{eqb-true, ltb-true, leb-true, le-leb}
 use Rattle.std.proofs.lemmas.Bool.Decides.{nat_tests}
 use Rattle.std.proofs.lemmas.Fmt.{digits_decimal, digits_value-decimal, decimal_nonempty}
+use Rattle.std.proofs.lemmas.Grind.{common_steps}
 use Rattle.std.proofs.lemmas.List.{append-nil}
 use Rattle.std.proofs.lemmas.List.Concat.{flat_map-cons}
 use Rattle.std.proofs.lemmas.Str.Parse.{IsNumeralModel, IsDigitsTest, numerals_by_value}
@@ -161,3 +162,12 @@ time_from negative n le =
 pub time_spells : (t : ℤ) → is_time t ≡ true → SpellsTime Recording t (space ∷ signed_decimal t)
 time_spells (pos n) small = time_from false n (leb-true _ _ small)
 time_spells (negsuc n) small = let lt : n < TIME_LIMIT = ltb-true _ _ small in time_from true (suc n) (omega arith)
+
+-- ---- what stands before
+
+-- bytes that are kept are kept on
+pub kept_on : (a b c : List ℕ) → take (length a) b ≡ a → take (length b) c ≡ b → take (length a) c ≡ a
+kept_on a b c first second = grind (arith, common_steps)
+
+pub kept_before : (a b more : List ℕ) → b ≡ a ++ more → take (length a) b ≡ a
+kept_before a b more is = grind (arith, common_steps)
