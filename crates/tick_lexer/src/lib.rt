@@ -5,8 +5,6 @@ mod bytes;
 mod front;
 mod lexer;
 mod quote;
-#[cfg(test)]
-mod tests;
 mod token;
 mod unit;
 

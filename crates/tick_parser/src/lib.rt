@@ -5,13 +5,9 @@ mod fault;
 mod lambda;
 mod parser;
 mod script;
-#[cfg(test)]
-mod shown;
 mod stack;
 mod state;
 mod steps;
-#[cfg(test)]
-mod tests;
 
 pub use fault::{ParseFault, Want};
 pub use parser::{always_one, not_both, one_fault, one_tree, parse};

@@ -7,10 +7,6 @@ mod lambda;
 mod law;
 mod names;
 mod nodes;
-#[cfg(test)]
-mod shown;
-#[cfg(test)]
-mod tests;
 mod values;
 
 pub use binder::bind;

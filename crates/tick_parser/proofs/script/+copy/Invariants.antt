@@ -2,7 +2,7 @@ use Rattle.std.proofs.Common.{◌≡◌, ◌≤◌}
 use Rattle.tick_parser.specs.Trees.{joints_onto, joints_tree, vals_onto, vals_tree}
 use Rattle.tick_parser.specs.declared.script.Links.{size-Links}
 use Rattle.tick_parser.specs.declared.script.Vals.{size-Vals}
-use Rattle.tick_parser.proofs.script.+copy.LitVal as goal
+use Rattle.tick_parser.proofs.script.+copy.Given as goal
 
 -- The copies, turned round again and followed by what is left, are the list.
 abbrev pub invariant-Vals::copy-loop-rest : goal.invariant-Vals::copy-loop-rest
