@@ -33,7 +33,7 @@ grow : (front text other : List ℕ) (n : ℕ) (s result : Scan) → text ++ fro
 grow front text other n s result e h = ap (λ (l : List ℕ). onwards l (n + 1) s) (sym e) ∙ sym (onwards_grown text front n s) ∙ h
 
 -- a segment that is one byte longer
-segment_more : (s : List ℕ) (start stop : ℕ) → start ≤ stop → stop < length s → segment s start (stop + 1) ≡ segment s start stop ++ (get_or s stop 0 ∷ [])
+pub segment_more : (s : List ℕ) (start stop : ℕ) → start ≤ stop → stop < length s → segment s start (stop + 1) ≡ segment s start stop ++ (get_or s stop 0 ∷ [])
 segment_more s start stop le lt =
     let k = length-drop start s in
     let there : stop - start < length (drop start s) = omega arith in
@@ -43,7 +43,8 @@ segment_more s start stop le lt =
     ∙ take_more (drop start s) (stop - start) 0 there
     ∙ ap (λ (b : ℕ). take (stop - start) (drop start s) ++ (b ∷ [])) (get_or-drop start s (stop - start) 0 ∙ ap (λ (n : ℕ). get_or s n 0) place)
 
-byte_at : (s : List ℕ) (index : ℕ) → index < length s → drop index s ≡ get_or s index 0 ∷ drop (index + 1) s
+-- what stands at a place, and behind it
+pub byte_at : (s : List ℕ) (index : ℕ) → index < length s → drop index s ≡ get_or s index 0 ∷ drop (index + 1) s
 byte_at s index lt =
     let next : suc index ≡ index + 1 = omega arith in
     drop-cons s index 0 lt ∙ ap (λ (n : ℕ). get_or s index 0 ∷ drop n s) next

@@ -12,7 +12,7 @@ use crate::limits::DURATION_LIMIT;
 use crate::quote::{Quoted, before_three, scan_quoted};
 use crate::token::{Kind, LexFault};
 use crate::unit::Unit;
-use kap_base::{Lit, NoMemory, Op, Text};
+use kap_base::{Lit, NoMemory, Op, SharedText, Text};
 use std::alloc::Global;
 
 /// A token's kind, and how many bytes it has.
@@ -198,8 +198,9 @@ fn tripled(alloc: Global, at: u32, rest: &str) -> Result<Front, LexFault>
     let Some(count) = before_three(rest.as_bytes()) else {
         return Err(LexFault::OpenString(at));
     };
+    let text = Text::from_str(alloc, &rest[..count])?;
     Ok(Front {
-        kind: Kind::Literal(Lit::Str(Text::from_str(alloc, &rest[..count])?)),
+        kind: Kind::Literal(Lit::Str(SharedText::new(alloc, text)?)),
         bytes: count + 6,
     })
 }
@@ -214,7 +215,7 @@ fn string(alloc: Global, at: u32, rest: &str) -> Result<Front, LexFault>
     }
     let quoted = quoted(alloc, rest, b'\'', LexFault::OpenString(at))?;
     Ok(Front {
-        kind: Kind::Literal(Lit::Str(quoted.text)),
+        kind: Kind::Literal(Lit::Str(SharedText::new(alloc, quoted.text)?)),
         bytes: quoted.bytes + 1,
     })
 }
@@ -250,7 +251,7 @@ fn mark(alloc: Global, pattern: bool, text: &str, at: usize, byte: u8) -> Result
             LexFault::OpenRegex(place),
         )?;
         return Ok(Front {
-            kind: Kind::Literal(Lit::Regex(quoted.text)),
+            kind: Kind::Literal(Lit::Regex(SharedText::new(alloc, quoted.text)?)),
             bytes: quoted.bytes + 1,
         });
     }

@@ -11,7 +11,7 @@ use crate::fault::VarFault;
 use crate::lambda::bind_lambda;
 use crate::names::{Names, look_up};
 use crate::nodes::{Arg, Args, Prop, Props, RawNode};
-use kap_base::{Duplicate, NoMemory};
+use kap_base::{Duplicate, NoMemory, SharedExpr};
 use std::alloc::Global;
 use tick_parser::{Chain, Joint, Links, Val, Vals};
 
@@ -53,7 +53,10 @@ pub(crate) fn bind_val(
     match val {
         Val::Lit(lit, at) => Ok(Arg::Lit(lit.copy(alloc)?, *at)),
         Val::Star(at) => Ok(Arg::Star(*at)),
-        Val::Lambda(body, at) => Ok(Arg::Lambda(bind_lambda(alloc, names, body)?, *at)),
+        Val::Lambda(body, at) => {
+            let body = bind_lambda(alloc, names, body)?;
+            Ok(Arg::Lambda(SharedExpr::new(alloc, body)?, *at))
+        }
         Val::Chain(chain) => bind_chain(alloc, names, nodes, chain),
     }
 }
