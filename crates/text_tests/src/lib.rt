@@ -5,3 +5,13 @@
 mod codes;
 #[cfg(test)]
 mod values;
+#[cfg(test)]
+mod lexer;
+#[cfg(test)]
+mod parser;
+#[cfg(test)]
+mod print;
+#[cfg(test)]
+mod scripts;
+#[cfg(test)]
+mod vars;
