@@ -6,17 +6,14 @@ ghost use Rattle.kap_base.specs.Texts.{has_line_feed};
 ghost use Rattle.kap_base.specs.Tree.{tree_of, trees_of};
 ghost use Rattle.kap_base.specs.Words.{Answers};
 ghost use Rattle.kap_base.specs.declared.value.Value.TheVariants.{Str};
-ghost use Rattle.lambda_types.specs.Faults.{patterns_of};
 ghost use Rattle.lambda_types.specs.Functions.{function_named};
-ghost use Rattle.lambda_eval.specs.Runs.{tree_run};
 ghost use Rattle.lambda_eval.specs.Seen.{are_fit, is_fit, is_fit_lit, Sees, value_seen};
 ghost use Rattle.lambda_eval.specs.Values.{all_values, and_value, at_name, call_value, count_value, found, if_value, joined, lit_value, matched, only_name, or_value, part_value, pattern_in, present_value, val, vals};
 
-use crate::run::Run;
 use crate::seen::{Seen, SeenText, at_name};
 use kap_base::{Expr, Exprs, ItemList, Lit, Op, Point, Text, TimePart, Value};
 use lambda_fns::{EvalFault, time_part};
-use lambda_types::Function;
+use lambda_types::{Function, PatternList};
 use std::alloc::Global;
 
 /// When a lambda is evaluated: after so many evaluations in the point's group, and at which point.
@@ -116,15 +113,14 @@ fn part_of(part: TimePart, args: &Exprs, point: &Point, at: u32) -> Result<Seen<
 
 /// Whether the right side, a pattern, matches in the left side, a text.
 fn search(
-    alloc: Global,
     left: &Seen<'_>,
     right: &Expr,
     at: u32,
-    run: &mut Run<'_>,
+    patterns: &mut PatternList,
 ) -> Result<bool, EvalFault>
-    requires fit { IsTrue (is_fit (patterns_of (tree_run run.old)) (tree_of right.now)) }
+    requires fit { IsTrue (is_fit patterns.old (tree_of right.now)) }
     ensures found { Answers EvalFault.NoMemory result (matched at (pattern_in (tree_of right.now)) (value_seen left.now)) }
-    ensures kept { tree_run run.new ≡ tree_run run.old }
+    ensures kept { patterns.new ≡ patterns.old }
 {
     let Seen::Str(text) = left else {
         return Err(EvalFault::Kind(at));
@@ -132,7 +128,7 @@ fn search(
     let Expr::Lit(Lit::Regex(pattern), _) = right else {
         return Err(EvalFault::Kind(at));
     };
-    Ok(run.is_match(alloc, pattern, text.text().as_str())?)
+    Ok(patterns.is_match(pattern, text.text().as_str()))
 }
 
 /// `OR`, which stops at a left side that is true, or `AND`, which stops at one that is false.
@@ -143,13 +139,13 @@ fn decide<'a>(
     left: &Seen<'_>,
     right: &'a Expr,
     at: u32,
-    run: &mut Run<'_>,
+    patterns: &mut PatternList,
     moment: &Moment<'a>,
 ) -> Result<Seen<'a>, EvalFault>
-    requires fit { IsTrue (is_fit (patterns_of (tree_run run.old)) (tree_of right.now)) }
+    requires fit { IsTrue (is_fit patterns.old (tree_of right.now)) }
     ensures value { Sees result ((if stop then or_value else and_value) at (val (tree_of right.now) moment.now.k moment.now.point.now) (value_seen left.now)) }
     ensures field { IfOk result (λ seen. IsTrue (is_value (value_seen seen))) }
-    ensures kept { tree_run run.new ≡ tree_run run.old }
+    ensures kept { patterns.new ≡ patterns.old }
 {
     let Seen::Bool(left) = left else {
         return Err(EvalFault::Kind(at));
@@ -157,7 +153,7 @@ fn decide<'a>(
     if *left == stop {
         return Ok(Seen::Bool(stop));
     }
-    match evaluate(alloc, right, run, moment)? {
+    match evaluate(alloc, right, patterns, moment)? {
         Seen::Bool(truth) => Ok(Seen::Bool(truth)),
         _ => Err(EvalFault::Kind(at)),
     }
@@ -171,22 +167,22 @@ fn join<'a>(
     left: Seen<'a>,
     right: &'a Expr,
     at: u32,
-    run: &mut Run<'_>,
+    patterns: &mut PatternList,
     moment: &Moment<'a>,
 ) -> Result<Seen<'a>, EvalFault>
-    requires fit { IsTrue (is_fit (patterns_of (tree_run run.old)) (tree_of right.now)) }
+    requires fit { IsTrue (is_fit patterns.old (tree_of right.now)) }
     requires field { IsTrue (is_value (value_seen left)) }
     ensures value { Sees result (joined op at (Ok (value_seen left.entry)) (val (tree_of right.now) moment.now.k moment.now.point.now) (pattern_in (tree_of right.now))) }
     ensures field { IfOk result (λ seen. IsTrue (is_value (value_seen seen))) }
-    ensures kept { tree_run run.new ≡ tree_run run.old }
+    ensures kept { patterns.new ≡ patterns.old }
 {
     match op {
-        Op::Or => decide(alloc, true, &left, right, at, run, moment),
-        Op::And => decide(alloc, false, &left, right, at, run, moment),
-        Op::Match => Ok(Seen::Bool(search(alloc, &left, right, at, run)?)),
-        Op::NoMatch => Ok(Seen::Bool(!search(alloc, &left, right, at, run)?)),
+        Op::Or => decide(alloc, true, &left, right, at, patterns, moment),
+        Op::And => decide(alloc, false, &left, right, at, patterns, moment),
+        Op::Match => Ok(Seen::Bool(search(&left, right, at, patterns)?)),
+        Op::NoMatch => Ok(Seen::Bool(!search(&left, right, at, patterns)?)),
         _ => {
-            let right = evaluate(alloc, right, run, moment)?;
+            let right = evaluate(alloc, right, patterns, moment)?;
             left.applied(alloc, op, &right, at)
         }
     }
@@ -198,13 +194,13 @@ fn choose<'a>(
     alloc: Global,
     args: &'a Exprs,
     at: u32,
-    run: &mut Run<'_>,
+    patterns: &mut PatternList,
     moment: &Moment<'a>,
 ) -> Result<Seen<'a>, EvalFault>
-    requires fit { IsTrue (are_fit (patterns_of (tree_run run.old)) (trees_of args.now)) }
+    requires fit { IsTrue (are_fit patterns.old (trees_of args.now)) }
     ensures value { Sees result (if_value at (vals (trees_of args.now) moment.now.k moment.now.point.now)) }
     ensures field { IfOk result (λ seen. IsTrue (is_value (value_seen seen))) }
-    ensures kept { tree_run run.new ≡ tree_run run.old }
+    ensures kept { patterns.new ≡ patterns.old }
 {
     let Exprs::More(test, rest) = args else {
         return Err(EvalFault::Kind(at));
@@ -218,9 +214,9 @@ fn choose<'a>(
     let Exprs::End = &**rest else {
         return Err(EvalFault::Kind(at));
     };
-    match evaluate(alloc, test, run, moment)? {
-        Seen::Bool(true) => evaluate(alloc, first, run, moment),
-        Seen::Bool(false) => evaluate(alloc, second, run, moment),
+    match evaluate(alloc, test, patterns, moment)? {
+        Seen::Bool(true) => evaluate(alloc, first, patterns, moment),
+        Seen::Bool(false) => evaluate(alloc, second, patterns, moment),
         _ => Err(EvalFault::Kind(at)),
     }
 }
@@ -230,18 +226,18 @@ fn choose<'a>(
 fn evaluate_all<'a>(
     alloc: Global,
     args: &'a Exprs,
-    run: &mut Run<'_>,
+    patterns: &mut PatternList,
     moment: &Moment<'a>,
 ) -> Result<ItemList<Value>, EvalFault>
-    requires fit { IsTrue (are_fit (patterns_of (tree_run run.old)) (trees_of args.now)) }
+    requires fit { IsTrue (are_fit patterns.old (trees_of args.now)) }
     ensures values { Answers EvalFault.NoMemory result (all_values (vals (trees_of args.now) moment.now.k moment.now.point.now)) }
     ensures fields { IfOk result (λ values. IsTrue (list_all is_value values)) }
-    ensures kept { tree_run run.new ≡ tree_run run.old }
+    ensures kept { patterns.new ≡ patterns.old }
 {
     let mut values = ItemList::new(alloc);
     let mut rest = args;
     'evaluating: while let Exprs::More(first, more) = rest {
-        let seen = evaluate(alloc, first, run, moment)?;
+        let seen = evaluate(alloc, first, patterns, moment)?;
         values.push(seen.into_value(alloc)?)?;
         rest = more;
     }
@@ -255,60 +251,60 @@ fn call<'a>(
     name: &Text,
     args: &'a Exprs,
     at: u32,
-    run: &mut Run<'_>,
+    patterns: &mut PatternList,
     moment: &Moment<'a>,
 ) -> Result<Seen<'a>, EvalFault>
-    requires fit { IsTrue (are_fit (patterns_of (tree_run run.old)) (trees_of args.now)) }
+    requires fit { IsTrue (are_fit patterns.old (trees_of args.now)) }
     ensures value { Sees result (call_value (function_named name.now) at (trees_of args.now) (vals (trees_of args.now) moment.now.k moment.now.point.now) moment.now.k moment.now.point.now) }
     ensures field { IfOk result (λ seen. IsTrue (is_value (value_seen seen))) }
-    ensures kept { tree_run run.new ≡ tree_run run.old }
+    ensures kept { patterns.new ≡ patterns.old }
 {
     let Some(function) = Function::named(name) else {
         return Err(EvalFault::Kind(at));
     };
     match function {
         Function::IsPresent => present(args, moment.point, at),
-        Function::If => choose(alloc, args, at, run, moment),
+        Function::If => choose(alloc, args, at, patterns, moment),
         Function::Count => count(args, moment.k, at),
         Function::Part(part) => part_of(part, args, moment.point, at),
         Function::Of(fun) => {
-            let values = evaluate_all(alloc, args, run, moment)?;
+            let values = evaluate_all(alloc, args, patterns, moment)?;
             let value = lambda_fns::call(alloc, fun, values.as_slice(), at)?;
             Ok(Seen::made(value))
         }
     }
 }
 
-/// The value of a part of the run's lambda, or its first fault.
+/// The value of a part of a lambda that has these patterns, or its first fault.
 #[cycle(evaluation)]
 pub(crate) fn evaluate<'a>(
     alloc: Global,
     expr: &'a Expr,
-    run: &mut Run<'_>,
+    patterns: &mut PatternList,
     moment: &Moment<'a>,
 ) -> Result<Seen<'a>, EvalFault>
-    requires fit { IsTrue (is_fit (patterns_of (tree_run run.old)) (tree_of expr.now)) }
+    requires fit { IsTrue (is_fit patterns.old (tree_of expr.now)) }
     ensures value { Sees result (val (tree_of expr.now) moment.now.k moment.now.point.now) }
     ensures field { IfOk result (λ seen. IsTrue (is_value (value_seen seen))) }
-    ensures kept { tree_run run.new ≡ tree_run run.old }
+    ensures kept { patterns.new ≡ patterns.old }
 {
     match expr {
         Expr::Lit(lit, at) => literal(lit, *at),
         Expr::Ref(name, at) => reference(moment.point, name, *at),
         Expr::Name(_, at) => Err(EvalFault::Kind(*at)),
-        Expr::Call(name, args, at) => call(alloc, name, args, *at, run, moment),
-        Expr::Group(inner, _) => evaluate(alloc, inner, run, moment),
+        Expr::Call(name, args, at) => call(alloc, name, args, *at, patterns, moment),
+        Expr::Group(inner, _) => evaluate(alloc, inner, patterns, moment),
         Expr::Neg(operand, at) => {
-            let seen = evaluate(alloc, operand, run, moment)?;
+            let seen = evaluate(alloc, operand, patterns, moment)?;
             seen.negated(*at)
         }
         Expr::Not(operand, at) => {
-            let seen = evaluate(alloc, operand, run, moment)?;
+            let seen = evaluate(alloc, operand, patterns, moment)?;
             seen.denied(*at)
         }
         Expr::Bin(op, left, right, at) => {
-            let left = evaluate(alloc, left, run, moment)?;
-            join(alloc, *op, left, right, *at, run, moment)
+            let left = evaluate(alloc, left, patterns, moment)?;
+            join(alloc, *op, left, right, *at, patterns, moment)
         }
     }
 }

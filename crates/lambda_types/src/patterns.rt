@@ -1,27 +1,35 @@
-ghost use Rattle.std.specs.Prelude.{◌≡◌, ◌<◌, ◌≤◌, ◌+◌, ◌-◌, ◌^◌, Contains, IfErr, IfOk, false, is_ok};
-ghost use Rattle.lambda_types.specs.Matches.{matches, MatchesAsWritten, SearchesAsWritten};
+ghost use Rattle.std.specs.Prelude.{◌≡◌, ◌<◌, ◌≤◌, ◌+◌, ◌-◌, ◌^◌, Contains, IfErr, IfOk, false, is_ok, string_bytes};
+ghost use Rattle.regex.specs.Utf8.{MatchesText};
+ghost use Rattle.regex_meta.specs.Programs.{pattern_of};
+ghost use Rattle.lambda_types.specs.Caches.{IsCacheFor};
+ghost use Rattle.lambda_types.specs.Matches.{matches, MatchesAsWritten};
 ghost use Rattle.kap_base.specs.Words.{HasRisen};
 ghost use Rattle.lambda_types.specs.Builds.{begun, numbers};
 
-use kap_base::{NoMemory, Text};
-use regex::{Matcher, Regex};
-use std::alloc::Global;
+use crate::cache::Cache;
+use crate::program::program_of;
+use kap_base::Text;
+use regex_meta::Program;
+use std::alloc::{AllocError, Global};
 use std::marker::Model;
 
-/// A pattern: what Rust's crate `regex` reads in a text, by its syntax and default options. Contracts see it as that text.
-#[derive(Drop)]
+/// A pattern: what Rust's crate `regex` reads in a text, by its syntax and default options. It keeps what it needs to search
+/// many texts. Contracts see it as the text that it was read in.
 pub struct Pattern {
-    regex: Regex,
-    ghost as_written: { MatchesAsWritten regex },
+    text: String,
+    program: Program,
+    cache: Cache,
+    ghost own_cache: { IsCacheFor cache program },
+    ghost whole_characters: { MatchesText (pattern_of program) },
+    ghost as_written: { MatchesAsWritten program (string_bytes text) },
 }
 
 impl Model for Pattern {
-    ghost use Rattle.std.specs.Prelude.{List, ℕ};
-    ghost use Rattle.regex.specs.Strings.{regex_source};
+    ghost use Rattle.std.specs.Prelude.{List, ℕ, string_bytes};
 
     ghost Value = { List ℕ };
 
-    ghost view = { λ p. regex_source p.regex };
+    ghost view = { λ p. string_bytes p.text };
 }
 
 /// Why there is no pattern.
@@ -33,73 +41,60 @@ pub enum PatternFault {
     NoMemory,
 }
 
+impl From<regex::Error> for PatternFault {
+    fn from(error: regex::Error) -> PatternFault {
+        match error {
+            regex::Error::OutOfMemory => PatternFault::NoMemory,
+            _ => PatternFault::Refused,
+        }
+    }
+}
+
+impl From<AllocError> for PatternFault {
+    fn from(_: AllocError) -> PatternFault {
+        PatternFault::NoMemory
+    }
+}
+
 impl Pattern {
     /// The pattern of a text. `Refused` where `regex` reads none in it.
     fn read(alloc: Global, text: &Text) -> Result<Pattern, PatternFault>
         ensures { IfOk result (λ pattern. pattern ≡ text.now) }
     {
-        match Regex::new(alloc, text.as_str()) {
-            Ok(regex) => Ok(Pattern { regex }),
-            Err(regex::Error::OutOfMemory) => Err(PatternFault::NoMemory),
-            Err(_) => Err(PatternFault::Refused),
-        }
+        let program = program_of(alloc, text.as_str())?;
+        let cache = Cache::new(alloc, &program)?;
+        let text = String::from_str(alloc, text.as_str())?;
+        Ok(Pattern {
+            text,
+            program,
+            cache,
+        })
     }
 
     /// The text that it was read in, without slashes.
     pub fn text(&self) -> &str
         ensures { result.now ≡ self.now }
     {
-        self.regex.as_str()
+        self.text.as_str()
     }
 
-    /// Whether it matches anywhere in a text. Each call makes anew what `ready` keeps.
-    pub fn is_match(&self, alloc: Global, text: &str) -> Result<bool, NoMemory>
-        ensures { IfOk result (λ found. found ≡ matches self.now text.now) }
-    {
-        Ok(self.ready(alloc)?.is_match(text))
-    }
-
-    /// The pattern with what it needs to search many texts.
-    pub fn ready(&self, alloc: Global) -> Result<Ready<'_>, NoMemory>
-        ensures { IfOk result (λ ready. ready ≡ self.now) }
-    {
-        Ok(Ready {
-            matcher: self.regex.matcher(alloc)?,
-            pattern: self,
-        })
-    }
-}
-
-/// A pattern that is ready to search many texts. Contracts see it as the text that the pattern was read in.
-#[derive(Drop)]
-pub struct Ready<'a> {
-    matcher: Matcher<'a>,
-    pattern: &'a Pattern,
-    ghost as_written: { SearchesAsWritten matcher pattern.now },
-}
-
-impl<'a> Model for Ready<'a> {
-    ghost use Rattle.std.specs.Prelude.{List, ℕ};
-
-    ghost Value = { List ℕ };
-
-    ghost view = { λ r. r.pattern.now };
-}
-
-impl Ready<'_> {
-    /// The text that its pattern was read in, without slashes.
-    pub fn text(&self) -> &str
-        ensures { result.now ≡ self.now }
-    {
-        self.pattern.text()
-    }
-
-    /// Whether its pattern matches anywhere in a text.
+    /// Whether it matches anywhere in a text.
     pub fn is_match(&mut self, text: &str) -> bool
         ensures found { result ≡ matches self.old text.now }
         ensures same { self.new ≡ self.old }
     {
-        self.matcher.is_match(text)
+        self.cache.is_match(&self.program, text)
+    }
+}
+
+// Written out, so that a caller's proof sees one call and not the drop of each field.
+impl Drop for Pattern {
+    fn drop(self) {
+        let Pattern {
+            text: _text,
+            program: _program,
+            cache: _cache,
+        } = self;
     }
 }
 
