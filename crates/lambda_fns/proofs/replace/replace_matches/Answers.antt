@@ -1,8 +1,8 @@
 use Rattle.std.proofs.Common.{rules, ◌≡◌, ◌++◌, ◌+◌, ◌-◌, ◌<◌, ◌≤◌, length, string_bytes, arith, sym, ap, ◌∙◌}
 use Rattle.lambda_fns.proofs.ReplaceLaws.{with_places}
 use Rattle.lambda_fns.proofs.ReplaceLaws.{step_kept, ended, spent, too_long}
-use Rattle.lambda_fns.proofs.replace.replace_places.Goals as goal
-use Rattle.lambda_fns.proofs.replace.replace_places.Goals.{else-replacing-test, then-replacing-test+in_default}
+use Rattle.lambda_fns.proofs.replace.replace_matches.Goals as goal
+use Rattle.lambda_fns.proofs.replace.replace_matches.Goals.{else-replacing-test, then-replacing-test+in_default}
 
 pub returns-then-len-gt-TEXT_LIMIT : goal.returns-then-len-gt-TEXT_LIMIT
 returns-then-len-gt-TEXT_LIMIT c =

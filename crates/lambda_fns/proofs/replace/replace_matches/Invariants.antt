@@ -2,7 +2,7 @@ use Rattle.std.proofs.Common.{◌≡◌, ◌≤◌, length, string_bytes, ◌-�
 use denote.Text.{Utf8}
 use denote.Shadow.{shadow}
 use Rattle.lambda_fns.proofs.ReplaceLaws.{with_places}
-use Rattle.lambda_fns.proofs.replace.replace_places.Given as goal
+use Rattle.lambda_fns.proofs.replace.replace_matches.Given as goal
 
 abbrev pub invariant-replacing : goal.invariant-replacing
 invariant-replacing l = record {
