@@ -4,3 +4,5 @@ pub mod Maps
 pub mod Points
 pub mod Tree
 pub mod Utf8
+pub mod TreeCode
+pub mod Places

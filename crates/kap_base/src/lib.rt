@@ -4,21 +4,27 @@
 mod duplicate;
 mod expr;
 mod fun;
-mod key_map;
 mod item_list;
+mod key_map;
+mod limits;
 mod memory;
 mod point;
+mod shared;
 mod text;
+mod utf8;
 mod value;
 
 pub use duplicate::Duplicate;
 pub use expr::{Expr, Exprs, Lit, Op};
 pub use fun::{Fun, TimePart};
-pub use key_map::KeyMap;
 pub use item_list::ItemList;
+pub use key_map::KeyMap;
+pub use limits::TIME_LIMIT;
 pub use memory::NoMemory;
 pub use point::Point;
+pub use shared::{SharedExpr, SharedText};
 pub use text::{Text, TextFault};
+pub use utf8::{bytes_break_in_one_place, utf8_text};
 pub use value::Value;
 
 /// A list of bytes.
@@ -35,6 +41,3 @@ pub type Tags = KeyMap<Text>;
 
 /// The fields of a point: values under texts, in byte order of the keys (InfluxDB 1.8 line protocol reference: field set).
 pub type Fields = KeyMap<Value>;
-
-#[cfg(test)]
-mod tests;

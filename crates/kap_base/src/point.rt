@@ -6,7 +6,7 @@ use std::alloc::Global;
 use std::marker::Model;
 
 /// A point (InfluxDB 1.8: line protocol reference; Kapacitor 1.6: the dimensions and the name by which a task groups it).
-#[derive(Drop)]
+#[derive(Debug, PartialEq, Eq, Drop)]
 pub struct Point {
     /// The database.
     pub db: Text,
@@ -14,7 +14,9 @@ pub struct Point {
     pub rp: Text,
     /// The measurement.
     pub name: Text,
+    /// Its tags.
     pub tags: Tags,
+    /// Its fields, one at least.
     pub fields: Fields,
     /// The names of the tags by which it is grouped, in byte order, each once.
     pub dims: Names,
@@ -34,6 +36,8 @@ impl Model for Point {
     ghost coded = { Prim.hlevel (codes, key_map_code) };
 
     ghost view = { λ p. record { db = p.db; rp = p.rp; name = p.name; tags = p.tags; fields = p.fields; dims = p.dims; by_name = p.by_name; time = p.time } };
+
+    ghost inverse = { λ s. record { db = s.db; rp = s.rp; name = s.name; tags = s.tags; fields = s.fields; dims = s.dims; by_name = s.by_name; time = s.time } };
 
     ghost invariant = { λ p. IsPoint (record { db = p.db; rp = p.rp; name = p.name; tags = p.tags; fields = p.fields; dims = p.dims; by_name = p.by_name; time = p.time }) };
 }

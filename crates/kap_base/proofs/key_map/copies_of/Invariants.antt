@@ -1,5 +1,5 @@
 use Rattle.std.proofs.Common.{◌≡◌, take}
-use Rattle.kap_base.proofs.key_map.copied.Given as goal
+use Rattle.kap_base.proofs.key_map.copies_of.Given as goal
 
 -- what was passed is copied
 abbrev pub invariant-copying : goal.invariant-copying
