@@ -3,7 +3,7 @@ use Rattle.std.specs.Prelude.{◌≡◌, ◌⊎◌, ◌++◌, ℕ, List, Option,
 use Rattle.std.specs.Io.KnownBytes.{Appends, Consumes}
 use Rattle.kap_base.specs.Points.{PointValue}
 use Rattle.kap_base.specs.Words.{HasRisen}
-use Rattle.kap_io.specs.Pieces.{AppendsFront}
+use Rattle.kap_io.specs.Pieces.{AppendsPrefix}
 use Rattle.recording_file.specs.Finding.{At}
 use Rattle.recording_file.specs.Reading.{HasGiven}
 use Rattle.recording_file.specs.declared.fault.RecFault.TheVariants as faults
@@ -17,9 +17,9 @@ Writes text None w v stop = Unit {0}
 Writes text (Some input) w v stop = ((recording input).stop ≡ stop) × Appends w v (text (recording input).points)
 
 -- a front of the text of the whole input's points was appended
-abbrev pub WritesFront : (List PointValue → List ℕ) → Option (List ℕ) → Option (List ℕ) → Option (List ℕ) → Type 0
-WritesFront text None w v = Unit {0}
-WritesFront text (Some input) w v = AppendsFront w v (text (recording input).points)
+abbrev pub WritesPrefix : (List PointValue → List ℕ) → Option (List ℕ) → Option (List ℕ) → Option (List ℕ) → Type 0
+WritesPrefix text None w v = Unit {0}
+WritesPrefix text (Some input) w v = AppendsPrefix w v (text (recording input).points)
 
 -- the bytes that were read don't decide how reading goes on, and the text of the points in them was appended
 pub record WritesSoFar (text : List PointValue → List ℕ) (s t w v : Option (List ℕ)) : Type 0 where
@@ -42,7 +42,7 @@ Replayed text TooLong s t w v = Writes text s w v (Faulty faults.Long)
 Replayed text ScriptForm s t w v = ⊥
 Replayed text NoMemory s t w v = Unit {0}
 Replayed text ReadFault s t w v = WritesSoFar text s t w v
-Replayed text WriteFault s t w v = WritesFront text s w v
+Replayed text WriteFault s t w v = WritesPrefix text s w v
 
 -- a front of what is due was appended, and the rest is still due
 pub record Moves (due left : List ℕ) (w v : Option (List ℕ)) : Type 0 where
@@ -60,4 +60,4 @@ pub record Underway (text : List PointValue → List ℕ) (due : List ℕ) (at :
 
 -- the rest of the text was written, or the output failed
 abbrev pub IsWritten : Status → Status → Option (List ℕ) → Option (List ℕ) → List ℕ → ℕ → ℕ → Type 0
-IsWritten status result w v due before after = ((result ≡ status) × Appends w v due) ⊎ ((result ≡ WriteFault) × AppendsFront w v due × HasRisen before after)
+IsWritten status result w v due before after = ((result ≡ status) × Appends w v due) ⊎ ((result ≡ WriteFault) × AppendsPrefix w v due × HasRisen before after)
