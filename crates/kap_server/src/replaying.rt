@@ -2,7 +2,7 @@ ghost use Rattle.std.specs.Prelude.{◌≡◌, ◌⊎◌, [], ◌∷◌, ◌++�
 ghost use Rattle.kap_base.specs.Words.{HasRisen};
 ghost use Rattle.kap_io.specs.Causes.{HasCause};
 ghost use Rattle.kap_io.specs.Pieces.{AppendsPrefix};
-ghost use Rattle.recording_file.specs.Finding.{HasEnded};
+ghost use Rattle.recording_file.specs.Reading.{HasEnded};
 ghost use Rattle.kap_server.specs.Lines.{text_of};
 ghost use Rattle.kap_server.specs.Replaying.{IsWritten, Moves, Replayed};
 
