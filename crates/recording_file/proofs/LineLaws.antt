@@ -7,8 +7,8 @@ use Rattle.std.specs.List.{position_or_len, onto_first}
 use Rattle.std.proofs.lemmas.Bool.Decides.{nat_tests}
 use Rattle.std.proofs.lemmas.List.Splits.{slice_split_first, length-slice_split}
 use Rattle.line_points.specs.Body.{without_return}
-use Rattle.recording_file.specs.Lines.{is_feed, raw_lines, closed, all, last_of}
-use Rattle.recording_file.specs.Recording.{whole, front, cut, limited, at_end}
+use Rattle.recording_file.specs.Lines.{is_feed, raw_lines, closed_lines, all_lines, last_part}
+use Rattle.recording_file.specs.Recording.{of_whole_input, of_input_so_far, of_input_past_limit, of_input, at_end}
 use Rattle.recording_file.specs.Steps.{before}
 
 -- ---- the raw lines
@@ -17,15 +17,15 @@ use Rattle.recording_file.specs.Steps.{before}
 some_raw : (bytes : List ℕ) → 0 < length (raw_lines bytes)
 some_raw bytes = rw (length-slice_split is_feed bytes) (omega arith)
 
-closed_more : (x : List ℕ) (r : List (List ℕ)) → 0 < length r → closed (x ∷ r) ≡ without_return x ∷ closed r
+closed_more : (x : List ℕ) (r : List (List ℕ)) → 0 < length r → closed_lines (x ∷ r) ≡ without_return x ∷ closed_lines r
 closed_more x [] some = absurd (omega arith)
 closed_more x (y ∷ r) some = refl
 
-all_more : (x : List ℕ) (r : List (List ℕ)) → 0 < length r → all (x ∷ r) ≡ without_return x ∷ all r
+all_more : (x : List ℕ) (r : List (List ℕ)) → 0 < length r → all_lines (x ∷ r) ≡ without_return x ∷ all_lines r
 all_more x [] some = absurd (omega arith)
 all_more x (y ∷ r) some = refl
 
-last_more : (x : List ℕ) (r : List (List ℕ)) → 0 < length r → last_of (x ∷ r) ≡ last_of r
+last_more : (x : List ℕ) (r : List (List ℕ)) → 0 < length r → last_part (x ∷ r) ≡ last_part r
 last_more x [] some = absurd (omega arith)
 last_more x (y ∷ r) some = refl
 
@@ -46,22 +46,22 @@ raw_last (b ∷ bytes) none =
 
 -- ---- the first line of what is seen
 
-pub whole_line : (bytes : List ℕ) (k : ℕ) → k ≡ position_or_len is_feed bytes → k < length bytes → whole bytes ≡ before (without_return (take k bytes)) (whole (drop (k + 1) bytes))
+pub whole_line : (bytes : List ℕ) (k : ℕ) → k ≡ position_or_len is_feed bytes → k < length bytes → of_whole_input bytes ≡ before (without_return (take k bytes)) (of_whole_input (drop (k + 1) bytes))
 whole_line bytes k is lt =
-    ap (λ (l : List (List ℕ)). record { lines = l; stop = at_end }) (ap all (raw_line bytes k is lt) ∙ all_more (take k bytes) (raw_lines (drop (k + 1) bytes)) (some_raw (drop (k + 1) bytes)))
+    ap (λ (l : List (List ℕ)). record { lines = l; stop = at_end }) (ap all_lines (raw_line bytes k is lt) ∙ all_more (take k bytes) (raw_lines (drop (k + 1) bytes)) (some_raw (drop (k + 1) bytes)))
 
-pub front_line : (bytes : List ℕ) (k : ℕ) → k ≡ position_or_len is_feed bytes → k < length bytes → front bytes ≡ before (without_return (take k bytes)) (front (drop (k + 1) bytes))
+pub front_line : (bytes : List ℕ) (k : ℕ) → k ≡ position_or_len is_feed bytes → k < length bytes → of_input_so_far bytes ≡ before (without_return (take k bytes)) (of_input_so_far (drop (k + 1) bytes))
 front_line bytes k is lt =
     let rest = raw_lines (drop (k + 1) bytes) in
     rw (raw_line bytes k is lt, closed_more (take k bytes) rest (some_raw (drop (k + 1) bytes)), last_more (take k bytes) rest (some_raw (drop (k + 1) bytes))) refl
 
-pub cut_line : (bytes : List ℕ) (k : ℕ) → k ≡ position_or_len is_feed bytes → k < length bytes → cut bytes ≡ before (without_return (take k bytes)) (cut (drop (k + 1) bytes))
+pub cut_line : (bytes : List ℕ) (k : ℕ) → k ≡ position_or_len is_feed bytes → k < length bytes → of_input_past_limit bytes ≡ before (without_return (take k bytes)) (of_input_past_limit (drop (k + 1) bytes))
 cut_line bytes k is lt =
     let rest = raw_lines (drop (k + 1) bytes) in
     rw (raw_line bytes k is lt, closed_more (take k bytes) rest (some_raw (drop (k + 1) bytes)), last_more (take k bytes) rest (some_raw (drop (k + 1) bytes))) refl
 
 -- a last line without its line feed
-pub whole_last : (b : ℕ) (bytes : List ℕ) → position_or_len is_feed (b ∷ bytes) ≡ length (b ∷ bytes) → whole (b ∷ bytes) ≡ before (without_return (b ∷ bytes)) (whole [])
+pub whole_last : (b : ℕ) (bytes : List ℕ) → position_or_len is_feed (b ∷ bytes) ≡ length (b ∷ bytes) → of_whole_input (b ∷ bytes) ≡ before (without_return (b ∷ bytes)) (of_whole_input [])
 whole_last b bytes none = rw (raw_last (b ∷ bytes) none) refl
 
 -- ---- bytes of which some may not come
@@ -82,7 +82,7 @@ place_before (suc limit) (b ∷ bytes) low lt =
           ap (λ n. 1 + n) (place_before limit bytes (omega arith) (omega arith))
     ] refl
 
-take_front : (k n : ℕ) (bytes : List ℕ) → k ≤ n → take k (take n bytes) ≡ take k bytes
+pub take_front : (k n : ℕ) (bytes : List ℕ) → k ≤ n → take k (take n bytes) ≡ take k bytes
 take_front zero n bytes h = refl
 take_front (suc k) zero bytes h = absurd (omega arith)
 take_front (suc k) (suc n) [] h = refl
@@ -98,9 +98,9 @@ drop_short zero (b ∷ bytes) h = absurd (omega arith)
 drop_short (suc k) (b ∷ bytes) h = drop_short k bytes (omega arith)
 
 -- the first line, with its line feed, and the limit behind it
-pub limited_line : (limit : ℕ) (bytes : List ℕ) (k : ℕ) → k ≡ position_or_len is_feed bytes → k < length bytes → k + 1 ≤ limit
-    → limited limit bytes ≡ before (without_return (take k bytes)) (limited (limit - (k + 1)) (drop (k + 1) bytes))
-limited_line limit bytes k is lt fits =
+pub of_input_line : (limit : ℕ) (bytes : List ℕ) (k : ℕ) → k ≡ position_or_len is_feed bytes → k < length bytes → k + 1 ≤ limit
+    → of_input limit bytes ≡ before (without_return (take k bytes)) (of_input (limit - (k + 1)) (drop (k + 1) bytes))
+of_input_line limit bytes k is lt fits =
     let rest = drop (k + 1) bytes in
     let left = limit - (k + 1) in
     let size : length rest ≡ length bytes - (k + 1) = length-drop (k + 1) bytes in
@@ -110,42 +110,42 @@ limited_line limit bytes k is lt fits =
     let within : k < length some = omega (arith, length-take limit bytes) in
     let first : take k some ≡ take k bytes = take_front k limit bytes (omega arith) in
     let behind : drop (k + 1) some ≡ take left rest = ap (λ n. drop (k + 1) (take n bytes)) (omega arith) ∙ drop-take (k + 1) left bytes in
-    elim (nat_le (length rest) left) as (λ t. nat_le (length bytes) limit ≡ t → cond (nat_le (length bytes) limit) (whole bytes) (cut (take limit bytes)) ≡ before (without_return (take k bytes)) (cond t (whole rest) (cut (take left rest)))) [
-      | true ↦ λ e. ap (λ t. cond t (whole bytes) (cut (take limit bytes))) e ∙ whole_line bytes k is lt
-      | false ↦ λ e. ap (λ t. cond t (whole bytes) (cut (take limit bytes))) e
+    elim (nat_le (length rest) left) as (λ t. nat_le (length bytes) limit ≡ t → cond (nat_le (length bytes) limit) (of_whole_input bytes) (of_input_past_limit (take limit bytes)) ≡ before (without_return (take k bytes)) (cond t (of_whole_input rest) (of_input_past_limit (take left rest)))) [
+      | true ↦ λ e. ap (λ t. cond t (of_whole_input bytes) (of_input_past_limit (take limit bytes))) e ∙ whole_line bytes k is lt
+      | false ↦ λ e. ap (λ t. cond t (of_whole_input bytes) (of_input_past_limit (take limit bytes))) e
           ∙ cut_line some k (is ∙ sym place) within
-          ∙ ap (λ l. before (without_return l) (cut (drop (k + 1) some))) first
-          ∙ ap (λ l. before (without_return (take k bytes)) (cut l)) behind
+          ∙ ap (λ l. before (without_return l) (of_input_past_limit (drop (k + 1) some))) first
+          ∙ ap (λ l. before (without_return (take k bytes)) (of_input_past_limit l)) behind
     ] same
 
 le_true : (a b : ℕ) → a ≤ b → nat_le a b ≡ true
 le_true a b h = grind (arith, nat_tests)
 
 -- nothing is seen of nothing
-pub limited_none : (limit : ℕ) → limited limit [] ≡ whole []
-limited_none limit = ap (λ t. cond t (whole []) (cut (take limit []))) (le_true 0 limit (omega arith))
+pub of_input_none : (limit : ℕ) → of_input limit [] ≡ of_whole_input []
+of_input_none limit = ap (λ t. cond t (of_whole_input []) (of_input_past_limit (take limit []))) (le_true 0 limit (omega arith))
 
-limited_last : (limit left : ℕ) (bytes : List ℕ) → 0 < length bytes → position_or_len is_feed bytes ≡ length bytes → length bytes ≤ limit → limited limit bytes ≡ before (without_return bytes) (limited left [])
-limited_last limit left [] some none fits = absurd (omega arith)
-limited_last limit left (b ∷ bytes) some none fits =
-    ap (λ t. cond t (whole (b ∷ bytes)) (cut (take limit (b ∷ bytes)))) (le_true (length (b ∷ bytes)) limit fits)
+of_input_last : (limit left : ℕ) (bytes : List ℕ) → 0 < length bytes → position_or_len is_feed bytes ≡ length bytes → length bytes ≤ limit → of_input limit bytes ≡ before (without_return bytes) (of_input left [])
+of_input_last limit left [] some none fits = absurd (omega arith)
+of_input_last limit left (b ∷ bytes) some none fits =
+    ap (λ t. cond t (of_whole_input (b ∷ bytes)) (of_input_past_limit (take limit (b ∷ bytes)))) (le_true (length (b ∷ bytes)) limit fits)
     ∙ whole_last b bytes none
-    ∙ ap (before (without_return (b ∷ bytes))) (sym (limited_none left))
+    ∙ ap (before (without_return (b ∷ bytes))) (sym (of_input_none left))
 
 -- the first line, which ends where its line feed is or where the bytes end
-pub limited_first : (limit : ℕ) (bytes : List ℕ) (k : ℕ) → k ≡ position_or_len is_feed bytes → k ≤ length bytes → 0 < length bytes → min (k + 1) (length bytes) ≤ limit
-    → limited limit bytes ≡ before (without_return (take k bytes)) (limited (limit - min (k + 1) (length bytes)) (drop (k + 1) bytes))
-limited_first limit bytes k is within some fits =
-    elim (nat_lt k (length bytes)) as (λ t. nat_lt k (length bytes) ≡ t → limited limit bytes ≡ before (without_return (take k bytes)) (limited (limit - min (k + 1) (length bytes)) (drop (k + 1) bytes))) [
+pub of_input_first : (limit : ℕ) (bytes : List ℕ) (k : ℕ) → k ≡ position_or_len is_feed bytes → k ≤ length bytes → 0 < length bytes → min (k + 1) (length bytes) ≤ limit
+    → of_input limit bytes ≡ before (without_return (take k bytes)) (of_input (limit - min (k + 1) (length bytes)) (drop (k + 1) bytes))
+of_input_first limit bytes k is within some fits =
+    elim (nat_lt k (length bytes)) as (λ t. nat_lt k (length bytes) ≡ t → of_input limit bytes ≡ before (without_return (take k bytes)) (of_input (limit - min (k + 1) (length bytes)) (drop (k + 1) bytes))) [
       | true ↦ λ e.
           let lt : k < length bytes = grind (arith, nat_tests) in
           let size : min (k + 1) (length bytes) ≡ k + 1 = omega arith in
-          limited_line limit bytes k is lt (omega arith) ∙ ap (λ n. before (without_return (take k bytes)) (limited (limit - n) (drop (k + 1) bytes))) (sym size)
+          of_input_line limit bytes k is lt (omega arith) ∙ ap (λ n. before (without_return (take k bytes)) (of_input (limit - n) (drop (k + 1) bytes))) (sym size)
       | false ↦ λ e.
           let last : k ≡ length bytes = grind (arith, nat_tests) in
           let all_taken : take k bytes ≡ bytes = ap (λ n. take n bytes) last ∙ take-length bytes in
           let none_left : drop (k + 1) bytes ≡ [] = drop_short (k + 1) bytes (omega arith) in
-          limited_last limit (limit - min (k + 1) (length bytes)) bytes some (sym is ∙ last) (omega arith)
-          ∙ ap (λ l. before (without_return l) (limited (limit - min (k + 1) (length bytes)) [])) (sym all_taken)
-          ∙ ap (λ l. before (without_return (take k bytes)) (limited (limit - min (k + 1) (length bytes)) l)) (sym none_left)
+          of_input_last limit (limit - min (k + 1) (length bytes)) bytes some (sym is ∙ last) (omega arith)
+          ∙ ap (λ l. before (without_return l) (of_input (limit - min (k + 1) (length bytes)) [])) (sym all_taken)
+          ∙ ap (λ l. before (without_return (take k bytes)) (of_input (limit - min (k + 1) (length bytes)) l)) (sym none_left)
     ] refl
