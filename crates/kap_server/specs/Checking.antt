@@ -1,7 +1,7 @@
 -- What stands after a check.
 use Rattle.std.specs.Prelude.{◌≡◌, ℕ, ◌<◌, List, length, Option, IfSome}
 use Rattle.std.specs.Io.KnownBytes.{Appends, Keeps}
-use Rattle.kap_io.specs.Pieces.{AppendsFront}
+use Rattle.kap_io.specs.Pieces.{AppendsPrefix}
 use Rattle.tick_parser.specs.Trees.{StmtTree}
 use Rattle.tick_print.specs.Print.{script_text}
 use Rattle.kap_server.specs.declared.status.Status.{Status}
@@ -22,7 +22,7 @@ WritesForm text w v = (form : List ℕ) × HasForm text form × Appends w v form
 
 -- a front of the canonical form of the input was appended
 abbrev pub WritesFormFront : List ℕ → Option (List ℕ) → Option (List ℕ) → Type 0
-WritesFormFront text w v = (form : List ℕ) × HasForm text form × AppendsFront w v form
+WritesFormFront text w v = (form : List ℕ) × HasForm text form × AppendsPrefix w v form
 
 -- By the status, where s and t are what was left of the input before and after, and w and v what was written: at Ok the input is a
 -- script and its canonical form was appended; at a fault of the script that is its first one; else it is too long or couldn't

@@ -2,7 +2,7 @@
 
 ghost use Rattle.std.specs.Prelude.{◌≡◌, ◌≢◌, ◌⊎◌, ◌≤◌, None, Some, Err, IfErr, IfOk, length};
 ghost use Rattle.kap_base.specs.Words.{HasRisen};
-ghost use Rattle.recording_file.specs.Finding.{HasEnded};
+ghost use Rattle.recording_file.specs.Reading.{HasEnded};
 ghost use Rattle.tick_parser.specs.Trees.{script_tree};
 ghost use Rattle.kap_server.specs.Checking.{Checked, HasForm};
 ghost use Rattle.kap_server.specs.ReadingIn.{IsAll, IsLong, IsShort, ReadsFew};

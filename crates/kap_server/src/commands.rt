@@ -1,8 +1,8 @@
 ghost use Rattle.std.specs.Prelude.{◌≡◌, ◌≢◌, ◌⊎◌, List, ℕ, None, Some, map, string_bytes};
 ghost use Rattle.std.specs.Io.KnownBytes.{Keeps};
 ghost use Rattle.kap_base.specs.Words.{HasRisen};
-ghost use Rattle.recording_file.specs.Finding.{HasEnded};
-ghost use Rattle.recording_file.specs.Recording.{recording};
+ghost use Rattle.recording_file.specs.Reading.{HasEnded};
+ghost use Rattle.recording_file.specs.Recording.{reading_of};
 ghost use Rattle.kap_server.specs.Checking.{Checked, ChecksTo};
 ghost use Rattle.kap_server.specs.Command.{ExactlyWhere, AsksFor, AsksForNoFilter, AsksToCheck, FiltersNone, IsUnlessFailed};
 ghost use Rattle.kap_server.specs.Lines.{text_of};
@@ -32,7 +32,7 @@ fn replay_by<S: Source, K: Sink>(
     ensures script_form { ExactlyWhere result Status.ScriptForm (FiltersNone script.now) }
     ensures nothing { result ≡ Status.ScriptForm → Keeps (S.left input.old) (S.left input.new) × Keeps (K.written out.old) (K.written out.new) }
     ensures replayed { (name : List ℕ) → IsFilter script.now name → Replayed (text_of id.now name) result (S.left input.old) (S.left input.new) (K.written out.old) (K.written out.new) }
-    ensures status { (name bytes : List ℕ) → IsFilter script.now name → S.left input.old ≡ Some bytes → IsUnlessFailed result (status_at (recording bytes).stop) }
+    ensures status { (name bytes : List ℕ) → IsFilter script.now name → S.left input.old ≡ Some bytes → IsUnlessFailed result (status_at (reading_of bytes).stop) }
     ensures read { result ≡ Status.Ok → HasEnded (S.left input.old) (S.left input.new) }
     ensures read_fault { result ≡ Status.ReadFault → HasRisen (S.faults input.old) (S.faults input.new) }
     ensures write_fault { result ≡ Status.WriteFault → HasRisen (K.faults out.old) (K.faults out.new) }
@@ -70,7 +70,7 @@ pub fn command<S: Source, K: Sink>(
     // Of a replay the text of the points is written, as the status says.
     ensures replayed { (id name : List ℕ) → AsksFor (map string_bytes words.now) id name → Replayed (text_of id name) result (S.left input.old) (S.left input.new) (K.written out.old) (K.written out.new) }
     // Its status is Ok where the input is a recording, and else that of its first fault, unless memory ran out or a device failed.
-    ensures status { (id name bytes : List ℕ) → AsksFor (map string_bytes words.now) id name → S.left input.old ≡ Some bytes → IsUnlessFailed result (status_at (recording bytes).stop) }
+    ensures status { (id name bytes : List ℕ) → AsksFor (map string_bytes words.now) id name → S.left input.old ≡ Some bytes → IsUnlessFailed result (status_at (reading_of bytes).stop) }
     // At Ok the input was read to its end.
     ensures read { result ≡ Status.Ok → HasEnded (S.left input.old) (S.left input.new) }
     // A fault of the input or the output comes only where its count rose in this call.

@@ -88,7 +88,12 @@ fn each_type_has_its_bytes(rt: HostRuntime) -> Result<(), Fail> {
     check_spelling(&rt, alloc, &true, &[1])?;
     check_spelling(&rt, alloc, &(2u8, 3u32), &[2, 0, 0, 0, 3])?;
     check_spelling(&rt, alloc, &Some(4u8), &[1, 4])?;
-    check_spelling(&rt, alloc, &Value::Int(-1), &[0, 255, 255, 255, 255, 255, 255, 255, 255])?;
+    check_spelling(
+        &rt,
+        alloc,
+        &Value::Int(-1),
+        &[0, 255, 255, 255, 255, 255, 255, 255, 255],
+    )?;
     check_spelling(&rt, alloc, &Value::Bool(true), &[1, 1])?;
     let name = Value::Str(text(alloc, "\u{e9}")?);
     check_spelling(&rt, alloc, &name, &[2, 0, 0, 0, 2, 0xc3, 0xa9])?;

@@ -9,6 +9,7 @@ use kap_base::{
 };
 use line_points::{Mode, read_line};
 use std::alloc::Global;
+use std::process::Abort;
 use std::test::Fail;
 
 fn text(alloc: Global, bytes: &str) -> Result<Text, Fail> {
