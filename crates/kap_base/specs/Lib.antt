@@ -6,3 +6,6 @@ pub mod Tree
 pub mod Utf8
 pub mod TreeCode
 pub mod Places
+pub mod Groups
+pub mod Levels
+pub mod Times

@@ -42,13 +42,17 @@ rises (a ∷ b ∷ names) = is_lt (byte_order a b) && rises (b ∷ names)
 abbrev pub are_dimensions : List (List ℕ) → Bool
 are_dimensions dims = rises dims && list_all is_utf8 dims
 
+-- names of fields, and values that they can have
+abbrev pub are_fields : KeyMap Value → Bool
+are_fields fields = list_all (λ e. is_name e.0 && is_value e.1) (entries fields)
+
 -- what holds of each point
 pub record IsPoint (p : PointValue) : Type 0 where
   pub db : IsTrue (is_line p.db)
   pub rp : IsTrue (is_line p.rp)
   pub name : IsTrue (is_measurement p.name)
   pub tags : IsTrue (list_all (λ e. is_name e.0 && is_name e.1) (entries p.tags))
-  pub fields : IsTrue (list_all (λ e. is_name e.0 && is_value e.1) (entries p.fields))
+  pub fields : IsTrue (are_fields p.fields)
   pub some_field : IsTrue (nat_lt 0 (len p.fields))
   pub dims : IsTrue (are_dimensions p.dims)
   pub time : IsTrue (is_time p.time)

@@ -1,7 +1,7 @@
 ghost use Rattle.std.specs.Prelude.{ℕ, ◌<◌, List, Option, length, OnOk, OnErr};
 ghost use Rattle.std.specs.Io.KnownBytes.{WriteAppends, Appends};
 ghost use Rattle.kap_io.specs.Causes.{HasCause};
-ghost use Rattle.kap_io.specs.Pieces.{TakesSome, AppendsFront};
+ghost use Rattle.kap_io.specs.Pieces.{TakesSome, AppendsPrefix};
 
 use crate::failed::Failed;
 
@@ -13,7 +13,7 @@ pub trait Sink {
     /// How often it has failed; a count at 2^64 - 1 stays there.
     ghost faults: { Self → ℕ };
 
-    /// Takes a front of the piece, and answers how many bytes that is, 1 at least. A device that takes nothing has failed.
+    /// Takes a prefix of the piece, and answers how many bytes that is, 1 at least. A device that takes nothing has failed.
     /// `Failed` comes only where the count of faults rose in this call, and then nothing is taken.
     fn write(&mut self, piece: &[u8]) -> Result<usize, Failed>
         requires { 0 < length piece.now }
@@ -23,10 +23,10 @@ pub trait Sink {
 }
 
 /// Writes all of these bytes, in as many pieces as the sink wants. After `Failed`, which comes only where the sink's count of
-/// faults rose in this call, a front of them is written.
+/// faults rose in this call, a prefix of them is written.
 pub fn write_all<K: Sink>(sink: &mut K, bytes: &[u8]) -> Result<(), Failed>
     ensures ok { OnOk result (Appends (K.written sink.old) (K.written sink.new) bytes.now) }
-    ensures err { OnErr result (AppendsFront (K.written sink.old) (K.written sink.new) bytes.now) }
+    ensures err { OnErr result (AppendsPrefix (K.written sink.old) (K.written sink.new) bytes.now) }
     ensures cause { HasCause (K.faults sink.old) (K.faults sink.new) result }
 {
     let mut done = 0;

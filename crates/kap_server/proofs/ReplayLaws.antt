@@ -8,8 +8,8 @@ use Rattle.std.proofs.lemmas.List.Elements.{filter-append}
 use Rattle.std.proofs.lemmas.List.{take-append-le}
 use Rattle.std.proofs.Math.Seq.{take-append-add}
 use Rattle.kap_base.specs.Points.{PointValue}
-use Rattle.kap_io.specs.Pieces.{AppendsFront}
-use Rattle.kap_io.specs.KnownLaws.{appends_none, appends_more}
+use Rattle.kap_io.specs.Pieces.{AppendsPrefix}
+use Rattle.std.proofs.KnownBytes.{Appends-nil, Appends-trans}
 use Rattle.recording_file.specs.declared.fault.RecFault.{RecFault}
 use Rattle.recording_file.specs.declared.fault.RecFault.TheVariants as faults
 use Rattle.recording_file.specs.Recording.{Reading, Stop, Ended, Faulty, recording, read, limited}
@@ -23,7 +23,7 @@ use Rattle.kap_server.specs.declared.status.Status.TheVariants as statuses
 use Rattle.kap_server.specs.Statuses.{status_of, status_at}
 use Rattle.kap_server.specs.Command.{IsUnlessFailed}
 use Rattle.kap_server.specs.Lines.{is_of, out_line, text_of}
-use Rattle.kap_server.specs.Replaying.{Writes, WritesFront, Replayed, IsWritten, Moves, Underway}
+use Rattle.kap_server.specs.Replaying.{Writes, WritesPrefix, Replayed, IsWritten, Moves, Underway}
 
 -- ---- text
 
@@ -36,7 +36,7 @@ text-append id name ps qs = ap (flat_map (out_line id)) (filter-append (is_of na
 module _ (id name : List ℕ) where
   -- at the start nothing is due
   pub underway_none : (s w : Option (List ℕ)) → Underway (text_of id name) [] start s s w w
-  underway_none s w = record { points = []; given = given_none s; done = []; written = appends_none w; is = refl }
+  underway_none s w = record { points = []; given = given_none s; done = []; written = Appends-nil w; is = refl }
 
   module _ (s t w v : Option (List ℕ)) (due : List ℕ) (at : At) (on : Underway (text_of id name) due at s t w v) where
     -- one point more
@@ -45,7 +45,7 @@ module _ (id name : List ℕ) where
       points = on.points ++ p ∷ [];
       given = given_more on.points p at b s t u on.given step;
       done = on.done ++ moved.piece;
-      written = appends_more w v x on.done moved.piece on.written moved.written;
+      written = Appends-trans w v x on.done moved.piece on.written moved.written;
       is = text-append id name on.points (p ∷ [])
           ∙ ap (λ (l : List ℕ). l ++ text_of id name (p ∷ [])) on.is
           ∙ append_assoc on.done due (text_of id name (p ∷ []))
@@ -55,7 +55,7 @@ module _ (id name : List ℕ) where
 
     -- the rest of the text was written
     whole_written : (x : Option (List ℕ)) → Appends v x due → Appends w x (text_of id name on.points)
-    whole_written x p = subst (Appends w x) (sym on.is) (appends_more w v x on.done due on.written p)
+    whole_written x p = subst (Appends w x) (sym on.is) (Appends-trans w v x on.done due on.written p)
 
     writes : (o : Option (List ℕ)) (ps : List PointValue) (stop : Stop) (x : Option (List ℕ)) → StopsWith o ps stop → Appends w x (text_of id name ps) → Writes (text_of id name) o w x stop
     writes None ps stop x p q = tt
@@ -83,36 +83,36 @@ module _ (id name : List ℕ) where
   -- ---- the output failed
 
   -- a front of what is due is one of the whole text
-  front_of : (w v x : Option (List ℕ)) (done due more : List ℕ) → Appends w v done → AppendsFront v x due → AppendsFront w x (done ++ (due ++ more))
+  front_of : (w v x : Option (List ℕ)) (done due more : List ℕ) → Appends w v done → AppendsPrefix v x due → AppendsPrefix w x (done ++ (due ++ more))
   front_of w v x done due more p q =
       let taken : take (length done + q.0) (done ++ (due ++ more)) ≡ done ++ take q.0 due = take-append-add done (due ++ more) q.0 ∙ ap (λ (l : List ℕ). done ++ l) (take-append-le q.0 due more q.1) in
-      (length done + q.0, let bound = q.1 in omega (arith, length-append done (due ++ more), length-append due more), subst (Appends w x) (sym taken) (appends_more w v x done (take q.0 due) p q.2))
+      (length done + q.0, let bound = q.1 in omega (arith, length-append done (due ++ more), length-append due more), subst (Appends w x) (sym taken) (Appends-trans w v x done (take q.0 due) p q.2))
 
-  cut_told : (due : List ℕ) (at : At) (input : List ℕ) (o t w v x : Option (List ℕ)) (on : Underway (text_of id name) due at (Some input) t w v) → o ≡ to_come at.ended t → Consumes (Some input) o on.given.got → AppendsFront v x due → AppendsFront w x (text_of id name (recording input).points)
+  cut_told : (due : List ℕ) (at : At) (input : List ℕ) (o t w v x : Option (List ℕ)) (on : Underway (text_of id name) due at (Some input) t w v) → o ≡ to_come at.ended t → Consumes (Some input) o on.given.got → AppendsPrefix v x due → AppendsPrefix w x (text_of id name (recording input).points)
   cut_told due at input None t w v x on is took p = absurd took
   cut_told due at input (Some y) t w v x on is took p =
       let rest = (read at.line (limited (room at) (at.bytes ++ y))).points in
       let all : (recording input).points ≡ on.points ++ rest = ap (λ l. (recording l).points) took ∙ ap (λ (r : Reading). r.points) (on.given.reads y (λ e. ended_left at.ended t y (sym is) e)) in
       let text_is : text_of id name (recording input).points ≡ on.done ++ (due ++ text_of id name rest) =
       ap (text_of id name) all ∙ text-append id name on.points rest ∙ ap (λ (l : List ℕ). l ++ text_of id name rest) on.is ∙ append_assoc on.done due (text_of id name rest) in
-      subst (AppendsFront w x) (sym text_is) (front_of w v x on.done due (text_of id name rest) on.written p)
+      subst (AppendsPrefix w x) (sym text_is) (front_of w v x on.done due (text_of id name rest) on.written p)
 
-  pub cut_off : (due : List ℕ) (at : At) (s t w v x : Option (List ℕ)) → Underway (text_of id name) due at s t w v → AppendsFront v x due → WritesFront (text_of id name) s w x
+  pub cut_off : (due : List ℕ) (at : At) (s t w v x : Option (List ℕ)) → Underway (text_of id name) due at s t w v → AppendsPrefix v x due → WritesPrefix (text_of id name) s w x
   cut_off due at None t w v x on p = tt
   cut_off due at (Some input) t w v x on p = cut_told due at input (to_come at.ended t) t w v x on refl on.given.took p
 
   -- the rest of the text was written, or the output failed
   pub finished : (status result : Status) (s u v w x : Option (List ℕ)) (due : List ℕ) (before after : ℕ) → IsWritten status result v x due before after
-      → (Appends v x due → Replayed (text_of id name) status s u w x) → (AppendsFront v x due → WritesFront (text_of id name) s w x) → Replayed (text_of id name) result s u w x
+      → (Appends v x due → Replayed (text_of id name) status s u w x) → (AppendsPrefix v x due → WritesPrefix (text_of id name) s w x) → Replayed (text_of id name) result s u w x
   finished status result s u v w x due before after (inl p) whole part = subst (λ r. Replayed (text_of id name) r s u w x) (sym p.0) (whole p.1)
   finished status result s u v w x due before after (inr p) whole part = subst (λ r. Replayed (text_of id name) r s u w x) (sym p.0) (part p.1)
 
   -- a point came, and the output failed or memory ran out
   pub gave_up : (status : Status) (due : List ℕ) (at b : At) (s t u w v x : Option (List ℕ)) (p : PointValue) → Underway (text_of id name) due at s t w v → GivesPoint read at b t u p
-      → (status ≡ statuses.NoMemory) ⊎ (status ≡ statuses.WriteFault) → (status ≡ statuses.WriteFault → AppendsFront v x (due ++ text_of id name (p ∷ []))) → Replayed (text_of id name) status s u w x
+      → (status ≡ statuses.NoMemory) ⊎ (status ≡ statuses.WriteFault) → (status ≡ statuses.WriteFault → AppendsPrefix v x (due ++ text_of id name (p ∷ []))) → Replayed (text_of id name) status s u w x
   gave_up status due at b s t u w v x p on step (inl memory) part = subst (λ r. Replayed (text_of id name) r s u w x) (sym memory) tt
   gave_up status due at b s t u w v x p on step (inr fault) part =
-      let still : Moves (due ++ text_of id name (p ∷ [])) (due ++ text_of id name (p ∷ [])) v v = record { piece = []; written = appends_none v; rest = refl } in
+      let still : Moves (due ++ text_of id name (p ∷ [])) (due ++ text_of id name (p ∷ [])) v v = record { piece = []; written = Appends-nil v; rest = refl } in
       subst (λ r. Replayed (text_of id name) r s u w x) (sym fault) (cut_off (due ++ text_of id name (p ∷ [])) b s u w v x (underway_more s t w v due at on p b u v (due ++ text_of id name (p ∷ [])) step still) (part fault))
 
 -- the status of a replay is that at which reading its input stops

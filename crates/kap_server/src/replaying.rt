@@ -1,8 +1,8 @@
 ghost use Rattle.std.specs.Prelude.{◌≡◌, ◌⊎◌, [], ◌∷◌, ◌++◌, ◌≤◌, Err, IfErr, OnOk, OnErr};
 ghost use Rattle.kap_base.specs.Words.{HasRisen};
 ghost use Rattle.kap_io.specs.Causes.{HasCause};
-ghost use Rattle.kap_io.specs.Pieces.{AppendsFront};
-ghost use Rattle.recording_file.specs.Finding.{HasEnded};
+ghost use Rattle.kap_io.specs.Pieces.{AppendsPrefix};
+ghost use Rattle.recording_file.specs.Reading.{HasEnded};
 ghost use Rattle.kap_server.specs.Lines.{text_of};
 ghost use Rattle.kap_server.specs.Replaying.{IsWritten, Moves, Replayed};
 
@@ -19,7 +19,7 @@ const PIECE: usize = 65_536;
 /// Writes the text that is due, where it is a whole piece.
 fn write_piece<K: Sink>(out: &mut K, text: &mut Bytes) -> Result<(), Failed>
     ensures ok { OnOk result (Moves text.old text.new (K.written out.old) (K.written out.new)) }
-    ensures err { OnErr result (AppendsFront (K.written out.old) (K.written out.new) text.old) }
+    ensures err { OnErr result (AppendsPrefix (K.written out.old) (K.written out.new) text.old) }
     ensures cause { HasCause (K.faults out.old) (K.faults out.new) result }
 {
     if PIECE <= text.len() {
@@ -50,7 +50,7 @@ fn replay_point<K: Sink>(
 ) -> Result<(), Status>
     ensures ok { OnOk result (Moves (text.old ++ text_of id.now name.now (point.now ∷ [])) text.new (K.written out.old) (K.written out.new)) }
     ensures err { IfErr result (λ s. (s ≡ Status.NoMemory) ⊎ (s ≡ Status.WriteFault)) }
-    ensures cut { result ≡ Err Status.WriteFault → AppendsFront (K.written out.old) (K.written out.new) (text.old ++ text_of id.now name.now (point.now ∷ [])) }
+    ensures cut { result ≡ Err Status.WriteFault → AppendsPrefix (K.written out.old) (K.written out.new) (text.old ++ text_of id.now name.now (point.now ∷ [])) }
     ensures later { K.faults out.old ≤ K.faults out.new }
     ensures rose { result ≡ Err Status.WriteFault → HasRisen (K.faults out.old) (K.faults out.new) }
 {

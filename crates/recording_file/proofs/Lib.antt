@@ -1,7 +1,9 @@
 pub mod FeedLaws
 pub mod FindLaws
-pub mod SeenLaws
+pub mod LineLaws
 pub mod StepLaws
 pub mod HaltLaws
 pub mod PointLaws
-pub mod WholeLaws
+pub mod RecordLaws
+pub mod StandLaws
+pub mod ReadLaws

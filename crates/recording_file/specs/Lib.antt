@@ -4,3 +4,4 @@ pub mod Recording
 pub mod Reading
 pub mod Finding
 pub mod Steps
+pub mod Got

@@ -1,48 +1,78 @@
--- A reader's state, and what reading a whole recording gives.
-use Rattle.std.specs.Prelude.{◌≡◌, ◌++◌, Bool, false, ℕ, Option, None, Some, List, [], IsTrue, Result, Ok, Err}
+-- What a reader says of the points that it has given and of the bytes that it has read.
+use Rattle.std.specs.Prelude.{◌≡◌, ◌⊎◌, ◌++◌, ◌∷◌, ◌≤◌, ◌^◌, Bool, false, ℕ, Option, None, Some, List, [], IsTrue, Result, Ok, Err, length}
 use Rattle.std.specs.Io.KnownBytes.{Consumes}
 use Rattle.kap_base.specs.Points.{PointValue}
 use Rattle.recording_file.specs.declared.fault.RecFault.{RecFault}
 use Rattle.recording_file.specs.declared.fault.RecFault.TheVariants.{Line, Truncated, Long, ReadFault, NoMemory}
-use Rattle.recording_file.specs.Recording.{Reading, Stop, Ended, Faulty, Undecided, recording, recording_front, read, front, limited}
-use Rattle.recording_file.specs.Finding.{At, room, to_come}
+use Rattle.recording_file.specs.Recording.{Recording, Reading, Stop, Ended, Faulty, Undecided, reading_of, reading_so_far}
 
--- where a reader stands, and whether it is spent
-pub record Held : Type 0 where
-  pub at : At
+-- a reader: the points given so far, the bytes read so far, whether these are all, and whether a call has failed
+pub record ReaderState : Type 0 where
+  pub given : List PointValue
+  pub got : List ℕ
+  pub ended : Bool
   pub spent : Bool
 
--- where a reader stands that has read nothing
-abbrev pub start : At
-start = record { bytes = []; line = 1; given = 0; ended = false }
+-- a source that tells has nothing left
+abbrev pub HasEnded : Option (List ℕ) → Option (List ℕ) → Type 0
+HasEnded None after = Unit {0}
+HasEnded (Some before) None = ⊥
+HasEnded (Some before) (Some after) = after ≡ []
 
--- points before others
-abbrev pub behind : List PointValue → Reading → Reading
-behind ps others = record { points = ps ++ others.points; stop = others.stop }
+-- a call reads the next bytes of a source, behind those that were read; a source that has ended isn't asked again
+pub record ReadsOn (old_got new_got : List ℕ) (was_ended is_ended : Bool) (before after : Option (List ℕ)) : Type 0 where
+  pub piece : List ℕ
+  pub got : new_got ≡ old_got ++ piece
+  pub took : Consumes before after piece
+  pub stays_ended : IsTrue was_ended → IsTrue is_ended
+  pub none : IsTrue was_ended → piece ≡ []
+  pub ends : IsTrue is_ended → IsTrue was_ended ⊎ HasEnded before after
 
--- these points are the first of the recording, and the others are those ahead of a reader that stands there
-pub record HasGiven (ps : List PointValue) (at : At) (s t : Option (List ℕ)) : Type 0 where
-  pub got : List ℕ
-  pub took : Consumes s (to_come at.ended t) got
-  pub reads : (more : List ℕ) → (IsTrue at.ended → more ≡ []) → recording (got ++ more) ≡ behind ps (read at.line (limited (room at) (at.bytes ++ more)))
-  pub opens : (more : List ℕ) → at.ended ≡ false → recording_front (got ++ more) ≡ behind ps (read at.line (front (at.bytes ++ more)))
+-- so a call of a reader reads
+abbrev pub ReaderReads : ReaderState → ReaderState → Option (List ℕ) → Option (List ℕ) → Type 0
+ReaderReads old new before after = ReadsOn old.got new.got old.ended new.ended before after
 
--- a recording that is told gives these points and stops so
-abbrev pub StopsWith : Option (List ℕ) → List PointValue → Stop → Type 0
-StopsWith None ps stop = Unit {0}
-StopsWith (Some bytes) ps stop = recording bytes ≡ record { points = ps; stop = stop }
+-- whatever may follow the bytes that were read, reading them all gives these points first
+pub record BeginsWith (reader : ReaderState) (points : List PointValue) (more : List ℕ) : Type 0 where
+  pub others : List PointValue
+  pub all : (reading_of (reader.got ++ more)).points ≡ points ++ others
 
--- the bytes that were read give these points, and don't decide how reading goes on
-pub record StaysOpen (ps : List PointValue) (s t : Option (List ℕ)) : Type 0 where
-  pub got : List ℕ
-  pub took : Consumes s t got
-  pub undecided : recording_front got ≡ record { points = ps; stop = Undecided }
+-- a point was given: it is the next one, whatever may follow the bytes that were read
+pub record Gives (old new : ReaderState) (p : PointValue) : Type 0 where
+  pub given : new.given ≡ old.given ++ p ∷ []
+  pub few : length new.given ≤ 2 ^ 30
+  pub next : (more : List ℕ) → (IsTrue new.ended → more ≡ []) → BeginsWith new new.given more
 
--- these points were read of a recording, up to its end or its first fault, or up to where its source failed
-abbrev pub ReadsPoints : Result (Unit {0}) RecFault → List PointValue → Option (List ℕ) → Option (List ℕ) → Type 0
-ReadsPoints (Ok done) ps s t = StopsWith s ps Ended
-ReadsPoints (Err (Line n fault)) ps s t = StopsWith s ps (Faulty (Line n fault))
-ReadsPoints (Err (Truncated n)) ps s t = StopsWith s ps (Faulty (Truncated n))
-ReadsPoints (Err Long) ps s t = StopsWith s ps (Faulty Long)
-ReadsPoints (Err ReadFault) ps s t = StaysOpen ps s t
-ReadsPoints (Err NoMemory) ps s t = Unit {0}
+-- the source has ended, what it gave is a recording, and its points were given
+pub record GaveAll (old new : ReaderState) : Type 0 where
+  pub given : new.given ≡ old.given
+  pub ended : IsTrue new.ended
+  pub whole : Recording new.got new.given
+
+-- whatever may follow the bytes that were read, reading them all stops so behind the points that were given
+abbrev pub StopsAt : ReaderState → Stop → Type 0
+StopsAt reader stop =
+    (more : List ℕ) → (IsTrue reader.ended → more ≡ []) → reading_of (reader.got ++ more) ≡ record { points = reader.given; stop = stop }
+
+-- the source failed, and the bytes that were read don't decide how reading goes on behind the points that were given
+pub record StaysOpen (reader : ReaderState) : Type 0 where
+  pub not_ended : reader.ended ≡ false
+  pub undecided : reading_so_far reader.got ≡ record { points = reader.given; stop = Undecided }
+
+-- why no point was given
+abbrev pub StopsBy : ReaderState → RecFault → Type 0
+StopsBy reader (Line n fault) = StopsAt reader (Faulty (Line n fault))
+StopsBy reader (Truncated n) = StopsAt reader (Faulty (Truncated n))
+StopsBy reader Long = StopsAt reader (Faulty Long)
+StopsBy reader ReadFault = StaysOpen reader
+StopsBy reader NoMemory = Unit {0}
+
+-- a call failed, so: no point was given
+pub record Fails (old new : ReaderState) (fault : RecFault) : Type 0 where
+  pub given : new.given ≡ old.given
+  pub why : StopsBy new fault
+
+-- what a reader has read of a source: the bytes that it has got, and all of them where the source has ended
+pub record HasRead (reader : ReaderState) (before after : Option (List ℕ)) : Type 0 where
+  pub took : Consumes before after reader.got
+  pub ends : IsTrue reader.ended → HasEnded before after

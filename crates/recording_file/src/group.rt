@@ -1,22 +1,18 @@
-ghost use Rattle.std.specs.Prelude.{◌≡◌, ◌≢◌, Ok, Err, not, IsTrue, IsOk, IfOk, IfErr, IfSome, IfNone, IsUtf8, OnOk, OnSome, ◌⊎◌, ◌<◌, ◌≤◌, ◌^◌};
-ghost use Rattle.std.specs.Bool.{OnTrue};
-ghost use Rattle.kap_base.specs.Words.{Answers};
+ghost use Rattle.std.specs.Prelude.{◌≡◌, ◌≢◌, Ok, Err, Some, not, IsTrue, IfOk, IfErr, IfSome, IfNone, IsUtf8, OnOk, OnSome};
+ghost use Rattle.std.specs.Bool.{OnTrue, OnFalse};
 ghost use Rattle.kap_base.specs.Texts.{has_line_feed};
+ghost use Rattle.line_points.specs.Line.{line_of};
 ghost use Rattle.recording_file.specs.Causes.{HasReadCause};
-ghost use Rattle.std.specs.Io.KnownBytes.{Keeps};
-ghost use Rattle.recording_file.specs.Recording.{Ended, named, pointed, read};
-ghost use Rattle.recording_file.specs.Finding.{HasEnded, to_come};
-ghost use Rattle.recording_file.specs.Steps.{read_policy, read_database, GivesPoint, StopsSo, Refuses, FaultAt};
+ghost use Rattle.recording_file.specs.Recording.{name_of_line, read};
+ghost use Rattle.recording_file.specs.Finding.{Reads, CountRises, FindsEnd};
+ghost use Rattle.recording_file.specs.Steps.{read_policy, read_database, GivesPoint, FailsBy, FaultAt, PassesName, RefusesName};
 
 use crate::fault::RecFault;
-use crate::lines::Lines;
+use crate::lines::{LONGEST, Lines};
 use kap_base::{Point, Text, TextFault};
 use kap_io::Source;
 use line_points::{LineFault, Mode, read_line};
 use std::alloc::Global;
-
-/// The most bytes of a database or a policy.
-const LONGEST_NAME: usize = 65_536;
 
 /// Whether the text has these bytes.
 fn is_text(text: &Text, bytes: &[u8]) -> bool
@@ -26,20 +22,20 @@ fn is_text(text: &Text, bytes: &[u8]) -> bool
     text.bytes() == bytes
 }
 
-/// Keeps the database or the policy that a line gives, where it isn't the one that is kept already.
-fn keep(alloc: Global, line: &[u8], kept: &mut Text) -> Result<(), LineFault>
-    ensures kept { OnOk result ((named line.now ≡ Ok kept.new) × (kept.new ≡ line.now)) }
-    ensures fault { IfErr result (λ f. f ≢ LineFault.NoMemory → named line.now ≡ Err f) }
+/// Sets the database or the policy to the one that a line gives, where it isn't that already.
+fn set_name(alloc: Global, line: &[u8], name: &mut Text) -> Result<(), LineFault>
+    ensures set { OnOk result ((name_of_line line.now ≡ Ok name.new) × (name.new ≡ line.now)) }
+    ensures fault { IfErr result (λ f. f ≢ LineFault.NoMemory → name_of_line line.now ≡ Err f) }
 {
-    if line.len() > LONGEST_NAME {
+    if line.len() > LONGEST {
         return Err(LineFault::Long);
     }
-    if is_text(kept, line) {
+    if is_text(name, line) {
         return Ok(());
     }
     match Text::from_bytes(alloc, line) {
         Ok(text) => {
-            *kept = text;
+            *name = text;
             Ok(())
         }
         Err(TextFault::NotUtf8) => Err(LineFault::NotUtf8),
@@ -52,7 +48,8 @@ fn point(alloc: Global, line: &[u8], db: &Text, rp: &Text) -> Result<Point, Line
     requires line { IsTrue (not (has_line_feed line.now)) }
     requires db { IsTrue (not (has_line_feed db.now)) }
     requires rp { IsTrue (not (has_line_feed rp.now)) }
-    ensures { Answers LineFault.NoMemory result (pointed db.now rp.now line.now) }
+    ensures read { IfOk result (λ p. line_of db.now rp.now Mode.Recording line.now ≡ Ok (Some p)) }
+    ensures fault { IfErr result (λ f. f ≢ LineFault.NoMemory → line_of db.now rp.now Mode.Recording line.now ≡ Err f) }
 {
     match read_line(alloc, line, db, rp, &Mode::Recording) {
         Ok(Some(point)) => Ok(point),
@@ -73,83 +70,92 @@ fn at_line<T: Drop>(line: u64, read: Result<T, LineFault>) -> Result<T, RecFault
     }
 }
 
-impl Lines {
-    /// The point of a group whose database and policy were given.
-    pub fn point_behind_policy<S: Source>(
-        &mut self,
-        alloc: Global,
-        source: &mut S,
-        db: &Text,
-        rp: &Text,
-    ) -> Result<Point, RecFault>
-        requires db { IsTrue (not (has_line_feed db.now)) }
-        requires rp { IsTrue (not (has_line_feed rp.now)) }
-        ensures point { IfOk result (GivesPoint (read_policy db.now rp.now) self.old self.new (S.left source.old) (S.left source.new)) }
-        ensures grows { OnOk result ((self.old.given < self.new.given) × (self.new.given ≤ 2 ^ 30)) }
-        ensures fault { IfErr result (Refuses (read_policy db.now rp.now) self.old self.new (S.left source.old) (S.left source.new)) }
-        ensures stays { IsTrue self.old.ended → IsTrue self.new.ended }
-        ensures ends { IsTrue self.new.ended → IsTrue self.old.ended ⊎ HasEnded (S.left source.old) (S.left source.new) }
-        ensures quiet { IsTrue self.old.ended → Keeps (S.left source.old) (S.left source.new) }
-        ensures cause { HasReadCause (S.faults source.old) (S.faults source.new) result }
-    {
-        let Some(size) = self.find(source)? else {
-            return Err(RecFault::Truncated { line: self.line() });
-        };
-        let point = at_line(self.line(), point(alloc, self.text(size), db, rp))?;
-        self.pass(size);
-        Ok(point)
-    }
+/// The point of a group whose database and policy were given.
+pub fn point_behind_policy<S: Source>(
+    alloc: Global,
+    lines: &mut Lines,
+    source: &mut S,
+    db: &Text,
+    rp: &Text,
+) -> Result<Point, RecFault>
+    requires db { IsTrue (not (has_line_feed db.now)) }
+    requires rp { IsTrue (not (has_line_feed rp.now)) }
+    ensures reads { Reads lines.old lines.new (S.left source.old) (S.left source.new) }
+    ensures point { IfOk result (GivesPoint (read_policy db.now rp.now) lines.old lines.new) }
+    ensures count_rises { OnOk result (CountRises lines.old lines.new) }
+    ensures fault { IfErr result (FailsBy (read_policy db.now rp.now) lines.old lines.new) }
+    ensures cause { HasReadCause (S.faults source.old) (S.faults source.new) result }
+{
+    let Some(size) = lines.find(source)? else {
+        return Err(RecFault::Truncated { line: lines.line() });
+    };
+    let point = at_line(lines.line(), point(alloc, lines.text(size), db, rp))?;
+    lines.advance(size);
+    Ok(point)
+}
 
-    /// The point of a group whose database was given. The policy is kept.
-    fn point_behind_database<S: Source>(
-        &mut self,
-        alloc: Global,
-        source: &mut S,
-        db: &Text,
-        rp: &mut Text,
-    ) -> Result<Point, RecFault>
-        requires db { IsTrue (not (has_line_feed db.now)) }
-        ensures point { IfOk result (GivesPoint (read_database db.now) self.old self.new (S.left source.old) (S.left source.new)) }
-        ensures grows { OnOk result ((self.old.given < self.new.given) × (self.new.given ≤ 2 ^ 30)) }
-        ensures fault { IfErr result (Refuses (read_database db.now) self.old self.new (S.left source.old) (S.left source.new)) }
-        ensures stays { IsTrue self.old.ended → IsTrue self.new.ended }
-        ensures ends { IsTrue self.new.ended → IsTrue self.old.ended ⊎ HasEnded (S.left source.old) (S.left source.new) }
-        ensures quiet { IsTrue self.old.ended → Keeps (S.left source.old) (S.left source.new) }
-        ensures cause { HasReadCause (S.faults source.old) (S.faults source.new) result }
-    {
-        let Some(size) = self.find(source)? else {
-            return Err(RecFault::Truncated { line: self.line() });
-        };
-        at_line(self.line(), keep(alloc, self.text(size), rp))?;
-        self.pass(size);
-        let point = self.point_behind_policy(alloc, source, db, rp)?;
-        Ok(point)
-    }
+/// Passes a line that is a database or a policy, which is set; false at the end.
+fn pass_name<S: Source>(
+    alloc: Global,
+    lines: &mut Lines,
+    source: &mut S,
+    name: &mut Text,
+) -> Result<bool, RecFault>
+    ensures reads { Reads lines.old lines.new (S.left source.old) (S.left source.new) }
+    ensures name { IfOk result (λ more. OnTrue more (PassesName name.new lines.old lines.new)) }
+    ensures one_line { IfOk result (λ more. OnTrue more (IsTrue (not (has_line_feed name.new)))) }
+    ensures count_rises { IfOk result (λ more. OnTrue more (CountRises lines.old lines.new)) }
+    ensures end { IfOk result (λ more. OnFalse more (FindsEnd lines.old lines.new (S.left source.old) (S.left source.new))) }
+    ensures fault { IfErr result (RefusesName lines.old lines.new) }
+    ensures cause { HasReadCause (S.faults source.old) (S.faults source.new) result }
+{
+    let Some(size) = lines.find(source)? else {
+        return Ok(false);
+    };
+    at_line(lines.line(), set_name(alloc, lines.text(size), name))?;
+    lines.advance(size);
+    Ok(true)
+}
 
-    /// The point of the next group, or `None` at the end. The database and the policy are kept.
-    pub fn next_point<S: Source>(
-        &mut self,
-        alloc: Global,
-        source: &mut S,
-        db: &mut Text,
-        rp: &mut Text,
-    ) -> Result<Option<Point>, RecFault>
-        ensures point { IfOk result (λ o. IfSome o (GivesPoint read self.old self.new (S.left source.old) (S.left source.new))) }
-        ensures grows { IfOk result (λ o. OnSome o ((self.old.given < self.new.given) × (self.new.given ≤ 2 ^ 30))) }
-        ensures none { IfOk result (λ o. IfNone o (StopsSo read self.old (to_come self.old.ended (S.left source.old)) Ended)) }
-        ensures done { IfOk result (λ o. IfNone o (IsTrue self.new.ended)) }
-        ensures fault { IfErr result (Refuses read self.old self.new (S.left source.old) (S.left source.new)) }
-        ensures stays { IsTrue self.old.ended → IsTrue self.new.ended }
-        ensures ends { IsTrue self.new.ended → IsTrue self.old.ended ⊎ HasEnded (S.left source.old) (S.left source.new) }
-        ensures quiet { IsTrue self.old.ended → Keeps (S.left source.old) (S.left source.new) }
-        ensures cause { HasReadCause (S.faults source.old) (S.faults source.new) result }
-    {
-        let Some(size) = self.find(source)? else {
-            return Ok(None);
-        };
-        at_line(self.line(), keep(alloc, self.text(size), db))?;
-        self.pass(size);
-        let point = self.point_behind_database(alloc, source, db, rp)?;
-        Ok(Some(point))
+/// The point of a group whose database was given. The policy is kept.
+fn point_behind_database<S: Source>(
+    alloc: Global,
+    lines: &mut Lines,
+    source: &mut S,
+    db: &Text,
+    rp: &mut Text,
+) -> Result<Point, RecFault>
+    requires db { IsTrue (not (has_line_feed db.now)) }
+    ensures reads { Reads lines.old lines.new (S.left source.old) (S.left source.new) }
+    ensures point { IfOk result (GivesPoint (read_database db.now) lines.old lines.new) }
+    ensures count_rises { OnOk result (CountRises lines.old lines.new) }
+    ensures fault { IfErr result (FailsBy (read_database db.now) lines.old lines.new) }
+    ensures cause { HasReadCause (S.faults source.old) (S.faults source.new) result }
+{
+    if !pass_name(alloc, lines, source, rp)? {
+        return Err(RecFault::Truncated { line: lines.line() });
     }
+    point_behind_policy(alloc, lines, source, db, rp)
+}
+
+/// The point of the next group, or `None` at the end. The database and the policy are kept.
+pub fn next_point<S: Source>(
+    alloc: Global,
+    lines: &mut Lines,
+    source: &mut S,
+    db: &mut Text,
+    rp: &mut Text,
+) -> Result<Option<Point>, RecFault>
+    ensures reads { Reads lines.old lines.new (S.left source.old) (S.left source.new) }
+    ensures point { IfOk result (λ o. IfSome o (GivesPoint read lines.old lines.new)) }
+    ensures count_rises { IfOk result (λ o. OnSome o (CountRises lines.old lines.new)) }
+    ensures end { IfOk result (λ o. IfNone o (FindsEnd lines.old lines.new (S.left source.old) (S.left source.new))) }
+    ensures fault { IfErr result (FailsBy read lines.old lines.new) }
+    ensures cause { HasReadCause (S.faults source.old) (S.faults source.new) result }
+{
+    if !pass_name(alloc, lines, source, db)? {
+        return Ok(None);
+    }
+    let point = point_behind_database(alloc, lines, source, db, rp)?;
+    Ok(Some(point))
 }

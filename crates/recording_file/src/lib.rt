@@ -3,17 +3,14 @@
 
 mod fault;
 mod feeds;
+mod got;
 mod group;
 mod lines;
-mod points;
 mod print;
 mod reader;
 mod window;
 
 pub use fault::RecFault;
-pub use points::read_points;
+pub use lines::RECORDING_LIMIT;
 pub use print::print_record;
 pub use reader::Reader;
-
-#[cfg(test)]
-mod tests;

@@ -1,64 +1,70 @@
-ghost use Rattle.std.specs.Prelude.{◌≡◌, false, ◌+◌, ◌-◌, ◌^◌, not, ◌<◌, ◌≤◌, ◌≢◌, ℕ, List, [], Ok, min, length, take, drop, IsTrue, IfOk, IfErr, IfSome, IfNone, OnOk};
+ghost use Rattle.std.specs.Prelude.{◌≡◌, ◌≢◌, ◌⊎◌, false, ◌+◌, ◌^◌, not, ◌<◌, ◌≤◌, [], length, take, IsTrue, IfOk, IfErr, IfSome, IfNone, OnOk, OnErr};
 ghost use Rattle.std.specs.Bool.{OnTrue, OnFalse};
 ghost use Rattle.std.specs.List.{position_or_len};
 ghost use Rattle.kap_base.specs.Texts.{has_line_feed};
 ghost use Rattle.line_points.specs.Body.{without_return};
 ghost use Rattle.recording_file.specs.Causes.{HasReadCause};
-ghost use Rattle.recording_file.specs.Lines.{is_feed};
-ghost use Rattle.recording_file.specs.Finding.{At, ReadsOn, room, taken, IsLine, IsUndecided, FindFault, FindsNone};
+ghost use Rattle.recording_file.specs.Lines.{is_feed, is_long};
+ghost use Rattle.recording_file.specs.Finding.{ReadPlace, Stays, room, IsLine, IsUndecided, FindsNone, Passes};
 
 use crate::fault::RecFault;
-use crate::feeds::line_end;
+use crate::feeds::{last_feeds, line_end};
+use crate::got::GotBytes;
 use crate::window::Window;
 use kap_io::Source;
 use line_points::{LineFault, without_return};
 use std::alloc::Global;
 use std::marker::Model;
+use std::snapshot::Snapshot;
 
 /// The most bytes of a recording: 1 GiB.
-const MOST: u64 = 1 << 30;
+pub const RECORDING_LIMIT: u64 = 1 << 30;
 
-/// The most bytes of a line and of the carriage return behind it.
-const LONGEST: u64 = 65_537;
+/// The most bytes of a line, and of a database or a policy.
+pub(crate) const LONGEST: usize = 65_536;
 
 /// The lines of a recording, one after the other.
 #[derive(Drop)]
 pub struct Lines {
     window: Window,
+    got: GotBytes,
     line: u64,
-    given: u64,
+    passed: u64,
     ended: bool,
+    /// How many bytes stand before and in each of the last three line feeds that were read, the last first; 0 where there is none.
+    feeds: [u64; 3],
 }
 
 impl Model for Lines {
     ghost use Rattle.std.specs.Prelude.{◌+◌, ◌^◌, ◌≤◌};
-    ghost use Rattle.recording_file.specs.Finding.{At};
+    ghost use Rattle.recording_file.specs.Finding.{ReadPlace};
+    ghost use Rattle.recording_file.specs.Got.{bytes_of};
 
-    ghost Value = { At };
+    ghost Value = { ReadPlace };
 
-    ghost view = { λ l. record { bytes = l.window; line = l.line; given = l.given; ended = l.ended } };
+    ghost view = { λ l. record { bytes = l.window; got = bytes_of l.got; line = l.line; passed = l.passed; ended = l.ended } };
 
-    ghost invariant = { λ l. (l.given ≤ 2 ^ 30) × (1 ≤ l.line) × (l.line ≤ l.given + 1) };
+    ghost invariant = { λ l. (l.passed ≤ 2 ^ 30) × (1 ≤ l.line) × (l.line ≤ l.passed + 1) };
 }
 
 impl Lines {
     /// The lines of a recording of which nothing was read.
     pub fn new(alloc: Global) -> Lines
-        ensures { result ≡ record { bytes = []; line = 1; given = 0; ended = false } }
+        ensures { result ≡ record { bytes = []; got = []; line = 1; passed = 0; ended = false } }
     {
         Lines {
             window: Window::new(alloc),
+            got: GotBytes::Start,
             line: 1,
-            given: 0,
+            passed: 0,
             ended: false,
+            feeds: [0; 3],
         }
     }
 
-    /// The bytes that were read and not yet given.
-    pub fn held(&self) -> &[u8]
-        ensures { result.now ≡ self.now.bytes }
-    {
-        self.window.held()
+    /// Whether the next three lines are there, or all bytes.
+    pub fn holds_group(&self) -> bool {
+        self.ended || self.passed < self.feeds[2]
     }
 
     /// The number of the next line, from 1.
@@ -68,45 +74,97 @@ impl Lines {
         self.line
     }
 
-    /// Whether a line goes on behind its first `seen` bytes: `Line` with `Long` where it has too many bytes, `Long` where the
-    /// recording has.
-    fn goes_on(&self, seen: u64) -> Result<(), RecFault>
-        ensures ok { IfOk result (λ _. (seen ≤ room self.now) × (seen ≤ 65537)) }
-        ensures err { IfErr result (FindFault self.now seen) }
+    /// How many bytes may still be passed.
+    fn room(&self) -> usize
+        ensures { result ≡ room self.now }
     {
-        let room = MOST - self.given;
-        if LONGEST < room.min(seen) {
+        (RECORDING_LIMIT - self.passed) as usize
+    }
+
+    /// Whether the first `size` bytes are too many for a line.
+    fn is_too_long(&self, size: usize) -> bool
+        requires { size ≤ length self.now.bytes }
+        ensures { result ≡ is_long (without_return (take size self.now.bytes)) }
+    {
+        let (line, _) = self.window.held().split_at(size);
+        LONGEST < without_return(line).len()
+    }
+
+    /// Why a line that isn't ended within the limit can't go on.
+    fn limit_fault(&self) -> RecFault
+        requires no_feed { room self.now ≤ position_or_len is_feed self.now.bytes }
+        requires more { room self.now < length self.now.bytes }
+        ensures fault { FindsNone self.now result }
+        ensures told { result ≢ RecFault.ReadFault }
+    {
+        if self.is_too_long(self.room()) {
+            return RecFault::Line {
+                line: self.line,
+                fault: LineFault::Long,
+            };
+        }
+        RecFault::Long
+    }
+
+    /// Whether the next line, all of whose bytes are there without a line feed, may go on.
+    fn check_limits(&self, size: usize) -> Result<(), RecFault>
+        requires no_feed { position_or_len is_feed self.now.bytes ≡ size }
+        requires all { size ≡ length self.now.bytes }
+        ensures ok { OnOk result (IsUndecided self.now) }
+        ensures fault { IfErr result (FindsNone self.now) }
+        ensures told { IfErr result (λ f. f ≢ RecFault.ReadFault) }
+    {
+        if self.room() < size {
+            return Err(self.limit_fault());
+        }
+        if self.is_too_long(size) {
             return Err(RecFault::Line {
                 line: self.line,
                 fault: LineFault::Long,
             });
         }
-        if room < seen {
-            return Err(RecFault::Long);
-        }
         Ok(())
     }
 
     /// The size of a line whose line feed was found.
-    fn ended(&self, size: usize) -> Result<usize, RecFault>
+    fn checked_size(&self, size: usize) -> Result<usize, RecFault>
         requires found { size ≡ position_or_len is_feed self.now.bytes }
         requires within { size < length self.now.bytes }
         ensures line { IfOk result (IsLine self.now) }
-        ensures size { IfOk result (λ s. s ≡ size) }
         ensures fault { IfErr result (FindsNone self.now) }
         ensures told { IfErr result (λ f. f ≢ RecFault.ReadFault) }
     {
-        if MOST - self.given <= size as u64 {
-            self.goes_on((size as u64).saturating_add(1))?;
+        if self.room() <= size {
+            return Err(self.limit_fault());
         }
         Ok(size)
+    }
+
+    /// Reads a piece of the source behind the bytes that are there, which are so many; false at its end.
+    fn fill<S: Source>(&mut self, source: &mut S, size: usize) -> Result<bool, RecFault>
+        requires all { size ≡ length self.old.bytes }
+        requires not_ended { self.old.ended ≡ false }
+        ensures stays { Stays self.old self.new (S.left source.old) (S.left source.new) }
+        ensures more { IfOk result (λ more. OnTrue more (size < length self.new.bytes)) }
+        ensures at_end { IfOk result (λ more. OnFalse more ((self.new.bytes ≡ self.old.bytes) × IsTrue self.new.ended)) }
+        ensures fault { IfErr result (λ f. (f ≡ RecFault.ReadFault) ⊎ (f ≡ RecFault.NoMemory)) }
+        ensures kept { OnErr result (self.new ≡ self.old) }
+        ensures cause { HasReadCause (S.faults source.old) (S.faults source.new) result }
+    {
+        let count = self.window.fill(source)?;
+        let before = Snapshot::of(&self.got);
+        self.got = GotBytes::More(before, Snapshot::of(&self.window), Snapshot::of(&size));
+        let (_, piece) = self.window.held().split_at(size);
+        self.feeds = last_feeds(piece, self.passed.saturating_add(size as u64), self.feeds);
+        self.ended = count == 0;
+        Ok(count != 0)
     }
 
     /// Reads on behind a line that isn't ended; false at the source's end, behind which it isn't asked again.
     fn read_on<S: Source>(&mut self, source: &mut S, size: usize) -> Result<bool, RecFault>
         requires no_feed { position_or_len is_feed self.old.bytes ≡ size }
         requires all { size ≡ length self.old.bytes }
-        ensures reads { ReadsOn self.old self.new (S.left source.old) (S.left source.new) }
+        ensures stays { Stays self.old self.new (S.left source.old) (S.left source.new) }
         ensures more { IfOk result (λ more. OnTrue more (size < length self.new.bytes)) }
         ensures searched { IfOk result (λ more. OnTrue more (size ≤ position_or_len is_feed self.new.bytes)) }
         ensures undecided { OnOk result (IsUndecided self.old) }
@@ -114,21 +172,18 @@ impl Lines {
         ensures fault { IfErr result (FindsNone self.new) }
         ensures cause { HasReadCause (S.faults source.old) (S.faults source.new) result }
     {
-        self.goes_on(size as u64)?;
+        self.check_limits(size)?;
         if self.ended {
             return Ok(false);
         }
-        let count = self.window.fill(source)?;
-        self.ended = count == 0;
-        Ok(count != 0)
+        self.fill(source, size)
     }
 
     /// Reads on until the next line is there, and answers its size without its line feed; `None` at the end. `Line` with `Long`
     /// and `Long` come as soon as the bytes that are there decide it; `ReadFault` only where they don't.
     pub fn find<S: Source>(&mut self, source: &mut S) -> Result<Option<usize>, RecFault>
-        ensures reads { ReadsOn self.old self.new (S.left source.old) (S.left source.new) }
+        ensures stays { Stays self.old self.new (S.left source.old) (S.left source.new) }
         ensures line { IfOk result (λ o. IfSome o (IsLine self.new)) }
-        ensures last { IfOk result (λ o. IfSome o (λ size. size ≡ length self.new.bytes → IsTrue self.new.ended)) }
         ensures none { IfOk result (λ o. IfNone o ((self.new.bytes ≡ []) × IsTrue self.new.ended)) }
         ensures fault { IfErr result (FindsNone self.new) }
         ensures cause { HasReadCause (S.faults source.old) (S.faults source.new) result }
@@ -138,7 +193,7 @@ impl Lines {
             let held = self.window.held();
             let end = line_end(held, searched);
             if end < held.len() {
-                let size = self.ended(end)?;
+                let size = self.checked_size(end)?;
                 return Ok(Some(size));
             }
             if !self.read_on(source, end)? {
@@ -159,17 +214,14 @@ impl Lines {
         without_return(line)
     }
 
-    /// Gives away the first line, of this size.
-    pub fn pass(&mut self, size: usize)
+    /// Passes the first line, of this size.
+    pub fn advance(&mut self, size: usize)
         requires { IsLine self.old size }
-        ensures bytes { self.new.bytes ≡ drop (size + 1) self.old.bytes }
-        ensures line { self.new.line ≡ self.old.line + 1 }
-        ensures given { self.new.given ≡ self.old.given + taken size self.old.bytes }
-        ensures ended { self.new.ended ≡ self.old.ended }
+        ensures { Passes self.old self.new size }
     {
         let count = size.saturating_add(1).min(self.window.held().len());
         self.window.skip(count);
         self.line += 1;
-        self.given += count as u64;
+        self.passed += count as u64;
     }
 }

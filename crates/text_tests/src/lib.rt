@@ -4,4 +4,16 @@
 #[cfg(test)]
 mod codes;
 #[cfg(test)]
+mod lexer;
+#[cfg(test)]
+mod parser;
+#[cfg(test)]
+mod print;
+#[cfg(test)]
+mod program;
+#[cfg(test)]
+mod scripts;
+#[cfg(test)]
 mod values;
+#[cfg(test)]
+mod vars;

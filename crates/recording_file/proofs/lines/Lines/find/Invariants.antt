@@ -1,7 +1,7 @@
 use Rattle.std.proofs.Common.{◌-◌, ◌≤◌, length}
 use Rattle.std.specs.List.{position_or_len}
 use Rattle.recording_file.specs.Lines.{is_feed}
-use Rattle.recording_file.specs.Finding.{ReadsOn}
+use Rattle.recording_file.specs.Finding.{Stays}
 use Rattle.recording_file.proofs.lines.Lines.find.Given as goal
 
 -- nothing is given, and no line feed stands among the bytes that were searched
@@ -9,7 +9,7 @@ abbrev pub invariant-finding : goal.invariant-finding
 invariant-finding g l =
     let source = g.S.Source in
     record {
-      reads : ReadsOn l.initial.self l.self (source.left l.initial.source) (source.left l.source);
+      stays : Stays l.initial.self l.self (source.left l.initial.source) (source.left l.source);
       searched : l.searched ≤ length l.self.bytes;
       no_feed : l.searched ≤ position_or_len is_feed l.self.bytes;
       later : source.faults l.initial.source ≤ source.faults l.source;
