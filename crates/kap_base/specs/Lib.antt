@@ -4,3 +4,8 @@ pub mod Maps
 pub mod Points
 pub mod Tree
 pub mod Utf8
+pub mod TreeCode
+pub mod Places
+pub mod Groups
+pub mod Levels
+pub mod Times

@@ -1,11 +1,12 @@
 -- A point, as definitions speak of it, and what holds of each.
-use Rattle.std.specs.Prelude.{ℕ, ℤ, pos, negsuc, ◌*◌, ◌^◌, Bool, true, ◌&&◌, List, [], ◌∷◌, nat_lt, nat_le, IsTrue}
+use Rattle.std.specs.Prelude.{ℕ, ℤ, pos, negsuc, ◌^◌, Bool, true, ◌&&◌, List, [], ◌∷◌, nat_lt, nat_le, IsTrue}
 use Rattle.std.specs.List.{list_all}
 use Rattle.std.specs.Str.{is_utf8}
 use Rattle.std.specs.FinMap.{entries, len}
 use Rattle.std.specs.Ordering.{is_lt}
 use Rattle.kap_base.specs.declared.value.Value.{Value}
 use Rattle.kap_base.specs.declared.value.Value.TheVariants as values
+use Rattle.kap_base.specs.declared.limits.TheConstants.{TIME_LIMIT}
 use Rattle.kap_base.specs.Texts.{is_line, is_name, is_measurement}
 use Rattle.kap_base.specs.Maps.{KeyMap, byte_order}
 
@@ -21,8 +22,8 @@ pub record PointValue : Type 0 where
 
 -- a time in nanoseconds within plus or minus 9,000,000,000,000,000,000
 abbrev pub is_time : ℤ → Bool
-is_time (pos n) = nat_le n (9 * 10 ^ 18)
-is_time (negsuc n) = nat_lt n (9 * 10 ^ 18)
+is_time (pos n) = nat_le n TIME_LIMIT
+is_time (negsuc n) = nat_lt n TIME_LIMIT
 
 -- an integer of 64 bits, a truth value, or a text on one line
 abbrev pub is_value : Value → Bool
@@ -41,13 +42,17 @@ rises (a ∷ b ∷ names) = is_lt (byte_order a b) && rises (b ∷ names)
 abbrev pub are_dimensions : List (List ℕ) → Bool
 are_dimensions dims = rises dims && list_all is_utf8 dims
 
+-- names of fields, and values that they can have
+abbrev pub are_fields : KeyMap Value → Bool
+are_fields fields = list_all (λ e. is_name e.0 && is_value e.1) (entries fields)
+
 -- what holds of each point
 pub record IsPoint (p : PointValue) : Type 0 where
   pub db : IsTrue (is_line p.db)
   pub rp : IsTrue (is_line p.rp)
   pub name : IsTrue (is_measurement p.name)
   pub tags : IsTrue (list_all (λ e. is_name e.0 && is_name e.1) (entries p.tags))
-  pub fields : IsTrue (list_all (λ e. is_name e.0 && is_value e.1) (entries p.fields))
+  pub fields : IsTrue (are_fields p.fields)
   pub some_field : IsTrue (nat_lt 0 (len p.fields))
   pub dims : IsTrue (are_dimensions p.dims)
   pub time : IsTrue (is_time p.time)

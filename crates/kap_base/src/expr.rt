@@ -5,6 +5,7 @@ ghost use Rattle.kap_base.specs.Tree.{NoTrees, reversed_onto, tree_of, trees_of}
 
 use crate::duplicate::Duplicate;
 use crate::memory::NoMemory;
+use crate::shared::SharedText;
 use crate::text::Text;
 use std::alloc::Global;
 use std::mem;
@@ -44,25 +45,25 @@ pub enum Op {
     Rem,
 }
 
-/// A literal.
-#[derive(Drop)]
+/// A literal of a lambda, or of a script outside lambdas.
+#[derive(Debug, PartialEq, Eq, Drop)]
 pub enum Lit {
     /// A whole number.
     Int(i64),
     /// A duration, in nanoseconds.
     Dur(i64),
     /// A string, without its quotes.
-    Str(Text),
+    Str(SharedText),
     /// `TRUE` or `FALSE`.
     Bool(bool),
     /// A pattern, without its slashes.
-    Regex(Text),
+    Regex(SharedText),
 }
 
 /// An expression. The number last in each variant is a place, a byte offset in the script: that of the
 /// operator in `Bin`, and that of the first byte in the others.
 #[cycle(expr)]
-#[derive(Drop)]
+#[derive(Debug, PartialEq, Eq, Drop)]
 pub enum Expr {
     /// A literal.
     Lit(Lit, u32),
@@ -86,6 +87,7 @@ pub enum Expr {
 /// length has no bound; how deeply an expression holds others is bounded by the parser's limits, and goes by
 /// recursion.
 #[cycle(expr)]
+#[derive(Debug, PartialEq, Eq)]
 pub enum Exprs {
     /// No expression.
     End,

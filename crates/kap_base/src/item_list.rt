@@ -1,4 +1,5 @@
-ghost use Rattle.std.specs.Prelude.{◌≡◌, [], ◌∷◌, ◌++◌, length, take, IfOk, OnOk, OnErr};
+ghost use Rattle.std.specs.Prelude.{◌≡◌, ◌↔◌, [], ◌∷◌, ◌++◌, length, take, IfOk, IsTrue, OnOk, OnErr};
+ghost use Rattle.std.specs.Cmp.Lexicographic.{lists_equiv, lists_per, pointwise};
 
 use crate::duplicate::{Duplicate, copies};
 use crate::memory::NoMemory;
@@ -6,7 +7,7 @@ use std::alloc::Global;
 use std::marker::Model;
 
 /// A list, which contracts see as its items in order.
-#[derive(Drop)]
+#[derive(Debug, Drop)]
 pub struct ItemList<T> {
     items: Vec<T>,
 }
@@ -57,6 +58,13 @@ impl<T: Drop> ItemList<T> {
         self.items.len()
     }
 
+    /// Whether it has no items.
+    pub fn is_empty(&self) -> bool
+        ensures { IsTrue result ↔ (self.now ≡ []) }
+    {
+        self.items.is_empty()
+    }
+
     /// Adds an item at the end. An `Err` changes nothing.
     pub fn push(&mut self, item: T) -> Result<(), NoMemory>
         ensures ok { OnOk result (self.new ≡ self.old ++ item ∷ []) }
@@ -79,6 +87,20 @@ impl<T: Drop> ItemList<T> {
     {
         self.items.clear();
     }
+}
+
+impl<T: PartialEq> PartialEq for ItemList<T> {
+    ghost eq = { λ x y. pointwise T.eq x y };
+
+    ghost laws = { lists_per T.laws };
+
+    fn eq(&self, other: &ItemList<T>) -> bool {
+        self.items == other.items
+    }
+}
+
+impl<T: Eq> Eq for ItemList<T> {
+    ghost laws = { lists_equiv T.Eq.laws };
 }
 
 impl ItemList<u8> {

@@ -1,11 +1,12 @@
-ghost use Rattle.std.specs.Prelude.{◌≡◌, length, is_some, IfOk, IfSome, OnOk, OnErr, IsTrue};
+ghost use Rattle.std.specs.Prelude.{◌≡◌, ◌==◌, ◌&&◌, length, is_some, nat_eq, IfErr, IfOk, IfSome, OnOk, OnErr, IsTrue};
+ghost use Rattle.std.specs.Cmp.{and_equiv, and_per, on_equiv, on_per, partial_equiv_from_equiv};
 ghost use Rattle.std.specs.FinMap as map;
-ghost use Rattle.std.specs.Ordering.{nat_cmp, eq_by_cmp, is_lt};
-ghost use Rattle.std.specs.List.{list_any};
+ghost use Rattle.std.specs.Ordering.{nat_cmp, is_lt};
 ghost use Rattle.std.specs.List.Sorted.{IsStableBy};
-ghost use Rattle.std.specs.Cmp.Lexicographic.{slice_cmp};
+ghost use Rattle.std.specs.Cmp.Lexicographic.{lists_equiv, lists_per, nat_list_eq_equiv, pointwise, slice_cmp};
 ghost use Rattle.std.specs.Option.{option_copied};
-ghost use Rattle.kap_base.specs.Maps.{with_entries, is_below};
+ghost use Rattle.kap_base.specs.Maps.{byte_order, with_entries, is_below};
+ghost use Rattle.kap_base.specs.Places.{StandsAt, WouldStandAt};
 
 use crate::duplicate::Duplicate;
 use crate::memory::NoMemory;
@@ -15,7 +16,7 @@ use std::cmp::Ordering;
 use std::marker::Model;
 
 /// A map from texts, in the byte order of its keys.
-#[derive(Drop)]
+#[derive(Debug, Drop)]
 pub struct KeyMap<V> {
     entries: Vec<(Text, V)>,
 }
@@ -41,14 +42,14 @@ fn is_below<V>(key: &Text, others: &[(Text, V)]) -> bool
     ensures { result ≡ is_below key.now others.now }
 {
     match others.first() {
-        Some(next) => key.order(&next.0).is_lt(),
+        Some(next) => key.cmp(&next.0).is_lt(),
         None => true,
     }
 }
 
 /// Whether each key stands below the next one.
 fn rises<V>(entries: &[(Text, V)]) -> bool
-    ensures { result ≡ map.is_sorted (slice_cmp nat_cmp) entries.now }
+    ensures { result ≡ map.is_sorted byte_order entries.now }
 {
     let mut rest = entries;
     'passing: while let Some((first, others)) = rest.split_first() {
@@ -61,17 +62,18 @@ fn rises<V>(entries: &[(Text, V)]) -> bool
 }
 
 /// The same entries in the byte order of their keys; those of one key keep their order.
-fn sorted<V: Drop>(mut entries: Vec<(Text, V)>) -> Result<Vec<(Text, V)>, NoMemory>
+fn sort_entries<V: Drop>(mut entries: Vec<(Text, V)>) -> Result<Vec<(Text, V)>, NoMemory>
     ensures same { IfOk result (λ s. length s.items ≡ length entries.items) }
-    ensures stable { IfOk result (λ s. IsStableBy (λ x y. is_lt (slice_cmp nat_cmp x.0 y.0)) entries.items s.items) }
+    ensures stable { IfOk result (λ s. IsStableBy
+        (λ x y. is_lt (slice_cmp nat_cmp x.0 y.0)) entries.items s.items) }
 {
-    entries.sort_by(|one, other| one.0.order(&other.0))?;
+    entries.sort_by(|one, other| one.0.cmp(&other.0))?;
     Ok(entries)
 }
 
 /// The entries put one after the other.
 fn last_of_each<V: Drop>(alloc: Global, entries: Vec<(Text, V)>) -> Result<Vec<(Text, V)>, NoMemory>
-    ensures rising { IfOk result (λ kept. IsTrue (map.is_sorted (slice_cmp nat_cmp) kept.items)) }
+    ensures rising { IfOk result (λ kept. IsTrue (map.is_sorted byte_order kept.items)) }
     ensures same { IfOk result (λ kept. map.from_sorted kept.items ≡ with_entries map.empty entries.items) }
 {
     let mut kept = Vec::new(alloc);
@@ -81,29 +83,36 @@ fn last_of_each<V: Drop>(alloc: Global, entries: Vec<(Text, V)>) -> Result<Vec<(
     Ok(kept)
 }
 
+/// Where the key stands among entries in byte order, or where it would stand.
+fn search<V>(entries: &[(Text, V)], key: &Text) -> Result<usize, usize>
+    requires { IsTrue (map.is_sorted byte_order entries.now) }
+    ensures stands { IfOk result (λ at. StandsAt key.now entries.now at) }
+    ensures absent { IfErr result (λ at. WouldStandAt key.now entries.now at) }
+{
+    entries.binary_search_by(|entry| entry.0.cmp(key))
+}
+
 fn put<V: Drop>(entries: &mut Vec<(Text, V)>, key: Text, value: V) -> Result<(), NoMemory>
-    ensures ok { OnOk result (entries.new.items ≡ map.put (slice_cmp nat_cmp) key value entries.old.items) }
+    requires { IsTrue (map.is_sorted byte_order entries.old.items) }
+    ensures ok { OnOk result (entries.new.items ≡ map.put byte_order key value entries.old.items) }
     ensures err { OnErr result (entries.new.items ≡ entries.old.items) }
 {
-    let mut at = 0;
-    'passing: while at < entries.len() {
-        match key.order(&entries[at].0) {
-            Ordering::Less => break,
-            Ordering::Equal => {
-                entries[at].1 = value;
-                return Ok(());
-            }
-            Ordering::Greater => at += 1,
+    match search(entries, &key) {
+        Ok(at) => {
+            entries[at].1 = value;
+            Ok(())
+        }
+        Err(at) => {
+            entries.insert(at, (key, value))?;
+            Ok(())
         }
     }
-    entries.insert(at, (key, value))?;
-    Ok(())
 }
 
 /// The same, at one comparison where no key stands above this one.
 fn put_behind<V: Drop>(entries: &mut Vec<(Text, V)>, key: Text, value: V) -> Result<(), NoMemory>
-    requires { IsTrue (map.is_sorted (slice_cmp nat_cmp) entries.old.items) }
-    ensures ok { OnOk result (entries.new.items ≡ map.put (slice_cmp nat_cmp) key value entries.old.items) }
+    requires { IsTrue (map.is_sorted byte_order entries.old.items) }
+    ensures ok { OnOk result (entries.new.items ≡ map.put byte_order key value entries.old.items) }
     ensures err { OnErr result (entries.new.items ≡ entries.old.items) }
 {
     let count = entries.len();
@@ -111,7 +120,7 @@ fn put_behind<V: Drop>(entries: &mut Vec<(Text, V)>, key: Text, value: V) -> Res
         entries.push((key, value))?;
         return Ok(());
     }
-    match key.order(&entries[count - 1].0) {
+    match key.cmp(&entries[count - 1].0) {
         Ordering::Greater => {
             entries.push((key, value))?;
             Ok(())
@@ -124,21 +133,14 @@ fn put_behind<V: Drop>(entries: &mut Vec<(Text, V)>, key: Text, value: V) -> Res
     }
 }
 
-fn holds<V>(entries: &[(Text, V)], key: &Text) -> bool
-    ensures { result ≡ list_any (λ e. eq_by_cmp (slice_cmp nat_cmp) key.now e.0) entries.now }
+fn value_at<'a, V>(entries: &'a [(Text, V)], key: &Text) -> Option<&'a V>
+    requires { IsTrue (map.is_sorted byte_order entries.now) }
+    ensures { option_copied result ≡ map.find byte_order key.now entries.now }
 {
-    entries.iter().any(|entry| key.order(&entry.0).is_eq())
-}
-
-fn found<'a, V>(entries: &'a [(Text, V)], key: &Text) -> Option<&'a V>
-    ensures { option_copied result ≡ map.find (slice_cmp nat_cmp) key.now entries.now }
-{
-    'passing: for entry in entries {
-        if key.order(&entry.0).is_eq() {
-            return Some(&entry.1);
-        }
+    match search(entries, key) {
+        Ok(at) => Some(&entries[at].1),
+        Err(_) => None,
     }
-    None
 }
 
 impl<V: Drop> KeyMap<V> {
@@ -160,13 +162,13 @@ impl<V: Drop> KeyMap<V> {
             return Ok(KeyMap { entries });
         }
         Ok(KeyMap {
-            entries: last_of_each(alloc, sorted(entries)?)?,
+            entries: last_of_each(alloc, sort_entries(entries)?)?,
         })
     }
 
     /// The map of these entries, or None exactly where their keys don't rise.
     pub fn from_rising(entries: Vec<(Text, V)>) -> Option<KeyMap<V>>
-        ensures rises { is_some result ≡ map.is_sorted (slice_cmp nat_cmp) entries.items }
+        ensures rises { is_some result ≡ map.is_sorted byte_order entries.items }
         ensures same { IfSome result (λ m. m ≡ map.from_sorted entries.items) }
     {
         if rises(&entries) {
@@ -183,6 +185,13 @@ impl<V: Drop> KeyMap<V> {
         self.entries.len()
     }
 
+    /// Whether it has no keys.
+    pub fn is_empty(&self) -> bool
+        ensures { result ≡ (map.len self.now == 0) }
+    {
+        self.len() == 0
+    }
+
     /// The entries in the byte order of their keys.
     pub fn entries(&self) -> &[(Text, V)]
         ensures { result.now ≡ map.entries self.now }
@@ -194,14 +203,14 @@ impl<V: Drop> KeyMap<V> {
     pub fn contains_key(&self, key: &Text) -> bool
         ensures { result ≡ map.contains_key self.now key.now }
     {
-        holds(&self.entries, key)
+        self.get(key).is_some()
     }
 
     /// The value at the key.
     pub fn get(&self, key: &Text) -> Option<&V>
         ensures { option_copied result ≡ map.get self.now key.now }
     {
-        found(&self.entries, key)
+        value_at(&self.entries, key)
     }
 
     /// Puts the value at the key, in the place of the one that stands there. An `Err` changes nothing.
@@ -214,7 +223,7 @@ impl<V: Drop> KeyMap<V> {
     }
 }
 
-fn copied<V: Duplicate + Drop>(
+fn copies_of<V: Duplicate + Drop>(
     alloc: Global,
     entries: &[(Text, V)],
 ) -> Result<Vec<(Text, V)>, NoMemory>
@@ -232,7 +241,21 @@ fn copied<V: Duplicate + Drop>(
 impl<V: Duplicate + Drop> Duplicate for KeyMap<V> {
     fn copy(&self, alloc: Global) -> Result<KeyMap<V>, NoMemory> {
         Ok(KeyMap {
-            entries: copied(alloc, &self.entries)?,
+            entries: copies_of(alloc, &self.entries)?,
         })
     }
+}
+
+impl<V: PartialEq> PartialEq for KeyMap<V> {
+    ghost eq = { λ m n. pointwise (λ p q. pointwise nat_eq p.0 q.0 && V.eq p.1 q.1) (map.entries m) (map.entries n) };
+
+    ghost laws = { on_per map.entries (lists_per (and_per (on_per (λ p. p.0) (partial_equiv_from_equiv nat_list_eq_equiv)) (on_per (λ p. p.1) V.laws))) };
+
+    fn eq(&self, other: &KeyMap<V>) -> bool {
+        self.entries == other.entries
+    }
+}
+
+impl<V: Eq> Eq for KeyMap<V> {
+    ghost laws = { on_equiv map.entries (lists_equiv (and_equiv (on_equiv (λ p. p.0) nat_list_eq_equiv) (on_equiv (λ p. p.1) V.Eq.laws))) };
 }

@@ -1,24 +1,40 @@
 //! The values that every other crate speaks of: texts, maps, points and what they are made of, and expressions.
 #![tactic(auto)]
 
+mod dbrp;
 mod duplicate;
 mod expr;
 mod fun;
-mod key_map;
+mod groups;
 mod item_list;
+mod items;
+mod key_map;
+mod limits;
 mod memory;
 mod point;
+mod rules;
+mod shared;
 mod text;
+mod times;
+mod utf8;
 mod value;
 
+pub use dbrp::{Dbrp, Dbrps};
 pub use duplicate::Duplicate;
 pub use expr::{Expr, Exprs, Lit, Op};
 pub use fun::{Fun, TimePart};
-pub use key_map::KeyMap;
+pub use groups::{Batch, Group, group_of};
 pub use item_list::ItemList;
+pub use items::{Body, Effect, Event, Item, Level, Stamp, What};
+pub use key_map::KeyMap;
+pub use limits::TIME_LIMIT;
 pub use memory::NoMemory;
 pub use point::Point;
+pub use rules::are_dimensions;
+pub use shared::{SharedExpr, SharedText};
 pub use text::{Text, TextFault};
+pub use times::{is_time, round, trunc};
+pub use utf8::{bytes_break_in_one_place, utf8_text};
 pub use value::Value;
 
 /// A list of bytes.
@@ -35,6 +51,3 @@ pub type Tags = KeyMap<Text>;
 
 /// The fields of a point: values under texts, in byte order of the keys (InfluxDB 1.8 line protocol reference: field set).
 pub type Fields = KeyMap<Value>;
-
-#[cfg(test)]
-mod tests;

@@ -1,12 +1,18 @@
+ghost use Rattle.std.specs.Prelude.{◌≡◌, nat_lt, IsTrue, OnErr, OnOk};
+ghost use Rattle.std.specs.FinMap as map;
+ghost use Rattle.kap_base.specs.Points.{are_fields, is_value};
+ghost use Rattle.kap_base.specs.Texts.{is_name};
+
 use crate::duplicate::Duplicate;
 use crate::memory::NoMemory;
 use crate::text::Text;
+use crate::value::Value;
 use crate::{Fields, Names, Tags};
 use std::alloc::Global;
 use std::marker::Model;
 
 /// A point (InfluxDB 1.8: line protocol reference; Kapacitor 1.6: the dimensions and the name by which a task groups it).
-#[derive(Drop)]
+#[derive(Debug, PartialEq, Eq, Drop)]
 pub struct Point {
     /// The database.
     pub db: Text,
@@ -14,7 +20,9 @@ pub struct Point {
     pub rp: Text,
     /// The measurement.
     pub name: Text,
+    /// Its tags.
     pub tags: Tags,
+    /// Its fields, one at least.
     pub fields: Fields,
     /// The names of the tags by which it is grouped, in byte order, each once.
     pub dims: Names,
@@ -35,7 +43,32 @@ impl Model for Point {
 
     ghost view = { λ p. record { db = p.db; rp = p.rp; name = p.name; tags = p.tags; fields = p.fields; dims = p.dims; by_name = p.by_name; time = p.time } };
 
+    ghost inverse = { λ s. record { db = s.db; rp = s.rp; name = s.name; tags = s.tags; fields = s.fields; dims = s.dims; by_name = s.by_name; time = s.time } };
+
     ghost invariant = { λ p. IsPoint (record { db = p.db; rp = p.rp; name = p.name; tags = p.tags; fields = p.fields; dims = p.dims; by_name = p.by_name; time = p.time }) };
+}
+
+impl Point {
+    /// Puts a field at the point, in the place of the one that has the name. An `Err` changes nothing.
+    pub fn put_field(&mut self, name: Text, value: Value) -> Result<(), NoMemory>
+        requires name { IsTrue (is_name name) }
+        requires value { IsTrue (is_value value) }
+        ensures ok { OnOk result (self.new ≡ record self.old { fields = map.insert self.old.fields name value }) }
+        ensures err { OnErr result (self.new ≡ self.old) }
+    {
+        self.fields.insert(name, value)?;
+        Ok(())
+    }
+
+    /// The point with these fields, one at least, in the place of its own.
+    pub fn with_fields(mut self, fields: Fields) -> Point
+        requires fields { IsTrue (are_fields fields) }
+        requires some { IsTrue (nat_lt 0 (map.len fields)) }
+        ensures { result ≡ record self { fields = fields } }
+    {
+        self.fields = fields;
+        self
+    }
 }
 
 impl Duplicate for Point {

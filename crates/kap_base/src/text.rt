@@ -1,6 +1,7 @@
-ghost use Rattle.std.specs.Prelude.{◌≡◌, IfOk, IsUtf8, IsErrOf, string_bytes};
+ghost use Rattle.std.specs.Prelude.{◌≡◌, IfOk, IsUtf8, IsErrOf, Some, nat_eq, refl, string_bytes};
+ghost use Rattle.std.specs.Cmp.{partial_equiv_from_equiv};
+ghost use Rattle.std.specs.Cmp.Lexicographic.{nat_list_cmp_total, nat_list_eq_equiv, pointwise, slice_cmp, texts_po, texts_ties};
 ghost use Rattle.std.specs.Ordering.{nat_cmp};
-ghost use Rattle.std.specs.Cmp.Lexicographic.{slice_cmp};
 ghost use Rattle.kap_base.specs.Texts.{is_empty};
 ghost use Rattle.kap_base.specs.declared.text.TextFault.TheVariants.{NoMemory as no_memory};
 
@@ -12,7 +13,7 @@ use std::fmt;
 use std::marker::Model;
 
 /// A list of bytes that is UTF-8, which contracts see as those bytes.
-#[derive(Drop)]
+#[derive(Debug, Drop)]
 pub struct Text {
     string: String,
 }
@@ -108,12 +109,44 @@ impl Text {
     {
         self.string.is_empty()
     }
+}
 
-    /// The order by bytes, from the first on.
-    pub fn order(&self, other: &Text) -> Ordering
-        ensures { result ≡ slice_cmp nat_cmp self.now other.now }
-    {
-        self.string.as_str().cmp(&other.string.as_str())
+impl PartialEq for Text {
+    ghost eq = { λ x y. pointwise nat_eq x y };
+
+    ghost laws = { partial_equiv_from_equiv nat_list_eq_equiv };
+
+    fn eq(&self, other: &Text) -> bool {
+        self.string.as_str() == other.string.as_str()
+    }
+}
+
+impl Eq for Text {
+    ghost laws = { nat_list_eq_equiv };
+}
+
+impl PartialOrd for Text {
+    ghost partial_cmp = { λ x y. Some (slice_cmp nat_cmp x y) };
+
+    ghost laws = { texts_po };
+
+    fn partial_cmp(&self, other: &Text) -> Option<Ordering> {
+        Some(self.cmp(other))
+    }
+}
+
+/// By bytes, from the first on.
+impl Ord for Text {
+    ghost cmp = { λ x y. slice_cmp nat_cmp x y };
+
+    ghost total = { nat_list_cmp_total };
+
+    ghost matches_partial_cmp = { λ x y. refl };
+
+    ghost matches_eq = { λ x y. texts_ties x y };
+
+    fn cmp(&self, other: &Text) -> Ordering {
+        self.string.as_str().cmp(other.string.as_str())
     }
 }
 

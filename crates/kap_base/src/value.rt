@@ -4,7 +4,7 @@ use crate::text::Text;
 use std::alloc::Global;
 
 /// What a field holds (InfluxDB 1.8 line protocol reference, data types; this project's integer profile has no floats).
-#[derive(Drop)]
+#[derive(Debug, PartialEq, Eq, Drop)]
 pub enum Value {
     /// A signed integer of 64 bits.
     Int(i64),

@@ -1,22 +1,24 @@
+//! The commands by their words.
+
 ghost use Rattle.std.specs.Prelude.{◌≡◌, ◌≢◌, ◌⊎◌, List, ℕ, None, Some, map, string_bytes};
 ghost use Rattle.std.specs.Io.KnownBytes.{Keeps};
 ghost use Rattle.kap_base.specs.Words.{HasRisen};
 ghost use Rattle.recording_file.specs.Reading.{HasEnded};
 ghost use Rattle.recording_file.specs.Recording.{reading_of};
 ghost use Rattle.kap_server.specs.Checking.{Checked, ChecksTo};
-ghost use Rattle.kap_server.specs.Command.{ExactlyWhere, AsksFor, AsksForNoFilter, AsksToCheck, FiltersNone, IsUnlessFailed};
+ghost use Rattle.kap_server.specs.Command.{ExactlyWhere, AsksFor, AsksForOtherScript, AsksToCheck, IsOtherScript, IsUnlessFailed};
 ghost use Rattle.kap_server.specs.Lines.{text_of};
 ghost use Rattle.kap_server.specs.Replaying.{Replayed};
-ghost use Rattle.kap_server.specs.Script.{IsFilter};
+ghost use Rattle.kap_server.specs.Script.{IsLogScript};
 ghost use Rattle.kap_server.specs.Statuses.{status_at};
-ghost use Rattle.kap_server.specs.Words.{asked};
+ghost use Rattle.kap_server.specs.Words.{request_in};
 ghost use Rattle.kap_server.specs.declared.status.Status.{Status};
 
 use crate::checking::check;
 use crate::replaying::replay;
 use crate::script::measurement_of;
 use crate::status::Status;
-use crate::words::{Ask, asked};
+use crate::words::{Request, request_in};
 use kap_io::{Sink, Source};
 use std::alloc::Global;
 
@@ -29,10 +31,10 @@ fn replay_by<S: Source, K: Sink>(
     out: &mut K,
 ) -> Status
     ensures known { result ≢ Status.Usage }
-    ensures script_form { ExactlyWhere result Status.ScriptForm (FiltersNone script.now) }
+    ensures script_form { ExactlyWhere result Status.ScriptForm (IsOtherScript script.now) }
     ensures nothing { result ≡ Status.ScriptForm → Keeps (S.left input.old) (S.left input.new) × Keeps (K.written out.old) (K.written out.new) }
-    ensures replayed { (name : List ℕ) → IsFilter script.now name → Replayed (text_of id.now name) result (S.left input.old) (S.left input.new) (K.written out.old) (K.written out.new) }
-    ensures status { (name bytes : List ℕ) → IsFilter script.now name → S.left input.old ≡ Some bytes → IsUnlessFailed result (status_at (reading_of bytes).stop) }
+    ensures replayed { (name : List ℕ) → IsLogScript script.now name → Replayed (text_of id.now name) result (S.left input.old) (S.left input.new) (K.written out.old) (K.written out.new) }
+    ensures status { (name bytes : List ℕ) → IsLogScript script.now name → S.left input.old ≡ Some bytes → IsUnlessFailed result (status_at (reading_of bytes).stop) }
     ensures read { result ≡ Status.Ok → HasEnded (S.left input.old) (S.left input.new) }
     ensures read_fault { result ≡ Status.ReadFault → HasRisen (S.faults input.old) (S.faults input.new) }
     ensures write_fault { result ≡ Status.WriteFault → HasRisen (K.faults out.old) (K.faults out.new) }
@@ -58,9 +60,9 @@ pub fn command<S: Source, K: Sink>(
     out: &mut K,
 ) -> Status
     // Usage exactly where the words aren't those of a command.
-    ensures usage { ExactlyWhere result Status.Usage (asked (map string_bytes words.now) ≡ None) }
+    ensures usage { ExactlyWhere result Status.Usage (request_in (map string_bytes words.now) ≡ None) }
     // ScriptForm exactly where they ask for a replay, and its script isn't of the form.
-    ensures script_form { ExactlyWhere result Status.ScriptForm (AsksForNoFilter (map string_bytes words.now)) }
+    ensures script_form { ExactlyWhere result Status.ScriptForm (AsksForOtherScript (map string_bytes words.now)) }
     // After these nothing was read or written.
     ensures nothing { (result ≡ Status.Usage) ⊎ (result ≡ Status.ScriptForm) → Keeps (S.left input.old) (S.left input.new) × Keeps (K.written out.old) (K.written out.new) }
     // Of a check the canonical form of the script is written, as the status says.
@@ -77,10 +79,10 @@ pub fn command<S: Source, K: Sink>(
     ensures read_fault { result ≡ Status.ReadFault → HasRisen (S.faults input.old) (S.faults input.new) }
     ensures write_fault { result ≡ Status.WriteFault → HasRisen (K.faults out.old) (K.faults out.new) }
 {
-    match asked(words) {
+    match request_in(words) {
         None => Status::Usage,
-        Some(Ask::Check) => check(alloc, input, out),
-        Some(Ask::Replay { id, script }) => replay_by(alloc, id, script, input, out),
+        Some(Request::Check) => check(alloc, input, out),
+        Some(Request::Replay { id, script }) => replay_by(alloc, id, script, input, out),
     }
 }
 

@@ -2,6 +2,10 @@
 //! there, and writes the lines of its points to standard output.
 #![tactic(auto)]
 
+ghost use Rattle.std.specs.Prelude.{◌≡◌, map, string_bytes};
+ghost use Rattle.std.specs.Option.{option_map};
+ghost use Rattle.kapd.specs.Places.{behind_place};
+
 use kap_io::{ReadSource, WriteSink};
 use kap_server::{Status, command, status_text};
 use std::env::Env;
@@ -14,11 +18,31 @@ const HELP: &str = "kapd PLACE COMMAND ..
 PLACE is `-`. Commands:
 
   check              reads a script from standard input, and writes its canonical form
-  replay ID SCRIPT   reads a recording from standard input, and writes the lines that the script logs
+  replay ID SCRIPT   reads a recording from standard input, and writes a line for each point that the script logs
 
-A script that is checked is a TICKscript of at most 65,536 bytes: its tokens, its grammar and its names are looked at.
-A recording has three lines a point: the database, the retention policy, and the point in line protocol with its
-time in nanoseconds. SCRIPT of a replay is `stream|from().measurement('M')|log()`, with the name of a measurement for M.
+  ID      the task's name: 1 to 64 ASCII letters, digits, `_`, `-` and `.`, not beginning with `--`
+  SCRIPT  of a replay: exactly stream|from().measurement('M')|log(), where M has 1 to 64 ASCII letters, digits and
+          `_`, and no digit first
+
+A script that is checked is a TICKscript of at most 65,536 bytes. Its bytes, tokens, grammar and names are looked at.
+The kinds of nodes, their properties, patterns and the types of lambdas aren't yet.
+
+A recording has three lines a point: the database, the retention policy, and the point in InfluxDB's line protocol.
+Database and policy are UTF-8 of at most 65,536 bytes. Numbers of fields are whole, from -9223372036854775808i to
+9223372036854775807i, and end in `i`; others are refused. A time is whole nanoseconds since 1970, at most
+9000000000000000000 before or behind it.
+
+An example:
+
+  printf 'd\\nr\\ncpu,host=a idle=7i 5\\n' | kapd - replay t \"stream|from().measurement('cpu')|log()\"
+
+The exit status, and what standard error says behind `kapd: `:
+
+  0   (nothing: all was done)          10  too long
+  2   usage                            21  script form
+  3   script: FAULT at BYTE            70  no memory
+  4   line N: FAULT                    71  read fault
+  5   truncated at line N              72  write fault
 
   kapd --help        prints this
   kapd --version     prints the version
@@ -51,6 +75,17 @@ fn run<R: Input + Print + AllocGlobal>(rt: &R, words: &[String]) -> Status {
     command(rt.alloc(), words, &mut input, &mut out)
 }
 
+/// The words behind the place `-`, where the words begin with it. No other place is known yet.
+fn words_behind_place(words: &[String]) -> Option<&[String]>
+    ensures {
+        option_map (λ rest. map string_bytes rest.now) result
+            ≡ behind_place (map string_bytes words.now)
+    }
+{
+    let (place, rest) = words.split_first()?;
+    if place.as_str() == "-" { Some(rest) } else { None }
+}
+
 /// Prints a text to standard output.
 fn show<R: Print>(rt: &R, text: &str) -> Status {
     match rt.print(text) {
@@ -67,8 +102,10 @@ fn answer<R: Env + Input + Print + AllocGlobal>(rt: &R) -> Status {
     match words.as_slice() {
         [word] if word.as_str() == "--help" => show(rt, HELP),
         [word] if word.as_str() == "--version" => show(rt, VERSION),
-        [place, rest @ ..] if place.as_str() == "-" => run(rt, rest),
-        _ => Status::Usage,
+        _ => match words_behind_place(&words) {
+            Some(rest) => run(rt, rest),
+            None => Status::Usage,
+        },
     }
 }
 

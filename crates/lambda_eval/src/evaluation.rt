@@ -1,4 +1,6 @@
-ghost use Rattle.std.specs.Prelude.{◌≡◌, ◌<◌, ◌^◌, Bool, List, ℕ, true, false, if◌then◌else◌, Ok, IfOk, IsTrue};
+//! The walk over an expression that gives its value.
+
+ghost use Rattle.std.specs.Prelude.{◌≡◌, ◌<◌, ◌^◌, Bool, List, ℕ, true, false, Ok, IfOk, IsTrue};
 ghost use Rattle.std.specs.Option.{option_copied};
 ghost use Rattle.std.specs.List.{list_all};
 ghost use Rattle.kap_base.specs.Points.{is_value};
@@ -6,55 +8,45 @@ ghost use Rattle.kap_base.specs.Texts.{has_line_feed};
 ghost use Rattle.kap_base.specs.Tree.{tree_of, trees_of};
 ghost use Rattle.kap_base.specs.Words.{Answers};
 ghost use Rattle.kap_base.specs.declared.value.Value.TheVariants.{Str};
-ghost use Rattle.lambda_types.specs.Faults.{patterns_of};
 ghost use Rattle.lambda_types.specs.Functions.{function_named};
-ghost use Rattle.lambda_eval.specs.Runs.{tree_run};
-ghost use Rattle.lambda_eval.specs.Seen.{are_fit, is_fit, is_fit_lit, Sees, value_seen};
-ghost use Rattle.lambda_eval.specs.Values.{all_values, and_value, at_name, call_value, count_value, found, if_value, joined, lit_value, matched, only_name, or_value, part_value, pattern_in, present_value, val, vals};
+ghost use Rattle.lambda_eval.specs.Refs.{are_fit, is_fit, is_fit_lit, GivesField, GivesValue, the_value, val_at, vals_at, decided, op_value_at, call_value_at};
+ghost use Rattle.lambda_eval.specs.Values.{all_values, at_name, count_value, reference_value, if_value, lit_value, has_match, only_name, part_value, pattern_in, present_value};
 
-use crate::run::Run;
-use crate::seen::{Seen, SeenText, at_name};
+use crate::input::Input;
+use crate::value_ref::{ValueRef, TextRef, at_name};
 use kap_base::{Expr, Exprs, ItemList, Lit, Op, Point, Text, TimePart, Value};
 use lambda_fns::{EvalFault, time_part};
-use lambda_types::Function;
+use lambda_types::{Function, PatternList};
 use std::alloc::Global;
-
-/// When a lambda is evaluated: after so many evaluations in the point's group, and at which point.
-#[derive(Drop)]
-pub(crate) struct Moment<'a> {
-    pub(crate) k: u64,
-    pub(crate) point: &'a Point,
-    ghost early: { k < 2 ^ 62 },
-}
 
 /// A string of a lambda. One without a line feed is on one line, since each text is UTF-8.
 #[tactic(auto, using(crate::proofs::TextLaws::one_line))]
-fn string(text: &Text) -> Seen<'_>
-    ensures value { value_seen result ≡ Str text.now }
-    ensures field { has_line_feed text.now ≡ false → IsTrue (is_value (value_seen result)) }
+fn string(text: &Text) -> ValueRef<'_>
+    ensures value { the_value result ≡ Str text.now }
+    ensures field { has_line_feed text.now ≡ false → IsTrue (is_value (the_value result)) }
 {
     // Only a call says that the bytes of a text are UTF-8.
     let _bytes = text.bytes();
-    Seen::Str(SeenText::Lent(text))
+    ValueRef::Str(TextRef::Borrowed(text))
 }
 
 /// The value of a literal.
-fn literal(lit: &Lit, at: u32) -> Result<Seen<'_>, EvalFault>
-    ensures value { Sees result (lit_value at lit.now) }
-    ensures field { (patterns : List (List ℕ)) → IsTrue (is_fit_lit patterns lit.now) → IfOk result (λ seen. IsTrue (is_value (value_seen seen))) }
+fn literal(lit: &Lit, at: u32) -> Result<ValueRef<'_>, EvalFault>
+    ensures value { GivesValue result (lit_value at lit.now) }
+    ensures field { (patterns : List (List ℕ)) → IsTrue (is_fit_lit patterns lit.now) → GivesField result }
 {
     match lit {
-        Lit::Int(number) => Ok(Seen::Int(*number)),
-        Lit::Bool(truth) => Ok(Seen::Bool(*truth)),
-        Lit::Str(text) => Ok(string(text)),
+        Lit::Int(number) => Ok(ValueRef::Int(*number)),
+        Lit::Bool(truth) => Ok(ValueRef::Bool(*truth)),
+        Lit::Str(text) => Ok(string(text.text())),
         Lit::Dur(_) | Lit::Regex(_) => Err(EvalFault::Kind(at)),
     }
 }
 
 /// The value of a reference.
-fn reference<'a>(point: &'a Point, name: &Text, at: u32) -> Result<Seen<'a>, EvalFault>
-    ensures value { Sees result (found at (at_name name.now point.now)) }
-    ensures field { IfOk result (λ seen. IsTrue (is_value (value_seen seen))) }
+fn reference<'a>(point: &'a Point, name: &Text, at: u32) -> Result<ValueRef<'a>, EvalFault>
+    ensures value { GivesValue result (reference_value at (at_name name.now point.now)) }
+    ensures field { GivesField result }
 {
     match at_name(point, name) {
         Some(seen) => Ok(seen),
@@ -79,36 +71,36 @@ fn only_name(args: &Exprs) -> Option<&Text>
 }
 
 /// `isPresent(ref)`.
-fn present(args: &Exprs, point: &Point, at: u32) -> Result<Seen<'static>, EvalFault>
-    ensures value { Sees result (present_value at (only_name (trees_of args.now)) point.now) }
-    ensures field { IfOk result (λ seen. IsTrue (is_value (value_seen seen))) }
+fn present(args: &Exprs, point: &Point, at: u32) -> Result<ValueRef<'static>, EvalFault>
+    ensures value { GivesValue result (present_value at (only_name (trees_of args.now)) point.now) }
+    ensures field { GivesField result }
 {
     match only_name(args) {
-        Some(name) => Ok(Seen::Bool(at_name(point, name).is_some())),
+        Some(name) => Ok(ValueRef::Bool(at_name(point, name).is_some())),
         None => Err(EvalFault::Kind(at)),
     }
 }
 
 /// `count()`, where so many evaluations went before.
-fn count(args: &Exprs, k: u64, at: u32) -> Result<Seen<'static>, EvalFault>
+fn count(args: &Exprs, k: u64, at: u32) -> Result<ValueRef<'static>, EvalFault>
     requires { k < 2 ^ 62 }
-    ensures value { Sees result (count_value at (trees_of args.now) k) }
-    ensures field { IfOk result (λ seen. IsTrue (is_value (value_seen seen))) }
+    ensures value { GivesValue result (count_value at (trees_of args.now) k) }
+    ensures field { GivesField result }
 {
     match args {
-        Exprs::End => Ok(Seen::Int((k + 1) as i64)),
+        Exprs::End => Ok(ValueRef::Int((k + 1) as i64)),
         Exprs::More(_, _) => Err(EvalFault::Kind(at)),
     }
 }
 
 /// A function of `"time"`.
-fn part_of(part: TimePart, args: &Exprs, point: &Point, at: u32) -> Result<Seen<'static>, EvalFault>
-    ensures value { Sees result (part_value part at (only_name (trees_of args.now)) point.now) }
-    ensures field { IfOk result (λ seen. IsTrue (is_value (value_seen seen))) }
+fn part_of(part: TimePart, args: &Exprs, point: &Point, at: u32) -> Result<ValueRef<'static>, EvalFault>
+    ensures value { GivesValue result (part_value part at (only_name (trees_of args.now)) point.now) }
+    ensures field { GivesField result }
 {
     match only_name(args) {
         Some(name) if name.bytes() == b"time".as_slice() => {
-            Ok(Seen::Int(time_part(part, point.time)?))
+            Ok(ValueRef::Int(time_part(part, point.time)?))
         }
         _ => Err(EvalFault::Kind(at)),
     }
@@ -116,23 +108,22 @@ fn part_of(part: TimePart, args: &Exprs, point: &Point, at: u32) -> Result<Seen<
 
 /// Whether the right side, a pattern, matches in the left side, a text.
 fn search(
-    alloc: Global,
-    left: &Seen<'_>,
+    left: &ValueRef<'_>,
     right: &Expr,
     at: u32,
-    run: &mut Run<'_>,
+    patterns: &mut PatternList,
 ) -> Result<bool, EvalFault>
-    requires fit { IsTrue (is_fit (patterns_of (tree_run run.old)) (tree_of right.now)) }
-    ensures found { Answers EvalFault.NoMemory result (matched at (pattern_in (tree_of right.now)) (value_seen left.now)) }
-    ensures kept { tree_run run.new ≡ tree_run run.old }
+    requires fit { IsTrue (is_fit patterns.old (tree_of right.now)) }
+    ensures found { Answers EvalFault.NoMemory result (has_match at (pattern_in (tree_of right.now)) (the_value left.now)) }
+    ensures kept { patterns.new ≡ patterns.old }
 {
-    let Seen::Str(text) = left else {
+    let ValueRef::Str(text) = left else {
         return Err(EvalFault::Kind(at));
     };
     let Expr::Lit(Lit::Regex(pattern), _) = right else {
         return Err(EvalFault::Kind(at));
     };
-    Ok(run.is_match(alloc, pattern, text.text().as_str())?)
+    Ok(patterns.is_match(pattern.text(), text.text().as_str()))
 }
 
 /// `OR`, which stops at a left side that is true, or `AND`, which stops at one that is false.
@@ -140,25 +131,25 @@ fn search(
 fn decide<'a>(
     alloc: Global,
     stop: bool,
-    left: &Seen<'_>,
+    left: &ValueRef<'_>,
     right: &'a Expr,
     at: u32,
-    run: &mut Run<'_>,
-    moment: &Moment<'a>,
-) -> Result<Seen<'a>, EvalFault>
-    requires fit { IsTrue (is_fit (patterns_of (tree_run run.old)) (tree_of right.now)) }
-    ensures value { Sees result ((if stop then or_value else and_value) at (val (tree_of right.now) moment.now.k moment.now.point.now) (value_seen left.now)) }
-    ensures field { IfOk result (λ seen. IsTrue (is_value (value_seen seen))) }
-    ensures kept { tree_run run.new ≡ tree_run run.old }
+    patterns: &mut PatternList,
+    input: &Input<'a>,
+) -> Result<ValueRef<'a>, EvalFault>
+    requires fit { IsTrue (is_fit patterns.old (tree_of right.now)) }
+    ensures value { GivesValue result (decided stop at (val_at (tree_of right.now) input.now) (the_value left.now)) }
+    ensures field { GivesField result }
+    ensures kept { patterns.new ≡ patterns.old }
 {
-    let Seen::Bool(left) = left else {
+    let ValueRef::Bool(left) = left else {
         return Err(EvalFault::Kind(at));
     };
     if *left == stop {
-        return Ok(Seen::Bool(stop));
+        return Ok(ValueRef::Bool(stop));
     }
-    match evaluate(alloc, right, run, moment)? {
-        Seen::Bool(truth) => Ok(Seen::Bool(truth)),
+    match evaluate(alloc, right, patterns, input)? {
+        ValueRef::Bool(truth) => Ok(ValueRef::Bool(truth)),
         _ => Err(EvalFault::Kind(at)),
     }
 }
@@ -168,26 +159,26 @@ fn decide<'a>(
 fn join<'a>(
     alloc: Global,
     op: Op,
-    left: Seen<'a>,
+    left: ValueRef<'a>,
     right: &'a Expr,
     at: u32,
-    run: &mut Run<'_>,
-    moment: &Moment<'a>,
-) -> Result<Seen<'a>, EvalFault>
-    requires fit { IsTrue (is_fit (patterns_of (tree_run run.old)) (tree_of right.now)) }
-    requires field { IsTrue (is_value (value_seen left)) }
-    ensures value { Sees result (joined op at (Ok (value_seen left.entry)) (val (tree_of right.now) moment.now.k moment.now.point.now) (pattern_in (tree_of right.now))) }
-    ensures field { IfOk result (λ seen. IsTrue (is_value (value_seen seen))) }
-    ensures kept { tree_run run.new ≡ tree_run run.old }
+    patterns: &mut PatternList,
+    input: &Input<'a>,
+) -> Result<ValueRef<'a>, EvalFault>
+    requires fit { IsTrue (is_fit patterns.old (tree_of right.now)) }
+    requires field { IsTrue (is_value (the_value left)) }
+    ensures value { GivesValue result (op_value_at op at (the_value left.entry) (tree_of right.now) input.now) }
+    ensures field { GivesField result }
+    ensures kept { patterns.new ≡ patterns.old }
 {
     match op {
-        Op::Or => decide(alloc, true, &left, right, at, run, moment),
-        Op::And => decide(alloc, false, &left, right, at, run, moment),
-        Op::Match => Ok(Seen::Bool(search(alloc, &left, right, at, run)?)),
-        Op::NoMatch => Ok(Seen::Bool(!search(alloc, &left, right, at, run)?)),
+        Op::Or => decide(alloc, true, &left, right, at, patterns, input),
+        Op::And => decide(alloc, false, &left, right, at, patterns, input),
+        Op::Match => Ok(ValueRef::Bool(search(&left, right, at, patterns)?)),
+        Op::NoMatch => Ok(ValueRef::Bool(!search(&left, right, at, patterns)?)),
         _ => {
-            let right = evaluate(alloc, right, run, moment)?;
-            left.applied(alloc, op, &right, at)
+            let right = evaluate(alloc, right, patterns, input)?;
+            left.apply(alloc, op, &right, at)
         }
     }
 }
@@ -198,13 +189,13 @@ fn choose<'a>(
     alloc: Global,
     args: &'a Exprs,
     at: u32,
-    run: &mut Run<'_>,
-    moment: &Moment<'a>,
-) -> Result<Seen<'a>, EvalFault>
-    requires fit { IsTrue (are_fit (patterns_of (tree_run run.old)) (trees_of args.now)) }
-    ensures value { Sees result (if_value at (vals (trees_of args.now) moment.now.k moment.now.point.now)) }
-    ensures field { IfOk result (λ seen. IsTrue (is_value (value_seen seen))) }
-    ensures kept { tree_run run.new ≡ tree_run run.old }
+    patterns: &mut PatternList,
+    input: &Input<'a>,
+) -> Result<ValueRef<'a>, EvalFault>
+    requires fit { IsTrue (are_fit patterns.old (trees_of args.now)) }
+    ensures value { GivesValue result (if_value at (vals_at (trees_of args.now) input.now)) }
+    ensures field { GivesField result }
+    ensures kept { patterns.new ≡ patterns.old }
 {
     let Exprs::More(test, rest) = args else {
         return Err(EvalFault::Kind(at));
@@ -218,9 +209,9 @@ fn choose<'a>(
     let Exprs::End = &**rest else {
         return Err(EvalFault::Kind(at));
     };
-    match evaluate(alloc, test, run, moment)? {
-        Seen::Bool(true) => evaluate(alloc, first, run, moment),
-        Seen::Bool(false) => evaluate(alloc, second, run, moment),
+    match evaluate(alloc, test, patterns, input)? {
+        ValueRef::Bool(true) => evaluate(alloc, first, patterns, input),
+        ValueRef::Bool(false) => evaluate(alloc, second, patterns, input),
         _ => Err(EvalFault::Kind(at)),
     }
 }
@@ -230,18 +221,18 @@ fn choose<'a>(
 fn evaluate_all<'a>(
     alloc: Global,
     args: &'a Exprs,
-    run: &mut Run<'_>,
-    moment: &Moment<'a>,
+    patterns: &mut PatternList,
+    input: &Input<'a>,
 ) -> Result<ItemList<Value>, EvalFault>
-    requires fit { IsTrue (are_fit (patterns_of (tree_run run.old)) (trees_of args.now)) }
-    ensures values { Answers EvalFault.NoMemory result (all_values (vals (trees_of args.now) moment.now.k moment.now.point.now)) }
+    requires fit { IsTrue (are_fit patterns.old (trees_of args.now)) }
+    ensures values { Answers EvalFault.NoMemory result (all_values (vals_at (trees_of args.now) input.now)) }
     ensures fields { IfOk result (λ values. IsTrue (list_all is_value values)) }
-    ensures kept { tree_run run.new ≡ tree_run run.old }
+    ensures kept { patterns.new ≡ patterns.old }
 {
     let mut values = ItemList::new(alloc);
     let mut rest = args;
     'evaluating: while let Exprs::More(first, more) = rest {
-        let seen = evaluate(alloc, first, run, moment)?;
+        let seen = evaluate(alloc, first, patterns, input)?;
         values.push(seen.into_value(alloc)?)?;
         rest = more;
     }
@@ -255,60 +246,60 @@ fn call<'a>(
     name: &Text,
     args: &'a Exprs,
     at: u32,
-    run: &mut Run<'_>,
-    moment: &Moment<'a>,
-) -> Result<Seen<'a>, EvalFault>
-    requires fit { IsTrue (are_fit (patterns_of (tree_run run.old)) (trees_of args.now)) }
-    ensures value { Sees result (call_value (function_named name.now) at (trees_of args.now) (vals (trees_of args.now) moment.now.k moment.now.point.now) moment.now.k moment.now.point.now) }
-    ensures field { IfOk result (λ seen. IsTrue (is_value (value_seen seen))) }
-    ensures kept { tree_run run.new ≡ tree_run run.old }
+    patterns: &mut PatternList,
+    input: &Input<'a>,
+) -> Result<ValueRef<'a>, EvalFault>
+    requires fit { IsTrue (are_fit patterns.old (trees_of args.now)) }
+    ensures value { GivesValue result (call_value_at (function_named name.now) at (trees_of args.now) input.now) }
+    ensures field { GivesField result }
+    ensures kept { patterns.new ≡ patterns.old }
 {
     let Some(function) = Function::named(name) else {
         return Err(EvalFault::Kind(at));
     };
     match function {
-        Function::IsPresent => present(args, moment.point, at),
-        Function::If => choose(alloc, args, at, run, moment),
-        Function::Count => count(args, moment.k, at),
-        Function::Part(part) => part_of(part, args, moment.point, at),
+        Function::IsPresent => present(args, input.point, at),
+        Function::If => choose(alloc, args, at, patterns, input),
+        Function::Count => count(args, input.k, at),
+        Function::Part(part) => part_of(part, args, input.point, at),
         Function::Of(fun) => {
-            let values = evaluate_all(alloc, args, run, moment)?;
+            let values = evaluate_all(alloc, args, patterns, input)?;
             let value = lambda_fns::call(alloc, fun, values.as_slice(), at)?;
-            Ok(Seen::made(value))
+            Ok(ValueRef::from_value(value))
         }
     }
 }
 
-/// The value of a part of the run's lambda, or its first fault.
+/// The value of a part of a lambda that has these patterns, or its first fault.
 #[cycle(evaluation)]
 pub(crate) fn evaluate<'a>(
     alloc: Global,
     expr: &'a Expr,
-    run: &mut Run<'_>,
-    moment: &Moment<'a>,
-) -> Result<Seen<'a>, EvalFault>
-    requires fit { IsTrue (is_fit (patterns_of (tree_run run.old)) (tree_of expr.now)) }
-    ensures value { Sees result (val (tree_of expr.now) moment.now.k moment.now.point.now) }
-    ensures field { IfOk result (λ seen. IsTrue (is_value (value_seen seen))) }
-    ensures kept { tree_run run.new ≡ tree_run run.old }
+    patterns: &mut PatternList,
+    input: &Input<'a>,
+) -> Result<ValueRef<'a>, EvalFault>
+    requires fit { IsTrue (is_fit patterns.old (tree_of expr.now)) }
+    ensures value { GivesValue result (val_at (tree_of expr.now) input.now) }
+    ensures field { GivesField result }
+    ensures kept { patterns.new ≡ patterns.old }
 {
     match expr {
         Expr::Lit(lit, at) => literal(lit, *at),
-        Expr::Ref(name, at) => reference(moment.point, name, *at),
+        Expr::Ref(name, at) => reference(input.point, name, *at),
         Expr::Name(_, at) => Err(EvalFault::Kind(*at)),
-        Expr::Call(name, args, at) => call(alloc, name, args, *at, run, moment),
-        Expr::Group(inner, _) => evaluate(alloc, inner, run, moment),
+        Expr::Call(name, args, at) => call(alloc, name, args, *at, patterns, input),
+        Expr::Group(inner, _) => evaluate(alloc, inner, patterns, input),
         Expr::Neg(operand, at) => {
-            let seen = evaluate(alloc, operand, run, moment)?;
-            seen.negated(*at)
+            let seen = evaluate(alloc, operand, patterns, input)?;
+            seen.negate(*at)
         }
         Expr::Not(operand, at) => {
-            let seen = evaluate(alloc, operand, run, moment)?;
-            seen.denied(*at)
+            let seen = evaluate(alloc, operand, patterns, input)?;
+            seen.invert(*at)
         }
         Expr::Bin(op, left, right, at) => {
-            let left = evaluate(alloc, left, run, moment)?;
-            join(alloc, *op, left, right, *at, run, moment)
+            let left = evaluate(alloc, left, patterns, input)?;
+            join(alloc, *op, left, right, *at, patterns, input)
         }
     }
 }

@@ -15,7 +15,7 @@ use Rattle.std.proofs.lemmas.List.Folds.{list_any-append}
 use Rattle.std.proofs.lemmas.Str.{encodes-chars, IsUtf8-from_is_utf8, is_utf8-from_IsUtf8}
 use Rattle.kap_base.specs.Texts.{has_line_feed, is_line}
 use Rattle.lambda_fns.specs.Numbers.{truth_text}
-use Rattle.lambda_fns.specs.Texts.{first_place, joined, pieces, pieces_behind, pieces_between, most, replaced}
+use Rattle.lambda_fns.specs.Texts.{first_place, text_of_pieces, pieces, pieces_behind, pieces_between, most, replaced}
 
 -- no line feed stands in it
 abbrev Clear : List ℕ → Type 0
@@ -104,9 +104,9 @@ clear_behind : (b : List ℕ) (ps : List (List ℕ)) → Clear b → AllClear ps
 clear_behind b [] hb h = refl
 clear_behind b (p ∷ ps) hb h = clear-append (b ++ p) (flat_map (λ q. b ++ q) ps) (clear-append b p hb h.0) (clear_behind b ps hb h.1)
 
-clear-joined : (b : List ℕ) (ps : List (List ℕ)) → Clear b → AllClear ps → Clear (joined b ps)
-clear-joined b [] hb h = refl
-clear-joined b (p ∷ ps) hb h = clear-append p (flat_map (λ q. b ++ q) ps) h.0 (clear_behind b ps hb h.1)
+clear-text_of_pieces : (b : List ℕ) (ps : List (List ℕ)) → Clear b → AllClear ps → Clear (text_of_pieces b ps)
+clear-text_of_pieces b [] hb h = refl
+clear-text_of_pieces b (p ∷ ps) hb h = clear-append p (flat_map (λ q. b ++ q) ps) h.0 (clear_behind b ps hb h.1)
 
 clear-pieces : (n : ℕ) (a s : List ℕ) → Clear s → AllClear (pieces n a s)
 unfolding pieces
@@ -128,8 +128,8 @@ clear-pieces_between zero cs h = (h, tt)
 clear-pieces_between (suc n) cs h = (refl, clear-pieces_behind n cs h)
 
 clear-replaced : (s a b : List ℕ) (n : ℤ) → IsUtf8 s → Clear s → Clear b → Clear (replaced s a b n)
-clear-replaced s [] b n utf8 hs hb = clear-joined b (pieces_between (most n s) (chars s)) hb (clear-pieces_between (most n s) (chars s) (rw (encodes-chars s utf8) hs))
-clear-replaced s (x ∷ xs) b n utf8 hs hb = clear-joined b (pieces (most n s) (x ∷ xs) s) hb (clear-pieces (most n s) (x ∷ xs) s hs)
+clear-replaced s [] b n utf8 hs hb = clear-text_of_pieces b (pieces_between (most n s) (chars s)) hb (clear-pieces_between (most n s) (chars s) (rw (encodes-chars s utf8) hs))
+clear-replaced s (x ∷ xs) b n utf8 hs hb = clear-text_of_pieces b (pieces (most n s) (x ∷ xs) s) hb (clear-pieces (most n s) (x ∷ xs) s hs)
 
 pub replaced_line : (s a b r : List ℕ) (n : ℤ) → r ≡ replaced s a b n → IsUtf8 r → IsTrue (is_line s) → IsTrue (is_line b) → IsTrue (is_line r)
 replaced_line s a b r n e utf8 hs hb = line_is r (rw e (clear-replaced s a b n (line_utf8 s hs) (line_clear s hs) (line_clear b hb))) utf8

@@ -8,7 +8,7 @@ use Rattle.std.specs.Str.{encode_utf8_all}
 use Rattle.std.proofs.lemmas.Bool.Decides.{Decides-eqb}
 use Rattle.std.proofs.lemmas.List.{length-append, length-drop, take-append-drop, drop-drop}
 use Rattle.std.proofs.lemmas.Slice.Eq.{starts_is}
-use Rattle.lambda_fns.specs.Texts.{first_place, joined, pieces, pieces_between, last_piece, piece, stands_at, IsFirst, IsNowhere}
+use Rattle.lambda_fns.specs.Texts.{first_place, text_of_pieces, pieces, pieces_between, last_piece, piece, stands_at, IsFirst, IsNowhere}
 use Rattle.lambda_fns.proofs.ReplaceLaws.{with_places, with_places_none, with_places_more, between_step, between_nil}
 
 at_start : (a : List ℕ) (b : Bool) → starts_with nat_eq [] a ≡ b → MatchOption (cond b (Some 0) None) (IsNowhere a []) (λ i. IsFirst a [] i)
@@ -50,12 +50,12 @@ behind_place a s i first =
     let split = (starts_is Decides-eqb (drop i s) a (starts_with nat_eq (drop i s) a) refl).0 first.here in
     rw drop-drop at (sym split)
 
-pub pieces_again : (n : ℕ) (a s : List ℕ) → joined a (pieces n a s) ≡ s
+pub pieces_again : (n : ℕ) (a s : List ℕ) → text_of_pieces a (pieces n a s) ≡ s
 unfolding pieces
 pieces_again zero a s = append-nil s
 pieces_again (suc n) a s = go (λ i. pieces_again n a (drop (i + length a) s)) (first_place a s) refl
   where
-    go : ((i : ℕ) → joined a (pieces n a (drop (i + length a) s)) ≡ drop (i + length a) s) → (o : Option ℕ) → first_place a s ≡ o → joined a (pieces (suc n) a s) ≡ s
+    go : ((i : ℕ) → text_of_pieces a (pieces n a (drop (i + length a) s)) ≡ drop (i + length a) s) → (o : Option ℕ) → first_place a s ≡ o → text_of_pieces a (pieces (suc n) a s) ≡ s
     go others None none = with_places_none (suc n) a a s none
     go others (Some i) e =
         let back : suc n - 1 ≡ n = omega arith in
@@ -100,6 +100,6 @@ nothing zero = refl
 nothing (suc n) = refl
 
 -- characters, cut behind each
-pub characters_again : (n : ℕ) (cs : List ℕ) → joined [] (pieces_between n cs) ≡ encode_utf8_all cs
+pub characters_again : (n : ℕ) (cs : List ℕ) → text_of_pieces [] (pieces_between n cs) ≡ encode_utf8_all cs
 characters_again n [] = between_nil n [] ∙ nothing n
 characters_again n (c ∷ cs) = between_step n [] cs c ∙ rw (nothing n) (ap (λ (t : List ℕ). encode_utf8 c ++ t) (characters_again (n - 1) cs))

@@ -7,28 +7,28 @@ use Rattle.std.specs.Str.{chars, encode_utf8_all}
 use Rattle.std.specs.Str.Pattern.{FindsText, SplitsAroundMatch}
 use Rattle.std.proofs.lemmas.List.{length-append}
 use Rattle.std.proofs.lemmas.Str.{chars-nil}
-use Rattle.lambda_fns.specs.Texts.{first_place, joined, piece, pieces, pieces_behind, pieces_between}
+use Rattle.lambda_fns.specs.Texts.{first_place, text_of_pieces, piece, pieces, pieces_behind, pieces_between}
 use Rattle.lambda_fns.proofs.PlaceLaws.{first_place_is, first_place_none}
 
 -- b before each piece
-each_behind : (b p : List ℕ) (ps : List (List ℕ)) → flat_map (λ q. b ++ q) (p ∷ ps) ≡ b ++ joined b (p ∷ ps)
+each_behind : (b p : List ℕ) (ps : List (List ℕ)) → flat_map (λ q. b ++ q) (p ∷ ps) ≡ b ++ text_of_pieces b (p ∷ ps)
 each_behind b p ps = append_assoc b p (flat_map (λ q. b ++ q) ps)
 
-alone : (b p : List ℕ) → joined b (p ∷ []) ≡ p
+alone : (b p : List ℕ) → text_of_pieces b (p ∷ []) ≡ p
 alone b p = append-nil p
 
-behind_pieces : (n : ℕ) (a b s : List ℕ) → flat_map (λ q. b ++ q) (pieces n a s) ≡ b ++ joined b (pieces n a s)
+behind_pieces : (n : ℕ) (a b s : List ℕ) → flat_map (λ q. b ++ q) (pieces n a s) ≡ b ++ text_of_pieces b (pieces n a s)
 unfolding pieces
 behind_pieces zero a b s = each_behind b s []
 behind_pieces (suc n) a b s = go (first_place a s)
   where
-    go : (o : Option ℕ) → flat_map (λ q. b ++ q) (option_map_or (λ i. take i s ∷ pieces n a (drop (i + length a) s)) o (s ∷ [])) ≡ b ++ joined b (option_map_or (λ i. take i s ∷ pieces n a (drop (i + length a) s)) o (s ∷ []))
+    go : (o : Option ℕ) → flat_map (λ q. b ++ q) (option_map_or (λ i. take i s ∷ pieces n a (drop (i + length a) s)) o (s ∷ [])) ≡ b ++ text_of_pieces b (option_map_or (λ i. take i s ∷ pieces n a (drop (i + length a) s)) o (s ∷ []))
     go None = each_behind b s []
     go (Some i) = each_behind b (take i s) (pieces n a (drop (i + length a) s))
 
 -- s with b in the place of a
 abbrev pub with_places : ℕ → List ℕ → List ℕ → List ℕ → List ℕ
-with_places n a b s = joined b (pieces n a s)
+with_places n a b s = text_of_pieces b (pieces n a s)
 
 pub with_places_none : (n : ℕ) (a b s : List ℕ) → first_place a s ≡ None → with_places n a b s ≡ s
 unfolding pieces
@@ -67,9 +67,9 @@ too_long front back whole n e h = rw (← e) (omega (arith, length-append front 
 
 -- characters with b at their first n places
 abbrev pub between : ℕ → List ℕ → List ℕ → List ℕ
-between n b cs = joined b (pieces_between n cs)
+between n b cs = text_of_pieces b (pieces_between n cs)
 
-behind_characters : (n : ℕ) (b cs : List ℕ) → flat_map (λ q. b ++ q) (pieces_behind n cs) ≡ b ++ joined b (pieces_behind n cs)
+behind_characters : (n : ℕ) (b cs : List ℕ) → flat_map (λ q. b ++ q) (pieces_behind n cs) ≡ b ++ text_of_pieces b (pieces_behind n cs)
 unfolding pieces_behind
 behind_characters zero b cs = each_behind b (encode_utf8_all cs) []
 behind_characters (suc n) b [] = each_behind b [] []
@@ -82,7 +82,7 @@ between_step (suc n) b cs c =
     let back : suc n - 1 ≡ n = omega arith in
     rw (back, behind_characters n b (c ∷ cs)) (ap (λ (t : List ℕ). b ++ t) (after n))
   where
-    after : (n : ℕ) → joined b (pieces_behind n (c ∷ cs)) ≡ encode_utf8 c ++ between n b cs
+    after : (n : ℕ) → text_of_pieces b (pieces_behind n (c ∷ cs)) ≡ encode_utf8 c ++ between n b cs
     after zero = rw (alone b (encode_utf8_all (c ∷ cs)), alone b (encode_utf8_all cs)) refl
     after (suc n) = refl
 
@@ -91,7 +91,7 @@ unfolding pieces_behind
 between_nil zero b = refl
 between_nil (suc n) b = rw (behind_characters n b []) (last n)
   where
-    last : (n : ℕ) → b ++ joined b (pieces_behind n []) ≡ b
+    last : (n : ℕ) → b ++ text_of_pieces b (pieces_behind n []) ≡ b
     last zero = append-nil b
     last (suc n) = append-nil b
 

@@ -6,35 +6,36 @@ use Rattle.kap_base.specs.declared.fun.Fun.TheVariants as funs
 use Rattle.kap_base.specs.declared.value.Value.{Value}
 use Rattle.kap_base.specs.declared.value.Value.TheVariants.{Int as Number, Bool as Truth, Str}
 use Rattle.lambda_fns.specs.declared.fault.EvalFault.TheVariants.{Kind, Range}
-use Rattle.lambda_fns.specs.Calls.{in_range, within_limit, called, called_int, called_bool, called_string, of_text, of_texts, called_replace, called_substring}
+use Rattle.lambda_fns.specs.Calls.{in_range, within_limit, fun_value, int_value, bool_value, string_value, of_text, of_texts, replace_value, substring_value}
 use Rattle.lambda_fns.specs.Numbers.{number_in, truth_in, truth_of}
-use Rattle.lambda_fns.specs.Sorts.{Sort, number, truth, text, sort_of, is_one, is_text, are_texts, are_replacements, are_places, takes, gives, IsTyped}
-use Rattle.lambda_fns.specs.Texts.{text_limit, replaced, part_of}
+use Rattle.lambda_fns.specs.Sorts.{Sort, number, truth, text, sort_of, is_one, is_text, are_texts, are_replacements, are_places, takes, fun_sort, IsTyped}
+use Rattle.lambda_fns.specs.declared.replace.TheConstants.{TEXT_LIMIT}
+use Rattle.lambda_fns.specs.Texts.{replaced, part_of}
 
 ranged : {A : Type 0} (at : ℕ) (sort : Sort) (make : A → Value) → ((x : A) → sort_of (make x) ≡ sort) → (o : Option A) → IsTyped sort at (in_range at make o)
 ranged at sort make typed None = refl
 ranged at sort make typed (Some x) = typed x
 
 limited : (at : ℕ) (t : List ℕ) → IsTyped text at (within_limit at t)
-limited at t = go (nat_le (length t) text_limit)
+limited at t = go (nat_le (length t) TEXT_LIMIT)
   where
     go : (b : Bool) → IsTyped text at (cond b (Ok (Str t)) (Err (Range at)))
     go true = refl
     go false = refl
 
-int_typed : (args : List Value) (at : ℕ) → is_one (map sort_of args) ≡ true → IsTyped number at (called_int at args)
+int_typed : (args : List Value) (at : ℕ) → is_one (map sort_of args) ≡ true → IsTyped number at (int_value at args)
 int_typed (Number n ∷ []) at h = refl
 int_typed (Truth b ∷ []) at h = refl
 int_typed (Str s ∷ []) at h = ranged at number Number (λ _. refl) (number_in s)
 int_typed _ at h = absurd cc
 
-bool_typed : (args : List Value) (at : ℕ) → is_one (map sort_of args) ≡ true → IsTyped truth at (called_bool at args)
+bool_typed : (args : List Value) (at : ℕ) → is_one (map sort_of args) ≡ true → IsTyped truth at (bool_value at args)
 bool_typed (Number n ∷ []) at h = ranged at truth Truth (λ _. refl) (truth_of n)
 bool_typed (Truth b ∷ []) at h = refl
 bool_typed (Str s ∷ []) at h = ranged at truth Truth (λ _. refl) (truth_in s)
 bool_typed _ at h = absurd cc
 
-string_typed : (args : List Value) (at : ℕ) → is_one (map sort_of args) ≡ true → IsTyped text at (called_string at args)
+string_typed : (args : List Value) (at : ℕ) → is_one (map sort_of args) ≡ true → IsTyped text at (string_value at args)
 string_typed (Number n ∷ []) at h = refl
 string_typed (Truth b ∷ []) at h = refl
 string_typed (Str s ∷ []) at h = refl
@@ -48,15 +49,15 @@ texts_typed : (f : List ℕ → List ℕ → Value) (sort : Sort) → ((s t : Li
 texts_typed f sort typed (Str s ∷ Str t ∷ []) at h = typed s t
 texts_typed f sort typed _ at h = absurd cc
 
-replace_typed : (args : List Value) (at : ℕ) → are_replacements (map sort_of args) ≡ true → IsTyped text at (called_replace at args)
+replace_typed : (args : List Value) (at : ℕ) → are_replacements (map sort_of args) ≡ true → IsTyped text at (replace_value at args)
 replace_typed (Str s ∷ Str a ∷ Str b ∷ Number n ∷ []) at h = limited at (replaced s a b n)
 replace_typed _ at h = absurd cc
 
-substring_typed : (args : List Value) (at : ℕ) → are_places (map sort_of args) ≡ true → IsTyped text at (called_substring at args)
+substring_typed : (args : List Value) (at : ℕ) → are_places (map sort_of args) ≡ true → IsTyped text at (substring_value at args)
 substring_typed (Str s ∷ Number i ∷ Number j ∷ []) at h = ranged at text Str (λ _. refl) (part_of s i j)
 substring_typed _ at h = absurd cc
 
-pub call_typed : (fun : Fun) (args : List Value) (at : ℕ) → takes fun (map sort_of args) ≡ true → IsTyped (gives fun) at (called fun args at)
+pub call_typed : (fun : Fun) (args : List Value) (at : ℕ) → takes fun (map sort_of args) ≡ true → IsTyped (fun_sort fun) at (fun_value fun args at)
 call_typed funs.Int args at h = int_typed args at h
 call_typed funs.Bool args at h = bool_typed args at h
 call_typed funs.String args at h = string_typed args at h
@@ -71,19 +72,19 @@ call_typed funs.StrTrimSpace args at h = text_typed _ text (λ s. refl) args at 
 call_typed funs.StrReplace args at h = replace_typed args at h
 call_typed funs.StrSubstring args at h = substring_typed args at h
 
-int_kind : (args : List Value) (at : ℕ) → is_one (map sort_of args) ≡ false → called_int at args ≡ Err (Kind at)
+int_kind : (args : List Value) (at : ℕ) → is_one (map sort_of args) ≡ false → int_value at args ≡ Err (Kind at)
 int_kind (Number n ∷ []) at h = absurd cc
 int_kind (Truth b ∷ []) at h = absurd cc
 int_kind (Str s ∷ []) at h = absurd cc
 int_kind _ at h = refl
 
-bool_kind : (args : List Value) (at : ℕ) → is_one (map sort_of args) ≡ false → called_bool at args ≡ Err (Kind at)
+bool_kind : (args : List Value) (at : ℕ) → is_one (map sort_of args) ≡ false → bool_value at args ≡ Err (Kind at)
 bool_kind (Number n ∷ []) at h = absurd cc
 bool_kind (Truth b ∷ []) at h = absurd cc
 bool_kind (Str s ∷ []) at h = absurd cc
 bool_kind _ at h = refl
 
-string_kind : (args : List Value) (at : ℕ) → is_one (map sort_of args) ≡ false → called_string at args ≡ Err (Kind at)
+string_kind : (args : List Value) (at : ℕ) → is_one (map sort_of args) ≡ false → string_value at args ≡ Err (Kind at)
 string_kind (Number n ∷ []) at h = absurd cc
 string_kind (Truth b ∷ []) at h = absurd cc
 string_kind (Str s ∷ []) at h = absurd cc
@@ -97,15 +98,15 @@ texts_kind : (f : List ℕ → List ℕ → Value) (args : List Value) (at : ℕ
 texts_kind f (Str s ∷ Str t ∷ []) at h = absurd cc
 texts_kind f _ at h = refl
 
-replace_kind : (args : List Value) (at : ℕ) → are_replacements (map sort_of args) ≡ false → called_replace at args ≡ Err (Kind at)
+replace_kind : (args : List Value) (at : ℕ) → are_replacements (map sort_of args) ≡ false → replace_value at args ≡ Err (Kind at)
 replace_kind (Str s ∷ Str a ∷ Str b ∷ Number n ∷ []) at h = absurd cc
 replace_kind _ at h = refl
 
-substring_kind : (args : List Value) (at : ℕ) → are_places (map sort_of args) ≡ false → called_substring at args ≡ Err (Kind at)
+substring_kind : (args : List Value) (at : ℕ) → are_places (map sort_of args) ≡ false → substring_value at args ≡ Err (Kind at)
 substring_kind (Str s ∷ Number i ∷ Number j ∷ []) at h = absurd cc
 substring_kind _ at h = refl
 
-pub call_kind : (fun : Fun) (args : List Value) (at : ℕ) → takes fun (map sort_of args) ≡ false → called fun args at ≡ Err (Kind at)
+pub call_kind : (fun : Fun) (args : List Value) (at : ℕ) → takes fun (map sort_of args) ≡ false → fun_value fun args at ≡ Err (Kind at)
 call_kind funs.Int args at h = int_kind args at h
 call_kind funs.Bool args at h = bool_kind args at h
 call_kind funs.String args at h = string_kind args at h

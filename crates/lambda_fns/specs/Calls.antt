@@ -9,7 +9,8 @@ use Rattle.kap_base.specs.declared.value.Value.{Value}
 use Rattle.kap_base.specs.declared.value.Value.TheVariants.{Int as Number, Bool as Truth, Str}
 use Rattle.lambda_fns.specs.declared.fault.EvalFault.{EvalFault}
 use Rattle.lambda_fns.specs.declared.fault.EvalFault.TheVariants.{Kind, Range}
-use Rattle.lambda_fns.specs.Texts.{text_limit, first_place, index_of, replaced, trimmed, part_of}
+use Rattle.lambda_fns.specs.declared.replace.TheConstants.{TEXT_LIMIT}
+use Rattle.lambda_fns.specs.Texts.{first_place, index_of, replaced, trimmed, part_of}
 use Rattle.lambda_fns.specs.Numbers.{number_in, truth_in, truth_of, truth_text}
 
 -- a value, or Range where there is none
@@ -19,28 +20,28 @@ in_range at make (Some x) = Ok (make x)
 
 -- a text that was made, or Range where it is longer than a text may be made
 abbrev pub within_limit : ℕ → List ℕ → Result Value EvalFault
-within_limit at text = if nat_le (length text) text_limit then Ok (Str text) else Err (Range at)
+within_limit at text = if nat_le (length text) TEXT_LIMIT then Ok (Str text) else Err (Range at)
 
 -- `int(x)`
-abbrev pub called_int : ℕ → List Value → Result Value EvalFault
-called_int at (Number n ∷ []) = Ok (Number n)
-called_int at (Truth b ∷ []) = Ok (Number (if b then pos 1 else pos 0))
-called_int at (Str s ∷ []) = in_range at Number (number_in s)
-called_int at _ = Err (Kind at)
+abbrev pub int_value : ℕ → List Value → Result Value EvalFault
+int_value at (Number n ∷ []) = Ok (Number n)
+int_value at (Truth b ∷ []) = Ok (Number (if b then pos 1 else pos 0))
+int_value at (Str s ∷ []) = in_range at Number (number_in s)
+int_value at _ = Err (Kind at)
 
 -- `bool(x)`
-abbrev pub called_bool : ℕ → List Value → Result Value EvalFault
-called_bool at (Number n ∷ []) = in_range at Truth (truth_of n)
-called_bool at (Truth b ∷ []) = Ok (Truth b)
-called_bool at (Str s ∷ []) = in_range at Truth (truth_in s)
-called_bool at _ = Err (Kind at)
+abbrev pub bool_value : ℕ → List Value → Result Value EvalFault
+bool_value at (Number n ∷ []) = in_range at Truth (truth_of n)
+bool_value at (Truth b ∷ []) = Ok (Truth b)
+bool_value at (Str s ∷ []) = in_range at Truth (truth_in s)
+bool_value at _ = Err (Kind at)
 
 -- `string(x)`
-abbrev pub called_string : ℕ → List Value → Result Value EvalFault
-called_string at (Number n ∷ []) = Ok (Str (signed_decimal n))
-called_string at (Truth b ∷ []) = Ok (Str (truth_text b))
-called_string at (Str s ∷ []) = Ok (Str s)
-called_string at _ = Err (Kind at)
+abbrev pub string_value : ℕ → List Value → Result Value EvalFault
+string_value at (Number n ∷ []) = Ok (Str (signed_decimal n))
+string_value at (Truth b ∷ []) = Ok (Str (truth_text b))
+string_value at (Str s ∷ []) = Ok (Str s)
+string_value at _ = Err (Kind at)
 
 -- a function of one text
 abbrev pub of_text : (List ℕ → Value) → ℕ → List Value → Result Value EvalFault
@@ -53,27 +54,27 @@ of_texts f at (Str s ∷ Str t ∷ []) = Ok (f s t)
 of_texts f at _ = Err (Kind at)
 
 -- `strReplace(s, a, b, n)`
-abbrev pub called_replace : ℕ → List Value → Result Value EvalFault
-called_replace at (Str s ∷ Str a ∷ Str b ∷ Number n ∷ []) = within_limit at (replaced s a b n)
-called_replace at _ = Err (Kind at)
+abbrev pub replace_value : ℕ → List Value → Result Value EvalFault
+replace_value at (Str s ∷ Str a ∷ Str b ∷ Number n ∷ []) = within_limit at (replaced s a b n)
+replace_value at _ = Err (Kind at)
 
 -- `strSubstring(s, i, j)`
-abbrev pub called_substring : ℕ → List Value → Result Value EvalFault
-called_substring at (Str s ∷ Number i ∷ Number j ∷ []) = in_range at Str (part_of s i j)
-called_substring at _ = Err (Kind at)
+abbrev pub substring_value : ℕ → List Value → Result Value EvalFault
+substring_value at (Str s ∷ Number i ∷ Number j ∷ []) = in_range at Str (part_of s i j)
+substring_value at _ = Err (Kind at)
 
 -- each function, called at this place with these values
-abbrev pub called : Fun → List Value → ℕ → Result Value EvalFault
-called funs.Int args at = called_int at args
-called funs.Bool args at = called_bool at args
-called funs.String args at = called_string at args
-called funs.StrLength args at = of_text (λ s. Number (pos (length s))) at args
-called funs.StrContains args at = of_texts (λ s t. Truth (is_some (first_place t s))) at args
-called funs.StrHasPrefix args at = of_texts (λ s t. Truth (starts_with nat_eq s t)) at args
-called funs.StrHasSuffix args at = of_texts (λ s t. Truth (ends_with nat_eq s t)) at args
-called funs.StrIndex args at = of_texts (λ s t. Number (index_of s t)) at args
-called funs.StrToLower args at = of_text (λ s. Str (map to_ascii_lowercase s)) at args
-called funs.StrToUpper args at = of_text (λ s. Str (map to_ascii_uppercase s)) at args
-called funs.StrTrimSpace args at = of_text (λ s. Str (trimmed s)) at args
-called funs.StrReplace args at = called_replace at args
-called funs.StrSubstring args at = called_substring at args
+abbrev pub fun_value : Fun → List Value → ℕ → Result Value EvalFault
+fun_value funs.Int args at = int_value at args
+fun_value funs.Bool args at = bool_value at args
+fun_value funs.String args at = string_value at args
+fun_value funs.StrLength args at = of_text (λ s. Number (pos (length s))) at args
+fun_value funs.StrContains args at = of_texts (λ s t. Truth (is_some (first_place t s))) at args
+fun_value funs.StrHasPrefix args at = of_texts (λ s t. Truth (starts_with nat_eq s t)) at args
+fun_value funs.StrHasSuffix args at = of_texts (λ s t. Truth (ends_with nat_eq s t)) at args
+fun_value funs.StrIndex args at = of_texts (λ s t. Number (index_of s t)) at args
+fun_value funs.StrToLower args at = of_text (λ s. Str (map to_ascii_lowercase s)) at args
+fun_value funs.StrToUpper args at = of_text (λ s. Str (map to_ascii_uppercase s)) at args
+fun_value funs.StrTrimSpace args at = of_text (λ s. Str (trimmed s)) at args
+fun_value funs.StrReplace args at = replace_value at args
+fun_value funs.StrSubstring args at = substring_value at args

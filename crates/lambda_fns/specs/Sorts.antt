@@ -61,20 +61,20 @@ takes funs.StrReplace sorts = are_replacements sorts
 takes funs.StrSubstring sorts = are_places sorts
 
 -- and gives a value of this type
-abbrev pub gives : Fun → Sort
-gives funs.Int = number
-gives funs.Bool = truth
-gives funs.String = text
-gives funs.StrLength = number
-gives funs.StrContains = truth
-gives funs.StrHasPrefix = truth
-gives funs.StrHasSuffix = truth
-gives funs.StrIndex = number
-gives funs.StrToLower = text
-gives funs.StrToUpper = text
-gives funs.StrTrimSpace = text
-gives funs.StrReplace = text
-gives funs.StrSubstring = text
+abbrev pub fun_sort : Fun → Sort
+fun_sort funs.Int = number
+fun_sort funs.Bool = truth
+fun_sort funs.String = text
+fun_sort funs.StrLength = number
+fun_sort funs.StrContains = truth
+fun_sort funs.StrHasPrefix = truth
+fun_sort funs.StrHasSuffix = truth
+fun_sort funs.StrIndex = number
+fun_sort funs.StrToLower = text
+fun_sort funs.StrToUpper = text
+fun_sort funs.StrTrimSpace = text
+fun_sort funs.StrReplace = text
+fun_sort funs.StrSubstring = text
 
 -- a value of this type, or Range
 abbrev pub IsTyped : Sort → ℕ → Result Value EvalFault → Type 0

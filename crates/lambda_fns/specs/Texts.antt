@@ -4,10 +4,7 @@ use Rattle.std.specs.Option.{option_map_or}
 use Rattle.std.specs.Char.{encode_utf8}
 use Rattle.std.specs.Str.{chars, encode_utf8_all, is_utf8}
 use Rattle.std.specs.List.{flat_map, starts_with}
-
--- the most bytes that a text has which a function or an operator makes longer
-abbrev pub text_limit : ℕ
-text_limit = 65_536
+use Rattle.lambda_fns.specs.declared.replace.TheConstants.{TEXT_LIMIT}
 
 -- the first place of a in s
 unfoldable pub first_place : List ℕ → List ℕ → Option ℕ
@@ -33,9 +30,9 @@ abbrev pub index_of : List ℕ → List ℕ → ℤ
 index_of s a = option_map_or (λ i. pos i) (first_place a s) (negsuc 0)
 
 -- the first piece, and for each further one b and the piece
-abbrev pub joined : List ℕ → List (List ℕ) → List ℕ
-joined b [] = []
-joined b (p ∷ ps) = p ++ flat_map (λ q. b ++ q) ps
+abbrev pub text_of_pieces : List ℕ → List (List ℕ) → List ℕ
+text_of_pieces b [] = []
+text_of_pieces b (p ∷ ps) = p ++ flat_map (λ q. b ++ q) ps
 
 -- the last of the pieces, and nothing where there are none
 abbrev pub last_piece : List (List ℕ) → List ℕ
@@ -72,13 +69,13 @@ most (negsuc n) s = length s + 1
 -- `strReplace`: s, cut at the first n places of a, with b between the pieces. An empty a has a place at the start of s and
 -- one after each of its characters.
 abbrev pub replaced : List ℕ → List ℕ → List ℕ → ℤ → List ℕ
-replaced s [] b n = joined b (pieces_between (most n s) (chars s))
-replaced s (a ∷ more) b n = joined b (pieces (most n s) (a ∷ more) s)
+replaced s [] b n = text_of_pieces b (pieces_between (most n s) (chars s))
+replaced s (a ∷ more) b n = text_of_pieces b (pieces (most n s) (a ∷ more) s)
 
 -- a text of at most so many bytes is given, and a longer one is not
 abbrev pub IsGiven : {T : Type 0} → (T → List ℕ) → List ℕ → Option T → Type 0
-IsGiven bytes whole (Some text) = (bytes text ≡ whole) × (length whole ≤ text_limit)
-IsGiven bytes whole None = text_limit < length whole
+IsGiven bytes whole (Some text) = (bytes text ≡ whole) × (length whole ≤ TEXT_LIMIT)
+IsGiven bytes whole None = TEXT_LIMIT < length whole
 
 -- white space, by the number of the character
 abbrev pub is_space : ℕ → Bool

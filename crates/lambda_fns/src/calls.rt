@@ -1,10 +1,12 @@
+//! The functions by their names: which values each takes, and what it gives.
+
 ghost use Rattle.std.specs.Prelude.{◌≡◌, nat_eq, is_some, length, map, pos, IfOk, IsTrue};
 ghost use Rattle.std.specs.Char.{to_ascii_lowercase, to_ascii_uppercase};
 ghost use Rattle.std.specs.List.{starts_with, ends_with, list_all};
 ghost use Rattle.kap_base.specs.Points.{is_value};
 ghost use Rattle.kap_base.specs.Words.{Answers};
 ghost use Rattle.kap_base.specs.declared.value.Value.TheVariants.{Int, Bool, Str};
-ghost use Rattle.lambda_fns.specs.Calls.{called, called_int, called_bool, called_string, called_replace, called_substring, of_text, of_texts};
+ghost use Rattle.lambda_fns.specs.Calls.{fun_value, int_value, bool_value, string_value, replace_value, substring_value, of_text, of_texts};
 ghost use Rattle.lambda_fns.specs.Texts.{first_place, index_of, trimmed};
 
 use crate::convert::{decimal, number, truth, truth_of_number, written};
@@ -16,7 +18,7 @@ use std::alloc::Global;
 
 /// `int(x)`.
 fn call_int(args: &[Value], at: u32) -> Result<Value, EvalFault>
-    ensures answer { result ≡ called_int at args.now }
+    ensures answer { result ≡ int_value at args.now }
     ensures field { IsTrue (list_all is_value args.now) → IfOk result (λ v. IsTrue (is_value v)) }
 {
     match args {
@@ -32,7 +34,7 @@ fn call_int(args: &[Value], at: u32) -> Result<Value, EvalFault>
 
 /// `bool(x)`.
 fn call_bool(args: &[Value], at: u32) -> Result<Value, EvalFault>
-    ensures answer { result ≡ called_bool at args.now }
+    ensures answer { result ≡ bool_value at args.now }
     ensures field { IsTrue (list_all is_value args.now) → IfOk result (λ v. IsTrue (is_value v)) }
 {
     match args {
@@ -51,7 +53,7 @@ fn call_bool(args: &[Value], at: u32) -> Result<Value, EvalFault>
 
 /// `string(x)`.
 fn call_string(alloc: Global, args: &[Value], at: u32) -> Result<Value, EvalFault>
-    ensures answer { Answers EvalFault.NoMemory result (called_string at args.now) }
+    ensures answer { Answers EvalFault.NoMemory result (string_value at args.now) }
     ensures field { IsTrue (list_all is_value args.now) → IfOk result (λ v. IsTrue (is_value v)) }
 {
     match args {
@@ -152,7 +154,7 @@ fn call_trim(alloc: Global, args: &[Value], at: u32) -> Result<Value, EvalFault>
 
 /// `strReplace(s, a, b, n)`.
 fn call_replace(alloc: Global, args: &[Value], at: u32) -> Result<Value, EvalFault>
-    ensures answer { Answers EvalFault.NoMemory result (called_replace at args.now) }
+    ensures answer { Answers EvalFault.NoMemory result (replace_value at args.now) }
     ensures field { IsTrue (list_all is_value args.now) → IfOk result (λ v. IsTrue (is_value v)) }
 {
     match args {
@@ -168,7 +170,7 @@ fn call_replace(alloc: Global, args: &[Value], at: u32) -> Result<Value, EvalFau
 
 /// `strSubstring(s, i, j)`.
 fn call_substring(alloc: Global, args: &[Value], at: u32) -> Result<Value, EvalFault>
-    ensures answer { Answers EvalFault.NoMemory result (called_substring at args.now) }
+    ensures answer { Answers EvalFault.NoMemory result (substring_value at args.now) }
     ensures field { IsTrue (list_all is_value args.now) → IfOk result (λ v. IsTrue (is_value v)) }
 {
     match args {
@@ -188,7 +190,7 @@ fn call_substring(alloc: Global, args: &[Value], at: u32) -> Result<Value, EvalF
 /// truth value, places that aren't in the text, a replaced text above 65,536 bytes. `at` is the call's byte offset in the
 /// script.
 pub fn call(alloc: Global, fun: Fun, args: &[Value], at: u32) -> Result<Value, EvalFault>
-    ensures answer { Answers EvalFault.NoMemory result (called fun args.now at) }
+    ensures answer { Answers EvalFault.NoMemory result (fun_value fun args.now at) }
     ensures field { IsTrue (list_all is_value args.now) → IfOk result (λ v. IsTrue (is_value v)) }
 {
     match fun {

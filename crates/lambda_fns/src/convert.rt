@@ -1,3 +1,5 @@
+//! `int`, `bool` and `string`.
+
 ghost use Rattle.std.specs.Prelude.{◌≡◌, ◌==◌, slice_index, IfOk, IsTrue};
 ghost use Rattle.std.specs.Fmt.{signed_decimal};
 ghost use Rattle.kap_base.specs.Texts.{is_line};

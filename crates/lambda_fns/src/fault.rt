@@ -1,3 +1,5 @@
+//! Why a lambda has no value at a point.
+
 ghost use Rattle.std.specs.Prelude.{◌≡◌};
 ghost use Rattle.lambda_fns.specs.declared.fault.EvalFault.TheVariants.{NoMemory as no_memory};
 

@@ -1,7 +1,9 @@
+//! `strReplace`.
+
 ghost use Rattle.std.specs.Prelude.{◌≡◌, ◌<◌, ◌-◌, ◌++◌, IfOk, IfSome, IsTrue, OnOk, length, string_bytes};
 ghost use Rattle.std.specs.Str.{chars};
 ghost use Rattle.kap_base.specs.Texts.{is_line};
-ghost use Rattle.lambda_fns.specs.Texts.{IsGiven, joined, piece, pieces, pieces_between, replaced};
+ghost use Rattle.lambda_fns.specs.Texts.{IsGiven, text_of_pieces, piece, pieces, pieces_between, replaced};
 
 use kap_base::{NoMemory, Text};
 use std::alloc::{AllocError, Global};
@@ -11,7 +13,7 @@ pub const TEXT_LIMIT: usize = 65_536;
 
 /// The text with `to` for the first places of `from`, which isn't empty, as many as `count`, and none where that is too
 /// long.
-fn replace_places(
+fn replace_matches(
     alloc: Global,
     text: &str,
     from: &str,
@@ -19,7 +21,7 @@ fn replace_places(
     count: usize,
 ) -> Result<Option<String>, AllocError>
     requires { 0 < length from.now }
-    ensures { IfOk result (IsGiven string_bytes (joined to.now (pieces count from.now text.now))) }
+    ensures { IfOk result (IsGiven string_bytes (text_of_pieces to.now (pieces count from.now text.now))) }
 {
     let mut made = String::new(alloc);
     let mut rest = text;
@@ -42,7 +44,7 @@ fn replace_places(
 }
 
 /// Appends `to` where some are left, and gives how many are left then.
-fn push_piece(made: &mut String, to: &str, left: usize) -> Result<usize, AllocError>
+fn push_if_left(made: &mut String, to: &str, left: usize) -> Result<usize, AllocError>
     ensures bytes { OnOk result (string_bytes made.new ≡ string_bytes made.old ++ piece left to.now) }
     ensures left { IfOk result (λ now. now ≡ left - 1) }
 {
@@ -55,26 +57,28 @@ fn push_piece(made: &mut String, to: &str, left: usize) -> Result<usize, AllocEr
 
 /// The text with `to` before each of the first characters, as many as `count`, and at the end where there are fewer, and
 /// none where that is too long.
-fn spread(alloc: Global, text: &str, to: &str, count: usize) -> Result<Option<String>, AllocError>
-    ensures { IfOk result (IsGiven string_bytes (joined to.now (pieces_between count (chars text.now)))) }
+fn insert_between(alloc: Global, text: &str, to: &str, count: usize) -> Result<Option<String>, AllocError>
+    ensures { IfOk result (IsGiven string_bytes (text_of_pieces to.now (pieces_between count (chars text.now)))) }
 {
     let mut made = String::new(alloc);
     let mut left = count;
-    'spreading: for character in text.chars() {
-        left = push_piece(&mut made, to, left)?;
+    'inserting: for character in text.chars() {
+        left = push_if_left(&mut made, to, left)?;
         made.push(character)?;
         if made.len() > TEXT_LIMIT {
             return Ok(None);
         }
     }
-    push_piece(&mut made, to, left)?;
+    push_if_left(&mut made, to, left)?;
     if made.len() > TEXT_LIMIT {
         return Ok(None);
     }
     Ok(Some(made))
 }
 
-fn replaced(
+/// The text with `to` for the first places of `from`, as many as `count`, or all where that is negative; none where that is
+/// too long.
+fn replace_string(
     alloc: Global,
     text: &str,
     from: &str,
@@ -89,9 +93,9 @@ fn replaced(
         count as usize
     };
     if from.is_empty() {
-        spread(alloc, text, to, most)
+        insert_between(alloc, text, to, most)
     } else {
-        replace_places(alloc, text, from, to, most)
+        replace_matches(alloc, text, from, to, most)
     }
 }
 
@@ -108,7 +112,7 @@ pub(crate) fn replace(
     ensures given { IfOk result (IsGiven (λ t. t) (replaced text.now from.now to.now count)) }
     ensures line { IsTrue (is_line text.now) → IsTrue (is_line to.now) → IfOk result (λ made. IfSome made (λ t. IsTrue (is_line t))) }
 {
-    match replaced(alloc, text, from, to, count)? {
+    match replace_string(alloc, text, from, to, count)? {
         Some(made) => Ok(Some(Text::from_string(made))),
         None => Ok(None),
     }

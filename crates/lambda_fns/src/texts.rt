@@ -1,3 +1,5 @@
+//! Functions on texts, but for `strReplace`.
+
 ghost use Rattle.std.specs.Prelude.{◌≡◌, ◌≤◌, is_some, length, map, IsTrue, IfOk, IfSome};
 ghost use Rattle.std.specs.Char.{to_ascii_lowercase, to_ascii_uppercase};
 ghost use Rattle.std.specs.Str.{IsCharBoundary};

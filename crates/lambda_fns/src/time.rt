@@ -1,3 +1,5 @@
+//! Calendar parts of a time, in UTC.
+
 ghost use Rattle.std.specs.Prelude.{◌≡◌, ℤ, IsTrue, Ok};
 ghost use Rattle.jiff_core.specs.DateTime.{civil_nanos};
 ghost use Rattle.kap_base.specs.Points.{is_time};

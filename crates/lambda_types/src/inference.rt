@@ -1,56 +1,19 @@
-ghost use Rattle.std.specs.Prelude.{◌≡◌, ◌≢◌, ◌≤◌, ◌↔◌, false, true, bytes_eq, is_some, IfErr, IfOk, IfSome, IsTrue, None, Some};
-ghost use Rattle.std.specs.List.{list_any};
-ghost use Rattle.kap_base.specs.Tree.{Tree, tree_of};
-ghost use Rattle.lambda_types.specs.Faults.{first_fault, is_pattern, patterns_of, refusal_of};
-ghost use Rattle.lambda_types.specs.Lambdas.{tree_in};
+//! The types of an expression, or the first fault in it.
+
+ghost use Rattle.std.specs.Prelude.{◌≡◌, ◌≢◌, ◌≤◌, ◌↔◌, false, true, IfErr, IfOk, IsTrue, None, Some};
+ghost use Rattle.kap_base.specs.Tree.{Tree};
+ghost use Rattle.lambda_types.specs.Builds.{AtMostOneMore};
+ghost use Rattle.lambda_types.specs.Faults.{first_fault, is_pattern, refusal_of};
 ghost use Rattle.kap_base.specs.Words.{HasRisen};
 ghost use Rattle.lambda_types.specs.Typed.{HasSomeType, IsTyped};
 
 use crate::fault::TypeFault;
 use crate::lambda::Lambda;
-use crate::patterns::{Pattern, Patterns};
-use crate::types::Ty;
-use crate::walk::{Spot, walk};
-use kap_base::{Expr, Text};
+use crate::pattern_list::PatternList;
+use crate::patterns::Patterns;
+use crate::walk::{Position, walk};
+use kap_base::{Duplicate, SharedExpr};
 use std::alloc::Global;
-
-impl Lambda {
-    /// Its expression, which has some type.
-    pub fn expr(&self) -> &Expr
-        ensures same { tree_of result.now ≡ tree_in self.now }
-        ensures typed { HasSomeType (tree_in self.now) }
-    {
-        &self.expr
-    }
-
-    /// Whether it has this type, with some types of its references.
-    pub fn can_be(&self, ty: Ty) -> bool
-        ensures { IsTrue result ↔ IsTyped (tree_in self.now) ty }
-    {
-        self.types.values().has(ty)
-    }
-
-    /// The pattern that was read in this text, which is there exactly where the text is that of a pattern of the expression.
-    pub fn pattern(&self, text: &Text) -> Option<&Pattern>
-        ensures found { is_some result ≡ list_any (bytes_eq text.now) (patterns_of (tree_in self.now)) }
-        ensures same { IfSome result (λ pattern. pattern.now ≡ text.now) }
-    {
-        pattern_of(&self.patterns, text.as_str())
-    }
-}
-
-/// The first of the patterns that was read in this text.
-fn pattern_of<'a>(patterns: &'a [Pattern], text: &str) -> Option<&'a Pattern>
-    ensures found { is_some result ≡ list_any (bytes_eq text.now) patterns.now }
-    ensures same { IfSome result (λ pattern. pattern.now ≡ text.now) }
-{
-    for pattern in patterns {
-        if text == pattern.text() {
-            return Some(pattern);
-        }
-    }
-    None
-}
 
 /// The lambda of an expression (Kapacitor 1.6 TICKscript language reference: lambda expressions). There is one exactly where
 /// the expression has some type and none of its patterns was refused in this call. Each fault is the first that a walk
@@ -64,22 +27,22 @@ fn pattern_of<'a>(patterns: &'a [Pattern], text: &str) -> Option<&'a Pattern>
 /// - `NoFunction` at a call of no function, then `Arity` at one with more or fewer arguments than its function takes;
 /// - `Mismatch` at an operator or a call that has no type although its parts have, and at a duration or a name that the
 ///   script was to define.
-pub fn infer<P: Patterns>(alloc: Global, expr: &Expr, pats: &mut P) -> Result<Lambda, TypeFault>
-    ensures same { IfOk result (λ lambda. tree_in lambda ≡ tree_of expr.now) }
-    ensures typed { IfOk result (λ lambda. HasSomeType (tree_of expr.now)) }
+pub fn infer<P: Patterns>(alloc: Global, expr: &SharedExpr, pats: &mut P) -> Result<Lambda, TypeFault>
+    ensures same { IfOk result (λ lambda. lambda ≡ expr.now) }
+    ensures typed { IfOk result (λ lambda. HasSomeType expr.now) }
     ensures kept { IfOk result (λ lambda. P.refusals pats.new ≡ P.refusals pats.old) }
-    ensures fault { IfErr result (λ f. f ≢ TypeFault.NoMemory → first_fault (refusal_of f (P.refused pats.new)) (tree_of expr.now) ≡ Some f) }
-    ensures untyped { IfErr result (λ f. f ≢ TypeFault.NoMemory → is_pattern f ≡ false → ¬ (HasSomeType (tree_of expr.now))) }
+    ensures fault { IfErr result (λ f. f ≢ TypeFault.NoMemory → first_fault (refusal_of f (P.refused pats.new)) expr.now ≡ Some f) }
+    ensures untyped { IfErr result (λ f. f ≢ TypeFault.NoMemory → is_pattern f ≡ false → ¬ (HasSomeType expr.now)) }
     ensures refused { IfErr result (λ f. is_pattern f ≡ true → HasRisen (P.refusals pats.old) (P.refusals pats.new)) }
-    ensures counted { P.refusals pats.old ≤ P.refusals pats.new }
+    ensures counted { AtMostOneMore (P.refusals pats.old) (P.refusals pats.new) }
 {
     let mut patterns = Vec::new(alloc);
-    let types = walk(alloc, expr, Spot::Anywhere, pats, &mut patterns)?;
+    let types = walk(alloc, expr.expr(), Position::Anywhere, pats, &mut patterns)?;
     let expr = expr.copy(alloc)?;
     Ok(Lambda {
         expr,
         types,
-        patterns,
+        patterns: PatternList { patterns },
     })
 }
 

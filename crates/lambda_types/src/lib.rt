@@ -1,20 +1,27 @@
 //! Types of lambdas, and their patterns.
 #![tactic(auto)]
 
+mod cache;
 mod fault;
 mod functions;
 mod inference;
 mod lambda;
+mod pattern;
+mod pattern_list;
 mod patterns;
+mod program;
+mod sends;
 mod types;
 mod walk;
 
 pub use fault::TypeFault;
 pub use functions::Function;
 pub use inference::{infer, typed_without_fault};
+pub use cache::CACHE_LIMIT;
 pub use lambda::Lambda;
-pub use patterns::{Pattern, PatternFault, Patterns, Ready, RegexPatterns};
+pub use pattern_list::PatternList;
+pub use pattern::{Pattern, PatternFault};
+pub use patterns::{Patterns, RegexPatterns};
+pub use sends::{lambda_sent, pattern_sent};
 pub use types::Ty;
 
-#[cfg(test)]
-mod tests;

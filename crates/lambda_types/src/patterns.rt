@@ -1,107 +1,13 @@
-ghost use Rattle.std.specs.Prelude.{◌≡◌, ◌<◌, ◌≤◌, ◌+◌, ◌-◌, ◌^◌, Contains, IfErr, IfOk, false, is_ok};
-ghost use Rattle.lambda_types.specs.Matches.{matches, MatchesAsWritten, SearchesAsWritten};
-ghost use Rattle.kap_base.specs.Words.{HasRisen};
-ghost use Rattle.lambda_types.specs.Builds.{begun, numbers};
+//! What builds the patterns of lambdas.
 
-use kap_base::{NoMemory, Text};
-use regex::{Matcher, Regex};
+ghost use Rattle.std.specs.Prelude.{◌≡◌, ◌<◌, ◌+◌, ◌-◌, ◌^◌, [], Contains, IfErr, IfOk, false, is_ok};
+ghost use Rattle.kap_base.specs.Words.{HasRisen};
+ghost use Rattle.lambda_types.specs.Builds.{AtMostOneMore, Builds};
+
+use crate::pattern::{Pattern, PatternFault};
+use kap_base::Text;
 use std::alloc::Global;
 use std::marker::Model;
-
-/// A pattern: what Rust's crate `regex` reads in a text, by its syntax and default options. Contracts see it as that text.
-#[derive(Drop)]
-pub struct Pattern {
-    regex: Regex,
-    ghost as_written: { MatchesAsWritten regex },
-}
-
-impl Model for Pattern {
-    ghost use Rattle.std.specs.Prelude.{List, ℕ};
-    ghost use Rattle.regex.specs.Strings.{regex_source};
-
-    ghost Value = { List ℕ };
-
-    ghost view = { λ p. regex_source p.regex };
-}
-
-/// Why there is no pattern.
-#[derive(Clone, Copy, Debug, PartialEq, Eq)]
-pub enum PatternFault {
-    /// The text is no pattern, or one that is too large or nested too deeply.
-    Refused,
-    /// Memory ran out.
-    NoMemory,
-}
-
-impl Pattern {
-    /// The pattern of a text. `Refused` where `regex` reads none in it.
-    fn read(alloc: Global, text: &Text) -> Result<Pattern, PatternFault>
-        ensures { IfOk result (λ pattern. pattern ≡ text.now) }
-    {
-        match Regex::new(alloc, text.as_str()) {
-            Ok(regex) => Ok(Pattern { regex }),
-            Err(regex::Error::OutOfMemory) => Err(PatternFault::NoMemory),
-            Err(_) => Err(PatternFault::Refused),
-        }
-    }
-
-    /// The text that it was read in, without slashes.
-    pub fn text(&self) -> &str
-        ensures { result.now ≡ self.now }
-    {
-        self.regex.as_str()
-    }
-
-    /// Whether it matches anywhere in a text. Each call makes anew what `ready` keeps.
-    pub fn is_match(&self, alloc: Global, text: &str) -> Result<bool, NoMemory>
-        ensures { IfOk result (λ found. found ≡ matches self.now text.now) }
-    {
-        Ok(self.ready(alloc)?.is_match(text))
-    }
-
-    /// The pattern with what it needs to search many texts.
-    pub fn ready(&self, alloc: Global) -> Result<Ready<'_>, NoMemory>
-        ensures { IfOk result (λ ready. ready ≡ self.now) }
-    {
-        Ok(Ready {
-            matcher: self.regex.matcher(alloc)?,
-            pattern: self,
-        })
-    }
-}
-
-/// A pattern that is ready to search many texts. Contracts see it as the text that the pattern was read in.
-#[derive(Drop)]
-pub struct Ready<'a> {
-    matcher: Matcher<'a>,
-    pattern: &'a Pattern,
-    ghost as_written: { SearchesAsWritten matcher pattern.now },
-}
-
-impl<'a> Model for Ready<'a> {
-    ghost use Rattle.std.specs.Prelude.{List, ℕ};
-
-    ghost Value = { List ℕ };
-
-    ghost view = { λ r. r.pattern.now };
-}
-
-impl Ready<'_> {
-    /// The text that its pattern was read in, without slashes.
-    pub fn text(&self) -> &str
-        ensures { result.now ≡ self.now }
-    {
-        self.pattern.text()
-    }
-
-    /// Whether its pattern matches anywhere in a text.
-    pub fn is_match(&mut self, text: &str) -> bool
-        ensures found { result ≡ matches self.old text.now }
-        ensures same { self.new ≡ self.old }
-    {
-        self.matcher.is_match(text)
-    }
-}
 
 /// What builds the patterns of lambdas. It counts its refusals, and keeps the text that it refused last.
 pub trait Patterns {
@@ -113,15 +19,15 @@ pub trait Patterns {
     /// The text that was refused last.
     ghost refused: { Self → List ℕ };
 
-    /// The pattern of a text. `Refused` only where the count of refusals rose in this call; the text refused last is then
-    /// this one. The count never falls, and stands still where a pattern is built. A count that stands at its end counts as
-    /// risen.
+    /// The pattern of a text. `Refused` only where the count of refusals rose in this call, by one; the text refused last is
+    /// then this one. The count never falls, and stands still where a pattern is built. A count that stands at its end counts
+    /// as risen.
     fn build(&mut self, alloc: Global, text: &Text) -> Result<Pattern, PatternFault>
         ensures pattern { IfOk result (λ pattern. pattern ≡ text.now) }
         ensures kept { IfOk result (λ pattern. refusals self.new ≡ refusals self.old) }
         ensures refusal { IfErr result (λ fault. fault ≡ PatternFault.Refused
             → HasRisen (refusals self.old) (refusals self.new) × (refused self.new ≡ text.now)) }
-        ensures counted { refusals self.old ≤ refusals self.new };
+        ensures counted { AtMostOneMore (refusals self.old) (refusals self.new) };
 }
 
 /// Patterns by `regex`. It numbers its builds from 1, and refuses besides those whose numbers it was given.
@@ -133,11 +39,18 @@ pub struct RegexPatterns {
     refused: Vec<u8>,
 }
 
+impl Model for RegexPatterns {
+    ghost use Rattle.lambda_types.specs.Builds.{Builds};
+
+    ghost Value = { Builds };
+
+    ghost view = { λ p. record { fails = p.fails.items; begun = p.builds; refusals = p.refusals; refused = p.refused.items } };
+}
+
 impl RegexPatterns {
     /// Before the first build. The builds with these numbers will be refused. It asks for no memory.
     pub fn new(alloc: Global, fails: Vec<u64>) -> RegexPatterns
-        ensures numbers { numbers result ≡ fails.items }
-        ensures begun { begun result ≡ 0 }
+        ensures { result ≡ record { fails = fails.items; begun = 0; refusals = 0; refused = [] } }
     {
         RegexPatterns {
             fails,
@@ -149,11 +62,11 @@ impl RegexPatterns {
 
     /// Notes that the text is refused, where there is memory for it.
     fn refuse(&mut self, text: &Text) -> PatternFault
-        ensures builds { self.new.builds ≡ self.old.builds }
+        ensures begun { self.new.begun ≡ self.old.begun }
         ensures fails { self.new.fails ≡ self.old.fails }
         ensures refused { result ≡ PatternFault.Refused
-            → HasRisen self.old.refusals self.new.refusals × (self.new.refused.items ≡ text.now) }
-        ensures counted { self.old.refusals ≤ self.new.refusals }
+            → HasRisen self.old.refusals self.new.refusals × (self.new.refused ≡ text.now) }
+        ensures counted { AtMostOneMore self.old.refusals self.new.refusals }
     {
         self.refused.clear();
         if self.refused.extend_from_slice(text.bytes()).is_err() {
@@ -167,17 +80,17 @@ impl RegexPatterns {
 impl Patterns for RegexPatterns {
     ghost refusals = { λ patterns. patterns.refusals };
 
-    ghost refused = { λ patterns. patterns.refused.items };
+    ghost refused = { λ patterns. patterns.refused };
 
     fn build(&mut self, alloc: Global, text: &Text) -> Result<Pattern, PatternFault>
         ensures pattern { IfOk result (λ pattern. pattern ≡ text.now) }
         ensures kept { IfOk result (λ pattern. self.new.refusals ≡ self.old.refusals) }
         ensures refusal { IfErr result (λ fault. fault ≡ PatternFault.Refused
-            → HasRisen self.old.refusals self.new.refusals × (self.new.refused.items ≡ text.now)) }
-        ensures counted { self.old.refusals ≤ self.new.refusals }
-        ensures fails { begun self.old < 2 ^ 64 - 1 → Contains (numbers self.old) (begun self.old + 1) → is_ok result ≡ false }
-        ensures numbered { begun self.old < 2 ^ 64 - 1 → begun self.new ≡ begun self.old + 1 }
-        ensures numbers { numbers self.new ≡ numbers self.old }
+            → HasRisen self.old.refusals self.new.refusals × (self.new.refused ≡ text.now)) }
+        ensures counted { AtMostOneMore self.old.refusals self.new.refusals }
+        ensures fails { self.old.begun < 2 ^ 64 - 1 → Contains self.old.fails (self.old.begun + 1) → is_ok result ≡ false }
+        ensures numbered { self.old.begun < 2 ^ 64 - 1 → self.new.begun ≡ self.old.begun + 1 }
+        ensures numbers { self.new.fails ≡ self.old.fails }
     {
         self.builds = self.builds.saturating_add(1);
         if self.fails.contains(&self.builds) {

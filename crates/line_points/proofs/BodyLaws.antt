@@ -1,11 +1,11 @@
 -- The lines of a body one after the other, as the loop reads them.
-use Rattle.std.proofs.Common.{◌≡◌, ℕ, suc, ◌+◌, ◌<◌, ◌≤◌, true, false, not, cond, Option, Some, None, List, [], ◌∷◌, ◌++◌, length, take, drop, map, Ok, Err, refl, sym, ap, ◌∙◌, append_assoc, eqb, ltb, arith}
+use Rattle.std.proofs.Common.{◌≡◌, ℕ, suc, ◌+◌, ◌<◌, ◌≤◌, true, false, not, cond, Option, Some, None, List, [], ◌∷◌, ◌++◌, length, take, drop, map, Ok, Err, refl, sym, ap, subst, ◌∙◌, append_assoc, eqb, ltb, arith}
 use Rattle.std.specs.Prelude.{Result}
 use Rattle.std.specs.List.{slice_split, onto_first, before_first, after_first, position_or_len}
 use Rattle.std.proofs.lemmas.Bool.{ltb-false}
 use Rattle.std.proofs.lemmas.Bool.Decides.{nat_tests}
 use Rattle.std.proofs.lemmas.Grind.{common_steps}
-use Rattle.std.proofs.lemmas.List.{append-nil, length-drop}
+use Rattle.std.proofs.lemmas.List.{append-nil, length-append, length-drop}
 use Rattle.kap_base.specs.Words.{◌>>=◌}
 use Rattle.kap_base.specs.Texts.{is_empty, line_feed, has_line_feed}
 use Rattle.kap_base.specs.Points.{PointValue}
@@ -13,9 +13,9 @@ use Rattle.line_points.specs.declared.fault.LineFault.{LineFault}
 use Rattle.line_points.specs.declared.fault.BodyFault.{BodyFault}
 use Rattle.line_points.specs.declared.mode.Mode.{Mode}
 use Rattle.line_points.specs.Line.{line_of}
-use Rattle.line_points.specs.Body.{carriage_return, without_return, without_last_empty, body_lines, at_line, before_more, with_line, points_of}
+use Rattle.line_points.specs.Body.{ReachesLine, carriage_return, without_return, without_last_empty, body_lines, at_line, before_more, with_line, points_of}
 use Rattle.line_points.proofs.PlaceLaws.{take_more}
-use Rattle.line_points.proofs.TestLaws.{first_false, second_false, ok_is}
+use Rattle.line_points.proofs.TestLaws.{first_false, second_false, ok_is, bind_ok}
 
 -- ---- a carriage return
 
@@ -32,13 +32,13 @@ without_return-last (x ∷ y ∷ front) b =
 abbrev parts_behind : List ℕ → List (List ℕ)
 parts_behind body = cond (ltb (position_or_len (λ b. eqb b line_feed) body) (length body)) (slice_split (λ b. eqb b line_feed) (after_first (λ b. eqb b line_feed) body)) []
 
-drop_two : (n b : ℕ) (bs : List ℕ) → drop ((1 + n) + 1) (b ∷ bs) ≡ drop (n + 1) bs
+pub drop_two : (n b : ℕ) (bs : List ℕ) → drop ((1 + n) + 1) (b ∷ bs) ≡ drop (n + 1) bs
 drop_two n b bs = let e : (1 + n) + 1 ≡ suc (n + 1) = omega arith in rw e refl
 
-less_zero : (m : ℕ) → ltb 0 (suc m) ≡ true
+pub less_zero : (m : ℕ) → ltb 0 (suc m) ≡ true
 less_zero m = grind (arith, nat_tests)
 
-less_one : (n m : ℕ) → ltb (1 + n) (suc m) ≡ ltb n m
+pub less_one : (n m : ℕ) → ltb (1 + n) (suc m) ≡ ltb n m
 less_one n m = grind (arith, nat_tests)
 
 first_part : (body : List ℕ) → slice_split (λ b. eqb b line_feed) body ≡ before_first (λ b. eqb b line_feed) body ∷ parts_behind body
@@ -109,6 +109,11 @@ onto points read = read >>= λ more. Ok (points ++ more)
 pub record LinesLeft (db rp : List ℕ) (mode : Mode) (before : ℕ) (done : List PointValue) (rest body : List ℕ) : Type 0 where
   pub same : onto done (points_of db rp mode (before + 1) (body_lines rest)) ≡ points_of db rp mode 1 (body_lines body)
   pub few : before + length rest ≤ length body
+  -- the lines that are read
+  pub lines : List (List ℕ)
+  pub are : body_lines body ≡ lines ++ body_lines rest
+  pub count : length lines ≡ before
+  pub read : points_of db rp mode 1 lines ≡ Ok done
 
 one_line : (db rp : List ℕ) (mode : Mode) (n : ℕ) (line : List ℕ) (lines : List (List ℕ)) (done new : List PointValue) → with_line done (line_of db rp mode line) ≡ Ok new → onto done (points_of db rp mode n (line ∷ lines)) ≡ onto new (points_of db rp mode (n + 1) lines)
 unfolding points_of
@@ -123,12 +128,71 @@ one_line db rp mode n line lines done new added = by_read n done new (line_of db
     by_read n done new (Ok o) read added = regroup done o read ∙ ap (λ (x : List PointValue). onto x read) (ok_is {E = LineFault} (done ++ before_more o []) new added)
     by_read n done new (Err f) read added = absurd cc
 
+all_left : (read : Result (List PointValue) BodyFault) → onto [] read ≡ read
+all_left (Ok points) = refl
+all_left (Err f) = refl
+
+pub lines-start : (db rp : List ℕ) (mode : Mode) (done : List PointValue) (body : List ℕ) → done ≡ [] → LinesLeft db rp mode 0 done body body
+unfolding points_of
+lines-start db rp mode done body none = subst (λ (x : List PointValue). LinesLeft db rp mode 0 x body body) (sym none) (record {
+  same = all_left (points_of db rp mode 1 (body_lines body));
+  few = omega arith;
+  lines = [];
+  are = refl;
+  count = refl;
+  read = refl;
+})
+
+before_on : (o : Option PointValue) (points more : List PointValue) → before_more o (points ++ more) ≡ before_more o points ++ more
+before_on (Some p) points more = refl
+before_on None points more = refl
+
+-- the points of one line more
+points_on : (db rp : List ℕ) (mode : Mode) (n : ℕ) (lines : List (List ℕ)) (line : List ℕ) (done new : List PointValue) → points_of db rp mode n lines ≡ Ok done → with_line done (line_of db rp mode line) ≡ Ok new → points_of db rp mode n (lines ++ line ∷ []) ≡ Ok new
+unfolding points_of
+points_on db rp mode n [] line done new read added =
+    let none : [] ≡ done = ok_is {E = BodyFault} [] done read in
+    last n (line_of db rp mode line) (subst (λ (x : List PointValue). with_line x (line_of db rp mode line) ≡ Ok new) (sym none) added)
+  where
+    last : (n : ℕ) (r : Result (Option PointValue) LineFault) → with_line [] r ≡ Ok new → (at_line n r >>= λ point. Ok (before_more point [])) ≡ Ok new
+    last n (Ok o) added = ap (λ (x : List PointValue). let r : Result (List PointValue) BodyFault = Ok x in r) (ok_is {E = LineFault} (before_more o []) new added)
+    last n (Err f) added = absurd cc
+points_on db rp mode n (l ∷ lines) line done new read added =
+    let p = bind_ok (at_line n (line_of db rp mode l)) (λ point. points_of db rp mode (n + 1) lines >>= λ points. Ok (before_more point points)) done read in
+    let more = bind_ok (points_of db rp mode (n + 1) lines) (λ points. Ok (before_more p.0 points)) done p.2 in
+    let done_is : before_more p.0 more.0 ≡ done = ok_is {E = BodyFault} (before_more p.0 more.0) done more.2 in
+    by_line p.0 more.0 (line_of db rp mode line) refl p.1 (subst (λ (x : List PointValue). with_line x (line_of db rp mode line) ≡ Ok new) (sym done_is) added) (λ later also. points_on db rp mode (n + 1) lines line more.0 later more.1 also)
+  where
+    by_line : (o : Option PointValue) (more : List PointValue) (r : Result (Option PointValue) LineFault) → line_of db rp mode line ≡ r → at_line n (line_of db rp mode l) ≡ Ok o → with_line (before_more o more) r ≡ Ok new → ((later : List PointValue) → with_line more (line_of db rp mode line) ≡ Ok later → points_of db rp mode (n + 1) (lines ++ line ∷ []) ≡ Ok later) → (at_line n (line_of db rp mode l) >>= λ point. points_of db rp mode (n + 1) (lines ++ line ∷ []) >>= λ points. Ok (before_more point points)) ≡ Ok new
+    by_line o more (Err f) is first added again = absurd cc
+    by_line o more (Ok q) is first added again =
+        let rest : points_of db rp mode (n + 1) (lines ++ line ∷ []) ≡ Ok (more ++ before_more q []) = again (more ++ before_more q []) (ap (with_line more) is) in
+        let new_is : before_more o more ++ before_more q [] ≡ new = ok_is {E = LineFault} (before_more o more ++ before_more q []) new added in
+        rw (first, rest) (ap (λ (x : List PointValue). let r : Result (List PointValue) BodyFault = Ok x in r) (before_on o more (before_more q []) ∙ new_is))
+
 pub lines-next : (db rp : List ℕ) (mode : Mode) (before : ℕ) (done new : List PointValue) (rest body first line behind : List ℕ) → LinesLeft db rp mode before done rest body → is_empty rest ≡ false → first ≡ before_first (λ b. eqb b line_feed) rest → behind ≡ after_first (λ b. eqb b line_feed) rest → line ≡ without_return first → with_line done (line_of db rp mode line) ≡ Ok new → LinesLeft db rp mode (before + 1) new behind body
 lines-next db rp mode before done new rest body first line behind left some first_is behind_is line_is added =
     let cut : body_lines rest ≡ line ∷ body_lines behind = rw (line_is, first_is, behind_is) (first_of_lines rest some) in
     record {
       same = sym (one_line db rp mode (before + 1) line (body_lines behind) done new added) ∙ ap (λ (x : List (List ℕ)). onto done (points_of db rp mode (before + 1) x)) (sym cut) ∙ left.same;
       few = omega (arith, left.few, ap length behind_is, lines-shorter rest some);
+      lines = left.lines ++ line ∷ [];
+      are = left.are ∙ ap (λ (x : List (List ℕ)). left.lines ++ x) cut ∙ sym (append_assoc left.lines (line ∷ []) (body_lines behind));
+      count = omega (arith, length-append left.lines (line ∷ []), left.count);
+      read = points_on db rp mode 1 left.lines line done new left.read added;
+    }
+
+pub lines-reached : (db rp : List ℕ) (mode : Mode) (before : ℕ) (done : List PointValue) (rest body first line : List ℕ) → LinesLeft db rp mode before done rest body → is_empty rest ≡ false → first ≡ before_first (λ b. eqb b line_feed) rest → line ≡ without_return first → ReachesLine db rp mode body (before + 1)
+lines-reached db rp mode before done rest body first line left some first_is line_is =
+    let cut : body_lines rest ≡ line ∷ body_lines (after_first (λ b. eqb b line_feed) rest) = rw (line_is, first_is) (first_of_lines rest some) in
+    record {
+      before = left.lines;
+      line = line;
+      behind = body_lines (after_first (λ b. eqb b line_feed) rest);
+      points = done;
+      lines_are = left.are ∙ ap (λ (x : List (List ℕ)). left.lines ++ x) cut;
+      number = ap (λ (n : ℕ). n + 1) (sym left.count);
+      read = left.read;
     }
 
 pub lines-fail : (db rp : List ℕ) (mode : Mode) (before : ℕ) (done : List PointValue) (rest body first line : List ℕ) (f : LineFault) → LinesLeft db rp mode before done rest body → is_empty rest ≡ false → first ≡ before_first (λ b. eqb b line_feed) rest → line ≡ without_return first → line_of db rp mode line ≡ Err f → points_of db rp mode 1 (body_lines body) ≡ Err (record { line = before + 1; fault = f })

@@ -1,5 +1,5 @@
 -- A line that is clean and spells a point spells one that is a point.
-use Rattle.std.proofs.Common.{◌≡◌, ℕ, zero, suc, ◌*◌, ◌^◌, ◌<◌, ◌≤◌, Bool, true, false, not, ◌&&◌, List, [], ◌∷◌, ◌++◌, refl, ap, subst, ◌∙◌, Ok, arith}
+use Rattle.std.proofs.Common.{◌≡◌, ℕ, zero, suc, ◌<◌, ◌≤◌, Bool, true, false, not, ◌&&◌, List, [], ◌∷◌, ◌++◌, refl, ap, subst, ◌∙◌, Ok, arith}
 use Rattle.std.proofs.lemmas.Bool.{ltb-true, leb-true}
 use Rattle.std.specs.Prelude.{ℤ, pos, negsuc, nat_le, nat_lt, IsUtf8}
 use Rattle.std.specs.List.{list_all}
@@ -11,6 +11,7 @@ use Rattle.kap_base.specs.Maps.{KeyMap, with_entries}
 use Rattle.kap_base.specs.Points.{PointValue, IsPoint, is_time, is_value}
 use Rattle.kap_base.specs.declared.value.Value.{Value}
 use Rattle.kap_base.specs.declared.value.Value.TheVariants as values
+use Rattle.kap_base.specs.declared.limits.TheConstants.{TIME_LIMIT}
 use Rattle.line_points.specs.declared.mode.Mode.{Mode}
 use Rattle.line_points.specs.Parts.{comma, equals, quote, space, without_spaces}
 use Rattle.line_points.specs.Numbers.{signed, fits}
@@ -71,7 +72,7 @@ some_field (more_fields k v key value fs more some key_spells value_spells spell
 
 -- ---- the time
 
-signed_time : (negative : Bool) (n : ℕ) → nat_le n (9 * 10 ^ 18) ≡ true → is_time (signed (negative, n)) ≡ true
+signed_time : (negative : Bool) (n : ℕ) → nat_le n TIME_LIMIT ≡ true → is_time (signed (negative, n)) ≡ true
 signed_time true zero h = refl
 signed_time true (suc m) h = grind (arith, nat_tests)
 signed_time false n h = h
@@ -113,8 +114,8 @@ pub line_from : (bytes given : List ℕ) → bytes ≡ given → not (has_line_f
 line_from bytes given is one valid = clean_line bytes (clean_from bytes (ap (λ (x : List ℕ). not (has_line_feed x)) is ∙ one) valid)
 
 time_fits : (t : ℤ) → is_time t ≡ true → SFits w64 t
-time_fits (pos n) h = let le : n ≤ 9 * 10 ^ 18 = leb-true _ _ h in record { sfits = omega arith }
-time_fits (negsuc n) h = let lt : n < 9 * 10 ^ 18 = ltb-true _ _ h in record { sfits = omega arith }
+time_fits (pos n) h = let le : n ≤ TIME_LIMIT = leb-true _ _ h in record { sfits = omega arith }
+time_fits (negsuc n) h = let lt : n < TIME_LIMIT = ltb-true _ _ h in record { sfits = omega arith }
 
 -- what is read makes a point
 pub read_is_point : (db rp : List ℕ) (mode : Mode) (line name : List ℕ) (tags : KeyMap (List ℕ)) (fields : KeyMap Value) (dims : List (List ℕ)) (time : ℤ) (behind_name behind_tags behind_fields : List ℕ) → not (has_line_feed line) ≡ true → IsUtf8 line → is_line db ≡ true → is_line rp ≡ true → has_time mode ≡ true → measurement_at (without_spaces line) ≡ Ok (name, behind_name) → tags_at behind_name ≡ Ok (tags, behind_tags) → fields_at behind_tags ≡ Ok (fields, behind_fields) → time_of mode (without_spaces behind_fields) ≡ Ok time → dims ≡ [] → IsPoint (record { db = db; rp = rp; name = name; tags = tags; fields = fields; dims = dims; by_name = false; time = to_z w64 (of_z w64 time) })

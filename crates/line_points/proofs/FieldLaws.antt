@@ -7,12 +7,12 @@ use Rattle.kap_base.specs.declared.value.Value.{Value}
 use Rattle.line_points.specs.declared.fault.LineFault.{LineFault}
 use Rattle.line_points.specs.declared.fault.LineFault.TheVariants as faults
 use Rattle.line_points.specs.declared.part.Part.TheVariants as parts
-use Rattle.line_points.specs.Parts.{comma, equals, text_at}
+use Rattle.line_points.specs.Parts.{comma, equals, text_at, is_at_separator}
 use Rattle.line_points.specs.Line.{Field, value_at, field_at, fields_from}
 use Rattle.line_points.specs.Grammar.{Spells, SpellsValue, SpellsFields, one_field, more_fields}
 use Rattle.line_points.proofs.TestLaws.{first_of, second_of, not_true, ok_is, bind_ok, then_ok}
 use Rattle.line_points.proofs.SpellLaws.{text_taken, spelling_again}
-use Rattle.line_points.proofs.TagLaws.{is_next, begins_some, behind_first}
+use Rattle.line_points.proofs.TagLaws.{begins_some, behind_first}
 use Rattle.line_points.proofs.ValueLaws.{value_taken, value_again}
 use Rattle.line_points.proofs.LineLaws.{with_first, more_fields as fields_behind}
 
@@ -26,7 +26,7 @@ pub record FieldTaken (bytes : List ℕ) (f : Field) (rest : List ℕ) : Type 0 
   pub some_key : is_empty f.0 ≡ false
   pub key_spells : Spells parts.Key f.0 key
   pub value_spells : SpellsValue f.1 value
-  pub next : is_next rest ≡ true
+  pub next : is_at_separator rest ≡ true
 
 pub field_taken : (bytes : List ℕ) (f : Field) (rest : List ℕ) → field_at bytes ≡ Ok (f, rest) → FieldTaken bytes f rest
 unfolding field_at
@@ -53,7 +53,7 @@ pub record FieldsTaken (bytes : List ℕ) (fields : List Field) (rest : List ℕ
   pub front : List ℕ
   pub is : bytes ≡ front ++ rest
   pub spells : SpellsFields fields front
-  pub next : is_next rest ≡ true
+  pub next : is_at_separator rest ≡ true
   pub none : begins_with comma rest ≡ false
 
 last_one : (bytes rest : List ℕ) (f : Field) → begins_with comma rest ≡ false → FieldTaken bytes f rest → FieldsTaken bytes (f ∷ []) rest
@@ -93,19 +93,19 @@ fields_taken (suc n) bytes fields rest e =
 
 -- ---- what is spelled is read
 
-field_again : (k : List ℕ) (v : Value) (key value rest : List ℕ) → is_empty k ≡ false → Spells parts.Key k key → SpellsValue v value → is_next rest ≡ true → field_at (key ++ (equals ∷ (value ++ rest))) ≡ Ok ((k, v), rest)
+pub field_again : (k : List ℕ) (v : Value) (key value rest : List ℕ) → is_empty k ≡ false → Spells parts.Key k key → SpellsValue v value → is_at_separator rest ≡ true → field_at (key ++ (equals ∷ (value ++ rest))) ≡ Ok ((k, v), rest)
 unfolding field_at
 field_again k v key value rest some key_spells value_spells next =
     rw (spelling_again key_spells (equals ∷ (value ++ rest)) refl, some, value_again value_spells rest next) refl
 
-one_read : (n : ℕ) (bytes after : List ℕ) (f : Field) → field_at bytes ≡ Ok (f, after) → fields_from (suc n) bytes ≡ with_first f (fields_behind n after)
+pub one_read : (n : ℕ) (bytes after : List ℕ) (f : Field) → field_at bytes ≡ Ok (f, after) → fields_from (suc n) bytes ≡ with_first f (fields_behind n after)
 unfolding fields_from
 one_read n bytes after f read = rw read refl
 
 fields_end : (n : ℕ) (rest : List ℕ) → begins_with comma rest ≡ false → fields_behind n rest ≡ Ok ([], rest)
 fields_end n rest none = rw none refl
 
-pub fields_again : {fields : List Field} {front : List ℕ} → SpellsFields fields front → (n : ℕ) (rest : List ℕ) → length (front ++ rest) ≤ n → is_next rest ≡ true → begins_with comma rest ≡ false → fields_from n (front ++ rest) ≡ Ok (fields, rest)
+pub fields_again : {fields : List Field} {front : List ℕ} → SpellsFields fields front → (n : ℕ) (rest : List ℕ) → length (front ++ rest) ≤ n → is_at_separator rest ≡ true → begins_with comma rest ≡ false → fields_from n (front ++ rest) ≡ Ok (fields, rest)
 fields_again (one_field k v key value some key_spells value_spells) zero rest le next none =
     absurd (omega (arith, ap length (append_assoc key (equals ∷ value) rest), length-append key (equals ∷ (value ++ rest))))
 fields_again (one_field k v key value some key_spells value_spells) (suc n) rest le next none =

@@ -16,10 +16,14 @@ pub mod WholeLaws
 pub mod CleanLaws
 pub mod EntryLaws
 pub mod FactLaws
-pub mod AnswerLaws
 pub mod GrownLaws
 pub mod PrintedLaws
 pub mod BodyLaws
-pub mod OneLaws
-pub mod LongLaws
+pub mod BlankLaws
 pub mod PrintLaws
+pub mod BeforeLaws
+pub mod FloatLaws
+pub mod FieldFaultLaws
+pub mod TimeFaultLaws
+pub mod RowLaws
+pub mod MeaningLaws

@@ -71,7 +71,7 @@ record Begun (done : List Field) (rest : List ℕ) (total : Result (List Field �
   enough : length rest ≤ suc left
   same : onto done (field_at rest >>= λ field. with_first field.0 (more_fields left field.1)) ≡ total
 
-no_field : field_at [] ≡ Err faults.Field
+pub no_field : field_at [] ≡ Err faults.Field
 unfolding field_at text_from
 no_field = refl
 

@@ -1,5 +1,5 @@
 -- What is printed is a spelling of the point, and clean.
-use Rattle.std.proofs.Common.{◌≡◌, ℕ, suc, ◌*◌, ◌^◌, ◌<◌, ◌≤◌, Bool, true, false, not, cond, ◌&&◌, ◌||◌, List, [], ◌∷◌, ◌++◌, length, refl, sym, ap, subst, ◌∙◌, append_assoc, eqb, arith, rules}
+use Rattle.std.proofs.Common.{◌≡◌, ℕ, suc, ◌*◌, ◌^◌, ◌<◌, ◌≤◌, Bool, true, false, not, cond, ◌&&◌, ◌||◌, List, [], ◌∷◌, ◌++◌, length, take, refl, sym, ap, subst, ◌∙◌, append_assoc, eqb, arith, rules}
 use Rattle.std.specs.Prelude.{ℤ, pos, negsuc, codes}
 use Rattle.std.specs.Char.{is_ascii_digit}
 use Rattle.std.specs.List.{list_all, list_any, flat_map}
@@ -8,6 +8,7 @@ use Rattle.std.specs.Str.Parse.{digits_value}
 use Rattle.std.proofs.lemmas.Bool.{eqb-true, ltb-true, leb-true, le-leb}
 use Rattle.std.proofs.lemmas.Bool.Decides.{nat_tests}
 use Rattle.std.proofs.lemmas.Fmt.{digits_decimal, digits_value-decimal, decimal_nonempty}
+use Rattle.std.proofs.lemmas.Grind.{common_steps}
 use Rattle.std.proofs.lemmas.List.{append-nil}
 use Rattle.std.proofs.lemmas.List.Concat.{flat_map-cons}
 use Rattle.std.proofs.lemmas.Str.Parse.{IsNumeralModel, IsDigitsTest, numerals_by_value}
@@ -15,6 +16,7 @@ use Rattle.kap_base.specs.Texts.{backslash, is_empty, ends_with, is_name, is_lin
 use Rattle.kap_base.specs.Points.{is_value, is_time}
 use Rattle.kap_base.specs.declared.value.Value.{Value}
 use Rattle.kap_base.specs.declared.value.Value.TheVariants as values
+use Rattle.kap_base.specs.declared.limits.TheConstants.{TIME_LIMIT}
 use Rattle.line_points.specs.declared.part.Part.{Part}
 use Rattle.line_points.specs.declared.part.Part.TheVariants as parts
 use Rattle.line_points.specs.declared.mode.Mode.TheVariants.{Recording}
@@ -151,7 +153,7 @@ all_fields_spell (f ∷ fs) some each = fields_spell f fs each
 
 -- ---- the time
 
-time_from : (negative : Bool) (n : ℕ) → n ≤ 9 * 10 ^ 18 → SpellsTime Recording (signed (negative, n)) (space ∷ (minus negative ++ decimal n))
+time_from : (negative : Bool) (n : ℕ) → n ≤ TIME_LIMIT → SpellsTime Recording (signed (negative, n)) (space ∷ (minus negative ++ decimal n))
 time_from negative n le =
     let is : digits_value 10 (decimal n) * 1 ≡ n = omega (arith, digits_value-decimal own n (omega arith)) in
     subst (λ (x : ℕ). SpellsTime Recording (signed (negative, x)) (space ∷ (minus negative ++ decimal n))) is
@@ -159,4 +161,13 @@ time_from negative n le =
 
 pub time_spells : (t : ℤ) → is_time t ≡ true → SpellsTime Recording t (space ∷ signed_decimal t)
 time_spells (pos n) small = time_from false n (leb-true _ _ small)
-time_spells (negsuc n) small = let lt : n < 9 * 10 ^ 18 = ltb-true _ _ small in time_from true (suc n) (omega arith)
+time_spells (negsuc n) small = let lt : n < TIME_LIMIT = ltb-true _ _ small in time_from true (suc n) (omega arith)
+
+-- ---- what stands before
+
+-- bytes that are kept are kept on
+pub kept_on : (a b c : List ℕ) → take (length a) b ≡ a → take (length b) c ≡ b → take (length a) c ≡ a
+kept_on a b c first second = grind (arith, common_steps)
+
+pub kept_before : (a b more : List ℕ) → b ≡ a ++ more → take (length a) b ≡ a
+kept_before a b more is = grind (arith, common_steps)

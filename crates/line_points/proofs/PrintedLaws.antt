@@ -1,6 +1,6 @@
 -- The line that is printed of a point is clean, and spells the point without what it is grouped by.
-use Rattle.std.proofs.Common.{◌≡◌, ℕ, zero, suc, ◌<◌, ◌≤◌, Bool, true, false, not, ◌&&◌, List, [], ◌∷◌, ◌++◌, length, Ok, Err, Some, refl, sym, ap, subst, append_assoc, eqb, arith}
-use Rattle.std.specs.Prelude.{ℤ, codes, IsUtf8, nat_lt, bytes_eq, Result, IfOk, OnOk}
+use Rattle.std.proofs.Common.{◌≡◌, ℕ, zero, suc, ◌<◌, ◌≤◌, Bool, true, false, not, ◌&&◌, List, [], ◌∷◌, ◌++◌, length, Ok, Some, refl, sym, ap, subst, append_assoc, eqb, arith}
+use Rattle.std.specs.Prelude.{ℤ, codes, IsUtf8, nat_lt, bytes_eq}
 use Rattle.std.specs.Char.{is_ascii_digit}
 use Rattle.std.specs.List.{list_all, list_any, flat_map, AllByRecursion}
 use Rattle.std.specs.Str.{is_utf8}
@@ -13,8 +13,8 @@ use Rattle.std.proofs.lemmas.Str.{IsUtf8-append, IsUtf8-nil, IsUtf8-from_ascii, 
 use Rattle.std.proofs.lemmas.Str.Ascii.{IsAscii-nil, IsAscii-cons}
 use Rattle.kap_base.specs.Texts.{backslash, line_feed, has_line_feed, is_line, is_empty, begins_with, number_sign, ends_with, is_name}
 use Rattle.kap_base.specs.Points.{PointValue, IsPoint, is_value}
-use Rattle.kap_base.specs.declared.memory.NoMemory.{NoMemory}
 use Rattle.kap_base.specs.declared.value.Value.{Value}
+use Rattle.line_points.specs.declared.line.TheConstants.{LINE_LIMIT}
 use Rattle.line_points.specs.declared.part.Part.{Part}
 use Rattle.line_points.specs.declared.part.Part.TheVariants as parts
 use Rattle.line_points.specs.declared.mode.Mode.{Mode}
@@ -205,7 +205,7 @@ printed p is =
 
 pub record PrintsAgain (line : List ℕ) (p : PointValue) : Type 0 where
   pub one_line : is_line line ≡ true
-  pub again : length line ≤ 65536 → line_of p.db p.rp Recording line ≡ Ok (Some (ungrouped p))
+  pub again : length line ≤ LINE_LIMIT → line_of p.db p.rp Recording line ≡ Ok (Some (ungrouped p))
   pub stored_again : stored_of p.db p.rp Recording line ≡ Ok (ungrouped p)
 
 pub prints_again : (line : List ℕ) (p : PointValue) → IsPoint p → line ≡ Print p → PrintsAgain line p
@@ -218,20 +218,3 @@ prints_again line p is line_is =
       again = λ short. spelled_line p.db p.rp Recording (Print p) (ungrouped p) of_same q.spelled valid short;
       stored_again = spelled_stored p.db p.rp Recording (Print p) (ungrouped p) of_same q.spelled valid;
     })
-
--- the same of what a call answers
-pub answer_again : (r : Result (List ℕ) NoMemory) (p : PointValue) → OnOk r (IsPoint p) → IfOk r (λ line. line ≡ Print p) → IfOk r (λ line. PrintsAgain line p)
-answer_again (Ok line) p is line_is = prints_again line p is line_is
-answer_again (Err e) p is line_is = tt
-
-pub answer_one_line : (r : Result (List ℕ) NoMemory) (p : PointValue) → IfOk r (λ line. PrintsAgain line p) → IfOk r (λ line. is_line line ≡ true)
-answer_one_line (Ok line) p q = q.one_line
-answer_one_line (Err e) p q = tt
-
-pub answer_read : (r : Result (List ℕ) NoMemory) (p : PointValue) → IfOk r (λ line. PrintsAgain line p) → IfOk r (λ line. length line ≤ 65536 → line_of p.db p.rp Recording line ≡ Ok (Some (ungrouped p)))
-answer_read (Ok line) p q = q.again
-answer_read (Err e) p q = tt
-
-pub answer_stored : (r : Result (List ℕ) NoMemory) (p : PointValue) → IfOk r (λ line. PrintsAgain line p) → IfOk r (λ line. stored_of p.db p.rp Recording line ≡ Ok (ungrouped p))
-answer_stored (Ok line) p q = q.stored_again
-answer_stored (Err e) p q = tt

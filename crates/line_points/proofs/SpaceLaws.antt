@@ -4,10 +4,9 @@ use Rattle.std.specs.List.{list_all, position_or_len}
 use Rattle.std.proofs.lemmas.Bool.{eqb-true}
 use Rattle.std.proofs.lemmas.Bool.Decides.{nat_tests}
 use Rattle.kap_base.specs.Texts.{is_empty, begins_with}
-use Rattle.line_points.specs.Parts.{comma, space, begins, is_space, without_spaces}
+use Rattle.line_points.specs.Parts.{comma, space, begins, is_space, without_spaces, is_at_separator}
 use Rattle.line_points.specs.Grammar.{spaces}
 use Rattle.line_points.proofs.TestLaws.{first_of, second_of}
-use Rattle.line_points.proofs.TagLaws.{is_next}
 
 pub record AfterSpaces (bytes : List ℕ) : Type 0 where
   pub count : ℕ
@@ -55,7 +54,7 @@ pub record BehindSpaces (bytes : List ℕ) : Type 0 where
   pub is : bytes ≡ space ∷ (spaces more ++ without_spaces bytes)
 
 -- what stands behind a part, where no comma and not the end comes next: one space or more first
-pub behind_spaces : (bytes : List ℕ) → is_next bytes ≡ true → begins_with comma bytes ≡ false → is_empty bytes ≡ false → BehindSpaces bytes
+pub behind_spaces : (bytes : List ℕ) → is_at_separator bytes ≡ true → begins_with comma bytes ≡ false → is_empty bytes ≡ false → BehindSpaces bytes
 behind_spaces [] next none some = absurd cc
 behind_spaces (b ∷ bs) next none some =
     let s : is_space b ≡ true = grind (arith, nat_tests) in

@@ -128,13 +128,13 @@ begun_alone part b bytes rest h =
     other part [] rest h = absurd cc
     other part (c ∷ bytes) rest h = not_true (escapes part c) h
 
-ended : (part : Part) (rest : List ℕ) → ends_here part rest ≡ true → text_at part rest ≡ ([], rest)
+pub no_text : (part : Part) (rest : List ℕ) → ends_here part rest ≡ true → text_at part rest ≡ ([], rest)
 unfolding text_from
-ended part [] here = refl
-ended part (b ∷ bs) here = step_stop part b bs here
+no_text part [] here = refl
+no_text part (b ∷ bs) here = step_stop part b bs here
 
 pub spelling_again : {part : Part} {text spelling : List ℕ} → Spells part text spelling → (rest : List ℕ) → ends_here part rest ≡ true → text_at part (spelling ++ rest) ≡ (text, rest)
-spelling_again {part} no_bytes rest here = ended part rest here
+spelling_again {part} no_bytes rest here = no_text part rest here
 spelling_again {part} (plain b text bytes h more) rest here =
     step_plain part b (bytes ++ rest) (not_true (stops part b) (first_of (not (stops part b)) _ h)) (begun_alone part b bytes rest (second_of (not (stops part b)) _ h))
     ∙ ap (keep b) (spelling_again more rest here)

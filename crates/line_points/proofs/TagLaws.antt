@@ -1,5 +1,5 @@
 -- Tags that are read are spelled so, and tags that are spelled are read.
-use Rattle.std.proofs.Common.{◌≡◌, ℕ, zero, suc, ◌<◌, ◌≤◌, Bool, true, false, not, cond, ◌&&◌, List, [], ◌∷◌, ◌++◌, length, drop, Ok, refl, sym, ap, subst, ◌∙◌, append_assoc, arith}
+use Rattle.std.proofs.Common.{◌≡◌, ℕ, zero, suc, ◌<◌, ◌≤◌, true, false, not, cond, ◌&&◌, List, [], ◌∷◌, ◌++◌, length, drop, Ok, refl, sym, ap, subst, ◌∙◌, append_assoc, arith}
 use Rattle.std.proofs.lemmas.List.{length-append}
 use Rattle.std.proofs.lemmas.Bool.Decides.{nat_tests}
 use Rattle.kap_base.specs.Words.{◌>>=◌}
@@ -7,27 +7,22 @@ use Rattle.kap_base.specs.Texts.{is_empty, begins_with}
 use Rattle.line_points.specs.declared.fault.LineFault.{LineFault}
 use Rattle.line_points.specs.declared.fault.LineFault.TheVariants as faults
 use Rattle.line_points.specs.declared.part.Part.TheVariants as parts
-use Rattle.line_points.specs.Parts.{comma, equals, is_separator, text_at}
+use Rattle.line_points.specs.Parts.{comma, equals, text_at, is_at_separator}
 use Rattle.line_points.specs.Line.{Tag, tag_at, tags_from}
 use Rattle.line_points.specs.Grammar.{Spells, SpellsTags, no_tags, more_tags}
 use Rattle.line_points.proofs.TestLaws.{first_of, second_of, not_true, ok_is, bind_ok, guard_ok}
 use Rattle.line_points.proofs.SpellLaws.{ends_here, text_taken, spelling_again}
 use Rattle.line_points.proofs.LineLaws.{with_first, ended, comma-shorter}
 
--- a comma, a space or nothing comes next
-abbrev pub is_next : List ℕ → Bool
-is_next [] = true
-is_next (b ∷ bs) = is_separator b
-
-pub no_equals : (rest : List ℕ) → is_next rest ≡ true → begins_with equals rest ≡ false
+pub no_equals : (rest : List ℕ) → is_at_separator rest ≡ true → begins_with equals rest ≡ false
 no_equals [] h = refl
 no_equals (b ∷ bs) h = grind (arith, nat_tests)
 
-pub next_here : (rest : List ℕ) → is_next rest ≡ true → ends_here parts.Key rest ≡ true
+pub next_here : (rest : List ℕ) → is_at_separator rest ≡ true → ends_here parts.Key rest ≡ true
 next_here [] h = refl
 next_here (b ∷ bs) h = grind (arith, nat_tests)
 
-here_next : (rest : List ℕ) → ends_here parts.Key rest ≡ true → begins_with equals rest ≡ false → is_next rest ≡ true
+pub here_next : (rest : List ℕ) → ends_here parts.Key rest ≡ true → begins_with equals rest ≡ false → is_at_separator rest ≡ true
 here_next [] h none = refl
 here_next (b ∷ bs) h none = grind (arith, nat_tests)
 
@@ -54,7 +49,7 @@ pub record TagTaken (bytes : List ℕ) (tag : Tag) (rest : List ℕ) : Type 0 wh
   pub some_value : is_empty tag.1 ≡ false
   pub key_spells : Spells parts.Key tag.0 key
   pub value_spells : Spells parts.Key tag.1 value
-  pub next : is_next rest ≡ true
+  pub next : is_at_separator rest ≡ true
 
 pub tag_taken : (bytes : List ℕ) (tag : Tag) (rest : List ℕ) → tag_at bytes ≡ Ok (tag, rest) → is_empty rest ≡ false → TagTaken bytes tag rest
 unfolding tag_at
@@ -86,7 +81,7 @@ pub record TagsTaken (bytes : List ℕ) (tags : List Tag) (rest : List ℕ) : Ty
   pub front : List ℕ
   pub is : bytes ≡ front ++ rest
   pub spells : SpellsTags tags front
-  pub next : is_next bytes ≡ true → is_next rest ≡ true
+  pub next : is_at_separator bytes ≡ true → is_at_separator rest ≡ true
   pub none : begins_with comma rest ≡ false
 
 one_more : (bytes after rest : List ℕ) (tag : Tag) (tags : List Tag) → begins_with comma bytes ≡ true → TagTaken (drop 1 bytes) tag after → TagsTaken after tags rest → TagsTaken bytes (tag ∷ tags) rest
@@ -136,7 +131,7 @@ tags_taken (suc n) bytes tags rest le e some =
 
 -- ---- what is spelled is read
 
-pub tag_again : (k v key value rest : List ℕ) → is_empty k ≡ false → is_empty v ≡ false → Spells parts.Key k key → Spells parts.Key v value → is_next rest ≡ true → tag_at (key ++ (equals ∷ (value ++ rest))) ≡ Ok ((k, v), rest)
+pub tag_again : (k v key value rest : List ℕ) → is_empty k ≡ false → is_empty v ≡ false → Spells parts.Key k key → Spells parts.Key v value → is_at_separator rest ≡ true → tag_at (key ++ (equals ∷ (value ++ rest))) ≡ Ok ((k, v), rest)
 unfolding tag_at
 tag_again k v key value rest some_key some_value key_spells value_spells next =
     let key_is = spelling_again key_spells (equals ∷ (value ++ rest)) refl in
@@ -144,15 +139,15 @@ tag_again k v key value rest some_key some_value key_spells value_spells next =
     rw (key_is, value_is, some_key, some_value, no_equals rest next) refl
 
 -- behind a spelling of tags a comma, a space or nothing comes next, where it does so behind them
-pub next-tags : {tags : List Tag} {front : List ℕ} → SpellsTags tags front → (rest : List ℕ) → is_next rest ≡ true → is_next (front ++ rest) ≡ true
+pub next-tags : {tags : List Tag} {front : List ℕ} → SpellsTags tags front → (rest : List ℕ) → is_at_separator rest ≡ true → is_at_separator (front ++ rest) ≡ true
 next-tags no_tags rest next = next
 next-tags (more_tags k v key value ts more some_key some_value key_spells value_spells spells) rest next = refl
 
-one_tag : (n : ℕ) (more rest : List ℕ) (tag : Tag) → tag_at more ≡ Ok (tag, rest) → tags_from (suc n) (comma ∷ more) ≡ with_first tag (tags_from n rest)
+pub one_tag : (n : ℕ) (more rest : List ℕ) (tag : Tag) → tag_at more ≡ Ok (tag, rest) → tags_from (suc n) (comma ∷ more) ≡ with_first tag (tags_from n rest)
 unfolding tags_from
 one_tag n more rest tag read = rw read refl
 
-pub tags_again : {tags : List Tag} {front : List ℕ} → SpellsTags tags front → (n : ℕ) (rest : List ℕ) → length (front ++ rest) ≤ n → is_next rest ≡ true → begins_with comma rest ≡ false → tags_from n (front ++ rest) ≡ Ok (tags, rest)
+pub tags_again : {tags : List Tag} {front : List ℕ} → SpellsTags tags front → (n : ℕ) (rest : List ℕ) → length (front ++ rest) ≤ n → is_at_separator rest ≡ true → begins_with comma rest ≡ false → tags_from n (front ++ rest) ≡ Ok (tags, rest)
 tags_again no_tags n rest le next none = ended n rest none
 tags_again (more_tags k v key value ts more some_key some_value key_spells value_spells spells) zero rest le next none = absurd (omega arith)
 tags_again (more_tags k v key value ts more some_key some_value key_spells value_spells spells) (suc n) rest le next none =

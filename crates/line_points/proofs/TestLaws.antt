@@ -1,5 +1,5 @@
 -- Tests and chains of results, taken apart.
-use Rattle.std.proofs.Common.{◌≡◌, Bool, true, false, not, cond, ◌&&◌, ◌||◌, Ok, Err, refl}
+use Rattle.std.proofs.Common.{◌≡◌, Bool, true, false, not, cond, ◌&&◌, ◌||◌, ◌⊎◌, inl, inr, Ok, Err, refl, ap}
 use Rattle.std.specs.Prelude.{Result}
 use Rattle.kap_base.specs.Words.{◌>>=◌}
 
@@ -54,3 +54,16 @@ then_ok false d r y e = absurd cc
 pub unless_ok : {A E : Type 0} (b : Bool) (d : E) (r : Result A E) (y : A) → cond b (Err d) r ≡ Ok y → (b ≡ false) × (r ≡ Ok y)
 unless_ok true d r y e = absurd cc
 unless_ok false d r y e = (refl, e)
+
+pub err_is : {A E : Type 0} (x y : E) → ◌≡◌ {A = Result A E} (Err x) (Err y) → x ≡ y
+err_is x y e = cc
+
+-- a step behind which nothing fails
+pub made_err : {A B E : Type 0} (r : Result A E) (f : A → B) (y : E) → (r >>= λ x. Ok (f x)) ≡ Err y → r ≡ Err y
+made_err (Ok x) f y e = absurd cc
+made_err {A = A} {E = E} (Err d) f y e = ap (λ (z : E). let w : Result A E = Err z in w) cc
+
+-- a chain failed at its first step, or behind it
+pub bind_err : {A B E : Type 0} (r : Result A E) (f : A → Result B E) (y : E) → (r >>= f) ≡ Err y → (r ≡ Err y) ⊎ ((x : A) × (r ≡ Ok x) × (f x ≡ Err y))
+bind_err (Ok x) f y e = inr (x, refl, e)
+bind_err (Err d) f y e = inl cc

@@ -1,5 +1,5 @@
 -- A time that is read is spelled so, and a time that is spelled is read.
-use Rattle.std.proofs.Common.{◌≡◌, ℕ, zero, suc, ◌*◌, ◌^◌, Bool, true, false, not, cond, Option, Some, None, List, [], ◌∷◌, ◌++◌, length, drop, Ok, Err, refl, sym, ap, subst, ◌∙◌, append_assoc, arith}
+use Rattle.std.proofs.Common.{◌≡◌, ℕ, zero, suc, ◌*◌, Bool, true, false, not, cond, Option, Some, None, List, [], ◌∷◌, ◌++◌, length, drop, Ok, Err, refl, sym, ap, subst, ◌∙◌, append_assoc, arith}
 use Rattle.std.specs.Prelude.{ℤ, nat_le}
 use Rattle.std.specs.Char.{is_ascii_digit}
 use Rattle.std.specs.List.{list_all, before_first, position_or_len}
@@ -8,17 +8,17 @@ use Rattle.std.specs.Str.Parse.{digits_value}
 use Rattle.std.proofs.lemmas.Bool.Decides.{nat_tests}
 use Rattle.std.proofs.lemmas.List.{append-nil, take-append-drop}
 use Rattle.kap_base.specs.Texts.{is_empty, begins_with}
+use Rattle.kap_base.specs.declared.limits.TheConstants.{TIME_LIMIT}
 use Rattle.line_points.specs.declared.fault.LineFault.{LineFault}
 use Rattle.line_points.specs.declared.fault.LineFault.TheVariants as faults
 use Rattle.line_points.specs.declared.mode.Unit.{Unit as TimeUnit}
 use Rattle.line_points.specs.declared.mode.Mode.{Mode}
 use Rattle.line_points.specs.declared.mode.Mode.TheVariants.{Live, Recording}
-use Rattle.line_points.specs.Parts.{comma, space, begins, is_space, without_spaces}
+use Rattle.line_points.specs.Parts.{comma, space, begins, is_space, without_spaces, is_at_separator}
 use Rattle.line_points.specs.Numbers.{is_digits, number_of, signed}
 use Rattle.line_points.specs.Line.{nanoseconds, unit_of, missing_time, scaled, word_time, time_of}
 use Rattle.line_points.specs.Grammar.{minus, spaces, SpellsTime, no_time, some_time}
 use Rattle.line_points.proofs.TestLaws.{second_of, ok_is, guard_ok, then_ok}
-use Rattle.line_points.proofs.TagLaws.{is_next}
 use Rattle.line_points.proofs.ValueLaws.{number_taken, number_again}
 use Rattle.line_points.proofs.PlaceLaws.{word_ends}
 use Rattle.line_points.proofs.SpaceLaws.{after_spaces, spaces_skipped, only_spaces, are_spaces, spaces_are, some_before, behind_spaces, place_end}
@@ -30,7 +30,7 @@ pub record TimeTaken (mode : Mode) (t : ℤ) (rest : List ℕ) : Type 0 where
   pub is : rest ≡ time ++ spaces behind
   pub spells : SpellsTime mode t time
 
-empty_nil : (bytes : List ℕ) → is_empty bytes ≡ true → bytes ≡ []
+pub empty_nil : (bytes : List ℕ) → is_empty bytes ≡ true → bytes ≡ []
 empty_nil [] h = refl
 empty_nil (b ∷ bs) h = absurd cc
 
@@ -43,9 +43,9 @@ missing_taken Recording t rest n is e = absurd cc
 number_time : (mode : Mode) (t : ℤ) (word : List ℕ) (more : ℕ) (number : Bool × ℕ) → number_of word ≡ Some number → scaled (unit_of mode) number ≡ Ok t → SpellsTime mode t (space ∷ (spaces more ++ word))
 number_time mode t word more number read e =
     let n = number_taken word number read in
-    let g = guard_ok (nat_le (number.1 * nanoseconds (unit_of mode)) (9 * 10 ^ 18)) faults.TimeRange (signed (number.0, number.1 * nanoseconds (unit_of mode))) t e in
+    let g = guard_ok (nat_le (number.1 * nanoseconds (unit_of mode)) TIME_LIMIT) faults.TimeRange (signed (number.0, number.1 * nanoseconds (unit_of mode))) t e in
     let size : digits_value 10 n.digits ≡ number.1 = ap (λ (x : Bool × ℕ). x.1) n.value in
-    let range : nat_le (digits_value 10 n.digits * nanoseconds (unit_of mode)) (9 * 10 ^ 18) ≡ true = ap (λ (x : ℕ). nat_le (x * nanoseconds (unit_of mode)) (9 * 10 ^ 18)) size ∙ g.0 in
+    let range : nat_le (digits_value 10 n.digits * nanoseconds (unit_of mode)) TIME_LIMIT ≡ true = ap (λ (x : ℕ). nat_le (x * nanoseconds (unit_of mode)) TIME_LIMIT) size ∙ g.0 in
     let value : signed (number.0, digits_value 10 n.digits * nanoseconds (unit_of mode)) ≡ t = ap (λ (x : ℕ). signed (number.0, x * nanoseconds (unit_of mode))) size ∙ g.1 in
     subst (λ (x : List ℕ). SpellsTime mode t (space ∷ (spaces more ++ x))) (sym n.is)
     (subst (λ (x : ℤ). SpellsTime mode x (space ∷ (spaces more ++ (minus number.0 ++ n.digits)))) value (some_time mode more number.0 n.digits n.all range))
@@ -57,7 +57,7 @@ word_taken mode t word more e = by_number mode t word more (number_of word) refl
     by_number mode t word more (Some number) read e = number_time mode t word more number read e
     by_number mode t word more None read e = absurd cc
 
-given_taken : (mode : Mode) (t : ℤ) (rest : List ℕ) → is_next rest ≡ true → begins_with comma rest ≡ false → is_empty (without_spaces rest) ≡ false → list_all is_space (drop (position_or_len is_space (without_spaces rest)) (without_spaces rest)) ≡ true → word_time mode (before_first is_space (without_spaces rest)) ≡ Ok t → TimeTaken mode t rest
+given_taken : (mode : Mode) (t : ℤ) (rest : List ℕ) → is_at_separator rest ≡ true → begins_with comma rest ≡ false → is_empty (without_spaces rest) ≡ false → list_all is_space (drop (position_or_len is_space (without_spaces rest)) (without_spaces rest)) ≡ true → word_time mode (before_first is_space (without_spaces rest)) ≡ Ok t → TimeTaken mode t rest
 given_taken mode t rest next none some all e =
     let bytes = without_spaces rest in
     let word = before_first is_space bytes in
@@ -71,7 +71,7 @@ given_taken mode t rest next none some all e =
       spells = word_taken mode t word s.more e;
     }
 
-pub time_taken : (mode : Mode) (t : ℤ) (rest : List ℕ) → is_next rest ≡ true → begins_with comma rest ≡ false → time_of mode (without_spaces rest) ≡ Ok t → TimeTaken mode t rest
+pub time_taken : (mode : Mode) (t : ℤ) (rest : List ℕ) → is_at_separator rest ≡ true → begins_with comma rest ≡ false → time_of mode (without_spaces rest) ≡ Ok t → TimeTaken mode t rest
 unfolding time_of
 time_taken mode t rest next none e =
     let bytes = without_spaces rest in
@@ -92,21 +92,21 @@ digits_whole (d ∷ digits) all =
     let here : not (is_space d) ≡ true = grind (arith, nat_tests) in
     rw here (digits_whole digits (second_of _ _ all))
 
-number_whole : (negative : Bool) (digits : List ℕ) → is_digits digits ≡ true → list_all (λ b. not (is_space b)) (minus negative ++ digits) ≡ true
+pub number_whole : (negative : Bool) (digits : List ℕ) → is_digits digits ≡ true → list_all (λ b. not (is_space b)) (minus negative ++ digits) ≡ true
 number_whole true digits all = digits_whole digits (second_of _ _ all)
 number_whole false digits all = digits_whole digits (second_of _ _ all)
 
-number_first : (negative : Bool) (digits rest : List ℕ) → is_digits digits ≡ true → begins is_space ((minus negative ++ digits) ++ rest) ≡ false
+pub number_first : (negative : Bool) (digits rest : List ℕ) → is_digits digits ≡ true → begins is_space ((minus negative ++ digits) ++ rest) ≡ false
 number_first true digits rest all = refl
 number_first false [] rest all = absurd cc
 number_first false (d ∷ digits) rest all = grind (arith, nat_tests)
 
-number_some : (negative : Bool) (digits rest : List ℕ) → is_digits digits ≡ true → is_empty ((minus negative ++ digits) ++ rest) ≡ false
+pub number_some : (negative : Bool) (digits rest : List ℕ) → is_digits digits ≡ true → is_empty ((minus negative ++ digits) ++ rest) ≡ false
 number_some true digits rest all = refl
 number_some false [] rest all = absurd cc
 number_some false (d ∷ digits) rest all = refl
 
-given_again : (mode : Mode) (negative : Bool) (digits : List ℕ) (behind : ℕ) → is_digits digits ≡ true → nat_le (digits_value 10 digits * nanoseconds (unit_of mode)) (9 * 10 ^ 18) ≡ true → time_of mode ((minus negative ++ digits) ++ spaces behind) ≡ Ok (signed (negative, digits_value 10 digits * nanoseconds (unit_of mode)))
+given_again : (mode : Mode) (negative : Bool) (digits : List ℕ) (behind : ℕ) → is_digits digits ≡ true → nat_le (digits_value 10 digits * nanoseconds (unit_of mode)) TIME_LIMIT ≡ true → time_of mode ((minus negative ++ digits) ++ spaces behind) ≡ Ok (signed (negative, digits_value 10 digits * nanoseconds (unit_of mode)))
 unfolding time_of
 given_again mode negative digits behind all range =
     let word = minus negative ++ digits in
@@ -124,11 +124,11 @@ time_again (some_time mode n negative digits all range) behind =
     ∙ ap (time_of mode) (spaces_skipped n ((minus negative ++ digits) ++ spaces behind) (number_first negative digits (spaces behind) all))
     ∙ given_again mode negative digits behind all range
 
-next-spaces : (n : ℕ) → is_next (spaces n) ≡ true
+next-spaces : (n : ℕ) → is_at_separator (spaces n) ≡ true
 next-spaces zero = refl
 next-spaces (suc n) = refl
 
-pub next-time : {mode : Mode} {t : ℤ} {time : List ℕ} → SpellsTime mode t time → (behind : ℕ) → is_next (time ++ spaces behind) ≡ true
+pub next-time : {mode : Mode} {t : ℤ} {time : List ℕ} → SpellsTime mode t time → (behind : ℕ) → is_at_separator (time ++ spaces behind) ≡ true
 next-time (no_time unit now) behind = next-spaces behind
 next-time (some_time mode n negative digits all range) behind = refl
 

@@ -16,7 +16,7 @@ use Rattle.kap_base.specs.declared.value.Value.TheVariants as values
 use Rattle.line_points.specs.declared.fault.LineFault.{LineFault}
 use Rattle.line_points.specs.declared.fault.LineFault.TheVariants as faults
 use Rattle.line_points.specs.declared.part.Part.TheVariants as parts
-use Rattle.line_points.specs.Parts.{quote, begins, is_separator, text_at}
+use Rattle.line_points.specs.Parts.{quote, begins, is_separator, text_at, is_at_separator}
 use Rattle.line_points.specs.Numbers.{is_digits, is_minus, number_from, number_of, signed, fits, before_last_byte, true_words, false_words, is_true, is_false}
 use Rattle.line_points.specs.Words.{int_value, other_value, word_value, is_float, is_unsigned}
 use Rattle.line_points.specs.Line.{quoted_at, word_at, value_at}
@@ -25,7 +25,7 @@ use Rattle.line_points.proofs.TestLaws.{first_of, second_of, ok_is, bind_ok, gua
 use Rattle.line_points.proofs.NumberLaws.{before_last_byte-last}
 use Rattle.line_points.proofs.PlaceLaws.{drop_more, word_ends}
 use Rattle.line_points.proofs.SpellLaws.{text_taken, spelling_again}
-use Rattle.line_points.proofs.TagLaws.{is_next, begins_some, behind_first}
+use Rattle.line_points.proofs.TagLaws.{begins_some, behind_first}
 
 -- ---- numbers
 
@@ -109,15 +109,15 @@ word_taken word v e = by_front word v (before_last_byte 105 word) refl e
 abbrev pub no_separator : List ℕ → Bool
 no_separator word = list_all (λ b. not (is_separator b)) word
 
-pub next_word : (bytes : List ℕ) → is_next (drop (position_or_len is_separator bytes) bytes) ≡ true
+pub next_word : (bytes : List ℕ) → is_at_separator (drop (position_or_len is_separator bytes) bytes) ≡ true
 next_word [] = refl
 next_word (b ∷ bs) =
-    elim (is_separator b) as (λ s. is_separator b ≡ s → is_next (drop (cond (not s) (1 + position_or_len is_separator bs) 0) (b ∷ bs)) ≡ true) [
+    elim (is_separator b) as (λ s. is_separator b ≡ s → is_at_separator (drop (cond (not s) (1 + position_or_len is_separator bs) 0) (b ∷ bs)) ≡ true) [
       | true ↦ λ s. s
-      | false ↦ λ _. ap is_next (drop_more (position_or_len is_separator bs) b bs) ∙ next_word bs
+      | false ↦ λ _. ap is_at_separator (drop_more (position_or_len is_separator bs) b bs) ∙ next_word bs
     ] refl
 
-place_end : (rest : List ℕ) → is_next rest ≡ true → position_or_len is_separator rest ≡ 0
+pub place_end : (rest : List ℕ) → is_at_separator rest ≡ true → position_or_len is_separator rest ≡ 0
 place_end [] next = refl
 place_end (b ∷ bs) next = rw next refl
 
@@ -128,9 +128,9 @@ pub record ValueTaken (bytes : List ℕ) (v : Value) (rest : List ℕ) : Type 0 
   pub front : List ℕ
   pub is : bytes ≡ front ++ rest
   pub spells : SpellsValue v front
-  pub next : is_next rest ≡ true
+  pub next : is_at_separator rest ≡ true
 
-behind_quote : (rest : List ℕ) → (is_empty rest || begins is_separator rest) ≡ true → is_next rest ≡ true
+behind_quote : (rest : List ℕ) → (is_empty rest || begins is_separator rest) ≡ true → is_at_separator rest ≡ true
 behind_quote [] h = refl
 behind_quote (b ∷ bs) h = h
 
@@ -173,10 +173,10 @@ value_taken bytes v rest e =
 -- a word of a value: no separator in it, and no quote at its front
 record IsWord (v : Value) (word : List ℕ) : Type 0 where
   whole : no_separator word ≡ true
-  plain : (rest : List ℕ) → is_next rest ≡ true → begins_with quote (word ++ rest) ≡ false
+  plain : (rest : List ℕ) → is_at_separator rest ≡ true → begins_with quote (word ++ rest) ≡ false
   value : word_value word ≡ Ok v
 
-word_again : (word rest : List ℕ) (v : Value) → IsWord v word → is_next rest ≡ true → value_at (word ++ rest) ≡ Ok (v, rest)
+word_again : (word rest : List ℕ) (v : Value) → IsWord v word → is_at_separator rest ≡ true → value_at (word ++ rest) ≡ Ok (v, rest)
 unfolding word_at
 word_again word rest v w next =
     let ends = word_ends is_separator word rest w.whole (place_end rest next) in
@@ -222,15 +222,15 @@ false_read : (word : List ℕ) → is_false word ≡ true → IsWord (values.Boo
 false_read word h = one_of (IsWord (values.Bool false)) word false_words h
     (record { whole = refl; plain = λ _ _. refl; value = refl }, (record { whole = refl; plain = λ _ _. refl; value = refl }, (record { whole = refl; plain = λ _ _. refl; value = refl }, (record { whole = refl; plain = λ _ _. refl; value = refl }, (record { whole = refl; plain = λ _ _. refl; value = refl }, tt)))))
 
-quoted_again : (text bytes rest : List ℕ) → Spells parts.Quoted text bytes → is_next rest ≡ true → quoted_at (bytes ++ (quote ∷ rest)) ≡ Ok (values.Str text, rest)
+quoted_again : (text bytes rest : List ℕ) → Spells parts.Quoted text bytes → is_at_separator rest ≡ true → quoted_at (bytes ++ (quote ∷ rest)) ≡ Ok (values.Str text, rest)
 unfolding quoted_at
 quoted_again text bytes rest spells next = rw (spelling_again spells (quote ∷ rest) refl, next_behind rest next) refl
   where
-    next_behind : (rest : List ℕ) → is_next rest ≡ true → (is_empty rest || begins is_separator rest) ≡ true
+    next_behind : (rest : List ℕ) → is_at_separator rest ≡ true → (is_empty rest || begins is_separator rest) ≡ true
     next_behind [] next = refl
     next_behind (b ∷ bs) next = next
 
-pub value_again : {v : Value} {front : List ℕ} → SpellsValue v front → (rest : List ℕ) → is_next rest ≡ true → value_at (front ++ rest) ≡ Ok (v, rest)
+pub value_again : {v : Value} {front : List ℕ} → SpellsValue v front → (rest : List ℕ) → is_at_separator rest ≡ true → value_at (front ++ rest) ≡ Ok (v, rest)
 value_again (integer_word negative digits all fit) rest next =
     word_again (minus negative ++ (digits ++ codes "i")) rest _ (record { whole = int_whole negative digits all; plain = λ rest _. int_plain negative digits rest all; value = int_read negative digits all fit }) next
 value_again (true_word word h) rest next = word_again word rest (values.Bool true) (true_read word h) next

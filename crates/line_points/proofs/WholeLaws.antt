@@ -10,16 +10,17 @@ use Rattle.kap_base.specs.Texts.{is_empty, begins_with, number_sign}
 use Rattle.kap_base.specs.Maps.{KeyMap, with_entries}
 use Rattle.kap_base.specs.Points.{PointValue}
 use Rattle.kap_base.specs.declared.value.Value.{Value}
+use Rattle.line_points.specs.declared.line.TheConstants.{LINE_LIMIT}
 use Rattle.line_points.specs.declared.fault.LineFault.{LineFault}
 use Rattle.line_points.specs.declared.fault.LineFault.TheVariants as faults
 use Rattle.line_points.specs.declared.part.Part.TheVariants as parts
 use Rattle.line_points.specs.declared.mode.Mode.{Mode}
-use Rattle.line_points.specs.Parts.{comma, equals, space, begins, is_space, without_spaces, text_at}
+use Rattle.line_points.specs.Parts.{comma, equals, space, begins, is_space, without_spaces, text_at, is_at_separator}
 use Rattle.line_points.specs.Line.{Tag, Field, differ, measurement_at, tags_from, tags_at, fields_from, fields_at, time_of, point_of, stored_of, line_of, is_live, is_blank}
 use Rattle.line_points.specs.Grammar.{Spells, no_bytes, plain, behind_backslash, spaces, SpellsTags, SpellsFields, one_field, more_fields, SpellsTime, Spelled, IsOf}
 use Rattle.line_points.proofs.TestLaws.{first_false, second_false, ok_is, bind_ok, else_ok, then_ok, unless_ok}
 use Rattle.line_points.proofs.SpellLaws.{ends_here, Reading, at_end, at_stop, over_escape, over_plain, reading, text_taken, spelling_again}
-use Rattle.line_points.proofs.TagLaws.{is_next, some_behind, TagsTaken, tags_taken, next-tags, tags_again}
+use Rattle.line_points.proofs.TagLaws.{some_behind, TagsTaken, tags_taken, next-tags, tags_again}
 use Rattle.line_points.proofs.FieldLaws.{FieldsTaken, fields_taken, fields_again}
 use Rattle.line_points.proofs.SpaceLaws.{after_spaces, spaces_skipped, some_before, behind_spaces}
 use Rattle.line_points.proofs.TimeLaws.{time_taken, time_again, next-time, no_comma-time}
@@ -27,17 +28,17 @@ use Rattle.line_points.proofs.TimeLaws.{time_taken, time_again, next-time, no_co
 -- ---- the measurement
 
 -- what does not begin with a number sign stands for a text that does not
-no_sign : {bytes text rest : List ℕ} → Reading parts.Measurement bytes text rest → begins_with number_sign bytes ≡ false → begins_with number_sign text ≡ false
+pub no_sign : {bytes text rest : List ℕ} → Reading parts.Measurement bytes text rest → begins_with number_sign bytes ≡ false → begins_with number_sign text ≡ false
 no_sign at_end none = refl
 no_sign (at_stop b bs h) none = refl
 no_sign (over_escape b bs text rest h more) none = grind (arith, nat_tests)
 no_sign (over_plain b bs text rest goes lone more) none = none
 
-here_next : (rest : List ℕ) → ends_here parts.Measurement rest ≡ true → is_next rest ≡ true
+pub here_next : (rest : List ℕ) → ends_here parts.Measurement rest ≡ true → is_at_separator rest ≡ true
 here_next [] h = refl
 here_next (b ∷ bs) h = h
 
-next_here : (rest : List ℕ) → is_next rest ≡ true → ends_here parts.Measurement rest ≡ true
+pub next_here : (rest : List ℕ) → is_at_separator rest ≡ true → ends_here parts.Measurement rest ≡ true
 next_here [] h = refl
 next_here (b ∷ bs) h = h
 
@@ -47,7 +48,7 @@ record NameTaken (bytes name rest : List ℕ) : Type 0 where
   some : is_empty name ≡ false
   no_comment : begins_with number_sign name ≡ false
   spells : Spells parts.Measurement name spelling
-  next : is_next rest ≡ true
+  next : is_at_separator rest ≡ true
 
 name_taken : (bytes name rest : List ℕ) → measurement_at bytes ≡ Ok (name, rest) → is_empty rest ≡ false → NameTaken bytes name rest
 unfolding measurement_at
@@ -84,13 +85,13 @@ tag_map_taken bytes tags rest e some =
     let made : TagMapTaken bytes (with_entries empty t.0.0) t.0.1 = record { ts = t.0.0; are = refl; apart = g.0; taken = tags_taken (length bytes) bytes t.0.0 t.0.1 (omega arith) t.1 some_end } in
     subst (λ (x : KeyMap (List ℕ) × List ℕ). TagMapTaken bytes x.0 x.1) end_is made
 
-record FieldMapTaken (bytes : List ℕ) (fields : KeyMap Value) (rest : List ℕ) : Type 0 where
-  fs : List Field
-  are : fields ≡ with_entries empty fs
-  some : is_empty (without_spaces bytes) ≡ false
-  taken : FieldsTaken (without_spaces bytes) fs rest
+pub record FieldMapTaken (bytes : List ℕ) (fields : KeyMap Value) (rest : List ℕ) : Type 0 where
+  pub fs : List Field
+  pub are : fields ≡ with_entries empty fs
+  pub some : is_empty (without_spaces bytes) ≡ false
+  pub taken : FieldsTaken (without_spaces bytes) fs rest
 
-field_map_taken : (bytes : List ℕ) (fields : KeyMap Value) (rest : List ℕ) → fields_at bytes ≡ Ok (fields, rest) → FieldMapTaken bytes fields rest
+pub field_map_taken : (bytes : List ℕ) (fields : KeyMap Value) (rest : List ℕ) → fields_at bytes ≡ Ok (fields, rest) → FieldMapTaken bytes fields rest
 unfolding fields_at
 field_map_taken bytes fields rest e =
     let behind = without_spaces bytes in
@@ -171,14 +172,14 @@ read_point false false (Err d) p e = absurd cc
 pub line_spelled : (db rp : List ℕ) (mode : Mode) (line : List ℕ) (p : PointValue) → line_of db rp mode line ≡ Ok (Some p) → IsSpelled db rp mode line p
 unfolding line_of
 line_spelled db rp mode line p e =
-    stored_spelled db rp mode line p (read_point (is_live mode && is_blank (without_spaces line)) (ltb 65536 (length line)) (stored_of db rp mode line) p e)
+    stored_spelled db rp mode line p (read_point (is_live mode && is_blank (without_spaces line)) (ltb LINE_LIMIT (length line)) (stored_of db rp mode line) p e)
 
 -- a line that reads as a point is UTF-8, and not too long
 pub record IsAllowed (line : List ℕ) : Type 0 where
   pub valid : is_utf8 line ≡ true
-  pub short : length line ≤ 65536
+  pub short : length line ≤ LINE_LIMIT
 
-stored_valid : (db rp : List ℕ) (mode : Mode) (line : List ℕ) (p : PointValue) → stored_of db rp mode line ≡ Ok p → is_utf8 line ≡ true
+pub stored_valid : (db rp : List ℕ) (mode : Mode) (line : List ℕ) (p : PointValue) → stored_of db rp mode line ≡ Ok p → is_utf8 line ≡ true
 unfolding stored_of
 stored_valid db rp mode line p e = not_not (is_utf8 line) (unless_ok (not (is_utf8 line)) faults.NotUtf8 (point_of db rp mode (without_spaces line)) p e).0
   where
@@ -196,8 +197,8 @@ unfolding line_of
 line_allowed db rp mode line p e =
     let blank = is_live mode && is_blank (without_spaces line) in
     record {
-      valid = stored_valid db rp mode line p (read_point blank (ltb 65536 (length line)) (stored_of db rp mode line) p e);
-      short = ltb-false _ _ (not_long blank (ltb 65536 (length line)) (stored_of db rp mode line) p e);
+      valid = stored_valid db rp mode line p (read_point blank (ltb LINE_LIMIT (length line)) (stored_of db rp mode line) p e);
+      short = ltb-false _ _ (not_long blank (ltb LINE_LIMIT (length line)) (stored_of db rp mode line) p e);
     }
 
 -- ---- a line is read as it is spelled
@@ -212,17 +213,17 @@ spelled_some no_bytes rest some = absurd cc
 spelled_some (plain b text bytes h more) rest some = refl
 spelled_some (behind_backslash b text bytes h more) rest some = refl
 
-spelled_no_sign : {name spelling : List ℕ} → Spells parts.Measurement name spelling → (rest : List ℕ) → is_empty name ≡ false → begins_with number_sign name ≡ false → begins_with number_sign (spelling ++ rest) ≡ false
+pub spelled_no_sign : {name spelling : List ℕ} → Spells parts.Measurement name spelling → (rest : List ℕ) → is_empty name ≡ false → begins_with number_sign name ≡ false → begins_with number_sign (spelling ++ rest) ≡ false
 spelled_no_sign no_bytes rest some none = absurd cc
 spelled_no_sign (plain b text bytes h more) rest some none = none
 spelled_no_sign (behind_backslash b text bytes h more) rest some none = refl
 
-name_again : (name spelling rest : List ℕ) → Spells parts.Measurement name spelling → is_empty name ≡ false → begins_with number_sign name ≡ false → is_next rest ≡ true → measurement_at (spelling ++ rest) ≡ Ok (name, rest)
+name_again : (name spelling rest : List ℕ) → Spells parts.Measurement name spelling → is_empty name ≡ false → begins_with number_sign name ≡ false → is_at_separator rest ≡ true → measurement_at (spelling ++ rest) ≡ Ok (name, rest)
 unfolding measurement_at
 name_again name spelling rest spells some none next =
     rw (spelled_no_sign spells rest some none, spelling_again spells rest (next_here rest next), some) refl
 
-tag_map_again : (ts : List Tag) (front rest : List ℕ) → SpellsTags ts front → differ ts ≡ true → is_next rest ≡ true → begins_with comma rest ≡ false → tags_at (front ++ rest) ≡ Ok (with_entries empty ts, rest)
+tag_map_again : (ts : List Tag) (front rest : List ℕ) → SpellsTags ts front → differ ts ≡ true → is_at_separator rest ≡ true → begins_with comma rest ≡ false → tags_at (front ++ rest) ≡ Ok (with_entries empty ts, rest)
 unfolding tags_at
 tag_map_again ts front rest spells apart next none =
     rw (tags_again spells (length (front ++ rest)) rest (omega arith) next none, apart) refl
@@ -237,15 +238,15 @@ key_some no_bytes more rest some = absurd cc
 key_some (plain b text bytes h spells) more rest some = refl
 key_some (behind_backslash b text bytes h spells) more rest some = refl
 
-fields_first : {fs : List Field} {front : List ℕ} → SpellsFields fs front → (rest : List ℕ) → begins is_space (front ++ rest) ≡ false
+pub fields_first : {fs : List Field} {front : List ℕ} → SpellsFields fs front → (rest : List ℕ) → begins is_space (front ++ rest) ≡ false
 fields_first (one_field k v key value some key_spells value_spells) rest = key_first key_spells (equals ∷ value) rest some
 fields_first (more_fields k v key value fs more some key_spells value_spells spells) rest = key_first key_spells (equals ∷ (value ++ (comma ∷ more))) rest some
 
-fields_some : {fs : List Field} {front : List ℕ} → SpellsFields fs front → (rest : List ℕ) → is_empty (front ++ rest) ≡ false
+pub fields_some : {fs : List Field} {front : List ℕ} → SpellsFields fs front → (rest : List ℕ) → is_empty (front ++ rest) ≡ false
 fields_some (one_field k v key value some key_spells value_spells) rest = key_some key_spells (equals ∷ value) rest some
 fields_some (more_fields k v key value fs more some key_spells value_spells spells) rest = key_some key_spells (equals ∷ (value ++ (comma ∷ more))) rest some
 
-field_map_again : (fs : List Field) (front rest : List ℕ) (between : ℕ) → SpellsFields fs front → is_next rest ≡ true → begins_with comma rest ≡ false → fields_at (space ∷ (spaces between ++ (front ++ rest))) ≡ Ok (with_entries empty fs, rest)
+pub field_map_again : (fs : List Field) (front rest : List ℕ) (between : ℕ) → SpellsFields fs front → is_at_separator rest ≡ true → begins_with comma rest ≡ false → fields_at (space ∷ (spaces between ++ (front ++ rest))) ≡ Ok (with_entries empty fs, rest)
 unfolding fields_at
 field_map_again fs front rest between spells next none =
     let skipped = spaces_skipped between (front ++ rest) (fields_first spells rest) in
@@ -287,9 +288,9 @@ no_matter : (b : Bool) → (b && false) ≡ false
 no_matter true = refl
 no_matter false = refl
 
-pub spelled_line : (db rp : List ℕ) (mode : Mode) (line : List ℕ) (p : PointValue) → IsOf db rp p → Spelled mode p line → is_utf8 line ≡ true → length line ≤ 65536 → line_of db rp mode line ≡ Ok (Some p)
+pub spelled_line : (db rp : List ℕ) (mode : Mode) (line : List ℕ) (p : PointValue) → IsOf db rp p → Spelled mode p line → is_utf8 line ≡ true → length line ≤ LINE_LIMIT → line_of db rp mode line ≡ Ok (Some p)
 unfolding line_of
 spelled_line db rp mode line p is s valid short =
-    let long : ltb 65536 (length line) ≡ false = le-ltb _ _ short in
+    let long : ltb LINE_LIMIT (length line) ≡ false = le-ltb _ _ short in
     let read = spelled_stored db rp mode line p is s valid in
     rw (never_blank mode p line s, no_matter (is_live mode), long, read) refl

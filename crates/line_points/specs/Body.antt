@@ -1,11 +1,10 @@
 -- The lines of a body, and what they read as.
-use Rattle.std.specs.Prelude.{ℕ, ◌+◌, ◌==◌, List, [], ◌∷◌, ◌++◌, map, Option, Some, None, Result, Ok, Err, codes, decimal, if◌then◌else◌}
+use Rattle.std.specs.Prelude.{◌≡◌, ℕ, ◌+◌, ◌==◌, List, [], ◌∷◌, ◌++◌, length, map, Option, Some, None, Result, Ok, Err, if◌then◌else◌}
 use Rattle.std.specs.List.{slice_split}
 use Rattle.kap_base.specs.Words.{◌>>=◌}
 use Rattle.kap_base.specs.Texts.{is_empty, line_feed}
 use Rattle.kap_base.specs.Points.{PointValue}
 use Rattle.line_points.specs.declared.fault.LineFault.{LineFault}
-use Rattle.line_points.specs.declared.fault.LineFault.TheVariants as faults
 use Rattle.line_points.specs.declared.fault.BodyFault.{BodyFault}
 use Rattle.line_points.specs.declared.mode.Mode.{Mode}
 use Rattle.line_points.specs.Line.{line_of}
@@ -58,21 +57,12 @@ points_of db rp mode n (line ∷ lines) = do
 abbrev pub body_of : List ℕ → List ℕ → Mode → List ℕ → Result (List PointValue) BodyFault
 body_of db rp mode body = points_of db rp mode 1 (body_lines body)
 
--- a fault's name
-abbrev pub fault_name : LineFault → List ℕ
-fault_name faults.Measurement = codes "Measurement"
-fault_name faults.Tag = codes "Tag"
-fault_name faults.NoField = codes "NoField"
-fault_name faults.Field = codes "Field"
-fault_name faults.FloatField = codes "FloatField"
-fault_name faults.UnsignedField = codes "UnsignedField"
-fault_name faults.Time = codes "Time"
-fault_name faults.TimeRange = codes "TimeRange"
-fault_name faults.NoTime = codes "NoTime"
-fault_name faults.Long = codes "Long"
-fault_name faults.NotUtf8 = codes "NotUtf8"
-fault_name faults.NoMemory = codes "NoMemory"
-
--- the text of a body's fault
-abbrev pub fault_line : BodyFault → List ℕ
-fault_line fault = codes "line " ++ (decimal fault.line ++ (codes ": " ++ fault_name fault.fault))
+-- The line of this number is one of the body's, and the lines before it are read without a fault.
+pub record ReachesLine (db rp : List ℕ) (mode : Mode) (body : List ℕ) (n : ℕ) : Type 0 where
+  pub before : List (List ℕ)
+  pub line : List ℕ
+  pub behind : List (List ℕ)
+  pub points : List PointValue
+  pub lines_are : body_lines body ≡ before ++ line ∷ behind
+  pub number : n ≡ length before + 1
+  pub read : points_of db rp mode 1 before ≡ Ok points

@@ -1,6 +1,6 @@
 -- The grammar of a line (InfluxDB 1.8 line protocol reference): which bytes spell a point. Nothing here reads: a line
 -- is put together from spellings of the parts of a point, whatever spelling is chosen for each.
-use Rattle.std.specs.Prelude.{◌≡◌, ℕ, ℤ, ◌*◌, ◌^◌, Bool, true, false, not, ◌&&◌, ◌||◌, ◌==◌, List, [], ◌∷◌, ◌++◌, nat_le, codes, replicate, if◌then◌else◌}
+use Rattle.std.specs.Prelude.{◌≡◌, ℕ, ℤ, ◌*◌, Bool, true, false, not, ◌&&◌, ◌||◌, ◌==◌, List, [], ◌∷◌, ◌++◌, nat_le, codes, replicate, if◌then◌else◌}
 use Rattle.std.specs.Str.Parse.{digits_value}
 use Rattle.std.specs.FinMap.{empty}
 use Rattle.kap_base.specs.declared.value.Value.{Value}
@@ -8,6 +8,7 @@ use Rattle.kap_base.specs.declared.value.Value.TheVariants as values
 use Rattle.kap_base.specs.Texts.{backslash, begins_with, number_sign, is_empty}
 use Rattle.kap_base.specs.Maps.{with_entries}
 use Rattle.kap_base.specs.Points.{PointValue}
+use Rattle.kap_base.specs.declared.limits.TheConstants.{TIME_LIMIT}
 use Rattle.line_points.specs.declared.part.Part.{Part}
 use Rattle.line_points.specs.declared.part.Part.TheVariants as parts
 use Rattle.line_points.specs.declared.mode.Unit.{Unit}
@@ -57,7 +58,7 @@ spaces n = replicate n space
 -- where the mode is Live, for its `now`.
 pub data SpellsTime : Mode → ℤ → List ℕ → Type 0 where
   no_time : (unit : Unit) (now : ℤ) → SpellsTime (Live unit now) now []
-  some_time : (mode : Mode) (n : ℕ) (negative : Bool) (digits : List ℕ) → is_digits digits ≡ true → nat_le (digits_value 10 digits * nanoseconds (unit_of mode)) (9 * 10 ^ 18) ≡ true → SpellsTime mode (signed (negative, digits_value 10 digits * nanoseconds (unit_of mode))) (space ∷ (spaces n ++ (minus negative ++ digits)))
+  some_time : (mode : Mode) (n : ℕ) (negative : Bool) (digits : List ℕ) → is_digits digits ≡ true → nat_le (digits_value 10 digits * nanoseconds (unit_of mode)) TIME_LIMIT ≡ true → SpellsTime mode (signed (negative, digits_value 10 digits * nanoseconds (unit_of mode))) (space ∷ (spaces n ++ (minus negative ++ digits)))
 
 -- A line spells a point: spaces, the measurement, the tags, one space or more, the fields, the time, spaces. Each part is
 -- a spelling of the point's part.
@@ -91,3 +92,8 @@ pub record IsOf (database policy : List ℕ) (p : PointValue) : Type 0 where
   pub rp : p.rp ≡ policy
   pub dims : p.dims ≡ []
   pub by_name : p.by_name ≡ false
+
+-- the mode is Live, and the line is spaces, or spaces and behind them a number sign and what may follow it
+pub data IsBlank : Mode → List ℕ → Type 0 where
+  only_spaces : (unit : Unit) (now : ℤ) (n : ℕ) → IsBlank (Live unit now) (spaces n)
+  comment : (unit : Unit) (now : ℤ) (n : ℕ) (rest : List ℕ) → IsBlank (Live unit now) (spaces n ++ number_sign ∷ rest)

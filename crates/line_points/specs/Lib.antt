@@ -6,5 +6,7 @@ pub mod Line
 pub mod Grammar
 pub mod Print
 pub mod Body
+pub mod FaultText
 pub mod Reading
+pub mod FaultRows
 pub mod Answered

@@ -1,5 +1,5 @@
 -- What a line of the line protocol means: a point, nothing, or a fault, the first from left to right.
-use Rattle.std.specs.Prelude.{◌≡◌, ℕ, zero, suc, ℤ, ◌*◌, ◌^◌, Bool, true, false, not, ◌&&◌, ◌||◌, List, [], ◌∷◌, length, drop, Option, Some, None, Result, Ok, Err, bytes_eq, nat_lt, nat_le, if◌then◌else◌}
+use Rattle.std.specs.Prelude.{◌≡◌, ℕ, zero, suc, ℤ, ◌*◌, Bool, true, false, not, ◌&&◌, ◌||◌, List, [], ◌∷◌, length, drop, Option, Some, None, Result, Ok, Err, bytes_eq, nat_lt, nat_le, if◌then◌else◌}
 use Rattle.std.specs.List.{list_all, list_any, before_first, position_or_len}
 use Rattle.std.specs.Option.{option_map_or}
 use Rattle.std.specs.Str.{is_utf8}
@@ -10,6 +10,8 @@ use Rattle.kap_base.specs.Words.{◌>>=◌}
 use Rattle.kap_base.specs.Texts.{is_empty, begins_with, number_sign}
 use Rattle.kap_base.specs.Maps.{KeyMap, with_entries}
 use Rattle.kap_base.specs.Points.{PointValue, is_time}
+use Rattle.kap_base.specs.declared.limits.TheConstants.{TIME_LIMIT}
+use Rattle.line_points.specs.declared.line.TheConstants.{LINE_LIMIT}
 use Rattle.line_points.specs.declared.fault.LineFault.{LineFault}
 use Rattle.line_points.specs.declared.fault.LineFault.TheVariants as faults
 use Rattle.line_points.specs.declared.part.Part.TheVariants as parts
@@ -134,7 +136,7 @@ missing_time Recording = Err faults.NoTime
 
 -- a number of units, within the range of times
 abbrev pub scaled : Unit → Bool × ℕ → Result ℤ LineFault
-scaled unit n = if nat_le (n.1 * nanoseconds unit) (9 * 10 ^ 18) then Ok (signed (n.0, n.1 * nanoseconds unit)) else Err faults.TimeRange
+scaled unit n = if nat_le (n.1 * nanoseconds unit) TIME_LIMIT then Ok (signed (n.0, n.1 * nanoseconds unit)) else Err faults.TimeRange
 
 -- the time that a word spells
 abbrev pub word_time : Mode → List ℕ → Result ℤ LineFault
@@ -176,7 +178,7 @@ is_live Recording = false
 unfoldable pub line_of : List ℕ → List ℕ → Mode → List ℕ → Result (Option PointValue) LineFault
 line_of db rp mode line =
     if is_live mode && is_blank (without_spaces line) then Ok None
-    else if nat_lt 65536 (length line) then Err faults.Long
+    else if nat_lt LINE_LIMIT (length line) then Err faults.Long
     else (do
       point ← stored_of db rp mode line
       Ok (Some point))

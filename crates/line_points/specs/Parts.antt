@@ -44,6 +44,11 @@ is_space b = b == space
 abbrev pub is_separator : ℕ → Bool
 is_separator b = b == comma || b == space
 
+-- a comma, a space or nothing comes next
+abbrev pub is_at_separator : List ℕ → Bool
+is_at_separator [] = true
+is_at_separator (b ∷ bytes) = is_separator b
+
 -- the bytes from the first one on that is no space
 abbrev pub without_spaces : List ℕ → List ℕ
 without_spaces [] = []

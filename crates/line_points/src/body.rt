@@ -2,14 +2,13 @@ ghost use Rattle.std.specs.Prelude.{◌≡◌, ◌≢◌, ◌==◌, not, positio
 ghost use Rattle.std.specs.List.{before_first, after_first};
 ghost use Rattle.kap_base.specs.Texts.{has_line_feed, line_feed};
 ghost use Rattle.line_points.specs.Line.{has_time, line_of};
-ghost use Rattle.line_points.specs.Body.{with_line, body_of, fault_line, fault_name, without_return};
+ghost use Rattle.line_points.specs.Body.{ReachesLine, with_line, body_of, without_return};
 
 use crate::bytes::is_empty;
 use crate::fault::{BodyFault, LineFault};
 use crate::line::read_line;
 use crate::mode::Mode;
-use itoa::Buffer;
-use kap_base::{Bytes, NoMemory, Points, Text};
+use kap_base::{Points, Text};
 use std::alloc::Global;
 
 fn feed_place(body: &[u8]) -> Option<usize>
@@ -52,8 +51,10 @@ fn add_line(
     requires db { IsTrue (not (has_line_feed db.now)) }
     requires rp { IsTrue (not (has_line_feed rp.now)) }
     requires time { IsTrue (has_time mode.now) }
-    ensures added { OnOk result (with_line points.old (line_of db.now rp.now mode.now line.now) ≡ Ok points.new) }
-    ensures fault { IfErr result (λ f. f ≢ LineFault.NoMemory → line_of db.now rp.now mode.now line.now ≡ Err f) }
+    ensures added { OnOk result (
+        with_line points.old (line_of db.now rp.now mode.now line.now) ≡ Ok points.new) }
+    ensures fault { IfErr result (λ f.
+        f ≢ LineFault.NoMemory → line_of db.now rp.now mode.now line.now ≡ Err f) }
 {
     if let Some(point) = read_line(alloc, line, db, rp, mode)? {
         points.push(point)?;
@@ -62,7 +63,7 @@ fn add_line(
 }
 
 /// The points of all lines of a body, in their order, or the first faulty line. A line ends before a line feed, and one
-/// carriage return at its end isn't part of it.
+/// carriage return at its end isn't part of it. `NoMemory` comes with the line that was reached.
 pub fn read_body(
     alloc: Global,
     body: &[u8],
@@ -74,7 +75,9 @@ pub fn read_body(
     requires rp { IsTrue (not (has_line_feed rp.now)) }
     requires time { IsTrue (has_time mode.now) }
     ensures points { IfOk result (λ points. body_of db.now rp.now mode.now body.now ≡ Ok points) }
-    ensures fault { IfErr result (λ f. f.fault ≢ LineFault.NoMemory → body_of db.now rp.now mode.now body.now ≡ Err f) }
+    ensures fault { IfErr result (λ f.
+        f.fault ≢ LineFault.NoMemory → body_of db.now rp.now mode.now body.now ≡ Err f) }
+    ensures reached { IfErr result (λ f. ReachesLine db.now rp.now mode.now body.now f.line) }
 {
     let mut points = Points::new(alloc);
     let mut before = 0u64;
@@ -92,36 +95,4 @@ pub fn read_body(
         before += 1;
     }
     Ok(points)
-}
-
-fn name(fault: LineFault) -> &'static [u8]
-    ensures { result.now ≡ fault_name fault }
-{
-    match fault {
-        LineFault::Measurement => b"Measurement",
-        LineFault::Tag => b"Tag",
-        LineFault::NoField => b"NoField",
-        LineFault::Field => b"Field",
-        LineFault::FloatField => b"FloatField",
-        LineFault::UnsignedField => b"UnsignedField",
-        LineFault::Time => b"Time",
-        LineFault::TimeRange => b"TimeRange",
-        LineFault::NoTime => b"NoTime",
-        LineFault::Long => b"Long",
-        LineFault::NotUtf8 => b"NotUtf8",
-        LineFault::NoMemory => b"NoMemory",
-    }
-}
-
-/// The text `line N: FAULT` of a body's fault, where FAULT is the fault's name.
-pub fn body_text(alloc: Global, fault: &BodyFault) -> Result<Bytes, NoMemory>
-    ensures { IfOk result (λ text. text ≡ fault_line fault.now) }
-{
-    let mut buffer = Buffer::new();
-    let mut text = Bytes::new(alloc);
-    text.append(b"line ")?;
-    text.append(buffer.format(fault.line).as_bytes())?;
-    text.append(b": ")?;
-    text.append(name(fault.fault))?;
-    Ok(text)
 }

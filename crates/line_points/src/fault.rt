@@ -25,7 +25,7 @@ pub enum LineFault {
     TimeRange,
     /// A line of a recording has no time.
     NoTime,
-    /// The line has more than 65,536 bytes.
+    /// The line has more than `LINE_LIMIT` bytes.
     Long,
     /// The line isn't UTF-8.
     NotUtf8,

@@ -5,6 +5,7 @@
 mod body;
 mod bytes;
 mod fault;
+mod fault_text;
 mod law;
 mod line;
 mod mode;
@@ -16,12 +17,10 @@ mod scanner;
 mod time;
 mod word;
 
-pub use body::{body_text, read_body, without_return};
+pub use body::{read_body, without_return};
 pub use fault::{BodyFault, LineFault};
-pub use law::{each_spelling, one_answer};
-pub use line::{read_line, read_stored};
+pub use fault_text::body_text;
+pub use law::{blank_lines, each_spelling, fault_rows, one_meaning};
+pub use line::{LINE_LIMIT, read_line, read_stored};
 pub use mode::{Mode, Unit};
 pub use print::{print_line, put_line};
-
-#[cfg(test)]
-mod tests;

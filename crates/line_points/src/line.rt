@@ -1,11 +1,9 @@
-ghost use Rattle.std.specs.Prelude.{◌≡◌, ◌≢◌, ◌≤◌, Some, Ok, length, not, IsTrue, IfOk, IfErr, IfSome, IfNone};
-ghost use Rattle.std.specs.Str.{is_utf8};
+ghost use Rattle.std.specs.Prelude.{◌≡◌, ◌≢◌, Err, not, IsTrue, IfErr};
 ghost use Rattle.kap_base.specs.Words.{Answers};
 ghost use Rattle.kap_base.specs.Texts.{has_line_feed};
-ghost use Rattle.kap_base.specs.Points.{PointValue};
 ghost use Rattle.line_points.specs.Parts.{without_spaces};
 ghost use Rattle.line_points.specs.Line.{has_time, point_of, line_of, stored_of};
-ghost use Rattle.line_points.specs.Grammar.{IsOf, Spelled};
+ghost use Rattle.line_points.specs.Answered.{LineMeans, StoredMeans};
 
 use crate::bytes::{is_blank, text};
 use crate::fault::LineFault;
@@ -15,8 +13,8 @@ use crate::scanner::Scanner;
 use kap_base::{Duplicate, Names, Point, Text};
 use std::alloc::Global;
 
-/// The most bytes of a line.
-const LONGEST: usize = 65_536;
+/// How many bytes a line may have.
+pub const LINE_LIMIT: usize = 65_536;
 
 #[tactic(auto, unfolding(crate::specs::Line::point_of))]
 fn point(alloc: Global, line: &str, db: &Text, rp: &Text, mode: &Mode) -> Result<Point, LineFault>
@@ -75,7 +73,7 @@ fn read(
     if mode.is_live() && is_blank(line) {
         return Ok(None);
     }
-    if line.len() > LONGEST {
+    if line.len() > LINE_LIMIT {
         return Err(LineFault::Long);
     }
     let point = stored(alloc, line, db, rp, mode)?;
@@ -85,7 +83,7 @@ fn read(
 /// The point of a line, of this database and policy and ungrouped; `None` for a blank or comment line in Live mode; else the
 /// line's first fault (InfluxDB 1.8 line protocol reference).
 ///
-/// `Long` comes where the line has more than 65,536 bytes, and before `NotUtf8`; neither comes in a blank or comment line of
+/// `Long` comes where the line has more than `LINE_LIMIT` bytes, and before `NotUtf8`; neither comes in a blank or comment line of
 /// Live mode. The other faults come from left to right.
 pub fn read_line(
     alloc: Global,
@@ -100,10 +98,8 @@ pub fn read_line(
     requires time { IsTrue (has_time mode.now) }
     ensures read { Answers LineFault.NoMemory result (line_of db.now rp.now mode.now line.now) }
 
-    // What is read is spelled so by the line.
-    ensures spelled { IfOk result (λ o. IfSome o (λ p. Spelled mode.now p line.now × IsOf db.now rp.now p)) }
-    // Whatever spelling of a point the line is, it reads as that point.
-    ensures each_spelling { (p : PointValue) → IsOf db.now rp.now p → Spelled mode.now p line.now → IsTrue (is_utf8 line.now) → length line.now ≤ 65536 → Answers LineFault.NoMemory result (Ok (Some p)) }
+    // So it is in the words of the grammar.
+    ensures meaning { result ≢ Err LineFault.NoMemory → LineMeans db.now rp.now mode.now line.now result }
 {
     read(alloc, line, db, rp, mode)
 }
@@ -117,10 +113,8 @@ pub fn read_stored(alloc: Global, line: &[u8], db: &Text, rp: &Text) -> Result<P
     ensures read { Answers LineFault.NoMemory result (stored_of db.now rp.now Mode.Recording line.now) }
     ensures no_limit { IfErr result (λ f. f ≢ LineFault.Long) }
 
-    // What is read is spelled so by the line.
-    ensures spelled { IfOk result (λ p. Spelled Mode.Recording p line.now × IsOf db.now rp.now p) }
-    // Whatever spelling of a point the line is, it reads as that point.
-    ensures each_spelling { (p : PointValue) → IsOf db.now rp.now p → Spelled Mode.Recording p line.now → IsTrue (is_utf8 line.now) → Answers LineFault.NoMemory result (Ok p) }
+    // So it is in the words of the grammar.
+    ensures meaning { result ≢ Err LineFault.NoMemory → StoredMeans db.now rp.now line.now result }
 {
     stored(alloc, line, db, rp, &Mode::Recording)
 }

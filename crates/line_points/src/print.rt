@@ -1,8 +1,9 @@
-ghost use Rattle.std.specs.Prelude.{◌≡◌, ◌≤◌, ◌++◌, ◌∷◌, Ok, length, not, IsTrue, OnOk, IfOk};
+ghost use Rattle.std.specs.Prelude.{◌≡◌, ◌≤◌, ◌++◌, ◌∷◌, Ok, length, take, not, IsTrue, OnOk, OnErr, IfOk};
 ghost use Rattle.std.specs.List.{flat_map, list_any};
 ghost use Rattle.std.specs.Fmt.{signed_decimal};
 ghost use Rattle.kap_base.specs.Texts.{is_line};
 ghost use Rattle.kap_base.specs.Points.{IsPoint};
+ghost use Rattle.line_points.specs.declared.line.TheConstants.{LINE_LIMIT};
 ghost use Rattle.line_points.specs.Parts.{escapes};
 ghost use Rattle.line_points.specs.Line.{Reads, stored_of};
 ghost use Rattle.line_points.specs.Print.{escaped, value_text, tag_text, field_text, fields_text, Print, ungrouped};
@@ -21,7 +22,8 @@ fn needs_escapes(part: Part, bytes: &[u8]) -> bool
 }
 
 fn put_bytes_escaped(part: Part, bytes: &[u8], out: &mut Bytes) -> Result<(), NoMemory>
-    ensures { OnOk result (out.new ≡ out.old ++ escaped part bytes.now) }
+    ensures ok { OnOk result (out.new ≡ out.old ++ escaped part bytes.now) }
+    ensures before { take (length out.old) out.new ≡ out.old }
 {
     'bytes: for byte in bytes {
         if part.escapes(*byte) {
@@ -33,7 +35,8 @@ fn put_bytes_escaped(part: Part, bytes: &[u8], out: &mut Bytes) -> Result<(), No
 }
 
 fn put_escaped(part: Part, text: &Text, out: &mut Bytes) -> Result<(), NoMemory>
-    ensures { OnOk result (out.new ≡ out.old ++ escaped part text.now) }
+    ensures ok { OnOk result (out.new ≡ out.old ++ escaped part text.now) }
+    ensures before { take (length out.old) out.new ≡ out.old }
 {
     let bytes = text.bytes();
     if needs_escapes(part, bytes) {
@@ -43,7 +46,8 @@ fn put_escaped(part: Part, text: &Text, out: &mut Bytes) -> Result<(), NoMemory>
 }
 
 fn put_number(number: i64, out: &mut Bytes) -> Result<(), NoMemory>
-    ensures { OnOk result (out.new ≡ out.old ++ signed_decimal number) }
+    ensures ok { OnOk result (out.new ≡ out.old ++ signed_decimal number) }
+    ensures before { take (length out.old) out.new ≡ out.old }
 {
     let mut buffer = Buffer::new();
     out.append(buffer.format(number).as_bytes())
@@ -51,7 +55,8 @@ fn put_number(number: i64, out: &mut Bytes) -> Result<(), NoMemory>
 
 #[tactic(auto, unfolding(crate::specs::Print::value_text))]
 fn put_value(value: &Value, out: &mut Bytes) -> Result<(), NoMemory>
-    ensures { OnOk result (out.new ≡ out.old ++ value_text value.now) }
+    ensures ok { OnOk result (out.new ≡ out.old ++ value_text value.now) }
+    ensures before { take (length out.old) out.new ≡ out.old }
 {
     match value {
         Value::Int(number) => {
@@ -70,7 +75,8 @@ fn put_value(value: &Value, out: &mut Bytes) -> Result<(), NoMemory>
 }
 
 fn put_field(field: &(Text, Value), out: &mut Bytes) -> Result<(), NoMemory>
-    ensures { OnOk result (out.new ≡ out.old ++ field_text field.now) }
+    ensures ok { OnOk result (out.new ≡ out.old ++ field_text field.now) }
+    ensures before { take (length out.old) out.new ≡ out.old }
 {
     put_escaped(Part::Key, &field.0, out)?;
     out.push(b'=')?;
@@ -78,7 +84,8 @@ fn put_field(field: &(Text, Value), out: &mut Bytes) -> Result<(), NoMemory>
 }
 
 fn put_tags(tags: &[(Text, Text)], out: &mut Bytes) -> Result<(), NoMemory>
-    ensures { OnOk result (out.new ≡ out.old ++ flat_map tag_text tags.now) }
+    ensures ok { OnOk result (out.new ≡ out.old ++ flat_map tag_text tags.now) }
+    ensures before { take (length out.old) out.new ≡ out.old }
 {
     'tags: for tag in tags {
         out.push(b',')?;
@@ -90,7 +97,8 @@ fn put_tags(tags: &[(Text, Text)], out: &mut Bytes) -> Result<(), NoMemory>
 }
 
 fn put_more_fields(fields: &[(Text, Value)], out: &mut Bytes) -> Result<(), NoMemory>
-    ensures { OnOk result (out.new ≡ out.old ++ flat_map (λ g. 44 ∷ field_text g) fields.now) }
+    ensures ok { OnOk result (out.new ≡ out.old ++ flat_map (λ g. 44 ∷ field_text g) fields.now) }
+    ensures before { take (length out.old) out.new ≡ out.old }
 {
     'fields: for field in fields {
         out.push(b',')?;
@@ -100,7 +108,8 @@ fn put_more_fields(fields: &[(Text, Value)], out: &mut Bytes) -> Result<(), NoMe
 }
 
 fn put_fields(fields: &[(Text, Value)], out: &mut Bytes) -> Result<(), NoMemory>
-    ensures { OnOk result (out.new ≡ out.old ++ fields_text fields.now) }
+    ensures ok { OnOk result (out.new ≡ out.old ++ fields_text fields.now) }
+    ensures before { take (length out.old) out.new ≡ out.old }
 {
     if let Some((first, others)) = fields.split_first() {
         put_field(first, out)?;
@@ -109,11 +118,10 @@ fn put_fields(fields: &[(Text, Value)], out: &mut Bytes) -> Result<(), NoMemory>
     Ok(())
 }
 
-/// Adds the canonical line of a point, with its time in nanoseconds and without a line feed. After `NoMemory` a part of it may
-/// have been added.
-pub fn put_line(point: &Point, out: &mut Bytes) -> Result<(), NoMemory>
-    ensures line { OnOk result (out.new ≡ out.old ++ Print point.now) }
+fn put_parts(point: &Point, out: &mut Bytes) -> Result<(), NoMemory>
+    ensures ok { OnOk result (out.new ≡ out.old ++ Print point.now) }
     ensures point { OnOk result (IsPoint point.now) }
+    ensures before { take (length out.old) out.new ≡ out.old }
 {
     put_escaped(Part::Measurement, &point.name, out)?;
     put_tags(point.tags.entries(), out)?;
@@ -123,22 +131,34 @@ pub fn put_line(point: &Point, out: &mut Bytes) -> Result<(), NoMemory>
     put_number(point.time, out)
 }
 
-fn canonical_line(alloc: Global, point: &Point) -> Result<Bytes, NoMemory>
-    ensures line { IfOk result (λ line. line ≡ Print point.now) }
+/// Adds the canonical line of a point, with its time in nanoseconds and without a line feed. After `NoMemory` the bytes are as
+/// before.
+pub fn put_line(point: &Point, out: &mut Bytes) -> Result<(), NoMemory>
+    ensures line { OnOk result (out.new ≡ out.old ++ Print point.now) }
     ensures point { OnOk result (IsPoint point.now) }
+    ensures err { OnErr result (out.new ≡ out.old) }
 {
-    let mut out = Bytes::new(alloc);
-    put_line(point, &mut out)?;
-    Ok(out)
+    let before = out.len();
+    match put_parts(point, out) {
+        Ok(()) => Ok(()),
+        Err(no_memory) => {
+            out.truncate(before);
+            Err(no_memory)
+        }
+    }
 }
 
 /// The canonical line of a point, with its time in nanoseconds and without a line feed.
 pub fn print_line(alloc: Global, point: &Point) -> Result<Bytes, NoMemory>
     ensures line { IfOk result (λ line. line ≡ Print point.now) }
     ensures one_line { IfOk result (λ line. IsTrue (is_line line)) }
-    // Read again it gives the point, ungrouped: by `read_line` in Recording mode up to 65,536 bytes, by `read_stored` always.
-    ensures again { IfOk result (λ line. length line ≤ 65536 → Reads point.now.db point.now.rp Mode.Recording line (ungrouped point.now)) }
-    ensures stored_again { IfOk result (λ line. stored_of point.now.db point.now.rp Mode.Recording line ≡ Ok (ungrouped point.now)) }
+    // Read again it gives the point, ungrouped: by `read_line` in Recording mode up to `LINE_LIMIT` bytes, by `read_stored` always.
+    ensures again { IfOk result (λ line. length line ≤ LINE_LIMIT →
+        Reads point.now.db point.now.rp Mode.Recording line (ungrouped point.now)) }
+    ensures stored_again { IfOk result (λ line.
+        stored_of point.now.db point.now.rp Mode.Recording line ≡ Ok (ungrouped point.now)) }
 {
-    canonical_line(alloc, point)
+    let mut line = Bytes::new(alloc);
+    put_line(point, &mut line)?;
+    Ok(line)
 }

@@ -8,15 +8,13 @@ use crate::bytes::is_empty;
 use crate::fault::LineFault;
 use crate::mode::{Mode, Unit};
 use crate::number::{Number, read_number};
-
-/// The farthest that a time may lie from 1970, in nanoseconds.
-const FARTHEST: u128 = 9_000_000_000_000_000_000;
+use kap_base::TIME_LIMIT;
 
 fn scaled(unit: Unit, number: Number) -> Result<i64, LineFault>
     ensures { (n : Bool × ℕ) → parts number ≡ capped n → result ≡ scaled unit n }
 {
     let distance = u128::from(number.magnitude) * u128::from(unit.nanoseconds());
-    if distance > FARTHEST {
+    if distance > u128::from(TIME_LIMIT) {
         return Err(LineFault::TimeRange);
     }
     let time = distance as i64;

@@ -18,6 +18,3 @@ pub use fault::CodeFault;
 pub use fields::{put_bytes, put_i64, put_text, put_u8, put_u32, put_u64};
 pub use laws::{byte_string_laws, spelling_laws};
 pub use spelled::Spelled;
-
-#[cfg(test)]
-mod tests;

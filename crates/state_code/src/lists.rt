@@ -1,6 +1,8 @@
+//! Lists: a number of items, and the items.
+
 ghost use Rattle.std.specs.Prelude.{◌≡◌, ◌++◌, OnOk, length, take};
 ghost use Rattle.state_code.specs.Laws.{list_spelled};
-ghost use Rattle.state_code.specs.Places.{Reads};
+ghost use Rattle.state_code.specs.Places.{ReadsOrNot};
 ghost use Rattle.state_code.specs.Spelling.{FitsList, spell_list, read_list, read_many};
 
 use crate::cursor::Cursor;
@@ -32,7 +34,7 @@ fn read_items<T: Spelled + Drop>(
     count: u32,
     from: &mut Cursor,
 ) -> Result<ItemList<T>, CodeFault>
-    ensures { Reads (read_many T.read count) from.old from.new result }
+    ensures { ReadsOrNot (read_many T.read count) from.old from.new result }
 {
     let mut items = ItemList::new(alloc);
     'reading: for _ in 0..count {

@@ -37,10 +37,6 @@ pub and_left : (a b : Bool) → a ≡ false → (a && b) ≡ false
 and_left true b h = absurd (cc)
 and_left false b h = refl
 
-pub and_right : (a b : Bool) → b ≡ false → (a && b) ≡ false
-and_right true b h = h
-and_right false b h = refl
-
 -- the second part of an `and` that fails though the first holds
 pub and_rest : (a b : Bool) → a ≡ true → (a && b) ≡ false → b ≡ false
 and_rest true b h k = k
@@ -57,6 +53,3 @@ other_test m n h = grind (arith, nat_tests)
 
 pub not_same : (m n : ℕ) → eqb m n ≡ false → m ≢ n
 not_same m n h = λ (e : m ≡ n). grind (arith, nat_tests)
-
-pub symmetric : (m n : ℕ) → eqb m n ≡ eqb n m
-symmetric m n = grind (arith, nat_tests)

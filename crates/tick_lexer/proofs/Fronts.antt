@@ -5,12 +5,12 @@ use Rattle.kap_base.specs.declared.expr.Lit.TheVariants.{Int, Dur, Str, Bool as 
 use Rattle.kap_base.specs.declared.expr.Op.{Op}
 use Rattle.kap_base.specs.declared.expr.Op.TheVariants.{Or, And, Eq, Ne, Match, NoMatch, Lt, Le, Gt, Ge, Add, Sub, Mul, Div, Rem}
 use Rattle.tick_lexer.specs.declared.token.Kind.{Kind}
-use Rattle.tick_lexer.specs.declared.token.Kind.TheVariants.{Ident, Var, Lambda, Literal, Reference, Sign, Bang, Assign, Open, Close, Comma, Dot, Pipe}
+use Rattle.tick_lexer.specs.declared.token.Kind.TheVariants.{Ident, Var, Lambda, Literal, Reference, Operator, Not, Assign, OpenParen, CloseParen, Comma, Dot, Pipe}
 use Rattle.tick_lexer.specs.declared.token.LexFault.{LexFault}
 use Rattle.tick_lexer.specs.declared.token.LexFault.TheVariants.{BadChar, OpenString, OpenRegex, BadNumber, FloatLiteral, OctalLiteral, WideInt, WideDuration, UserFunction, NoMemory}
 use Rattle.tick_lexer.specs.Bytes.{is_letter, is_digit, is_word, is_white, is_mark, starts, NotFirst, starts_three}
-use Rattle.tick_lexer.specs.Spelling.{operator_bytes, Spelled, is_slash, is_equals, is_tilde, Ends, IsAllowed}
-use Rattle.tick_lexer.specs.Script.{IsOpenThree, IsOpen, Begins, place_of}
+use Rattle.tick_lexer.specs.Spelling.{operator_bytes, Spelled, is_slash, is_equals, is_tilde, EndsToken, IsAllowed}
+use Rattle.tick_lexer.specs.Script.{IsOpenThree, IsOpen, BeginsBadToken, place_of}
 use Rattle.tick_lexer.specs.Front.{Found, Took, Bad, word, quoted, before_three, tripled, paired, mark, number, front}
 use Rattle.tick_lexer.specs.Runs.{begins_comment}
 use Rattle.tick_lexer.proofs.Choices.{cond_false, choose, or_false, both_false, and_left, and_rest, is_same, other_test}
@@ -24,16 +24,16 @@ use Rattle.tick_lexer.proofs.Signs.{in_quotes, quoted_front, open_front, string_
 at_spelling : (pattern : Bool) (at : ℕ) (s t rest : List ℕ) (kind : Kind) → s ≡ t → front pattern at (t ++ rest) ≡ Took kind (length t) → front pattern at (s ++ rest) ≡ Took kind (length s)
 at_spelling pattern at s t rest kind e h = subst (λ (l : List ℕ). front pattern at (l ++ rest) ≡ Took kind (length l)) (sym e) h
 
-operator_front : (pattern : Bool) (at : ℕ) (op : Op) (s rest : List ℕ) → Ends (Sign op) s rest → IsAllowed pattern (Sign op) → front pattern at (operator_bytes op ++ rest) ≡ Took (Sign op) (length (operator_bytes op))
+operator_front : (pattern : Bool) (at : ℕ) (op : Op) (s rest : List ℕ) → EndsToken (Operator op) s rest → IsAllowed pattern (Operator op) → front pattern at (operator_bytes op ++ rest) ≡ Took (Operator op) (length (operator_bytes op))
 operator_front pattern at Or s rest e a = front_name pattern at (codes "OR") rest (refl, (refl, tt)) e
 operator_front pattern at And s rest e a = front_name pattern at (codes "AND") rest (refl, (refl, (refl, tt))) e
 operator_front pattern at Eq s rest e a = refl
 operator_front pattern at Ne s rest e a = refl
 operator_front pattern at Match s rest e a = refl
 operator_front pattern at NoMatch s rest e a = refl
-operator_front pattern at Lt s rest e a = cond_false (starts is_equals rest) (Took (Sign Le) 2) (Took (Sign Lt) 1) e
+operator_front pattern at Lt s rest e a = cond_false (starts is_equals rest) (Took (Operator Le) 2) (Took (Operator Lt) 1) e
 operator_front pattern at Le s rest e a = refl
-operator_front pattern at Gt s rest e a = cond_false (starts is_equals rest) (Took (Sign Ge) 2) (Took (Sign Gt) 1) e
+operator_front pattern at Gt s rest e a = cond_false (starts is_equals rest) (Took (Operator Ge) 2) (Took (Operator Gt) 1) e
 operator_front pattern at Ge s rest e a = refl
 operator_front pattern at Add s rest e a = refl
 operator_front pattern at Sub s rest e a = refl
@@ -51,7 +51,7 @@ alone first second kind rest e f =
     ∙ cond_false (starts is_tilde rest) (Took second 2) (Took kind 1) f
 
 -- a token that ends where it must is found
-pub taken : (kind : Kind) (pattern : Bool) (at : ℕ) (s rest : List ℕ) → Spelled kind s → Ends kind s rest → IsAllowed pattern kind → front pattern at (s ++ rest) ≡ Took kind (length s)
+pub taken : (kind : Kind) (pattern : Bool) (at : ℕ) (s rest : List ℕ) → Spelled kind s → EndsToken kind s rest → IsAllowed pattern kind → front pattern at (s ++ rest) ≡ Took kind (length s)
 taken (Ident name) pattern at s rest h e a = at_spelling pattern at s name rest (Ident name) h.0 (ident_front pattern at name rest h.1 h.2 e.0 e.1)
 taken Var pattern at s rest h e a = at_spelling pattern at s (codes "var") rest Var h (front_name pattern at (codes "var") rest (refl, (refl, (refl, tt))) e)
 taken Lambda pattern at s rest h e a =
@@ -65,11 +65,11 @@ taken (Literal (Regex text)) pattern at s rest h e a =
     (ap (λ (p : Bool). front p at (in_quotes 47 text ++ rest)) a
     ∙ quoted_front (λ t. Literal (Regex t)) (OpenRegex at) 47 text rest (omega arith) h.0.1)
 taken (Reference text) pattern at s rest h e a = at_spelling pattern at s (in_quotes 34 text) rest (Reference text) h.0 (quoted_front Reference (OpenString at) 34 text rest (omega arith) h.1)
-taken (Sign op) pattern at s rest h e a = at_spelling pattern at s (operator_bytes op) rest (Sign op) h (operator_front pattern at op s rest e a)
-taken Bang pattern at s rest h e a = at_spelling pattern at s (codes "!") rest Bang h (alone (Sign Ne) (Sign NoMatch) Bang rest e.0 e.1)
-taken Assign pattern at s rest h e a = at_spelling pattern at s (codes "=") rest Assign h (alone (Sign Eq) (Sign Match) Assign rest e.0 e.1)
-taken Open pattern at s rest h e a = at_spelling pattern at s (codes "(") rest Open h refl
-taken Close pattern at s rest h e a = at_spelling pattern at s (codes ")") rest Close h refl
+taken (Operator op) pattern at s rest h e a = at_spelling pattern at s (operator_bytes op) rest (Operator op) h (operator_front pattern at op s rest e a)
+taken Not pattern at s rest h e a = at_spelling pattern at s (codes "!") rest Not h (alone (Operator Ne) (Operator NoMatch) Not rest e.0 e.1)
+taken Assign pattern at s rest h e a = at_spelling pattern at s (codes "=") rest Assign h (alone (Operator Eq) (Operator Match) Assign rest e.0 e.1)
+taken OpenParen pattern at s rest h e a = at_spelling pattern at s (codes "(") rest OpenParen h refl
+taken CloseParen pattern at s rest h e a = at_spelling pattern at s (codes ")") rest CloseParen h refl
 taken Comma pattern at s rest h e a = at_spelling pattern at s (codes ",") rest Comma h refl
 taken Dot pattern at s rest h e a = at_spelling pattern at s (codes ".") rest Dot h refl
 taken Pipe pattern at s rest h e a = at_spelling pattern at s (codes "|") rest Pipe h refl
@@ -132,7 +132,7 @@ open_pattern pattern at text p h =
     ∙ open_front (λ t. Literal (Regex t)) (OpenRegex at) 47 h.rest (omega arith) (λ content s back e q. h.no_end content s back (h.begins ∙ e) q)
 
 -- a fault that begins is found
-pub failed : (fault : LexFault) (pattern : Bool) (text : List ℕ) → Begins pattern fault text → front pattern (place_of fault) text ≡ Bad fault
+pub failed : (fault : LexFault) (pattern : Bool) (text : List ℕ) → BeginsBadToken pattern fault text → front pattern (place_of fault) text ≡ Bad fault
 failed (BadChar at) pattern text h =
     let b = h.0 in
     let none = h.3 in

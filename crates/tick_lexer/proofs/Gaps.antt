@@ -7,12 +7,12 @@ use Rattle.kap_base.specs.declared.expr.Lit.TheVariants.{Int, Dur, Str, Bool as 
 use Rattle.kap_base.specs.declared.expr.Op.{Op}
 use Rattle.kap_base.specs.declared.expr.Op.TheVariants.{Or, And, Eq, Ne, Match, NoMatch, Lt, Le, Gt, Ge, Add, Sub, Mul, Div, Rem}
 use Rattle.tick_lexer.specs.declared.token.Kind.{Kind}
-use Rattle.tick_lexer.specs.declared.token.Kind.TheVariants.{Ident, Var, Lambda, Literal, Reference, Sign, Bang, Assign, Open, Close, Comma, Dot, Pipe}
+use Rattle.tick_lexer.specs.declared.token.Kind.TheVariants.{Ident, Var, Lambda, Literal, Reference, Operator, Not, Assign, OpenParen, CloseParen, Comma, Dot, Pipe}
 use Rattle.tick_lexer.specs.declared.token.LexFault.{LexFault}
 use Rattle.tick_lexer.specs.declared.token.LexFault.TheVariants.{BadChar, OpenString, OpenRegex, BadNumber, FloatLiteral, OctalLiteral, WideInt, WideDuration, UserFunction, NoMemory}
 use Rattle.tick_lexer.specs.Bytes.{is_letter, is_word, is_white, is_mark, starts, starts_three}
-use Rattle.tick_lexer.specs.Spelling.{IsName, unit_bytes, operator_bytes, escaped, Quoted, Tripled, Spelled, is_slash, Ends}
-use Rattle.tick_lexer.specs.Script.{Place, Between, Slash, Comment, IsGap, IsOpenThree, IsOpen, Begins, BeginsBadNumber}
+use Rattle.tick_lexer.specs.Spelling.{IsName, unit_bytes, operator_bytes, escaped, Quoted, Tripled, Spelled, is_slash, EndsToken}
+use Rattle.tick_lexer.specs.Script.{Place, Between, Slash, Comment, IsGap, IsOpenThree, IsOpen, BeginsBadToken, BeginsBadNumber}
 use Rattle.tick_lexer.specs.Runs.{begins_comment, skipped}
 use Rattle.tick_lexer.proofs.Choices.{cond_true, cond_false, choose, or_false, and_true, and_left, is_same, other_test, not_same}
 use Rattle.tick_lexer.proofs.Signs.{in_quotes}
@@ -70,7 +70,7 @@ pattern_gap (c ∷ text) back ne =
     let P : List ℕ → Type 0 = λ l. starts is_slash ((l ++ 47 ∷ []) ++ back) ≡ false in
     choose P (eqb c 47) (92 ∷ c ∷ more) (c ∷ more) (λ e. refl) (λ e. e)
 
-operator_gap : (op : Op) (s rest : List ℕ) → Ends (Sign op) s rest → NoGap (operator_bytes op ++ rest)
+operator_gap : (op : Op) (s rest : List ℕ) → EndsToken (Operator op) s rest → NoGap (operator_bytes op ++ rest)
 operator_gap Or s rest e = other_gap 79 (82 ∷ rest) refl refl
 operator_gap And s rest e = other_gap 65 (78 ∷ 68 ∷ rest) refl refl
 operator_gap Eq s rest e = other_gap 61 (61 ∷ rest) refl refl
@@ -95,7 +95,7 @@ string_gap text s rest h =
     h
 
 -- no token begins a gap
-pub token_gap : (kind : Kind) (s rest : List ℕ) → Spelled kind s → Ends kind s rest → NoGap (s ++ rest)
+pub token_gap : (kind : Kind) (s rest : List ℕ) → Spelled kind s → EndsToken kind s rest → NoGap (s ++ rest)
 token_gap (Ident name) s rest h e = at_bytes s name rest h.0 (name_gap name rest h.1)
 token_gap Var s rest h e = at_bytes s (codes "var") rest h (other_gap 118 (97 ∷ 114 ∷ rest) refl refl)
 token_gap Lambda s rest h e = at_bytes s (codes "lambda:") rest h (name_gap (codes "lambda") (58 ∷ rest) (refl, (refl, (refl, (refl, (refl, (refl, tt)))))))
@@ -108,11 +108,11 @@ token_gap (Literal (Truth b)) s rest h e = at_bytes s (cond b (codes "TRUE") (co
 token_gap (Literal (Regex text)) s rest h e =
     at_bytes s (in_quotes 47 text) rest h.0.0 (first_gap 47 ((escaped 47 text ++ 47 ∷ []) ++ rest) refl (pattern_gap text rest h.1))
 token_gap (Reference text) s rest h e = at_bytes s (in_quotes 34 text) rest h.0 (other_gap 34 ((escaped 34 text ++ 34 ∷ []) ++ rest) refl refl)
-token_gap (Sign op) s rest h e = at_bytes s (operator_bytes op) rest h (operator_gap op s rest e)
-token_gap Bang s rest h e = at_bytes s (codes "!") rest h (other_gap 33 rest refl refl)
+token_gap (Operator op) s rest h e = at_bytes s (operator_bytes op) rest h (operator_gap op s rest e)
+token_gap Not s rest h e = at_bytes s (codes "!") rest h (other_gap 33 rest refl refl)
 token_gap Assign s rest h e = at_bytes s (codes "=") rest h (other_gap 61 rest refl refl)
-token_gap Open s rest h e = at_bytes s (codes "(") rest h (other_gap 40 rest refl refl)
-token_gap Close s rest h e = at_bytes s (codes ")") rest h (other_gap 41 rest refl refl)
+token_gap OpenParen s rest h e = at_bytes s (codes "(") rest h (other_gap 40 rest refl refl)
+token_gap CloseParen s rest h e = at_bytes s (codes ")") rest h (other_gap 41 rest refl refl)
 token_gap Comma s rest h e = at_bytes s (codes ",") rest h (other_gap 44 rest refl refl)
 token_gap Dot s rest h e = at_bytes s (codes ".") rest h (other_gap 46 rest refl refl)
 token_gap Pipe s rest h e = at_bytes s (codes "|") rest h (other_gap 124 rest refl refl)
@@ -129,7 +129,7 @@ no_slash b h =
     go (eqb b 47) refl
 
 -- no fault begins in a gap
-pub fault_gap : (fault : LexFault) (pattern : Bool) (text : List ℕ) → Begins pattern fault text → NoGap text
+pub fault_gap : (fault : LexFault) (pattern : Bool) (text : List ℕ) → BeginsBadToken pattern fault text → NoGap text
 fault_gap (BadChar at) pattern text h =
     let b = h.0 in
     let one = or_false (is_word b) (is_mark b || is_white b) h.3 in

@@ -7,13 +7,14 @@ use Rattle.std.specs.List.{take_while}
 use Rattle.std.specs.Str.Parse.{AllDigits, IsNumeral, digits_value}
 use Rattle.std.specs.Char.{digit_value}
 use Rattle.kap_base.specs.declared.expr.Lit.TheVariants.{Int, Dur}
+use Rattle.tick_lexer.specs.declared.limits.TheConstants.{DURATION_LIMIT}
 use Rattle.tick_lexer.specs.declared.token.Kind.TheVariants.{Literal}
 use Rattle.tick_lexer.specs.declared.token.LexFault.{LexFault}
 use Rattle.tick_lexer.specs.declared.token.LexFault.TheVariants.{BadChar, OpenString, OpenRegex, BadNumber, FloatLiteral, OctalLiteral, WideInt, WideDuration, UserFunction, NoMemory}
 use Rattle.tick_lexer.specs.declared.unit.Unit as units
 use Rattle.tick_lexer.specs.declared.unit.Unit.TheVariants.{Week, Day, Hour, Minute, Second, Milli, Micro, MicroSign}
 use Rattle.tick_lexer.specs.Bytes.{is_letter, is_digit, is_word, AllPass, starts, NotFirst, starts_micro}
-use Rattle.tick_lexer.specs.Spelling.{has_leading_zero, IsPlainNumeral, unit_bytes, unit_nanos, longest_duration, IsDuration, is_dot, EndsInt}
+use Rattle.tick_lexer.specs.Spelling.{has_leading_zero, IsPlainNumeral, unit_bytes, unit_nanos, IsDuration, is_dot, EndsInt}
 use Rattle.tick_lexer.specs.Script.{Digits, IsBadNumber, BeginsBadNumber, place_of}
 use Rattle.tick_lexer.specs.Front.{Took, Bad, unit_at, integer, duration, measured, numeral, number, front}
 use Rattle.tick_lexer.proofs.Choices.{cond_true, cond_false, choose, or_false, or_left, and_left, and_true, is_same}
@@ -282,19 +283,19 @@ test_lt m n h = grind (arith, nat_tests)
 small_test : (m n : ℕ) → n ≤ m → ltb m n ≡ false
 small_test m n h = grind (arith, nat_tests)
 
-pub duration_front : (pattern : Bool) (at nanos : ℕ) (s rest : List ℕ) → IsDuration nanos s → nanos ≤ longest_duration → NotFirst is_word rest → front pattern at (s ++ rest) ≡ Took (Literal (Dur (pos nanos))) (length s)
+pub duration_front : (pattern : Bool) (at nanos : ℕ) (s rest : List ℕ) → IsDuration nanos s → nanos ≤ DURATION_LIMIT → NotFirst is_word rest → front pattern at (s ++ rest) ≡ Took (Literal (Dur (pos nanos))) (length s)
 duration_front pattern at nanos s rest d small h =
     let digits = d.digits in
     let unit = d.unit in
     let tail = unit_bytes unit ++ rest in
     let value = digits_value 10 digits * unit_nanos unit in
     let size : length digits + length (unit_bytes unit) ≡ length s = sym (ap (λ (l : List ℕ). length l) d.joined ∙ length-append digits (unit_bytes unit)) in
-    let fits : value ≤ longest_duration = let v = d.value in omega arith in
+    let fits : value ≤ DURATION_LIMIT = let v = d.value in omega arith in
     ap (λ (l : List ℕ). front pattern at l) (ap (λ (l : List ℕ). l ++ rest) d.joined ∙ append_assoc digits (unit_bytes unit) rest)
     ∙ digits_front pattern at digits tail d.plain.0 (unit_no_digit unit rest)
     ∙ numeral_measured at digits tail d.plain.1 (unit_no_dot unit rest)
     ∙ measured_unit at digits tail rest unit refl h
-    ∙ cond_true (leb value longest_duration) (Took (Literal (Dur (pos value))) (length digits + length (unit_bytes unit))) (Bad (WideDuration at)) (le_test value longest_duration fits)
+    ∙ cond_true (leb value DURATION_LIMIT) (Took (Literal (Dur (pos value))) (length digits + length (unit_bytes unit))) (Bad (WideDuration at)) (le_test value DURATION_LIMIT fits)
     ∙ ap (λ (n : ℕ). Took (Literal (Dur (pos n))) (length digits + length (unit_bytes unit))) (sym d.value)
     ∙ ap (λ (n : ℕ). Took (Literal (Dur (pos nanos))) n) size
 
@@ -326,7 +327,7 @@ bad_front (WideDuration at) digits tail h =
     let value = digits_value 10 digits * unit_nanos w.unit in
     numeral_measured at digits tail h.0 (ap (λ (l : List ℕ). starts is_dot l) w.joined ∙ unit_no_dot w.unit w.back)
     ∙ measured_unit at digits tail w.back w.unit w.joined w.ends
-    ∙ cond_false (leb value longest_duration) (Took (Literal (Dur (pos value))) (length digits + length (unit_bytes w.unit))) (Bad (WideDuration at)) (lt_test value longest_duration w.wide)
+    ∙ cond_false (leb value DURATION_LIMIT) (Took (Literal (Dur (pos value))) (length digits + length (unit_bytes w.unit))) (Bad (WideDuration at)) (lt_test value DURATION_LIMIT w.wide)
 bad_front (BadChar at) digits tail h = elim h [ ]
 bad_front (OpenString at) digits tail h = elim h [ ]
 bad_front (OpenRegex at) digits tail h = elim h [ ]
@@ -360,13 +361,13 @@ duration_sound : (pattern : Bool) (at : ℕ) (digits tail text back : List ℕ) 
 duration_sound pattern at digits tail text back unit d plain e ends =
     let value = digits_value 10 digits * unit_nanos unit in
     let s = digits ++ unit_bytes unit in
-    choose (Sound pattern at text) (leb value longest_duration) (Took (Literal (Dur (pos value))) (length digits + length (unit_bytes unit))) (Bad (WideDuration at))
+    choose (Sound pattern at text) (leb value DURATION_LIMIT) (Took (Literal (Dur (pos value))) (length digits + length (unit_bytes unit))) (Bad (WideDuration at))
     (λ f. sound_took pattern at text (Literal (Dur (pos value))) (length digits + length (unit_bytes unit)) (record {
       bytes = s;
       rest = back;
       joined = d.joined ∙ ap (λ (l : List ℕ). digits ++ l) e ∙ sym (append_assoc digits (unit_bytes unit) back);
       size = sym (length-append digits (unit_bytes unit));
-      spelled = (value, refl, record { digits = digits; unit = unit; joined = refl; plain = (d.numeral, plain); value = refl }, test_le value longest_duration f);
+      spelled = (value, refl, record { digits = digits; unit = unit; joined = refl; plain = (d.numeral, plain); value = refl }, test_le value DURATION_LIMIT f);
       ends = ends;
       allowed = tt;
     }))
@@ -374,7 +375,7 @@ duration_sound pattern at digits tail text back unit d plain e ends =
       digits = digits;
       tail = tail;
       number = d;
-      bad = (plain, record { unit = unit; back = back; joined = e; ends = ends; wide = test_lt value longest_duration f });
+      bad = (plain, record { unit = unit; back = back; joined = e; ends = ends; wide = test_lt value DURATION_LIMIT f });
     }) refl)
 
 measured_sound : (pattern : Bool) (at : ℕ) (digits tail text : List ℕ) (o : Option units.Unit) → unit_at tail ≡ o → Digits digits tail text → has_leading_zero digits ≡ false → starts is_dot tail ≡ false → Sound pattern at text (measured at digits tail o)

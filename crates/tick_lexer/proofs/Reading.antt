@@ -33,7 +33,7 @@ grow : (front text other : List ℕ) (n : ℕ) (s result : Scan) → text ++ fro
 grow front text other n s result e h = ap (λ (l : List ℕ). onwards l (n + 1) s) (sym e) ∙ sym (onwards_grown text front n s) ∙ h
 
 -- a segment that is one byte longer
-segment_more : (s : List ℕ) (start stop : ℕ) → start ≤ stop → stop < length s → segment s start (stop + 1) ≡ segment s start stop ++ (get_or s stop 0 ∷ [])
+pub segment_more : (s : List ℕ) (start stop : ℕ) → start ≤ stop → stop < length s → segment s start (stop + 1) ≡ segment s start stop ++ (get_or s stop 0 ∷ [])
 segment_more s start stop le lt =
     let k = length-drop start s in
     let there : stop - start < length (drop start s) = omega arith in
@@ -43,7 +43,8 @@ segment_more s start stop le lt =
     ∙ take_more (drop start s) (stop - start) 0 there
     ∙ ap (λ (b : ℕ). take (stop - start) (drop start s) ++ (b ∷ [])) (get_or-drop start s (stop - start) 0 ∙ ap (λ (n : ℕ). get_or s n 0) place)
 
-byte_at : (s : List ℕ) (index : ℕ) → index < length s → drop index s ≡ get_or s index 0 ∷ drop (index + 1) s
+-- what stands at a place, and behind it
+pub byte_at : (s : List ℕ) (index : ℕ) → index < length s → drop index s ≡ get_or s index 0 ∷ drop (index + 1) s
 byte_at s index lt =
     let next : suc index ≡ index + 1 = omega arith in
     drop-cons s index 0 lt ∙ ap (λ (n : ℕ). get_or s index 0 ∷ drop n s) next
@@ -179,30 +180,6 @@ after_quote quote s read now start stop index next r lt e small is n =
       cut = IsCharBoundary-before_ascii s index lt (omega arith);
       reads = at_text ((read ++ segment s start stop) ++ (get_or s index 0 ∷ [])) (now ++ segment s index next) (index + 1) (scan quote (drop (index + 1) s) false) (scan quote s false) (ap (λ (l : List ℕ). l ++ (get_or s index 0 ∷ [])) (sym is ∙ sym nothing) ∙ more) (quote_behind quote s (read ++ segment s start stop) index (get_or s index 0) (drop (index + 1) s) (scan quote s false) d e r.reads);
     }
-
--- at the quote that ends the text
-pub at_quote : (quote : ℕ) (s read now : List ℕ) (start stop index : ℕ) → Reading quote s read start stop index false → index < length s → eqb (get_or s index 0) quote ≡ true → now ≡ read ++ segment s start stop → scan quote s false ≡ Shut now (index + 1)
-at_quote quote s read now start stop index r lt e is =
-    let d = byte_at s index lt in
-    let rest = drop (index + 1) s in
-    let b = get_or s index 0 in
-    let there : scan quote (drop index s) false ≡ Shut [] 1 =
-    ap (λ (l : List ℕ). scan quote l false) d
-    ∙ ap (λ (t : Bool). cond t (Shut [] 1) (cond (eqb b 92) (grown [] (scan quote rest true)) (grown (b ∷ []) (scan quote rest false)))) e in
-    sym r.reads
-    ∙ ap (λ (x : Scan). onwards (read ++ segment s start stop) index x) there
-    ∙ ap (λ (l : List ℕ). Shut l (index + 1)) (append-nil (read ++ segment s start stop) ∙ sym is)
-
--- where what was read may be cut
-pub reading_cut : (quote : ℕ) (s read : List ℕ) (start stop index : ℕ) (behind : Bool) → Reading quote s read start stop index behind → index < length s → eqb (get_or s index 0) quote ≡ true → quote < 128 → IsCharBoundary s stop
-reading_cut quote s read start stop index false r lt e small =
-    let same : stop ≡ index = r.follows refl in
-    let byte : get_or s stop 0 ≡ quote = ap (λ (k : ℕ). get_or s k 0) same ∙ is_same (get_or s index 0) quote e in
-    IsCharBoundary-before_ascii s stop (omega arith) (omega arith)
-reading_cut quote s read start stop index true r lt e small =
-    let w : stop + 1 ≡ index = r.waits refl in
-    let byte : get_or s stop 0 ≡ 92 = r.slash refl in
-    IsCharBoundary-before_ascii s stop (omega arith) (omega arith)
 
 -- how far is read next
 pub record Stops (bytes : List ℕ) (index stop : ℕ) : Type 0 where

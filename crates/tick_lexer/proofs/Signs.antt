@@ -5,11 +5,11 @@ use Rattle.std.proofs.Math.Seq.{take-append_seam}
 use Rattle.kap_base.specs.declared.expr.Lit.TheVariants.{Str, Regex}
 use Rattle.kap_base.specs.declared.expr.Op.TheVariants.{Eq, Ne, Match, NoMatch, Lt, Le, Gt, Ge, Add, Sub, Mul, Div, Rem}
 use Rattle.tick_lexer.specs.declared.token.Kind.{Kind}
-use Rattle.tick_lexer.specs.declared.token.Kind.TheVariants.{Literal, Reference, Sign, Bang, Assign, Open, Close, Comma, Dot, Pipe}
+use Rattle.tick_lexer.specs.declared.token.Kind.TheVariants.{Literal, Reference, Operator, Not, Assign, OpenParen, CloseParen, Comma, Dot, Pipe}
 use Rattle.tick_lexer.specs.declared.token.LexFault.{LexFault}
 use Rattle.tick_lexer.specs.declared.token.LexFault.TheVariants.{BadChar, OpenString, OpenRegex, UserFunction}
 use Rattle.tick_lexer.specs.Bytes.{is_word, is_white, is_mark, starts, NotFirst, starts_three}
-use Rattle.tick_lexer.specs.Spelling.{escaped, EndsPlain, Quoted, Tripled, Spelled, is_single_quote, is_slash, is_equals, is_tilde, Ends, IsAllowed}
+use Rattle.tick_lexer.specs.Spelling.{escaped, EndsPlain, Quoted, Tripled, Spelled, is_single_quote, is_slash, is_equals, is_tilde, EndsToken, IsAllowed}
 use Rattle.tick_lexer.specs.Script.{IsOpen}
 use Rattle.tick_lexer.specs.Front.{Found, Took, Bad, Scan, Endless, Shut, scan, shut, quoted, before_three, tripled, string, sign, mark, front}
 use Rattle.tick_lexer.proofs.Choices.{cond_false, choose, both_false, and_true, and_rest, is_same, not_same}
@@ -41,7 +41,7 @@ open_front kind fault quote rest ne h =
 
 -- what is found at a quote
 quoted_sound : (pattern : Bool) (at : ℕ) (kind : List ℕ → Kind) (fault : LexFault) (quote : ℕ) (rest : List ℕ) → quote ≢ 92
-    → ((content back : List ℕ) → rest ≡ (escaped quote content ++ quote ∷ []) ++ back → Quoted quote content (in_quotes quote content) → Spelled (kind content) (in_quotes quote content) × Ends (kind content) (in_quotes quote content) back × IsAllowed pattern (kind content))
+    → ((content back : List ℕ) → rest ≡ (escaped quote content ++ quote ∷ []) ++ back → Quoted quote content (in_quotes quote content) → Spelled (kind content) (in_quotes quote content) × EndsToken (kind content) (in_quotes quote content) back × IsAllowed pattern (kind content))
     → (IsOpen quote (quote ∷ rest) → Sound pattern at (quote ∷ rest) (Bad fault))
     → Sound pattern at (quote ∷ rest) (quoted kind fault quote rest)
 quoted_sound pattern at kind fault quote rest ne good bad =
@@ -168,7 +168,7 @@ pattern_sound at rest pattern p quiet =
     (λ o. sound_bad pattern at (47 ∷ rest) (OpenRegex at) (p, o, (λ other e. slash_rest rest other quiet e)) refl)
 
 -- a sign of one byte, or of two
-one : (pattern : Bool) (at b : ℕ) (rest : List ℕ) (code : ℕ) (kind : Kind) → eqb b code ≡ true → Spelled kind (code ∷ []) → Ends kind (code ∷ []) rest → IsAllowed pattern kind → Sound pattern at (b ∷ rest) (Took kind 1)
+one : (pattern : Bool) (at b : ℕ) (rest : List ℕ) (code : ℕ) (kind : Kind) → eqb b code ≡ true → Spelled kind (code ∷ []) → EndsToken kind (code ∷ []) rest → IsAllowed pattern kind → Sound pattern at (b ∷ rest) (Took kind 1)
 one pattern at b rest code kind e sp en al = sound_took pattern at (b ∷ rest) kind 1 (record {
   bytes = code ∷ [];
   rest = rest;
@@ -179,7 +179,7 @@ one pattern at b rest code kind e sp en al = sound_took pattern at (b ∷ rest) 
   allowed = al;
 })
 
-two : (pattern : Bool) (at b : ℕ) (rest : List ℕ) (code second : ℕ) (kind : Kind) → eqb b code ≡ true → starts (λ c. eqb c second) rest ≡ true → Spelled kind (code ∷ second ∷ []) → ((back : List ℕ) → Ends kind (code ∷ second ∷ []) back) → IsAllowed pattern kind → Sound pattern at (b ∷ rest) (Took kind 2)
+two : (pattern : Bool) (at b : ℕ) (rest : List ℕ) (code second : ℕ) (kind : Kind) → eqb b code ≡ true → starts (λ c. eqb c second) rest ≡ true → Spelled kind (code ∷ second ∷ []) → ((back : List ℕ) → EndsToken kind (code ∷ second ∷ []) back) → IsAllowed pattern kind → Sound pattern at (b ∷ rest) (Took kind 2)
 two pattern at b [] code second kind e f sp en al = absurd (cc)
 two pattern at b (c ∷ rest) code second kind e f sp en al = sound_took pattern at (b ∷ c ∷ rest) kind 2 (record {
   bytes = code ∷ second ∷ [];
@@ -198,30 +198,30 @@ unmarked b rest w m s u = (b, rest, refl, both_false (is_word b) (is_mark b || i
 sign_sound : (pattern : Bool) (at b : ℕ) (rest : List ℕ) → is_word b ≡ false → is_white b ≡ false → eqb b 39 ≡ false → eqb b 34 ≡ false → (eqb b 47 ≡ true → (pattern ≡ false) × NotFirst is_slash rest) → Sound pattern at (b ∷ rest) (sign at b rest)
 sign_sound pattern at b rest word white single double slash =
     let P = Sound pattern at (b ∷ rest) in
-    choose P (eqb b 40) _ _ (λ e. one pattern at b rest 40 Open e refl tt tt)
-    (λ n40. choose P (eqb b 41) _ _ (λ e. one pattern at b rest 41 Close e refl tt tt)
+    choose P (eqb b 40) _ _ (λ e. one pattern at b rest 40 OpenParen e refl tt tt)
+    (λ n40. choose P (eqb b 41) _ _ (λ e. one pattern at b rest 41 CloseParen e refl tt tt)
     (λ n41. choose P (eqb b 44) _ _ (λ e. one pattern at b rest 44 Comma e refl tt tt)
     (λ n44. choose P (eqb b 46) _ _ (λ e. one pattern at b rest 46 Dot e refl tt tt)
     (λ n46. choose P (eqb b 124) _ _ (λ e. one pattern at b rest 124 Pipe e refl tt tt)
-    (λ n124. choose P (eqb b 43) _ _ (λ e. one pattern at b rest 43 (Sign Add) e refl tt tt)
-    (λ n43. choose P (eqb b 45) _ _ (λ e. one pattern at b rest 45 (Sign Sub) e refl tt tt)
-    (λ n45. choose P (eqb b 42) _ _ (λ e. one pattern at b rest 42 (Sign Mul) e refl tt tt)
-    (λ n42. choose P (eqb b 47) _ _ (λ e. let s = slash e in one pattern at b rest 47 (Sign Div) e refl s.1 s.0)
-    (λ n47. choose P (eqb b 37) _ _ (λ e. one pattern at b rest 37 (Sign Rem) e refl tt tt)
+    (λ n124. choose P (eqb b 43) _ _ (λ e. one pattern at b rest 43 (Operator Add) e refl tt tt)
+    (λ n43. choose P (eqb b 45) _ _ (λ e. one pattern at b rest 45 (Operator Sub) e refl tt tt)
+    (λ n45. choose P (eqb b 42) _ _ (λ e. one pattern at b rest 42 (Operator Mul) e refl tt tt)
+    (λ n42. choose P (eqb b 47) _ _ (λ e. let s = slash e in one pattern at b rest 47 (Operator Div) e refl s.1 s.0)
+    (λ n47. choose P (eqb b 37) _ _ (λ e. one pattern at b rest 37 (Operator Rem) e refl tt tt)
     (λ n37. choose P (eqb b 61) _ _ (λ e.
-    choose P (starts is_equals rest) _ _ (λ f. two pattern at b rest 61 61 (Sign Eq) e f refl (λ back. tt) tt)
-    (λ f. choose P (starts is_tilde rest) _ _ (λ g. two pattern at b rest 61 126 (Sign Match) e g refl (λ back. tt) tt)
+    choose P (starts is_equals rest) _ _ (λ f. two pattern at b rest 61 61 (Operator Eq) e f refl (λ back. tt) tt)
+    (λ f. choose P (starts is_tilde rest) _ _ (λ g. two pattern at b rest 61 126 (Operator Match) e g refl (λ back. tt) tt)
     (λ g. one pattern at b rest 61 Assign e refl (f, g) tt)))
     (λ n61. choose P (eqb b 33) _ _ (λ e.
-    choose P (starts is_equals rest) _ _ (λ f. two pattern at b rest 33 61 (Sign Ne) e f refl (λ back. tt) tt)
-    (λ f. choose P (starts is_tilde rest) _ _ (λ g. two pattern at b rest 33 126 (Sign NoMatch) e g refl (λ back. tt) tt)
-    (λ g. one pattern at b rest 33 Bang e refl (f, g) tt)))
+    choose P (starts is_equals rest) _ _ (λ f. two pattern at b rest 33 61 (Operator Ne) e f refl (λ back. tt) tt)
+    (λ f. choose P (starts is_tilde rest) _ _ (λ g. two pattern at b rest 33 126 (Operator NoMatch) e g refl (λ back. tt) tt)
+    (λ g. one pattern at b rest 33 Not e refl (f, g) tt)))
     (λ n33. choose P (eqb b 60) _ _ (λ e.
-    choose P (starts is_equals rest) _ _ (λ f. two pattern at b rest 60 61 (Sign Le) e f refl (λ back. tt) tt)
-    (λ f. one pattern at b rest 60 (Sign Lt) e refl f tt))
+    choose P (starts is_equals rest) _ _ (λ f. two pattern at b rest 60 61 (Operator Le) e f refl (λ back. tt) tt)
+    (λ f. one pattern at b rest 60 (Operator Lt) e refl f tt))
     (λ n60. choose P (eqb b 62) _ _ (λ e.
-    choose P (starts is_equals rest) _ _ (λ f. two pattern at b rest 62 61 (Sign Ge) e f refl (λ back. tt) tt)
-    (λ f. one pattern at b rest 62 (Sign Gt) e refl f tt))
+    choose P (starts is_equals rest) _ _ (λ f. two pattern at b rest 62 61 (Operator Ge) e f refl (λ back. tt) tt)
+    (λ f. one pattern at b rest 62 (Operator Gt) e refl f tt))
     (λ n62. choose P (eqb b 64) _ _ (λ e. sound_bad pattern at (b ∷ rest) (UserFunction at) (rest, ap (λ (x : ℕ). x ∷ rest) (is_same b 64 e)) refl)
     (λ n64. sound_bad pattern at (b ∷ rest) (BadChar at) (unmarked b rest word
     (both_false _ _

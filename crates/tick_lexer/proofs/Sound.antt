@@ -3,12 +3,12 @@ use Rattle.std.proofs.Common.{◌≡◌, ℕ, Bool, List, subst}
 use Rattle.tick_lexer.specs.declared.token.Kind.{Kind}
 use Rattle.tick_lexer.specs.declared.token.LexFault.{LexFault}
 use Rattle.tick_lexer.specs.Front.{Found, Took, Bad}
-use Rattle.tick_lexer.specs.Script.{Begins, place_of}
+use Rattle.tick_lexer.specs.Script.{BeginsBadToken, place_of}
 use Rattle.tick_lexer.proofs.Words.{Lexeme, lexeme_is}
 
 -- this fault begins at this place
 pub record Failure (pattern : Bool) (at : ℕ) (text : List ℕ) (fault : LexFault) : Type 0 where
-  pub begins : Begins pattern fault text
+  pub begins : BeginsBadToken pattern fault text
   pub place : place_of fault ≡ at
 
 pub record Sound (pattern : Bool) (at : ℕ) (text : List ℕ) (found : Found) : Type 0 where
@@ -21,7 +21,7 @@ sound_took pattern at text kind n l = record {
   bad = λ fault (h : Took kind n ≡ Bad fault). absurd (cc);
 }
 
-pub sound_bad : (pattern : Bool) (at : ℕ) (text : List ℕ) (fault : LexFault) → Begins pattern fault text → place_of fault ≡ at → Sound pattern at text (Bad fault)
+pub sound_bad : (pattern : Bool) (at : ℕ) (text : List ℕ) (fault : LexFault) → BeginsBadToken pattern fault text → place_of fault ≡ at → Sound pattern at text (Bad fault)
 sound_bad pattern at text fault b p = record {
   took = λ k m (h : Bad fault ≡ Took k m). absurd (cc);
   bad = λ f (h : Bad fault ≡ Bad f).
@@ -30,8 +30,3 @@ sound_bad pattern at text fault b p = record {
       let it : P fault = record { begins = b; place = p } in
       subst P same it;
 }
-
-pub sound_at : (pattern : Bool) (at : ℕ) (text other : List ℕ) (found : Found) → text ≡ other → Sound pattern at text found → Sound pattern at other found
-sound_at pattern at text other found e h =
-    let P : List ℕ → Type 0 = λ l. Sound pattern at l found in
-    subst P e h

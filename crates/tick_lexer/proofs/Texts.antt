@@ -6,11 +6,11 @@ use Rattle.kap_base.specs.declared.expr.Lit.TheVariants.{Int, Dur, Str, Bool as 
 use Rattle.kap_base.specs.declared.expr.Op.{Op}
 use Rattle.kap_base.specs.declared.expr.Op.TheVariants.{Or, And, Eq, Ne, Match, NoMatch, Lt, Le, Gt, Ge, Add, Sub, Mul, Div, Rem}
 use Rattle.tick_lexer.specs.declared.token.Kind.{Kind}
-use Rattle.tick_lexer.specs.declared.token.Kind.TheVariants.{Ident, Var, Lambda, Literal, Reference, Sign, Bang, Assign, Open, Close, Comma, Dot, Pipe}
+use Rattle.tick_lexer.specs.declared.token.Kind.TheVariants.{Ident, Var, Lambda, Literal, Reference, Operator, Not, Assign, OpenParen, CloseParen, Comma, Dot, Pipe}
 use Rattle.tick_lexer.specs.declared.token.LexFault.{LexFault}
 use Rattle.tick_lexer.specs.declared.token.Token.{Token}
 use Rattle.tick_lexer.specs.Spelling.{IsName, operator_bytes, Quoted, Tripled, Spelled, takes_pattern}
-use Rattle.tick_lexer.specs.Script.{Between, IsGap, Next, place_of, Ending, Whole, Fault, Reads, HasTokens, HasFirstFault, AreInPlace}
+use Rattle.tick_lexer.specs.Script.{Between, IsGap, Next, place_of, Ending, Whole, Fault, ContinuesWith, HasTokens, HasFirstFault, AreInPlace}
 use Rattle.tick_lexer.specs.Front.{Found, Took, Bad, front}
 use Rattle.tick_lexer.specs.Runs.{skipped, Runs}
 use Rattle.tick_lexer.proofs.Signs.{in_quotes}
@@ -66,11 +66,11 @@ spelled_some (Literal (Str text)) s h =
 spelled_some (Literal (Truth b)) s h = some_at s (cond b (codes "TRUE") (codes "FALSE")) h (truth_some b)
 spelled_some (Literal (Regex text)) s h = some_at s (in_quotes 47 text) h.0.0 (omega arith)
 spelled_some (Reference text) s h = some_at s (in_quotes 34 text) h.0 (omega arith)
-spelled_some (Sign op) s h = some_at s (operator_bytes op) h (operator_some op)
-spelled_some Bang s h = some_at s (codes "!") h (omega arith)
+spelled_some (Operator op) s h = some_at s (operator_bytes op) h (operator_some op)
+spelled_some Not s h = some_at s (codes "!") h (omega arith)
 spelled_some Assign s h = some_at s (codes "=") h (omega arith)
-spelled_some Open s h = some_at s (codes "(") h (omega arith)
-spelled_some Close s h = some_at s (codes ")") h (omega arith)
+spelled_some OpenParen s h = some_at s (codes "(") h (omega arith)
+spelled_some CloseParen s h = some_at s (codes ")") h (omega arith)
 spelled_some Comma s h = some_at s (codes ",") h (omega arith)
 spelled_some Dot s h = some_at s (codes ".") h (omega arith)
 spelled_some Pipe s h = some_at s (codes "|") h (omega arith)
@@ -98,11 +98,11 @@ gap_place at text g =
     let sizes = ap (λ (l : List ℕ). length l) g.joined ∙ length-append g.gap (skipped text false) in
     omega arith
 
-reads_at : (ts : List Token) (ending : Ending) (pattern : Bool) (at : ℕ) (text other : List ℕ) → text ≡ other → Reads ts ending pattern at text → Reads ts ending pattern at other
-reads_at ts ending pattern at text other e h = subst (λ (l : List ℕ). Reads ts ending pattern at l) e h
+reads_at : (ts : List Token) (ending : Ending) (pattern : Bool) (at : ℕ) (text other : List ℕ) → text ≡ other → ContinuesWith ts ending pattern at text → ContinuesWith ts ending pattern at other
+reads_at ts ending pattern at text other e h = subst (λ (l : List ℕ). ContinuesWith ts ending pattern at l) e h
 
 -- what the lexer runs through is what the text reads as
-pub reads_of : (ts : List Token) (ending : Ending) (pattern : Bool) (at : ℕ) (text : List ℕ) → Runs ts ending pattern at text → Reads ts ending pattern at text
+pub reads_of : (ts : List Token) (ending : Ending) (pattern : Bool) (at : ℕ) (text : List ℕ) → Runs ts ending pattern at text → ContinuesWith ts ending pattern at text
 reads_of [] Whole pattern at text h =
     let g = gap_of text in
     subst (λ (l : List ℕ). IsGap true l Between) (sym (g.joined ∙ ap (λ (l : List ℕ). g.gap ++ l) h ∙ append-nil g.gap)) (g.is_end h)
@@ -142,7 +142,7 @@ place_behind at text gap rest e s =
     omega arith
 
 -- what a text reads as is what the lexer runs through
-pub runs_of : (ts : List Token) (ending : Ending) (pattern : Bool) (at : ℕ) (text : List ℕ) → Reads ts ending pattern at text → Runs ts ending pattern at text
+pub runs_of : (ts : List Token) (ending : Ending) (pattern : Bool) (at : ℕ) (text : List ℕ) → ContinuesWith ts ending pattern at text → Runs ts ending pattern at text
 runs_of [] Whole pattern at text h = ap (λ (l : List ℕ). skipped l false) (sym (append-nil text)) ∙ skip_last text h
 runs_of [] (Fault fault) pattern at text h =
     let quiet = fault_gap fault pattern h.rest h.begins in
@@ -212,7 +212,7 @@ same_runs (t ∷ ts) (u ∷ us) e f pattern at text h k =
     let rest = same_runs ts us e f (takes_pattern t.kind) t.«end» (drop h.0 left) h.4 there in
     record { tokens = ap (λ (x : Token). x ∷ ts) first ∙ ap (λ (l : List Token). u ∷ l) rest.tokens; ending = rest.ending }
 
-same_reads : (ts us : List Token) (e f : Ending) (text : List ℕ) → Reads ts e false 0 text → Reads us f false 0 text → Same ts us e f
+same_reads : (ts us : List Token) (e f : Ending) (text : List ℕ) → ContinuesWith ts e false 0 text → ContinuesWith us f false 0 text → Same ts us e f
 same_reads ts us e f text h k = same_runs ts us e f false 0 text (runs_of ts e false 0 text h) (runs_of us f false 0 text k)
 
 pub one_list : (text : List ℕ) (a b : List Token) → HasTokens text a → HasTokens text b → a ≡ b
@@ -272,7 +272,7 @@ through (suc limit) text pattern at size =
     ] in
     go (skipped text false) refl
 
-has_one : (text : List ℕ) (tokens : List Token) (ending : Ending) → Reads tokens ending false 0 text → ((ts : List Token) × HasTokens text ts) ⊎ ((fault : LexFault) × HasFirstFault text fault)
+has_one : (text : List ℕ) (tokens : List Token) (ending : Ending) → ContinuesWith tokens ending false 0 text → ((ts : List Token) × HasTokens text ts) ⊎ ((fault : LexFault) × HasFirstFault text fault)
 has_one text tokens Whole h = inl (tokens, h)
 has_one text tokens (Fault fault) h = inr (fault, (tokens, h))
 
@@ -290,7 +290,7 @@ slice_behind front bytes rest =
     ∙ take-append_seam bytes rest
 
 -- a text's tokens stand in their places
-pub in_place : (ts : List Token) (ending : Ending) (pattern : Bool) (at : ℕ) (text before rest : List ℕ) → text ≡ before ++ rest → at ≡ length before → Reads ts ending pattern at rest → AreInPlace text at ts
+pub in_place : (ts : List Token) (ending : Ending) (pattern : Bool) (at : ℕ) (text before rest : List ℕ) → text ≡ before ++ rest → at ≡ length before → ContinuesWith ts ending pattern at rest → AreInPlace text at ts
 in_place [] ending pattern at text before rest e p h = tt
 in_place (t ∷ ts) ending pattern at text before rest e p h =
     let back = h.0 in

@@ -7,10 +7,10 @@ use Rattle.std.specs.Cmp.Lexicographic.{bytes_decides}
 use Rattle.kap_base.specs.declared.expr.Lit.TheVariants.{Bool as Truth}
 use Rattle.kap_base.specs.declared.expr.Op.TheVariants.{Or, And}
 use Rattle.tick_lexer.specs.declared.token.Kind.{Kind}
-use Rattle.tick_lexer.specs.declared.token.Kind.TheVariants.{Ident, Var, Lambda, Literal, Sign}
+use Rattle.tick_lexer.specs.declared.token.Kind.TheVariants.{Ident, Var, Lambda, Literal, Operator}
 use Rattle.tick_lexer.specs.declared.token.LexFault.{LexFault}
 use Rattle.tick_lexer.specs.Bytes.{is_letter, is_digit, is_word, AllPass, starts, NotFirst}
-use Rattle.tick_lexer.specs.Spelling.{is_reserved, IsName, Spelled, is_colon, Ends, IsAllowed}
+use Rattle.tick_lexer.specs.Spelling.{is_reserved, IsName, Spelled, is_colon, EndsToken, IsAllowed}
 use Rattle.tick_lexer.specs.Front.{Found, Took, Bad, word_kind, named, word, number, mark, front}
 use Rattle.tick_lexer.proofs.Choices.{cond_true, cond_false, choose, or_false, both_false, or_left, and_true, and_rest, is_same}
 
@@ -21,7 +21,7 @@ pub record Lexeme (pattern : Bool) (kind : Kind) (n : ℕ) (text : List ℕ) : T
   pub joined : text ≡ bytes ++ rest
   pub size : n ≡ length bytes
   pub spelled : Spelled kind bytes
-  pub ends : Ends kind bytes rest
+  pub ends : EndsToken kind bytes rest
   pub allowed : IsAllowed pattern kind
 
 -- what is found is a token at the front
@@ -78,8 +78,8 @@ ident_kind name h =
     let and = or_false (bytes_eq name (codes "AND")) (bytes_eq name (codes "TRUE") || (bytes_eq name (codes "FALSE") || bytes_eq name (codes "var"))) or.1 in
     let yes = or_false (bytes_eq name (codes "TRUE")) (bytes_eq name (codes "FALSE") || bytes_eq name (codes "var")) and.1 in
     let not = or_false (bytes_eq name (codes "FALSE")) (bytes_eq name (codes "var")) yes.1 in
-    ap (λ (t : Bool). cond t (Sign Or) (cond (bytes_eq name (codes "AND")) (Sign And) (cond (bytes_eq name (codes "TRUE")) (Literal (Truth true)) (cond (bytes_eq name (codes "FALSE")) (Literal (Truth false)) (cond (bytes_eq name (codes "var")) Var (Ident name)))))) or.0
-    ∙ ap (λ (t : Bool). cond t (Sign And) (cond (bytes_eq name (codes "TRUE")) (Literal (Truth true)) (cond (bytes_eq name (codes "FALSE")) (Literal (Truth false)) (cond (bytes_eq name (codes "var")) Var (Ident name))))) and.0
+    ap (λ (t : Bool). cond t (Operator Or) (cond (bytes_eq name (codes "AND")) (Operator And) (cond (bytes_eq name (codes "TRUE")) (Literal (Truth true)) (cond (bytes_eq name (codes "FALSE")) (Literal (Truth false)) (cond (bytes_eq name (codes "var")) Var (Ident name)))))) or.0
+    ∙ ap (λ (t : Bool). cond t (Operator And) (cond (bytes_eq name (codes "TRUE")) (Literal (Truth true)) (cond (bytes_eq name (codes "FALSE")) (Literal (Truth false)) (cond (bytes_eq name (codes "var")) Var (Ident name))))) and.0
     ∙ ap (λ (t : Bool). cond t (Literal (Truth true)) (cond (bytes_eq name (codes "FALSE")) (Literal (Truth false)) (cond (bytes_eq name (codes "var")) Var (Ident name)))) yes.0
     ∙ ap (λ (t : Bool). cond t (Literal (Truth false)) (cond (bytes_eq name (codes "var")) Var (Ident name))) not.0
     ∙ ap (λ (t : Bool). cond t Var (Ident name)) not.1
@@ -126,7 +126,7 @@ name_of b bs h =
     subst IsName (sym (take_while-cons is_word b bs ∙ cond_true (is_word b) (b ∷ take_while is_word bs) [] passes)) (h, r.all)
 
 -- what a word's kind is known by
-word_cases : (P : Kind → Type 0) (name : List ℕ) → (name ≡ codes "OR" → P (Sign Or)) → (name ≡ codes "AND" → P (Sign And)) → (name ≡ codes "TRUE" → P (Literal (Truth true))) → (name ≡ codes "FALSE" → P (Literal (Truth false))) → (name ≡ codes "var" → P Var) → (is_reserved name ≡ false → P (Ident name)) → P (word_kind name)
+word_cases : (P : Kind → Type 0) (name : List ℕ) → (name ≡ codes "OR" → P (Operator Or)) → (name ≡ codes "AND" → P (Operator And)) → (name ≡ codes "TRUE" → P (Literal (Truth true))) → (name ≡ codes "FALSE" → P (Literal (Truth false))) → (name ≡ codes "var" → P Var) → (is_reserved name ≡ false → P (Ident name)) → P (word_kind name)
 word_cases P name a b c d v e =
     choose P (bytes_eq name (codes "OR")) _ _ (λ h. a (is_bytes name (codes "OR") h))
     (λ w. choose P (bytes_eq name (codes "AND")) _ _ (λ h. b (is_bytes name (codes "AND") h))

@@ -3,14 +3,15 @@ use Rattle.std.specs.Prelude.{ℕ, ◌+◌, ◌*◌, ◌^◌, Bool, true, false,
 use Rattle.std.specs.Str.Parse.{digits_value}
 use Rattle.kap_base.specs.declared.expr.Lit.TheVariants.{Int, Dur, Str, Bool as Truth, Regex}
 use Rattle.kap_base.specs.declared.expr.Op.TheVariants.{Or, And, Eq, Ne, Match, NoMatch, Lt, Le, Gt, Ge, Add, Sub, Mul, Div, Rem}
+use Rattle.tick_lexer.specs.declared.limits.TheConstants.{DURATION_LIMIT}
 use Rattle.tick_lexer.specs.declared.token.Kind.{Kind}
-use Rattle.tick_lexer.specs.declared.token.Kind.TheVariants.{Ident, Var, Lambda, Literal, Reference, Sign, Bang, Assign, Open, Close, Comma, Dot, Pipe}
+use Rattle.tick_lexer.specs.declared.token.Kind.TheVariants.{Ident, Var, Lambda, Literal, Reference, Operator, Not, Assign, OpenParen, CloseParen, Comma, Dot, Pipe}
 use Rattle.tick_lexer.specs.declared.token.LexFault.{LexFault}
 use Rattle.tick_lexer.specs.declared.token.LexFault.TheVariants.{BadChar, OpenString, OpenRegex, BadNumber, FloatLiteral, OctalLiteral, WideInt, WideDuration, UserFunction}
 use Rattle.tick_lexer.specs.declared.unit.Unit as units
 use Rattle.tick_lexer.specs.declared.unit.Unit.TheVariants.{Week, Day, Hour, Minute, Second, Milli, Micro, MicroSign}
 use Rattle.tick_lexer.specs.Bytes.{is_letter, is_digit, is_word, starts, starts_micro, starts_three}
-use Rattle.tick_lexer.specs.Spelling.{has_leading_zero, unit_bytes, unit_nanos, longest_duration, is_dot, is_colon, is_equals, is_tilde}
+use Rattle.tick_lexer.specs.Spelling.{has_leading_zero, unit_bytes, unit_nanos, is_dot, is_colon, is_equals, is_tilde}
 
 -- a token of this kind and this many bytes, or a fault at its first byte
 pub data Found : Type 0 where
@@ -20,8 +21,8 @@ pub data Found : Type 0 where
 -- the kind of a word
 abbrev pub word_kind : List ℕ → Kind
 word_kind name =
-    cond (bytes_eq name (codes "OR")) (Sign Or)
-    (cond (bytes_eq name (codes "AND")) (Sign And)
+    cond (bytes_eq name (codes "OR")) (Operator Or)
+    (cond (bytes_eq name (codes "AND")) (Operator And)
     (cond (bytes_eq name (codes "TRUE")) (Literal (Truth true))
     (cond (bytes_eq name (codes "FALSE")) (Literal (Truth false))
     (cond (bytes_eq name (codes "var")) Var (Ident name)))))
@@ -51,7 +52,7 @@ integer at digits =
 
 abbrev pub duration : ℕ → List ℕ → units.Unit → Found
 duration at digits unit =
-    cond (leb (digits_value 10 digits * unit_nanos unit) longest_duration) (Took (Literal (Dur (pos (digits_value 10 digits * unit_nanos unit)))) (length digits + length (unit_bytes unit))) (Bad (WideDuration at))
+    cond (leb (digits_value 10 digits * unit_nanos unit) DURATION_LIMIT) (Took (Literal (Dur (pos (digits_value 10 digits * unit_nanos unit)))) (length digits + length (unit_bytes unit))) (Bad (WideDuration at))
 
 -- digits, what follows them, and the unit there
 abbrev pub measured : ℕ → List ℕ → List ℕ → Option units.Unit → Found
@@ -114,20 +115,20 @@ paired p first q second alone rest = cond (starts p rest) (Took first 2) (cond (
 
 abbrev pub sign : ℕ → ℕ → List ℕ → Found
 sign at b rest =
-    cond (eqb b 40) (Took Open 1)
-    (cond (eqb b 41) (Took Close 1)
+    cond (eqb b 40) (Took OpenParen 1)
+    (cond (eqb b 41) (Took CloseParen 1)
     (cond (eqb b 44) (Took Comma 1)
     (cond (eqb b 46) (Took Dot 1)
     (cond (eqb b 124) (Took Pipe 1)
-    (cond (eqb b 43) (Took (Sign Add) 1)
-    (cond (eqb b 45) (Took (Sign Sub) 1)
-    (cond (eqb b 42) (Took (Sign Mul) 1)
-    (cond (eqb b 47) (Took (Sign Div) 1)
-    (cond (eqb b 37) (Took (Sign Rem) 1)
-    (cond (eqb b 61) (paired is_equals (Sign Eq) is_tilde (Sign Match) Assign rest)
-    (cond (eqb b 33) (paired is_equals (Sign Ne) is_tilde (Sign NoMatch) Bang rest)
-    (cond (eqb b 60) (cond (starts is_equals rest) (Took (Sign Le) 2) (Took (Sign Lt) 1))
-    (cond (eqb b 62) (cond (starts is_equals rest) (Took (Sign Ge) 2) (Took (Sign Gt) 1))
+    (cond (eqb b 43) (Took (Operator Add) 1)
+    (cond (eqb b 45) (Took (Operator Sub) 1)
+    (cond (eqb b 42) (Took (Operator Mul) 1)
+    (cond (eqb b 47) (Took (Operator Div) 1)
+    (cond (eqb b 37) (Took (Operator Rem) 1)
+    (cond (eqb b 61) (paired is_equals (Operator Eq) is_tilde (Operator Match) Assign rest)
+    (cond (eqb b 33) (paired is_equals (Operator Ne) is_tilde (Operator NoMatch) Not rest)
+    (cond (eqb b 60) (cond (starts is_equals rest) (Took (Operator Le) 2) (Took (Operator Lt) 1))
+    (cond (eqb b 62) (cond (starts is_equals rest) (Took (Operator Ge) 2) (Took (Operator Gt) 1))
     (cond (eqb b 64) (Bad (UserFunction at)) (Bad (BadChar at))))))))))))))))
 
 -- a quote, a sign or a pattern

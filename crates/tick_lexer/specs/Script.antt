@@ -1,12 +1,13 @@
 -- The tokens of a text, and its first fault.
 use Rattle.std.specs.Prelude.{◌≡◌, ◌≢◌, ◌⊎◌, ℕ, ◌+◌, ◌*◌, ◌<◌, ◌≤◌, ◌^◌, Bool, true, false, ◌||◌, List, [], ◌∷◌, ◌++◌, length, slice_range, codes}
 use Rattle.std.specs.Str.Parse.{IsNumeral, digits_value}
+use Rattle.tick_lexer.specs.declared.limits.TheConstants.{DURATION_LIMIT}
 use Rattle.tick_lexer.specs.declared.token.LexFault.{LexFault}
 use Rattle.tick_lexer.specs.declared.token.LexFault.TheVariants.{BadChar, OpenString, OpenRegex, BadNumber, FloatLiteral, OctalLiteral, WideInt, WideDuration, UserFunction, NoMemory}
 use Rattle.tick_lexer.specs.declared.token.Token.{Token}
 use Rattle.tick_lexer.specs.declared.unit.Unit as units
 use Rattle.tick_lexer.specs.Bytes.{is_digit, is_word, is_white, is_mark, starts, NotFirst, starts_micro, starts_three, NoThree}
-use Rattle.tick_lexer.specs.Spelling.{has_leading_zero, unit_bytes, unit_nanos, longest_duration, Quoted, Spelled, is_dot, is_slash, EndsInt, Ends, takes_pattern, IsAllowed}
+use Rattle.tick_lexer.specs.Spelling.{has_leading_zero, unit_bytes, unit_nanos, Quoted, Spelled, is_dot, is_slash, EndsInt, EndsToken, takes_pattern, IsAllowed}
 
 -- where in a gap a text begins: between its parts, behind the first slash of a comment, in a comment
 pub data Place : Type 0 where
@@ -31,7 +32,7 @@ pub record Next (pattern : Bool) (at : ℕ) (text : List ℕ) (token : Token) (r
   pub joined : text ≡ gap ++ (bytes ++ rest)
   pub is_gap : IsGap false gap Between
   pub spelled : Spelled token.kind bytes
-  pub ends : Ends token.kind bytes rest
+  pub ends : EndsToken token.kind bytes rest
   pub allowed : IsAllowed pattern token.kind
   pub begins : token.start ≡ at + length gap
   pub stops : token.«end» ≡ token.start + length bytes
@@ -65,7 +66,7 @@ pub record IsWideDuration (digits tail : List ℕ) : Type 0 where
   pub back : List ℕ
   pub joined : tail ≡ unit_bytes unit ++ back
   pub ends : NotFirst is_word back
-  pub wide : longest_duration < digits_value 10 digits * unit_nanos unit
+  pub wide : DURATION_LIMIT < digits_value 10 digits * unit_nanos unit
 
 -- what is wrong with digits before this tail
 abbrev pub IsBadNumber : LexFault → List ℕ → List ℕ → Type 0
@@ -84,13 +85,13 @@ pub record BeginsBadNumber (fault : LexFault) (text : List ℕ) : Type 0 where
   pub bad : IsBadNumber fault digits tail
 
 -- why no token stands first
-abbrev pub Begins : Bool → LexFault → List ℕ → Type 0
-Begins pattern (BadChar place) text = (b : ℕ) × (rest : List ℕ) × (text ≡ b ∷ rest) × ((is_word b || (is_mark b || is_white b)) ≡ false) × (b ≢ 64)
-Begins pattern (OpenString place) text = IsOpenThree text ⊎ (((starts_three text ≡ false) × IsOpen 39 text) ⊎ IsOpen 34 text)
-Begins pattern (OpenRegex place) text = (pattern ≡ true) × IsOpen 47 text × ((rest : List ℕ) → text ≡ 47 ∷ rest → NotFirst is_slash rest)
-Begins pattern (UserFunction place) text = (rest : List ℕ) × (text ≡ 64 ∷ rest)
-Begins pattern NoMemory text = ⊥
-Begins pattern fault text = BeginsBadNumber fault text
+abbrev pub BeginsBadToken : Bool → LexFault → List ℕ → Type 0
+BeginsBadToken pattern (BadChar place) text = (b : ℕ) × (rest : List ℕ) × (text ≡ b ∷ rest) × ((is_word b || (is_mark b || is_white b)) ≡ false) × (b ≢ 64)
+BeginsBadToken pattern (OpenString place) text = IsOpenThree text ⊎ (((starts_three text ≡ false) × IsOpen 39 text) ⊎ IsOpen 34 text)
+BeginsBadToken pattern (OpenRegex place) text = (pattern ≡ true) × IsOpen 47 text × ((rest : List ℕ) → text ≡ 47 ∷ rest → NotFirst is_slash rest)
+BeginsBadToken pattern (UserFunction place) text = (rest : List ℕ) × (text ≡ 64 ∷ rest)
+BeginsBadToken pattern NoMemory text = ⊥
+BeginsBadToken pattern fault text = BeginsBadNumber fault text
 
 -- the place that a fault names
 abbrev pub place_of : LexFault → ℕ
@@ -111,7 +112,7 @@ pub record Fails (pattern : Bool) (at : ℕ) (text : List ℕ) (fault : LexFault
   pub rest : List ℕ
   pub joined : text ≡ gap ++ rest
   pub is_gap : IsGap false gap Between
-  pub begins : Begins pattern fault rest
+  pub begins : BeginsBadToken pattern fault rest
   pub place : place_of fault ≡ at + length gap
 
 -- how the reading of a text ends: behind its last token, or at its first fault
@@ -125,17 +126,17 @@ EndsIn (Fault fault) pattern at text = Fails pattern at text fault
 
 -- From a place on the text is these tokens with a gap before each, and then it ends so. A pattern may come
 -- next where the flag is set.
-abbrev pub Reads : List Token → Ending → Bool → ℕ → List ℕ → Type 0
-Reads [] ending pattern at text = EndsIn ending pattern at text
-Reads (t ∷ ts) ending pattern at text = (rest : List ℕ) × Next pattern at text t rest × Reads ts ending (takes_pattern t.kind) t.«end» rest
+abbrev pub ContinuesWith : List Token → Ending → Bool → ℕ → List ℕ → Type 0
+ContinuesWith [] ending pattern at text = EndsIn ending pattern at text
+ContinuesWith (t ∷ ts) ending pattern at text = (rest : List ℕ) × Next pattern at text t rest × ContinuesWith ts ending (takes_pattern t.kind) t.«end» rest
 
 -- the text has these tokens
 abbrev pub HasTokens : List ℕ → List Token → Type 0
-HasTokens text tokens = Reads tokens Whole false 0 text
+HasTokens text tokens = ContinuesWith tokens Whole false 0 text
 
 -- the text has this first fault: tokens stand before it
 abbrev pub HasFirstFault : List ℕ → LexFault → Type 0
-HasFirstFault text fault = (before : List Token) × Reads before (Fault fault) false 0 text
+HasFirstFault text fault = (before : List Token) × ContinuesWith before (Fault fault) false 0 text
 
 -- from a place on these tokens stand one behind the other, and each one's slice of the text is its spelling
 abbrev pub AreInPlace : List ℕ → ℕ → List Token → Type 0

@@ -5,7 +5,8 @@ use Rattle.kap_base.specs.declared.expr.Lit.TheVariants.{Int, Dur, Str, Bool as 
 use Rattle.kap_base.specs.declared.expr.Op.{Op}
 use Rattle.kap_base.specs.declared.expr.Op.TheVariants.{Or, And, Eq, Ne, Match, NoMatch, Lt, Le, Gt, Ge, Add, Sub, Mul, Div, Rem}
 use Rattle.tick_lexer.specs.declared.token.Kind.{Kind}
-use Rattle.tick_lexer.specs.declared.token.Kind.TheVariants.{Ident, Var, Lambda, Literal, Reference, Sign, Bang, Assign, Open, Close, Comma, Dot, Pipe}
+use Rattle.tick_lexer.specs.declared.token.Kind.TheVariants.{Ident, Var, Lambda, Literal, Reference, Operator, Not, Assign, OpenParen, CloseParen, Comma, Dot, Pipe}
+use Rattle.tick_lexer.specs.declared.limits.TheConstants.{DURATION_LIMIT}
 use Rattle.tick_lexer.specs.declared.unit.Unit as units
 use Rattle.tick_lexer.specs.declared.unit.Unit.TheVariants.{Week, Day, Hour, Minute, Second, Milli, Micro, MicroSign}
 use Rattle.tick_lexer.specs.Bytes.{is_letter, is_word, AllPass, NotFirst, micro_sign, starts_micro, NoThree}
@@ -51,10 +52,6 @@ unit_nanos Second = 1_000_000_000
 unit_nanos Milli = 1_000_000
 unit_nanos Micro = 1_000
 unit_nanos MicroSign = 1_000
-
--- the longest duration, in nanoseconds
-abbrev pub longest_duration : ℕ
-longest_duration = 200_000_000_000_000_000
 
 -- digits and a unit, of this many nanoseconds
 pub record IsDuration (nanos : ℕ) (s : List ℕ) : Type 0 where
@@ -107,16 +104,16 @@ Spelled (Ident name) s = (s ≡ name) × IsName name × (is_reserved name ≡ fa
 Spelled Var s = s ≡ codes "var"
 Spelled Lambda s = s ≡ codes "lambda:"
 Spelled (Literal (Int n)) s = IsPlainNumeral s × (n ≡ pos (digits_value 10 s)) × (digits_value 10 s < 2 ^ 63)
-Spelled (Literal (Dur n)) s = (nanos : ℕ) × (n ≡ pos nanos) × IsDuration nanos s × (nanos ≤ longest_duration)
+Spelled (Literal (Dur n)) s = (nanos : ℕ) × (n ≡ pos nanos) × IsDuration nanos s × (nanos ≤ DURATION_LIMIT)
 Spelled (Literal (Str text)) s = Quoted 39 text s ⊎ Tripled text s
 Spelled (Literal (Truth b)) s = s ≡ cond b (codes "TRUE") (codes "FALSE")
 Spelled (Literal (Regex text)) s = Quoted 47 text s × (text ≢ [])
 Spelled (Reference text) s = Quoted 34 text s
-Spelled (Sign op) s = s ≡ operator_bytes op
-Spelled Bang s = s ≡ codes "!"
+Spelled (Operator op) s = s ≡ operator_bytes op
+Spelled Not s = s ≡ codes "!"
 Spelled Assign s = s ≡ codes "="
-Spelled Open s = s ≡ codes "("
-Spelled Close s = s ≡ codes ")"
+Spelled OpenParen s = s ≡ codes "("
+Spelled CloseParen s = s ≡ codes ")"
 Spelled Comma s = s ≡ codes ","
 Spelled Dot s = s ≡ codes "."
 Spelled Pipe s = s ≡ codes "|"
@@ -149,33 +146,33 @@ EndsAlone rest = NotFirst is_equals rest × NotFirst is_tilde rest
 
 -- What may not follow a token with these bytes, so that it is the longest one. Two single quotes before a
 -- third would begin a string in three quotes, and a slash before a slash would begin a comment.
-abbrev pub Ends : Kind → List ℕ → List ℕ → Type 0
-Ends (Ident name) bytes rest = NotFirst is_word rest × (name ≡ codes "lambda" → NotFirst is_colon rest)
-Ends Var bytes rest = NotFirst is_word rest
-Ends (Literal (Int n)) bytes rest = EndsInt rest
-Ends (Literal (Dur n)) bytes rest = NotFirst is_word rest
-Ends (Literal (Str text)) bytes rest = bytes ≡ codes "''" → NotFirst is_single_quote rest
-Ends (Literal (Truth b)) bytes rest = NotFirst is_word rest
-Ends (Sign Or) bytes rest = NotFirst is_word rest
-Ends (Sign And) bytes rest = NotFirst is_word rest
-Ends (Sign Lt) bytes rest = NotFirst is_equals rest
-Ends (Sign Gt) bytes rest = NotFirst is_equals rest
-Ends (Sign Div) bytes rest = NotFirst is_slash rest
-Ends Assign bytes rest = EndsAlone rest
-Ends Bang bytes rest = EndsAlone rest
-Ends _ bytes rest = Unit {0}
+abbrev pub EndsToken : Kind → List ℕ → List ℕ → Type 0
+EndsToken (Ident name) bytes rest = NotFirst is_word rest × (name ≡ codes "lambda" → NotFirst is_colon rest)
+EndsToken Var bytes rest = NotFirst is_word rest
+EndsToken (Literal (Int n)) bytes rest = EndsInt rest
+EndsToken (Literal (Dur n)) bytes rest = NotFirst is_word rest
+EndsToken (Literal (Str text)) bytes rest = bytes ≡ codes "''" → NotFirst is_single_quote rest
+EndsToken (Literal (Truth b)) bytes rest = NotFirst is_word rest
+EndsToken (Operator Or) bytes rest = NotFirst is_word rest
+EndsToken (Operator And) bytes rest = NotFirst is_word rest
+EndsToken (Operator Lt) bytes rest = NotFirst is_equals rest
+EndsToken (Operator Gt) bytes rest = NotFirst is_equals rest
+EndsToken (Operator Div) bytes rest = NotFirst is_slash rest
+EndsToken Assign bytes rest = EndsAlone rest
+EndsToken Not bytes rest = EndsAlone rest
+EndsToken _ bytes rest = Unit {0}
 
 -- a pattern may follow a token of this kind: =~ !~ = ( ,
 abbrev pub takes_pattern : Kind → Bool
-takes_pattern (Sign Match) = true
-takes_pattern (Sign NoMatch) = true
+takes_pattern (Operator Match) = true
+takes_pattern (Operator NoMatch) = true
 takes_pattern Assign = true
-takes_pattern Open = true
+takes_pattern OpenParen = true
 takes_pattern Comma = true
 takes_pattern _ = false
 
 -- where a pattern may begin a slash begins one, and is a division everywhere else
 abbrev pub IsAllowed : Bool → Kind → Type 0
 IsAllowed pattern (Literal (Regex text)) = pattern ≡ true
-IsAllowed pattern (Sign Div) = pattern ≡ false
+IsAllowed pattern (Operator Div) = pattern ≡ false
 IsAllowed pattern _ = Unit {0}

@@ -46,7 +46,8 @@ pub fn digits_length(text: &[u8]) -> usize
 #[tactic(auto, using(crate::proofs::Scans::value_grows))]
 pub fn number_of(digits: &[u8]) -> Option<i64>
     requires { AllDigits 10 digits.now }
-    ensures { MatchOption result (2 ^ 63 ≤ digits_value 10 digits.now) (λ n. (n ≡ pos (digits_value 10 digits.now)) × (digits_value 10 digits.now < 2 ^ 63)) }
+    ensures { MatchOption result (2 ^ 63 ≤ digits_value 10 digits.now)
+        (λ n. (n ≡ pos (digits_value 10 digits.now)) × (digits_value 10 digits.now < 2 ^ 63)) }
 {
     let mut number: u128 = 0;
     for byte in digits {

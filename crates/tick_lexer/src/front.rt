@@ -8,14 +8,12 @@ ghost use Rattle.tick_lexer.specs.Runs.{IsFound, IsScanned};
 ghost use Rattle.tick_lexer.specs.Spelling.{is_equals, is_tilde};
 
 use crate::bytes::{digits_length, is_digit, is_letter, is_word, number_of, word_length};
+use crate::limits::DURATION_LIMIT;
 use crate::quote::{Quoted, before_three, scan_quoted};
 use crate::token::{Kind, LexFault};
 use crate::unit::Unit;
-use kap_base::{Lit, NoMemory, Op, Text};
+use kap_base::{Lit, NoMemory, Op, SharedText, Text};
 use std::alloc::Global;
-
-/// The longest duration, in nanoseconds.
-const LONGEST: u128 = 200_000_000_000_000_000;
 
 /// A token's kind, and how many bytes it has.
 #[derive(Drop)]
@@ -43,26 +41,26 @@ fn sign(at: u32, byte: u8, rest: &[u8]) -> Result<Front, LexFault>
     let equals = starts_with_equals(rest);
     let tilde = starts_with_tilde(rest);
     let (kind, bytes) = match byte {
-        b'(' => (Kind::Open, 1),
-        b')' => (Kind::Close, 1),
+        b'(' => (Kind::OpenParen, 1),
+        b')' => (Kind::CloseParen, 1),
         b',' => (Kind::Comma, 1),
         b'.' => (Kind::Dot, 1),
         b'|' => (Kind::Pipe, 1),
-        b'+' => (Kind::Sign(Op::Add), 1),
-        b'-' => (Kind::Sign(Op::Sub), 1),
-        b'*' => (Kind::Sign(Op::Mul), 1),
-        b'/' => (Kind::Sign(Op::Div), 1),
-        b'%' => (Kind::Sign(Op::Rem), 1),
-        b'=' if equals => (Kind::Sign(Op::Eq), 2),
-        b'=' if tilde => (Kind::Sign(Op::Match), 2),
+        b'+' => (Kind::Operator(Op::Add), 1),
+        b'-' => (Kind::Operator(Op::Sub), 1),
+        b'*' => (Kind::Operator(Op::Mul), 1),
+        b'/' => (Kind::Operator(Op::Div), 1),
+        b'%' => (Kind::Operator(Op::Rem), 1),
+        b'=' if equals => (Kind::Operator(Op::Eq), 2),
+        b'=' if tilde => (Kind::Operator(Op::Match), 2),
         b'=' => (Kind::Assign, 1),
-        b'!' if equals => (Kind::Sign(Op::Ne), 2),
-        b'!' if tilde => (Kind::Sign(Op::NoMatch), 2),
-        b'!' => (Kind::Bang, 1),
-        b'<' if equals => (Kind::Sign(Op::Le), 2),
-        b'<' => (Kind::Sign(Op::Lt), 1),
-        b'>' if equals => (Kind::Sign(Op::Ge), 2),
-        b'>' => (Kind::Sign(Op::Gt), 1),
+        b'!' if equals => (Kind::Operator(Op::Ne), 2),
+        b'!' if tilde => (Kind::Operator(Op::NoMatch), 2),
+        b'!' => (Kind::Not, 1),
+        b'<' if equals => (Kind::Operator(Op::Le), 2),
+        b'<' => (Kind::Operator(Op::Lt), 1),
+        b'>' if equals => (Kind::Operator(Op::Ge), 2),
+        b'>' => (Kind::Operator(Op::Gt), 1),
         b'@' => return Err(LexFault::UserFunction(at)),
         _ => return Err(LexFault::BadChar(at)),
     };
@@ -75,9 +73,9 @@ fn word_kind(alloc: Global, name: &str) -> Result<Kind, NoMemory>
 {
     let bytes = name.as_bytes();
     if bytes == b"OR".as_slice() {
-        Ok(Kind::Sign(Op::Or))
+        Ok(Kind::Operator(Op::Or))
     } else if bytes == b"AND".as_slice() {
-        Ok(Kind::Sign(Op::And))
+        Ok(Kind::Operator(Op::And))
     } else if bytes == b"TRUE".as_slice() {
         Ok(Kind::Literal(Lit::Bool(true)))
     } else if bytes == b"FALSE".as_slice() {
@@ -130,7 +128,7 @@ fn duration(at: u32, digits: &[u8], unit: Unit) -> Result<Front, LexFault>
         return Err(LexFault::WideDuration(at));
     };
     let nanos = number as u128 * u128::from(unit.nanos());
-    if nanos > LONGEST {
+    if nanos > DURATION_LIMIT {
         return Err(LexFault::WideDuration(at));
     }
     Ok(Front {
@@ -200,8 +198,9 @@ fn tripled(alloc: Global, at: u32, rest: &str) -> Result<Front, LexFault>
     let Some(count) = before_three(rest.as_bytes()) else {
         return Err(LexFault::OpenString(at));
     };
+    let text = Text::from_str(alloc, &rest[..count])?;
     Ok(Front {
-        kind: Kind::Literal(Lit::Str(Text::from_str(alloc, &rest[..count])?)),
+        kind: Kind::Literal(Lit::Str(SharedText::new(alloc, text)?)),
         bytes: count + 6,
     })
 }
@@ -216,7 +215,7 @@ fn string(alloc: Global, at: u32, rest: &str) -> Result<Front, LexFault>
     }
     let quoted = quoted(alloc, rest, b'\'', LexFault::OpenString(at))?;
     Ok(Front {
-        kind: Kind::Literal(Lit::Str(quoted.text)),
+        kind: Kind::Literal(Lit::Str(SharedText::new(alloc, quoted.text)?)),
         bytes: quoted.bytes + 1,
     })
 }
@@ -252,7 +251,7 @@ fn mark(alloc: Global, pattern: bool, text: &str, at: usize, byte: u8) -> Result
             LexFault::OpenRegex(place),
         )?;
         return Ok(Front {
-            kind: Kind::Literal(Lit::Regex(quoted.text)),
+            kind: Kind::Literal(Lit::Regex(SharedText::new(alloc, quoted.text)?)),
             bytes: quoted.bytes + 1,
         });
     }

@@ -10,6 +10,7 @@ ghost use Rattle.tick_lexer.specs.declared.token.Token.{Token};
 
 use crate::bytes::is_white;
 use crate::front::next_token;
+use crate::limits::SCRIPT_LIMIT;
 use crate::token::{Kind, LexFault, Token, Tokens};
 use kap_base::Op;
 use std::alloc::Global;
@@ -45,7 +46,7 @@ fn takes_pattern(kind: &Kind) -> bool
 {
     matches!(
         kind,
-        Kind::Sign(Op::Match | Op::NoMatch) | Kind::Assign | Kind::Open | Kind::Comma
+        Kind::Operator(Op::Match | Op::NoMatch) | Kind::Assign | Kind::OpenParen | Kind::Comma
     )
 }
 
@@ -54,7 +55,7 @@ fn takes_pattern(kind: &Kind) -> bool
 /// behind tokens, and each token is the longest one. `NoMemory` comes where an allocation fails.
 /// Kapacitor 1.6 TICKscript language reference: Syntax.
 pub fn lex(alloc: Global, text: &str) -> Result<Tokens, LexFault>
-    requires { length text.now ≤ 65536 }
+    requires { length text.now ≤ SCRIPT_LIMIT }
     ensures tokens { IfOk result (λ tokens. HasTokens text.now tokens) }
     ensures places { IfOk result (λ tokens. AreInPlace text.now 0 tokens) }
     ensures fault { IfErr result (λ fault. (fault ≡ NoMemory) ⊎ HasFirstFault text.now fault) }
@@ -80,8 +81,13 @@ pub fn lex(alloc: Global, text: &str) -> Result<Tokens, LexFault>
 
 /// A text has one list of tokens or one first fault, and not both. It does nothing: its contract is that law.
 pub fn text_reads_in_one_way()
-    ensures tokens { (text : List ℕ) (a b : List Token) → HasTokens text a → HasTokens text b → a ≡ b }
-    ensures fault { (text : List ℕ) (a b : LexFault) → HasFirstFault text a → HasFirstFault text b → a ≡ b }
-    ensures not_both { (text : List ℕ) (tokens : List Token) (fault : LexFault) → HasTokens text tokens → HasFirstFault text fault → ⊥ }
-    ensures some { (text : List ℕ) → ((tokens : List Token) × HasTokens text tokens) ⊎ ((fault : LexFault) × HasFirstFault text fault) }
+    ensures tokens { (text : List ℕ) (a b : List Token) →
+        HasTokens text a → HasTokens text b → a ≡ b }
+    ensures fault { (text : List ℕ) (a b : LexFault) →
+        HasFirstFault text a → HasFirstFault text b → a ≡ b }
+    ensures not_both { (text : List ℕ) (tokens : List Token) (fault : LexFault) →
+        HasTokens text tokens → HasFirstFault text fault → ⊥ }
+    ensures some { (text : List ℕ) →
+        ((tokens : List Token) × HasTokens text tokens)
+        ⊎ ((fault : LexFault) × HasFirstFault text fault) }
 {}

@@ -4,12 +4,12 @@
 mod bytes;
 mod front;
 mod lexer;
+mod limits;
 mod quote;
-#[cfg(test)]
-mod tests;
 mod token;
 mod unit;
 
 pub use lexer::{lex, text_reads_in_one_way};
+pub use limits::{DURATION_LIMIT, SCRIPT_LIMIT};
 pub use token::{Kind, LexFault, Token, Tokens};
 pub use unit::Unit;

@@ -20,7 +20,8 @@ pub fn scan_quoted(alloc: Global, quote: u8, text: &str) -> Result<Option<Quoted
     requires ascii { quote < 128 }
     requires plain { quote ≢ 92 }
     ensures scan { IfOk result (λ quoted. IsScan quoted (scan quote text.now false)) }
-    ensures within { IfOk result (λ quoted. IfSome quoted (λ quoted. quoted.bytes ≤ length text.now)) }
+    ensures within { IfOk result (λ quoted. IfSome quoted
+        (λ quoted. quoted.bytes ≤ length text.now)) }
 {
     let mut read = String::new(alloc);
     let mut start = 0;

@@ -19,15 +19,15 @@ pub enum Kind {
     /// A name in double quotes.
     Reference(Text),
     /// A binary operator, `AND` and `OR` among them. `-` is also the unary operator, and `*` also the star.
-    Sign(Op),
+    Operator(Op),
     /// The sign `!`.
-    Bang,
+    Not,
     /// The sign `=`.
     Assign,
     /// The sign `(`.
-    Open,
+    OpenParen,
     /// The sign `)`.
-    Close,
+    CloseParen,
     /// The sign `,`.
     Comma,
     /// The sign `.`.

@@ -5,12 +5,12 @@ use Rattle.kap_base.specs.declared.expr.Op.{Op}
 use Rattle.kap_base.specs.declared.expr.Op.TheVariants.{Sub}
 use Rattle.kap_base.specs.Tree.{Tree, LitTree, RefTree, NameTree, CallTree, GroupTree, NegTree, NotTree, BinTree, Trees, NoTrees, MoreTrees, reversed_onto}
 use Rattle.tick_lexer.specs.declared.token.Kind.{Kind}
-use Rattle.tick_lexer.specs.declared.token.Kind.TheVariants.{Ident, Literal, Reference, Sign, Bang, Open, Close, Comma}
+use Rattle.tick_lexer.specs.declared.token.Kind.TheVariants.{Ident, Literal, Reference, Operator, Not, OpenParen, CloseParen, Comma}
 use Rattle.tick_lexer.specs.declared.token.Token.{Token}
 use Rattle.tick_parser.specs.declared.fault.ParseFault.{ParseFault}
 use Rattle.tick_parser.specs.declared.fault.ParseFault.TheVariants.{Deep}
 use Rattle.tick_parser.specs.Grammar.{level, Fits, AllFit, Mark, At, Free, spell, spell_args, spell_rest, Is, Agree, depth, depth_all, binaries, binaries_all}
-use Rattle.tick_parser.specs.Lambdas.{Frame, Minus, Negation, Left, Paren, Args, Held, State, Wanting, Opened, Holding, Ended, Stopped, leave, opens, reduce, opening, operand, calling, joining, close_top, next_top, close_empty, after, opened, step, run}
+use Rattle.tick_parser.specs.Lambdas.{Frame, Minus, Negation, Left, Paren, Args, HeldOperand, State, OperandNext, CallOpened, OperandRead, Ended, Stopped, leave, opens, reduce, opening, operand, calling, joining, close_top, next_top, close_empty, after, opened, step, run}
 use Rattle.tick_parser.proofs.Agreeing.{snoc}
 use Rattle.tick_parser.proofs.LambdaComplete.{Below, level_bound}
 
@@ -22,11 +22,11 @@ spell_done (MoreTrees last done) = spell_done done ++ (spell last ++ Free Comma 
 -- the tokens of what is open
 abbrev pub spell_stack : List Frame → List Mark
 spell_stack [] = []
-spell_stack (Minus at ∷ stack) = spell_stack stack ++ At (Sign Sub) at ∷ []
-spell_stack (Negation at ∷ stack) = spell_stack stack ++ At Bang at ∷ []
-spell_stack (Left op left at ∷ stack) = spell_stack stack ++ (spell left ++ At (Sign op) at ∷ [])
-spell_stack (Paren at ∷ stack) = spell_stack stack ++ At Open at ∷ []
-spell_stack (Args name done at ∷ stack) = spell_stack stack ++ (At (Ident name) at ∷ Free Open ∷ spell_done done)
+spell_stack (Minus at ∷ stack) = spell_stack stack ++ At (Operator Sub) at ∷ []
+spell_stack (Negation at ∷ stack) = spell_stack stack ++ At Not at ∷ []
+spell_stack (Left op left at ∷ stack) = spell_stack stack ++ (spell left ++ At (Operator op) at ∷ [])
+spell_stack (Paren at ∷ stack) = spell_stack stack ++ At OpenParen at ∷ []
+spell_stack (Args name done at ∷ stack) = spell_stack stack ++ (At (Ident name) at ∷ Free OpenParen ∷ spell_done done)
 
 abbrev pub count_stack : List Frame → ℕ
 count_stack [] = 0
@@ -82,7 +82,7 @@ args_spelled (MoreTrees one done) last rest =
     ∙ ap (λ (l : List Mark). spell_done done ++ l) (append_assoc (spell one) (Free Comma ∷ []) (spell last ++ spell_rest rest)))
 
 -- what closing keeps
-pub record Reduced (d n : ℕ) (stack : List Frame) (t : Tree) (held : Held) : Type 0 where
+pub record Reduced (d n : ℕ) (stack : List Frame) (t : Tree) (held : HeldOperand) : Type 0 where
   pub good : Good d held.stack
   pub fits : Fits n held.tree
   pub below : Below n held.stack
@@ -124,7 +124,7 @@ reduced (Minus at ∷ stack) d n m t o le =
       fits = r.fits;
       below = r.below;
       room = r.room;
-      spelled = r.spelled ∙ spell_unary (spell_stack stack) (At (Sign Sub) at) (spell t);
+      spelled = r.spelled ∙ spell_unary (spell_stack stack) (At (Operator Sub) at) (spell t);
       counted = r.counted;
     }
 reduced (Negation at ∷ stack) d n m t o le =
@@ -134,7 +134,7 @@ reduced (Negation at ∷ stack) d n m t o le =
       fits = r.fits;
       below = r.below;
       room = r.room;
-      spelled = r.spelled ∙ spell_unary (spell_stack stack) (At Bang at) (spell t);
+      spelled = r.spelled ∙ spell_unary (spell_stack stack) (At Not at) (spell t);
       counted = r.counted;
     }
 reduced (Left op left at ∷ stack) d n m t o le =
@@ -148,7 +148,7 @@ reduced (Left op left at ∷ stack) d n m t o le =
             fits = r.fits;
             below = r.below;
             room = r.room;
-            spelled = r.spelled ∙ spell_left (spell_stack stack) (spell left) (At (Sign op) at) (spell t);
+            spelled = r.spelled ∙ spell_left (spell_stack stack) (spell left) (At (Operator op) at) (spell t);
             counted = let c = r.counted in omega arith;
           }
       | false ↦ λ e.
@@ -179,9 +179,9 @@ IsCall (Args name NoTrees at ∷ stack) = Unit {0}
 IsCall _ = ⊥
 
 abbrev pub Stands : ℕ → ℕ → List Token → State → Type 0
-Stands d w tokens (Wanting stack n) = Ready d w tokens stack n
-Stands d w tokens (Opened stack n) = Ready d w tokens stack n × IsCall stack
-Stands d w tokens (Holding stack t n) = Carries d w tokens stack t n
+Stands d w tokens (OperandNext stack n) = Ready d w tokens stack n
+Stands d w tokens (CallOpened stack n) = Ready d w tokens stack n × IsCall stack
+Stands d w tokens (OperandRead stack t n) = Carries d w tokens stack t n
 Stands d w tokens (Ended tree) = Unit {0}
 Stands d w tokens (Stopped fault) = Unit {0}
 
@@ -201,7 +201,7 @@ tested P false s f h k = k
 
 ready_more : (d w : ℕ) (tokens : List Token) (stack : List Frame) (n : ℕ) (token : Token) (frame : Frame) (m : Mark) → Ready d w tokens stack n → Is (token ∷ []) m → spell_stack (frame ∷ stack) ≡ spell_stack stack ++ m ∷ [] → Good d (frame ∷ stack) → opens (frame ∷ stack) ≡ opens stack + 1 → count_stack (frame ∷ stack) ≡ count_stack stack → Stands d w (tokens ++ token ∷ []) (opening d frame stack n token.start)
 ready_more d w tokens stack n token frame m r i e good one same =
-    tested (Stands d w (tokens ++ token ∷ [])) (ltb (opens stack) d) (Wanting (frame ∷ stack) n) (Deep token.start)
+    tested (Stands d w (tokens ++ token ∷ [])) (ltb (opens stack) d) (OperandNext (frame ∷ stack) n) (Deep token.start)
     (λ (lt : ltb (opens stack) d ≡ true). record {
       good = good;
       spelled = snoc (spell_stack stack) (spell_stack (frame ∷ stack)) m tokens token r.spelled i (sym e);
@@ -215,41 +215,41 @@ pub operand_stands : (d w : ℕ) (tokens : List Token) (stack : List Frame) (n :
 operand_stands d w tokens stack n token (Ident name) r e = holds_leaf d w tokens stack n token (NameTree name token.start) (At (Ident name) token.start) r (e, refl) refl tt refl refl
 operand_stands d w tokens stack n token (Literal lit) r e = holds_leaf d w tokens stack n token (LitTree lit token.start) (At (Literal lit) token.start) r (e, refl) refl tt refl refl
 operand_stands d w tokens stack n token (Reference name) r e = holds_leaf d w tokens stack n token (RefTree name token.start) (At (Reference name) token.start) r (e, refl) refl tt refl refl
-operand_stands d w tokens stack n token (Sign Sub) r e = ready_more d w tokens stack n token (Minus token.start) (At (Sign Sub) token.start) r (e, refl) refl r.good refl refl
-operand_stands d w tokens stack n token Bang r e = ready_more d w tokens stack n token (Negation token.start) (At Bang token.start) r (e, refl) refl r.good refl refl
-operand_stands d w tokens stack n token Open r e = ready_more d w tokens stack n token (Paren token.start) (At Open token.start) r (e, refl) refl r.good refl refl
+operand_stands d w tokens stack n token (Operator Sub) r e = ready_more d w tokens stack n token (Minus token.start) (At (Operator Sub) token.start) r (e, refl) refl r.good refl refl
+operand_stands d w tokens stack n token Not r e = ready_more d w tokens stack n token (Negation token.start) (At Not token.start) r (e, refl) refl r.good refl refl
+operand_stands d w tokens stack n token OpenParen r e = ready_more d w tokens stack n token (Paren token.start) (At OpenParen token.start) r (e, refl) refl r.good refl refl
 operand_stands d w tokens stack n token _ r e = tt
 
-close_empty_stands : (d w : ℕ) (tokens : List Token) (stack : List Frame) (n : ℕ) (token : Token) → Ready d w tokens stack n → IsCall stack → token.kind ≡ Close → Stands d w (tokens ++ token ∷ []) (close_empty stack n token.start)
+close_empty_stands : (d w : ℕ) (tokens : List Token) (stack : List Frame) (n : ℕ) (token : Token) → Ready d w tokens stack n → IsCall stack → token.kind ≡ CloseParen → Stands d w (tokens ++ token ∷ []) (close_empty stack n token.start)
 close_empty_stands d w tokens (Args name NoTrees at ∷ stack) n token r c e =
     let g = r.good in
     record {
       over = record { good = g.2; fits = tt; below = below_six stack; top = omega arith; room = let o = r.room in omega arith };
       spelled =
-          let flat : (spell_stack stack ++ (At (Ident name) at ∷ Free Open ∷ [])) ++ Free Close ∷ [] ≡ spell_stack stack ++ (At (Ident name) at ∷ Free Open ∷ Free Close ∷ []) = simp append_assoc in
-          snoc (spell_stack (Args name NoTrees at ∷ stack)) (spell_stack stack ++ spell (CallTree name NoTrees at)) (Free Close) tokens token r.spelled e flat;
+          let flat : (spell_stack stack ++ (At (Ident name) at ∷ Free OpenParen ∷ [])) ++ Free CloseParen ∷ [] ≡ spell_stack stack ++ (At (Ident name) at ∷ Free OpenParen ∷ Free CloseParen ∷ []) = simp append_assoc in
+          snoc (spell_stack (Args name NoTrees at ∷ stack)) (spell_stack stack ++ spell (CallTree name NoTrees at)) (Free CloseParen) tokens token r.spelled e flat;
       counted = let k = r.counted in omega arith;
       few = r.few;
     }
 close_empty_stands d w tokens _ n token r c e = elim c [ ]
 
 opened_stands : (d w : ℕ) (tokens : List Token) (stack : List Frame) (n : ℕ) (token : Token) (kind : Kind) → Ready d w tokens stack n → IsCall stack → token.kind ≡ kind → Stands d w (tokens ++ token ∷ []) (opened d stack n token.start kind)
-opened_stands d w tokens stack n token Close r c e = close_empty_stands d w tokens stack n token r c e
+opened_stands d w tokens stack n token CloseParen r c e = close_empty_stands d w tokens stack n token r c e
 opened_stands d w tokens stack n token kind r c e = operand_stands d w tokens stack n token kind r e
 
 leave_stands : (d w at : ℕ) (tokens : List Token) (s : List Frame) (x : Tree) → Stands d w tokens (leave s x at)
 leave_stands d w at tokens [] x = tt
 leave_stands d w at tokens (frame ∷ s) x = tt
 
-calling_stands : (d w : ℕ) (tokens : List Token) (stack : List Frame) (n : ℕ) (token : Token) (t : Tree) → Carries d w tokens stack t n → token.kind ≡ Open → Stands d w (tokens ++ token ∷ []) (calling d stack n token.start t)
+calling_stands : (d w : ℕ) (tokens : List Token) (stack : List Frame) (n : ℕ) (token : Token) (t : Tree) → Carries d w tokens stack t n → token.kind ≡ OpenParen → Stands d w (tokens ++ token ∷ []) (calling d stack n token.start t)
 calling_stands d w tokens stack n token (NameTree name at) c e =
-    tested (Stands d w (tokens ++ token ∷ [])) (ltb (opens stack) d) (Opened (Args name NoTrees at ∷ stack) n) (Deep token.start)
+    tested (Stands d w (tokens ++ token ∷ [])) (ltb (opens stack) d) (CallOpened (Args name NoTrees at ∷ stack) n) (Deep token.start)
     (λ (lt : ltb (opens stack) d ≡ true).
     let k = ltb-true (opens stack) d lt in
-    let flat : (spell_stack stack ++ (At (Ident name) at ∷ [])) ++ Free Open ∷ [] ≡ spell_stack stack ++ (At (Ident name) at ∷ Free Open ∷ []) = simp append_assoc in (
+    let flat : (spell_stack stack ++ (At (Ident name) at ∷ [])) ++ Free OpenParen ∷ [] ≡ spell_stack stack ++ (At (Ident name) at ∷ Free OpenParen ∷ []) = simp append_assoc in (
       record {
         good = (tt, omega arith, c.over.good);
-        spelled = snoc (spell_stack stack ++ spell (NameTree name at)) (spell_stack (Args name NoTrees at ∷ stack)) (Free Open) tokens token c.spelled e flat;
+        spelled = snoc (spell_stack stack ++ spell (NameTree name at)) (spell_stack (Args name NoTrees at ∷ stack)) (Free OpenParen) tokens token c.spelled e flat;
         counted = let m = c.counted in omega arith;
         room = omega arith;
         few = c.few;
@@ -259,13 +259,13 @@ calling_stands d w tokens stack n token (NameTree name at) c e =
     tt
 calling_stands d w tokens stack n token t c e = let h = reduce 0 stack t in leave_stands d w token.start (tokens ++ token ∷ []) h.stack h.tree
 
-joining_stands : (d w : ℕ) (tokens : List Token) (stack : List Frame) (n : ℕ) (token : Token) (t : Tree) (op : Op) (held : Held) → Carries d w tokens stack t n → Reduced d (level op) stack t held → token.kind ≡ Sign op → Stands d w (tokens ++ token ∷ []) (joining w op n token.start held)
+joining_stands : (d w : ℕ) (tokens : List Token) (stack : List Frame) (n : ℕ) (token : Token) (t : Tree) (op : Op) (held : HeldOperand) → Carries d w tokens stack t n → Reduced d (level op) stack t held → token.kind ≡ Operator op → Stands d w (tokens ++ token ∷ []) (joining w op n token.start held)
 joining_stands d w tokens stack n token t op held c r e =
-    tested (Stands d w (tokens ++ token ∷ [])) (ltb n w) (Wanting (Left op held.tree token.start ∷ held.stack) (n + 1)) (Deep token.start)
+    tested (Stands d w (tokens ++ token ∷ [])) (ltb n w) (OperandNext (Left op held.tree token.start ∷ held.stack) (n + 1)) (Deep token.start)
     (λ (lt : ltb n w ≡ true).
     let k = ltb-true n w lt in
     let room = r.room in
-    let m : Mark = At (Sign op) token.start in
+    let m : Mark = At (Operator op) token.start in
     record {
       good = (r.fits, r.below, r.room, r.good);
       spelled =
@@ -283,11 +283,11 @@ behind d n w count tokens stack s token t x m c r i =
     snoc (spell_stack stack ++ spell t) (spell_stack s ++ (spell x ++ m ∷ [])) m tokens token c.spelled i
     (ap (λ (l : List Mark). l ++ m ∷ []) (sym r.spelled) ∙ append_assoc (spell_stack s) (spell x) (m ∷ []))
 
-close_stands : (d w : ℕ) (tokens : List Token) (stack : List Frame) (n : ℕ) (token : Token) (t : Tree) (s : List Frame) (x : Tree) → Carries d w tokens stack t n → Reduced d 0 stack t (record { stack = s; tree = x }) → token.kind ≡ Close → Stands d w (tokens ++ token ∷ []) (close_top s x n token.start)
+close_stands : (d w : ℕ) (tokens : List Token) (stack : List Frame) (n : ℕ) (token : Token) (t : Tree) (s : List Frame) (x : Tree) → Carries d w tokens stack t n → Reduced d 0 stack t (record { stack = s; tree = x }) → token.kind ≡ CloseParen → Stands d w (tokens ++ token ∷ []) (close_top s x n token.start)
 close_stands d w tokens stack n token t (Paren at ∷ s) x c r e =
     record {
       over = record { good = r.good; fits = r.fits; below = below_six s; top = omega arith; room = let k = r.room in omega arith };
-      spelled = subst (λ (l : List Mark). Agree (tokens ++ token ∷ []) l) (append_assoc (spell_stack s) (At Open at ∷ []) (spell x ++ Free Close ∷ [])) (behind d 0 w n tokens stack (Paren at ∷ s) token t x (Free Close) c r e);
+      spelled = subst (λ (l : List Mark). Agree (tokens ++ token ∷ []) l) (append_assoc (spell_stack s) (At OpenParen at ∷ []) (spell x ++ Free CloseParen ∷ [])) (behind d 0 w n tokens stack (Paren at ∷ s) token t x (Free CloseParen) c r e);
       counted = let a = c.counted in let b = r.counted in omega arith;
       few = c.few;
     }
@@ -297,12 +297,12 @@ close_stands d w tokens stack n token t (Args name done at ∷ s) x c r e =
     let depths = depth_reversed (MoreTrees x done) NoTrees in
     let counts = binaries_reversed (MoreTrees x done) NoTrees in
     let args = reversed_onto (MoreTrees x done) NoTrees in
-    let flat : (spell_stack s ++ (At (Ident name) at ∷ Free Open ∷ spell_done done)) ++ (spell x ++ Free Close ∷ []) ≡ spell_stack s ++ (At (Ident name) at ∷ Free Open ∷ (spell_done done ++ (spell x ++ Free Close ∷ []))) = simp append_assoc in
-    let whole : spell_stack s ++ (At (Ident name) at ∷ Free Open ∷ (spell_done done ++ (spell x ++ Free Close ∷ []))) ≡ spell_stack s ++ spell (CallTree name args at) =
-    ap (λ (l : List Mark). spell_stack s ++ (At (Ident name) at ∷ Free Open ∷ l)) (sym (args_spelled done x NoTrees)) in
+    let flat : (spell_stack s ++ (At (Ident name) at ∷ Free OpenParen ∷ spell_done done)) ++ (spell x ++ Free CloseParen ∷ []) ≡ spell_stack s ++ (At (Ident name) at ∷ Free OpenParen ∷ (spell_done done ++ (spell x ++ Free CloseParen ∷ []))) = simp append_assoc in
+    let whole : spell_stack s ++ (At (Ident name) at ∷ Free OpenParen ∷ (spell_done done ++ (spell x ++ Free CloseParen ∷ []))) ≡ spell_stack s ++ spell (CallTree name args at) =
+    ap (λ (l : List Mark). spell_stack s ++ (At (Ident name) at ∷ Free OpenParen ∷ l)) (sym (args_spelled done x NoTrees)) in
     record {
       over = record { good = g.2; fits = all_fit (MoreTrees x done) NoTrees (r.fits, g.0) tt; below = below_six s; top = omega arith; room = let m = g.1 in omega arith };
-      spelled = subst (λ (l : List Mark). Agree (tokens ++ token ∷ []) l) (flat ∙ whole) (behind d 0 w n tokens stack (Args name done at ∷ s) token t x (Free Close) c r e);
+      spelled = subst (λ (l : List Mark). Agree (tokens ++ token ∷ []) l) (flat ∙ whole) (behind d 0 w n tokens stack (Args name done at ∷ s) token t x (Free CloseParen) c r e);
       counted = let a = c.counted in let b = r.counted in omega arith;
       few = c.few;
     }
@@ -312,7 +312,7 @@ next_stands : (d w : ℕ) (tokens : List Token) (stack : List Frame) (n : ℕ) (
 next_stands d w tokens stack n token t (Args name done at ∷ s) x c r e =
     let g = r.good in
     let k = r.room in
-    let flat : (spell_stack s ++ (At (Ident name) at ∷ Free Open ∷ spell_done done)) ++ (spell x ++ Free Comma ∷ []) ≡ spell_stack s ++ (At (Ident name) at ∷ Free Open ∷ (spell_done done ++ (spell x ++ Free Comma ∷ []))) = simp append_assoc in
+    let flat : (spell_stack s ++ (At (Ident name) at ∷ Free OpenParen ∷ spell_done done)) ++ (spell x ++ Free Comma ∷ []) ≡ spell_stack s ++ (At (Ident name) at ∷ Free OpenParen ∷ (spell_done done ++ (spell x ++ Free Comma ∷ []))) = simp append_assoc in
     record {
       good = ((r.fits, g.0), let m = g.1 in omega arith, g.2);
       spelled = subst (λ (l : List Mark). Agree (tokens ++ token ∷ []) l) flat (behind d 0 w n tokens stack (Args name done at ∷ s) token t x (Free Comma) c r e);
@@ -323,16 +323,16 @@ next_stands d w tokens stack n token t (Args name done at ∷ s) x c r e =
 next_stands d w tokens stack n token t _ x c r e = tt
 
 after_stands : (d w : ℕ) (tokens : List Token) (stack : List Frame) (n : ℕ) (token : Token) (t : Tree) (kind : Kind) → Carries d w tokens stack t n → token.kind ≡ kind → Stands d w (tokens ++ token ∷ []) (after d w stack t n token.start kind)
-after_stands d w tokens stack n token t Open c e = calling_stands d w tokens stack n token t c e
-after_stands d w tokens stack n token t (Sign op) c e = let lt = level_bound op in joining_stands d w tokens stack n token t op (reduce (level op) stack t) c (reduced stack d (level op) 6 t c.over (omega arith)) e
-after_stands d w tokens stack n token t Close c e = let h = reduce 0 stack t in close_stands d w tokens stack n token t h.stack h.tree c (reduced stack d 0 6 t c.over (omega arith)) e
+after_stands d w tokens stack n token t OpenParen c e = calling_stands d w tokens stack n token t c e
+after_stands d w tokens stack n token t (Operator op) c e = let lt = level_bound op in joining_stands d w tokens stack n token t op (reduce (level op) stack t) c (reduced stack d (level op) 6 t c.over (omega arith)) e
+after_stands d w tokens stack n token t CloseParen c e = let h = reduce 0 stack t in close_stands d w tokens stack n token t h.stack h.tree c (reduced stack d 0 6 t c.over (omega arith)) e
 after_stands d w tokens stack n token t Comma c e = let h = reduce 0 stack t in next_stands d w tokens stack n token t h.stack h.tree c (reduced stack d 0 6 t c.over (omega arith)) e
 after_stands d w tokens stack n token t _ c e = let h = reduce 0 stack t in leave_stands d w token.start (tokens ++ token ∷ []) h.stack h.tree
 
 pub step_stands : (d w : ℕ) (tokens : List Token) (s : State) (token : Token) → Stands d w tokens s → Stands d w (tokens ++ token ∷ []) (step d w s token)
-step_stands d w tokens (Wanting stack n) token h = operand_stands d w tokens stack n token token.kind h refl
-step_stands d w tokens (Opened stack n) token h = opened_stands d w tokens stack n token token.kind h.0 h.1 refl
-step_stands d w tokens (Holding stack t n) token h = after_stands d w tokens stack n token t token.kind h refl
+step_stands d w tokens (OperandNext stack n) token h = operand_stands d w tokens stack n token token.kind h refl
+step_stands d w tokens (CallOpened stack n) token h = opened_stands d w tokens stack n token token.kind h.0 h.1 refl
+step_stands d w tokens (OperandRead stack t n) token h = after_stands d w tokens stack n token t token.kind h refl
 step_stands d w tokens (Ended t) token h = tt
 step_stands d w tokens (Stopped f) token h = tt
 

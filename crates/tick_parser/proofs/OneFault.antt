@@ -3,7 +3,7 @@ use Rattle.std.proofs.Common.{◌≡◌, ◌⊎◌, inl, inr, ℕ, List, [], ◌
 use Rattle.std.specs.Prelude.{pos}
 use Rattle.kap_base.specs.declared.expr.Lit.TheVariants.{Int}
 use Rattle.tick_lexer.specs.declared.token.Kind.{Kind}
-use Rattle.tick_lexer.specs.declared.token.Kind.TheVariants.{Ident, Literal, Sign, Bang, Open, Close, Dot, Assign, Var}
+use Rattle.tick_lexer.specs.declared.token.Kind.TheVariants.{Ident, Literal, Operator, Not, OpenParen, CloseParen, Dot, Assign, Var}
 use Rattle.tick_lexer.specs.declared.token.Token.{Token}
 use Rattle.tick_parser.specs.declared.fault.Want.{Want}
 use Rattle.tick_parser.specs.declared.fault.Want.TheVariants.{Statement, Name, Equal, Value, Open as WantOpen, Close as WantClose, Ref, Dot as WantDot, Operand}
@@ -66,11 +66,11 @@ assign_reference Assign h k = k
 assign_reference _ h k = h
 
 open_dot : (kind : Kind) → IsOpen kind → IsDot kind → ⊥
-open_dot Open h k = k
+open_dot OpenParen h k = k
 open_dot _ h k = h
 
 open_reference : (kind : Kind) → IsOpen kind → IsReference kind → ⊥
-open_reference Open h k = k
+open_reference OpenParen h k = k
 open_reference _ h k = h
 
 dot_reference : (kind : Kind) → IsDot kind → IsReference kind → ⊥
@@ -86,7 +86,7 @@ wants_same tokens Name WantDot x y = absurd (apart IsIdent IsDot tokens ident_do
 wants_same tokens Name Ref x y = absurd (apart IsIdent IsReference tokens ident_reference x y)
 wants_same tokens Name Value x y = absurd (x.1 (Literal (Int (pos 0))) y.0)
 wants_same tokens Name Operand x y = absurd (x.1 (Literal (Int (pos 0))) y.0)
-wants_same tokens Name WantClose x y = absurd (x.1 Close y.0)
+wants_same tokens Name WantClose x y = absurd (x.1 CloseParen y.0)
 wants_same tokens Name Statement x y = absurd (x.1 Var (whole_var tokens y))
 wants_same tokens Equal Name x y = absurd (apart IsIdent IsAssign tokens ident_assign y x)
 wants_same tokens Equal Equal x y = refl
@@ -95,7 +95,7 @@ wants_same tokens Equal WantDot x y = absurd (apart IsAssign IsDot tokens assign
 wants_same tokens Equal Ref x y = absurd (apart IsAssign IsReference tokens assign_reference x y)
 wants_same tokens Equal Value x y = absurd (x.1 (Literal (Int (pos 0))) y.0)
 wants_same tokens Equal Operand x y = absurd (x.1 (Literal (Int (pos 0))) y.0)
-wants_same tokens Equal WantClose x y = absurd (x.1 Close y.0)
+wants_same tokens Equal WantClose x y = absurd (x.1 CloseParen y.0)
 wants_same tokens Equal Statement x y = absurd (x.1 Var (whole_var tokens y))
 wants_same tokens WantOpen Name x y = absurd (apart IsIdent IsOpen tokens ident_open y x)
 wants_same tokens WantOpen Equal x y = absurd (apart IsAssign IsOpen tokens assign_open y x)
@@ -104,7 +104,7 @@ wants_same tokens WantOpen WantDot x y = absurd (apart IsOpen IsDot tokens open_
 wants_same tokens WantOpen Ref x y = absurd (apart IsOpen IsReference tokens open_reference x y)
 wants_same tokens WantOpen Value x y = absurd (x.1 (Literal (Int (pos 0))) y.0)
 wants_same tokens WantOpen Operand x y = absurd (x.1 (Literal (Int (pos 0))) y.0)
-wants_same tokens WantOpen WantClose x y = absurd (x.1 Close y.0)
+wants_same tokens WantOpen WantClose x y = absurd (x.1 CloseParen y.0)
 wants_same tokens WantOpen Statement x y = absurd (x.1 Var (whole_var tokens y))
 wants_same tokens WantDot Name x y = absurd (apart IsIdent IsDot tokens ident_dot y x)
 wants_same tokens WantDot Equal x y = absurd (apart IsAssign IsDot tokens assign_dot y x)
@@ -113,7 +113,7 @@ wants_same tokens WantDot WantDot x y = refl
 wants_same tokens WantDot Ref x y = absurd (apart IsDot IsReference tokens dot_reference x y)
 wants_same tokens WantDot Value x y = absurd (x.1 (Literal (Int (pos 0))) y.0)
 wants_same tokens WantDot Operand x y = absurd (x.1 (Literal (Int (pos 0))) y.0)
-wants_same tokens WantDot WantClose x y = absurd (x.1 Close y.0)
+wants_same tokens WantDot WantClose x y = absurd (x.1 CloseParen y.0)
 wants_same tokens WantDot Statement x y = absurd (x.1 Var (whole_var tokens y))
 wants_same tokens Ref Name x y = absurd (apart IsIdent IsReference tokens ident_reference y x)
 wants_same tokens Ref Equal x y = absurd (apart IsAssign IsReference tokens assign_reference y x)
@@ -122,7 +122,7 @@ wants_same tokens Ref WantDot x y = absurd (apart IsDot IsReference tokens dot_r
 wants_same tokens Ref Ref x y = refl
 wants_same tokens Ref Value x y = absurd (x.1 (Literal (Int (pos 0))) y.0)
 wants_same tokens Ref Operand x y = absurd (x.1 (Literal (Int (pos 0))) y.0)
-wants_same tokens Ref WantClose x y = absurd (x.1 Close y.0)
+wants_same tokens Ref WantClose x y = absurd (x.1 CloseParen y.0)
 wants_same tokens Ref Statement x y = absurd (x.1 Var (whole_var tokens y))
 wants_same tokens Value Name x y = absurd (y.1 (Literal (Int (pos 0))) x.0)
 wants_same tokens Value Equal x y = absurd (y.1 (Literal (Int (pos 0))) x.0)
@@ -142,11 +142,11 @@ wants_same tokens Operand Value x y = absurd (y.1 x.1)
 wants_same tokens Operand Operand x y = refl
 wants_same tokens Operand WantClose x y = absurd (y.1 x.0)
 wants_same tokens Operand Statement x y = absurd (x.2 (whole_var tokens y))
-wants_same tokens WantClose Name x y = absurd (y.1 Close x.0)
-wants_same tokens WantClose Equal x y = absurd (y.1 Close x.0)
-wants_same tokens WantClose WantOpen x y = absurd (y.1 Close x.0)
-wants_same tokens WantClose WantDot x y = absurd (y.1 Close x.0)
-wants_same tokens WantClose Ref x y = absurd (y.1 Close x.0)
+wants_same tokens WantClose Name x y = absurd (y.1 CloseParen x.0)
+wants_same tokens WantClose Equal x y = absurd (y.1 CloseParen x.0)
+wants_same tokens WantClose WantOpen x y = absurd (y.1 CloseParen x.0)
+wants_same tokens WantClose WantDot x y = absurd (y.1 CloseParen x.0)
+wants_same tokens WantClose Ref x y = absurd (y.1 CloseParen x.0)
 wants_same tokens WantClose Value x y = absurd (x.1 y.0)
 wants_same tokens WantClose Operand x y = absurd (x.1 y.0)
 wants_same tokens WantClose WantClose x y = refl
@@ -162,9 +162,9 @@ wants_same tokens Statement WantClose x y = absurd (y.2 (whole_var tokens x))
 wants_same tokens Statement Statement x y = refl
 
 opening_start : (kind : Kind) → IsOpening kind → IsStart kind → ⊥
-opening_start Open h k = k
-opening_start Bang h k = k
-opening_start (Sign op) h k = k
+opening_start OpenParen h k = k
+opening_start Not h k = k
+opening_start (Operator op) h k = k
 opening_start _ h k = h
 
 ends_same : (d w m : ℕ) (before : List Token) (token : Token) (f g : ParseFault) → Ends d w m before token f → Ends d w m before token g → f ≡ g

@@ -10,7 +10,7 @@ use Rattle.tick_parser.specs.Script.{Reads, Within}
 use Rattle.tick_parser.specs.Refusal.{Refused, ended, end_of}
 use Rattle.tick_parser.specs.Machine.{run, step, finish, Between, Stopped, Got, Refuses}
 use Rattle.tick_parser.specs.Machine as machine
-use Rattle.tick_parser.specs.States.{Answers}
+use Rattle.tick_parser.specs.States.{Finishes}
 use Rattle.tick_parser.proofs.Room.{run_stopped}
 use Rattle.tick_parser.proofs.Reading.{answered, refused}
 
@@ -20,11 +20,11 @@ at_end tokens rest s place none same ends =
     let p_is : place ≡ ended 0 tokens = sym (ap (λ (l : List Token). ended place l) none) ∙ ends in
     ap (λ (x : ℕ). finish x s) p_is ∙ ap (λ (x : machine.State). finish (end_of tokens) x) s_is
 
-pub parsed_tree : (tokens rest : List Token) (s : machine.State) (place : ℕ) (result : Result (List Stmt) ParseFault) → rest ≡ [] → run 64 512 4096 rest s ≡ run 64 512 4096 tokens (Between []) → ended place rest ≡ ended 0 tokens → Answers result (finish place s) → IfOk result (λ tree. Reads tokens (script_tree tree) × Within 64 512 4096 (script_tree tree))
+pub parsed_tree : (tokens rest : List Token) (s : machine.State) (place : ℕ) (result : Result (List Stmt) ParseFault) → rest ≡ [] → run 64 512 4096 rest s ≡ run 64 512 4096 tokens (Between []) → ended place rest ≡ ended 0 tokens → Finishes result (finish place s) → IfOk result (λ tree. Reads tokens (script_tree tree) × Within 64 512 4096 (script_tree tree))
 parsed_tree tokens rest s place (Ok tree) none same ends h = answered 64 512 4096 (end_of tokens) tokens (script_tree tree) (sym (at_end tokens rest s place none same ends) ∙ h)
 parsed_tree tokens rest s place (Err fault) none same ends h = tt
 
-pub parsed_fault : (tokens rest : List Token) (s : machine.State) (place : ℕ) (result : Result (List Stmt) ParseFault) → rest ≡ [] → run 64 512 4096 rest s ≡ run 64 512 4096 tokens (Between []) → ended place rest ≡ ended 0 tokens → Answers result (finish place s) → IfErr result (λ fault. (fault ≡ NoMemory) ⊎ Refused 64 512 4096 tokens fault)
+pub parsed_fault : (tokens rest : List Token) (s : machine.State) (place : ℕ) (result : Result (List Stmt) ParseFault) → rest ≡ [] → run 64 512 4096 rest s ≡ run 64 512 4096 tokens (Between []) → ended place rest ≡ ended 0 tokens → Finishes result (finish place s) → IfErr result (λ fault. (fault ≡ NoMemory) ⊎ Refused 64 512 4096 tokens fault)
 parsed_fault tokens rest s place (Ok tree) none same ends h = tt
 parsed_fault tokens rest s place (Err fault) none same ends h =
     ⊎_elim

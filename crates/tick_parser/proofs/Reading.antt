@@ -3,7 +3,7 @@ use Rattle.std.proofs.Common.{◌≡◌, ◌⊎◌, inl, inr, ℕ, ◌+◌, ◌-
 use Rattle.std.proofs.lemmas.Bool.{le-ltb}
 use Rattle.kap_base.specs.declared.expr.Op.TheVariants.{Sub, Mul}
 use Rattle.tick_lexer.specs.declared.token.Kind.{Kind}
-use Rattle.tick_lexer.specs.declared.token.Kind.TheVariants.{Ident, Sign, Bang, Open, Var}
+use Rattle.tick_lexer.specs.declared.token.Kind.TheVariants.{Ident, Operator, Not, OpenParen, Var}
 use Rattle.tick_lexer.specs.declared.token.Token.{Token}
 use Rattle.tick_parser.specs.declared.fault.ParseFault.{ParseFault}
 use Rattle.tick_parser.specs.declared.fault.ParseFault.TheVariants.{Expected, Deep, TooMany, NoMemory}
@@ -11,7 +11,7 @@ use Rattle.tick_parser.specs.Trees.{ValTree, LambdaVal, NoVals, NoJoints, StmtTr
 use Rattle.tick_parser.specs.Script.{depth_script, width_script, Reads, Within}
 use Rattle.tick_parser.specs.Refusal.{Begins, Opens, IsWhole, IsOpening, IsStart, Fills, Ends, GoesOn, Stops, end_of, Lacks, Refused}
 use Rattle.tick_parser.specs.Lambdas as lambdas
-use Rattle.tick_parser.specs.Machine.{Line, Call, Spot, Variable, Argument, State, Between, VarRead, NameRead, DbRead, DotRead, Valuing, MinusRead, ValueRead, InLambda, LineRead, LinkRead, CallRead, ParenRead, Stopped, chained, piped, opens_spot, opens, begin, settle, leave, follow, star, value, number, opening, opened, within, declare, assign, dotted, target, link, step, run, Answer, Got, Refuses, finish}
+use Rattle.tick_parser.specs.Machine.{Chain, Call, Context, Variable, Argument, State, Between, VarRead, NameRead, DbRead, DotRead, ValueNext, MinusRead, ValueRead, InLambda, ChainRead, LinkRead, CallRead, ParenRead, Stopped, chain_value, chain_stmt, opens_context, opens, begin, settle, leave, follow, star, value, number, opening, opened, within, declare, assign, dotted, target, link, step, run, Answer, Got, Refuses, finish}
 use Rattle.tick_parser.proofs.CompleteScript.{whole_run}
 use Rattle.tick_parser.proofs.Viable.{IsGoing, HasRoom, viable}
 use Rattle.tick_parser.proofs.Room.{IsFull, same_count, run_stopped, going_first}
@@ -21,98 +21,98 @@ use Rattle.tick_parser.proofs.Wants.{state_of, stands, Here, here_stands, here_l
 
 -- a parenthesis or an operator begins no node and no property
 begin_room : (d m : ℕ) (done : List StmtTree) (at : ℕ) (kind : Kind) → IsOpening kind → HasRoom d (begin m done at kind)
-begin_room d m done at Open k = tt
-begin_room d m done at Bang k = tt
-begin_room d m done at (Sign op) k = tt
+begin_room d m done at OpenParen k = tt
+begin_room d m done at Not k = tt
+begin_room d m done at (Operator op) k = tt
 begin_room d m done at _ k = elim k [ ]
 
-settle_room : (d m : ℕ) (done : List StmtTree) (stack : List Spot) (spot : Spot) (v : ValTree) (at : ℕ) (kind : Kind) → IsOpening kind → HasRoom d (settle m done stack spot v at kind)
+settle_room : (d m : ℕ) (done : List StmtTree) (stack : List Context) (context : Context) (v : ValTree) (at : ℕ) (kind : Kind) → IsOpening kind → HasRoom d (settle m done stack context v at kind)
 settle_room d m done stack (Variable name place) v at kind k = begin_room d m (done ++ VarStmt name v place ∷ []) at kind k
-settle_room d m done stack (Argument line call args) v at Open k = tt
-settle_room d m done stack (Argument line call args) v at Bang k = tt
-settle_room d m done stack (Argument line call args) v at (Sign op) k = tt
-settle_room d m done stack (Argument line call args) v at _ k = elim k [ ]
+settle_room d m done stack (Argument chain call args) v at OpenParen k = tt
+settle_room d m done stack (Argument chain call args) v at Not k = tt
+settle_room d m done stack (Argument chain call args) v at (Operator op) k = tt
+settle_room d m done stack (Argument chain call args) v at _ k = elim k [ ]
 
-leave_room : (d m : ℕ) (done : List StmtTree) (stack : List Spot) (line : Line) (at : ℕ) (kind : Kind) → IsOpening kind → HasRoom d (leave m done stack line at kind)
-leave_room d m done [] line at kind k = begin_room d m (done ++ piped line ∷ []) at kind k
-leave_room d m done (spot ∷ stack) line at kind k = settle_room d m done stack spot (chained line) at kind k
+leave_room : (d m : ℕ) (done : List StmtTree) (stack : List Context) (chain : Chain) (at : ℕ) (kind : Kind) → IsOpening kind → HasRoom d (leave m done stack chain at kind)
+leave_room d m done [] chain at kind k = begin_room d m (done ++ chain_stmt chain ∷ []) at kind k
+leave_room d m done (context ∷ stack) chain at kind k = settle_room d m done stack context (chain_value chain) at kind k
 
-follow_room : (d m : ℕ) (done : List StmtTree) (stack : List Spot) (line : Line) (at : ℕ) (kind : Kind) → IsOpening kind → HasRoom d (follow m done stack line at kind)
-follow_room d m done stack line at Open k = leave_room d m done stack line at Open tt
-follow_room d m done stack line at Bang k = leave_room d m done stack line at Bang tt
-follow_room d m done stack line at (Sign op) k = leave_room d m done stack line at (Sign op) tt
-follow_room d m done stack line at _ k = elim k [ ]
+follow_room : (d m : ℕ) (done : List StmtTree) (stack : List Context) (chain : Chain) (at : ℕ) (kind : Kind) → IsOpening kind → HasRoom d (follow m done stack chain at kind)
+follow_room d m done stack chain at OpenParen k = leave_room d m done stack chain at OpenParen tt
+follow_room d m done stack chain at Not k = leave_room d m done stack chain at Not tt
+follow_room d m done stack chain at (Operator op) k = leave_room d m done stack chain at (Operator op) tt
+follow_room d m done stack chain at _ k = elim k [ ]
 
-star_room : (d : ℕ) (done : List StmtTree) (stack : List Spot) (spot : Spot) (at : ℕ) → HasRoom d (star done stack spot at)
+star_room : (d : ℕ) (done : List StmtTree) (stack : List Context) (context : Context) (at : ℕ) → HasRoom d (star done stack context at)
 star_room d done stack (Variable name place) at = tt
-star_room d done stack (Argument line call args) at = tt
+star_room d done stack (Argument chain call args) at = tt
 
-value_room : (d : ℕ) (done : List StmtTree) (stack : List Spot) (spot : Spot) (at : ℕ) (kind : Kind) → IsOpening kind → HasRoom d (value done stack spot at kind)
-value_room d done stack spot at Open k = tt
-value_room d done stack spot at Bang k = tt
-value_room d done stack spot at (Sign Sub) k = tt
-value_room d done stack spot at (Sign Mul) k = star_room d done stack spot at
-value_room d done stack spot at (Sign op) k = tt
-value_room d done stack spot at _ k = elim k [ ]
+value_room : (d : ℕ) (done : List StmtTree) (stack : List Context) (context : Context) (at : ℕ) (kind : Kind) → IsOpening kind → HasRoom d (value done stack context at kind)
+value_room d done stack context at OpenParen k = tt
+value_room d done stack context at Not k = tt
+value_room d done stack context at (Operator Sub) k = tt
+value_room d done stack context at (Operator Mul) k = star_room d done stack context at
+value_room d done stack context at (Operator op) k = tt
+value_room d done stack context at _ k = elim k [ ]
 
-within_room : (d m : ℕ) (done : List StmtTree) (stack : List Spot) (spot : Spot) (place at : ℕ) (kind : Kind) (next : lambdas.State) → IsOpening kind → HasRoom d (within m done stack spot place at kind next)
-within_room d m done stack spot place at kind (lambdas.Ended body) k = settle_room d m done stack spot (LambdaVal body place) at kind k
-within_room d m done stack spot place at kind (lambdas.Stopped f) k = tt
-within_room d m done stack spot place at kind (lambdas.Wanting st n) k = tt
-within_room d m done stack spot place at kind (lambdas.Opened st n) k = tt
-within_room d m done stack spot place at kind (lambdas.Holding st t n) k = tt
+within_room : (d m : ℕ) (done : List StmtTree) (stack : List Context) (context : Context) (place at : ℕ) (kind : Kind) (next : lambdas.State) → IsOpening kind → HasRoom d (within m done stack context place at kind next)
+within_room d m done stack context place at kind (lambdas.Ended body) k = settle_room d m done stack context (LambdaVal body place) at kind k
+within_room d m done stack context place at kind (lambdas.Stopped f) k = tt
+within_room d m done stack context place at kind (lambdas.OperandNext st n) k = tt
+within_room d m done stack context place at kind (lambdas.CallOpened st n) k = tt
+within_room d m done stack context place at kind (lambdas.OperandRead st t n) k = tt
 
-paren_room : (d : ℕ) (done : List StmtTree) (stack : List Spot) (line : Line) (call : Call) (at : ℕ) (b : Bool) → HasRoom d (cond b (ParenRead done stack line call) (Stopped (Deep at)))
-paren_room d done stack line call at true = tt
-paren_room d done stack line call at false = tt
+paren_room : (d : ℕ) (done : List StmtTree) (stack : List Context) (chain : Chain) (call : Call) (at : ℕ) (b : Bool) → HasRoom d (cond b (ParenRead done stack chain call) (Stopped (Deep at)))
+paren_room d done stack chain call at true = tt
+paren_room d done stack chain call at false = tt
 
-opening_room : (d : ℕ) (done : List StmtTree) (stack : List Spot) (line : Line) (call : Call) (at : ℕ) (kind : Kind) → IsOpening kind → HasRoom d (opening d done stack line call at kind)
-opening_room d done stack line call at Open k = paren_room d done stack line call at (ltb (opens stack) d)
-opening_room d done stack line call at Bang k = tt
-opening_room d done stack line call at (Sign op) k = tt
-opening_room d done stack line call at _ k = elim k [ ]
+opening_room : (d : ℕ) (done : List StmtTree) (stack : List Context) (chain : Chain) (call : Call) (at : ℕ) (kind : Kind) → IsOpening kind → HasRoom d (opening d done stack chain call at kind)
+opening_room d done stack chain call at OpenParen k = paren_room d done stack chain call at (ltb (opens stack) d)
+opening_room d done stack chain call at Not k = tt
+opening_room d done stack chain call at (Operator op) k = tt
+opening_room d done stack chain call at _ k = elim k [ ]
 
-opened_room : (d : ℕ) (done : List StmtTree) (stack : List Spot) (line : Line) (call : Call) (at : ℕ) (kind : Kind) → IsOpening kind → HasRoom d (opened done stack line call at kind)
-opened_room d done stack line call at Open k = tt
-opened_room d done stack line call at Bang k = tt
-opened_room d done stack line call at (Sign op) k = value_room d done stack (Argument line call NoVals) at (Sign op) tt
-opened_room d done stack line call at _ k = elim k [ ]
+opened_room : (d : ℕ) (done : List StmtTree) (stack : List Context) (chain : Chain) (call : Call) (at : ℕ) (kind : Kind) → IsOpening kind → HasRoom d (opened done stack chain call at kind)
+opened_room d done stack chain call at OpenParen k = tt
+opened_room d done stack chain call at Not k = tt
+opened_room d done stack chain call at (Operator op) k = value_room d done stack (Argument chain call NoVals) at (Operator op) tt
+opened_room d done stack chain call at _ k = elim k [ ]
 
-number_room : (d : ℕ) (done : List StmtTree) (stack : List Spot) (spot : Spot) (place at : ℕ) (kind : Kind) → IsOpening kind → HasRoom d (number done stack spot place at kind)
-number_room d done stack spot place at Open k = tt
-number_room d done stack spot place at Bang k = tt
-number_room d done stack spot place at (Sign op) k = tt
-number_room d done stack spot place at _ k = elim k [ ]
+number_room : (d : ℕ) (done : List StmtTree) (stack : List Context) (context : Context) (place at : ℕ) (kind : Kind) → IsOpening kind → HasRoom d (number done stack context place at kind)
+number_room d done stack context place at OpenParen k = tt
+number_room d done stack context place at Not k = tt
+number_room d done stack context place at (Operator op) k = tt
+number_room d done stack context place at _ k = elim k [ ]
 
 declare_room : (d : ℕ) (done : List StmtTree) (place at : ℕ) (kind : Kind) → IsOpening kind → HasRoom d (declare done place at kind)
-declare_room d done place at Open k = tt
-declare_room d done place at Bang k = tt
-declare_room d done place at (Sign op) k = tt
+declare_room d done place at OpenParen k = tt
+declare_room d done place at Not k = tt
+declare_room d done place at (Operator op) k = tt
 declare_room d done place at _ k = elim k [ ]
 
 assign_room : (d : ℕ) (done : List StmtTree) (name : List ℕ) (place at : ℕ) (kind : Kind) → IsOpening kind → HasRoom d (assign done name place at kind)
-assign_room d done name place at Open k = tt
-assign_room d done name place at Bang k = tt
-assign_room d done name place at (Sign op) k = tt
+assign_room d done name place at OpenParen k = tt
+assign_room d done name place at Not k = tt
+assign_room d done name place at (Operator op) k = tt
 assign_room d done name place at _ k = elim k [ ]
 
 dotted_room : (d : ℕ) (done : List StmtTree) (db : List ℕ) (place at : ℕ) (kind : Kind) → IsOpening kind → HasRoom d (dotted done db place at kind)
-dotted_room d done db place at Open k = tt
-dotted_room d done db place at Bang k = tt
-dotted_room d done db place at (Sign op) k = tt
+dotted_room d done db place at OpenParen k = tt
+dotted_room d done db place at Not k = tt
+dotted_room d done db place at (Operator op) k = tt
 dotted_room d done db place at _ k = elim k [ ]
 
 target_room : (d : ℕ) (done : List StmtTree) (db : List ℕ) (place at : ℕ) (kind : Kind) → IsOpening kind → HasRoom d (target done db place at kind)
-target_room d done db place at Open k = tt
-target_room d done db place at Bang k = tt
-target_room d done db place at (Sign op) k = tt
+target_room d done db place at OpenParen k = tt
+target_room d done db place at Not k = tt
+target_room d done db place at (Operator op) k = tt
 target_room d done db place at _ k = elim k [ ]
 
-link_room : (d : ℕ) (done : List StmtTree) (stack : List Spot) (line : Line) (node : Bool) (at : ℕ) (kind : Kind) → IsOpening kind → HasRoom d (link done stack line node at kind)
-link_room d done stack line node at Open k = tt
-link_room d done stack line node at Bang k = tt
-link_room d done stack line node at (Sign op) k = tt
-link_room d done stack line node at _ k = elim k [ ]
+link_room : (d : ℕ) (done : List StmtTree) (stack : List Context) (chain : Chain) (node : Bool) (at : ℕ) (kind : Kind) → IsOpening kind → HasRoom d (link done stack chain node at kind)
+link_room d done stack chain node at OpenParen k = tt
+link_room d done stack chain node at Not k = tt
+link_room d done stack chain node at (Operator op) k = tt
+link_room d done stack chain node at _ k = elim k [ ]
 
 room_after : (d w m : ℕ) (s : State) (token : Token) → IsOpening token.kind → HasRoom d (step d w m s token)
 room_after d w m (Between done) token k = begin_room d m done token.start token.kind k
@@ -120,28 +120,28 @@ room_after d w m (VarRead done at) token k = declare_room d done at token.start 
 room_after d w m (NameRead done name at) token k = assign_room d done name at token.start token.kind k
 room_after d w m (DbRead done db at) token k = dotted_room d done db at token.start token.kind k
 room_after d w m (DotRead done db at) token k = target_room d done db at token.start token.kind k
-room_after d w m (Valuing done stack spot) token k = value_room d done stack spot token.start token.kind k
-room_after d w m (MinusRead done stack spot at) token k = number_room d done stack spot at token.start token.kind k
-room_after d w m (ValueRead done stack spot v) token k = settle_room d m done stack spot v token.start token.kind k
-room_after d w m (InLambda done stack spot at inner) token k =
-    within_room d m done stack spot at token.start token.kind (lambdas.step (d - (opens stack + opens_spot spot)) w inner token) k
-room_after d w m (LineRead done stack line) token k = follow_room d m done stack line token.start token.kind k
-room_after d w m (LinkRead done stack line node) token k = link_room d done stack line node token.start token.kind k
-room_after d w m (CallRead done stack line call) token k = opening_room d done stack line call token.start token.kind k
-room_after d w m (ParenRead done stack line call) token k = opened_room d done stack line call token.start token.kind k
+room_after d w m (ValueNext done stack context) token k = value_room d done stack context token.start token.kind k
+room_after d w m (MinusRead done stack context at) token k = number_room d done stack context at token.start token.kind k
+room_after d w m (ValueRead done stack context v) token k = settle_room d m done stack context v token.start token.kind k
+room_after d w m (InLambda done stack context at inner) token k =
+    within_room d m done stack context at token.start token.kind (lambdas.step (d - (opens stack + opens_context context)) w inner token) k
+room_after d w m (ChainRead done stack chain) token k = follow_room d m done stack chain token.start token.kind k
+room_after d w m (LinkRead done stack chain node) token k = link_room d done stack chain node token.start token.kind k
+room_after d w m (CallRead done stack chain call) token k = opening_room d done stack chain call token.start token.kind k
+room_after d w m (ParenRead done stack chain call) token k = opened_room d done stack chain call token.start token.kind k
 room_after d w m (Stopped f) token k = tt
 
 -- behind as many statements as there may be none begins
 begin_full : (m : ℕ) (done : List StmtTree) (at : ℕ) (kind : Kind) → IsStart kind → length done ≡ m → begin m done at kind ≡ Stopped (TooMany at)
 begin_full m done at Var k e = ap (λ (b : Bool). cond b (VarRead done at) (Stopped (TooMany at))) (le-ltb (length done) m (omega arith))
 begin_full m done at (Ident name) k e =
-    ap (λ (b : Bool). cond b (LineRead done [] (record { head = name; links = NoJoints; at = at })) (Stopped (TooMany at))) (le-ltb (length done) m (omega arith))
+    ap (λ (b : Bool). cond b (ChainRead done [] (record { head = name; links = NoJoints; at = at })) (Stopped (TooMany at))) (le-ltb (length done) m (omega arith))
 begin_full m done at _ k e = elim k [ ]
 
 begin_goes : (m : ℕ) (done : List StmtTree) (at : ℕ) (kind : Kind) → IsStart kind → length done < m → IsGoing (begin m done at kind)
 begin_goes m done at Var k lt = subst (λ (b : Bool). IsGoing (cond b (VarRead done at) (Stopped (TooMany at)))) (sym (lt-ltb (length done) m lt)) tt
 begin_goes m done at (Ident name) k lt =
-    subst (λ (b : Bool). IsGoing (cond b (LineRead done [] (record { head = name; links = NoJoints; at = at })) (Stopped (TooMany at)))) (sym (lt-ltb (length done) m lt)) tt
+    subst (λ (b : Bool). IsGoing (cond b (ChainRead done [] (record { head = name; links = NoJoints; at = at })) (Stopped (TooMany at)))) (sym (lt-ltb (length done) m lt)) tt
 begin_goes m done at _ k lt = elim k [ ]
 
 got_going : (s : State) (t : List StmtTree) → finish 0 s ≡ Got t → IsGoing s

@@ -7,7 +7,7 @@ use Rattle.kap_base.specs.declared.expr.Lit.{Lit}
 use Rattle.kap_base.specs.declared.expr.Op.TheVariants.{Sub, Mul}
 use Rattle.kap_base.specs.Tree.{Tree}
 use Rattle.tick_lexer.specs.declared.token.Kind.{Kind}
-use Rattle.tick_lexer.specs.declared.token.Kind.TheVariants.{Ident, Literal, Reference, Sign, Open, Close, Comma, Dot, Pipe, Assign, Var, Lambda}
+use Rattle.tick_lexer.specs.declared.token.Kind.TheVariants.{Ident, Literal, Reference, Operator, OpenParen, CloseParen, Comma, Dot, Pipe, Assign, Var, Lambda}
 use Rattle.tick_lexer.specs.declared.token.Token.{Token}
 use Rattle.tick_parser.specs.declared.fault.ParseFault.{ParseFault}
 use Rattle.tick_parser.specs.declared.fault.ParseFault.TheVariants.{Deep, TooMany}
@@ -15,7 +15,7 @@ use Rattle.tick_parser.specs.Trees.{ValTree, LitVal, StarVal, LambdaVal, ChainVa
 use Rattle.tick_parser.specs.Grammar.{Mark, At, Free, Signed, spell, Agree, Is, IsMinus, minus}
 use Rattle.tick_parser.specs.Script.{spell_val, spell_vals, spell_more, spell_joints, spell_stmt, spell_script, word_dbrp, FitsVal, FitVals, FitJoints, IsOne, FitsStmt, FitsScript, depth_val, depth_vals, depth_joints, depth_stmt, depth_script, width_val, width_vals, width_joints, width_stmt, width_script}
 use Rattle.tick_parser.specs.Lambdas as lambdas
-use Rattle.tick_parser.specs.Machine.{Line, Call, Spot, Variable, Argument, State, Between, VarRead, NameRead, DbRead, DotRead, Valuing, MinusRead, ValueRead, InLambda, LineRead, LinkRead, CallRead, ParenRead, Stopped, linked, chained, piped, opens_spot, opens, begin, argue, settle, leave, is_bare, is_dbrp, follow, star, value, signed, number, opening, opened, within, declare, assign, dotted, target, link, step, run}
+use Rattle.tick_parser.specs.Machine.{Chain, Call, Context, Variable, Argument, State, Between, VarRead, NameRead, DbRead, DotRead, ValueNext, MinusRead, ValueRead, InLambda, ChainRead, LinkRead, CallRead, ParenRead, Stopped, linked, chain_value, chain_stmt, opens_context, opens, begin, argue, settle, leave, is_bare, is_dbrp, follow, star, value, signed, number, opening, opened, within, declare, assign, dotted, target, link, step, run}
 use Rattle.tick_parser.proofs.Agreeing.{split, first, join, snoc, snoc_two}
 use Rattle.tick_parser.proofs.Complete.{StarFits, both}
 use Rattle.tick_parser.proofs.LambdaSound as sound
@@ -30,22 +30,22 @@ spell_read (MoreVals last args) = spell_read args ++ (spell_val last ++ Free Com
 abbrev pub spell_links : JointTrees → List Mark
 spell_links NoJoints = []
 spell_links (MoreJoints node name args at rest) =
-    spell_links rest ++ (Free (cond node Pipe Dot) ∷ At (Ident name) at ∷ Free Open ∷ spell_vals args)
+    spell_links rest ++ (Free (cond node Pipe Dot) ∷ At (Ident name) at ∷ Free OpenParen ∷ spell_vals args)
 
-abbrev pub spell_line : Line → List Mark
-spell_line line = At (Ident line.head) line.at ∷ spell_links line.links
+abbrev pub spell_chain : Chain → List Mark
+spell_chain chain = At (Ident chain.head) chain.at ∷ spell_links chain.links
 
 abbrev pub spell_call : Call → List Mark
 spell_call call = Free (cond call.node Pipe Dot) ∷ At (Ident call.name) call.at ∷ []
 
-abbrev pub spell_spot : Spot → List Mark
-spell_spot (Variable name at) = At Var at ∷ Free (Ident name) ∷ Free Assign ∷ []
-spell_spot (Argument line call args) = spell_line line ++ (spell_call call ++ (Free Open ∷ spell_read args))
+abbrev pub spell_context : Context → List Mark
+spell_context (Variable name at) = At Var at ∷ Free (Ident name) ∷ Free Assign ∷ []
+spell_context (Argument chain call args) = spell_chain chain ++ (spell_call call ++ (Free OpenParen ∷ spell_read args))
 
 -- the tokens of what is read and open
-abbrev pub spell_open : List StmtTree → List Spot → List Mark
+abbrev pub spell_open : List StmtTree → List Context → List Mark
 spell_open done [] = spell_script done
-spell_open done (spot ∷ stack) = spell_open done stack ++ spell_spot spot
+spell_open done (context ∷ stack) = spell_open done stack ++ spell_context context
 
 -- the statements that are read
 pub record Done (d w m : ℕ) (done : List StmtTree) : Type 0 where
@@ -55,53 +55,53 @@ pub record Done (d w m : ℕ) (done : List StmtTree) : Type 0 where
   pub few : length done ≤ m
 
 -- the links of a chain
-pub record GoodLine (d w : ℕ) (stack : List Spot) (line : Line) : Type 0 where
-  pub fits : FitJoints line.links
-  pub deep : opens stack + depth_joints line.links ≤ d
-  pub wide : width_joints line.links ≤ w
+pub record GoodLine (d w : ℕ) (stack : List Context) (chain : Chain) : Type 0 where
+  pub fits : FitJoints chain.links
+  pub deep : opens stack + depth_joints chain.links ≤ d
+  pub wide : width_joints chain.links ≤ w
 
 -- the arguments that are read
-pub record GoodArgs (d w : ℕ) (stack : List Spot) (args : ValTrees) : Type 0 where
+pub record GoodArgs (d w : ℕ) (stack : List Context) (args : ValTrees) : Type 0 where
   pub fits : FitVals args
   pub deep : opens stack + 1 + depth_vals args ≤ d
   pub wide : width_vals args ≤ w
 
-abbrev pub GoodSpot : ℕ → ℕ → List Spot → Spot → Type 0
-GoodSpot d w stack (Variable name at) = stack ≡ []
-GoodSpot d w stack (Argument line call args) = GoodLine d w stack line × GoodArgs d w stack args
+abbrev pub GoodContext : ℕ → ℕ → List Context → Context → Type 0
+GoodContext d w stack (Variable name at) = stack ≡ []
+GoodContext d w stack (Argument chain call args) = GoodLine d w stack chain × GoodArgs d w stack args
 
-abbrev pub GoodSpots : ℕ → ℕ → List Spot → Type 0
-GoodSpots d w [] = Unit {0}
-GoodSpots d w (spot ∷ stack) = GoodSpot d w stack spot × GoodSpots d w stack
+abbrev pub GoodContexts : ℕ → ℕ → List Context → Type 0
+GoodContexts d w [] = Unit {0}
+GoodContexts d w (context ∷ stack) = GoodContext d w stack context × GoodContexts d w stack
 
 -- a value that is read
-pub record GoodVal (d w : ℕ) (stack : List Spot) (spot : Spot) (v : ValTree) : Type 0 where
+pub record GoodVal (d w : ℕ) (stack : List Context) (context : Context) (v : ValTree) : Type 0 where
   pub fits : FitsVal v
-  pub star : StarFits v spot
-  pub deep : opens stack + opens_spot spot + depth_val v ≤ d
+  pub star : StarFits v context
+  pub deep : opens stack + opens_context context + depth_val v ≤ d
   pub wide : width_val v ≤ w
 
 -- these tokens were read: a part of a statement behind whole ones
-pub record Pending (d w m : ℕ) (tokens : List Token) (done : List StmtTree) (stack : List Spot) (marks : List Mark) : Type 0 where
+pub record Pending (d w m : ℕ) (tokens : List Token) (done : List StmtTree) (stack : List Context) (marks : List Mark) : Type 0 where
   pub before : Done d w m done
   pub room : length done < m
-  pub spots : GoodSpots d w stack
+  pub contexts : GoodContexts d w stack
   pub spelled : Agree tokens (spell_open done stack ++ marks)
 
 -- a value comes
-pub record Ready (d w m : ℕ) (tokens : List Token) (done : List StmtTree) (stack : List Spot) (spot : Spot) : Type 0 where
+pub record Ready (d w m : ℕ) (tokens : List Token) (done : List StmtTree) (stack : List Context) (context : Context) : Type 0 where
   pub before : Done d w m done
   pub room : length done < m
-  pub spots : GoodSpots d w (spot ∷ stack)
-  pub spelled : Agree tokens (spell_open done (spot ∷ stack))
+  pub contexts : GoodContexts d w (context ∷ stack)
+  pub spelled : Agree tokens (spell_open done (context ∷ stack))
 
 -- a part of a lambda was read
-pub record Inside (d w m : ℕ) (tokens : List Token) (done : List StmtTree) (stack : List Spot) (spot : Spot) (at : ℕ) (inner : lambdas.State) : Type 0 where
+pub record Inside (d w m : ℕ) (tokens : List Token) (done : List StmtTree) (stack : List Context) (context : Context) (at : ℕ) (inner : lambdas.State) : Type 0 where
   pub front : List Token
   pub back : List Token
   pub joined : tokens ≡ front ++ back
-  pub outer : Pending d w m front done (spot ∷ stack) (At Lambda at ∷ [])
-  pub stands : sound.Stands (d - (opens stack + opens_spot spot)) w back inner
+  pub outer : Pending d w m front done (context ∷ stack) (At Lambda at ∷ [])
+  pub stands : sound.Stands (d - (opens stack + opens_context context)) w back inner
   pub going : faults.IsGoing inner
 
 abbrev pub Stands : ℕ → ℕ → ℕ → List Token → State → Type 0
@@ -110,15 +110,15 @@ Stands d w m tokens (VarRead done at) = Pending d w m tokens done [] (At Var at 
 Stands d w m tokens (NameRead done name at) = Pending d w m tokens done [] (At Var at ∷ Free (Ident name) ∷ [])
 Stands d w m tokens (DbRead done db at) = Pending d w m tokens done [] (At (Ident word_dbrp) at ∷ Free (Reference db) ∷ [])
 Stands d w m tokens (DotRead done db at) = Pending d w m tokens done [] (At (Ident word_dbrp) at ∷ Free (Reference db) ∷ Free Dot ∷ [])
-Stands d w m tokens (Valuing done stack spot) = Ready d w m tokens done stack spot
-Stands d w m tokens (MinusRead done stack spot at) = Pending d w m tokens done (spot ∷ stack) (At (Sign Sub) at ∷ [])
-Stands d w m tokens (ValueRead done stack spot v) = Pending d w m tokens done (spot ∷ stack) (spell_val v) × GoodVal d w stack spot v
-Stands d w m tokens (InLambda done stack spot at inner) = Inside d w m tokens done stack spot at inner
-Stands d w m tokens (LineRead done stack line) = Pending d w m tokens done stack (spell_line line) × GoodLine d w stack line
-Stands d w m tokens (LinkRead done stack line node) = Pending d w m tokens done stack (spell_line line ++ Free (cond node Pipe Dot) ∷ []) × GoodLine d w stack line
-Stands d w m tokens (CallRead done stack line call) = Pending d w m tokens done stack (spell_line line ++ spell_call call) × GoodLine d w stack line
-Stands d w m tokens (ParenRead done stack line call) =
-    Pending d w m tokens done stack (spell_line line ++ (spell_call call ++ Free Open ∷ [])) × GoodLine d w stack line × (opens stack < d)
+Stands d w m tokens (ValueNext done stack context) = Ready d w m tokens done stack context
+Stands d w m tokens (MinusRead done stack context at) = Pending d w m tokens done (context ∷ stack) (At (Operator Sub) at ∷ [])
+Stands d w m tokens (ValueRead done stack context v) = Pending d w m tokens done (context ∷ stack) (spell_val v) × GoodVal d w stack context v
+Stands d w m tokens (InLambda done stack context at inner) = Inside d w m tokens done stack context at inner
+Stands d w m tokens (ChainRead done stack chain) = Pending d w m tokens done stack (spell_chain chain) × GoodLine d w stack chain
+Stands d w m tokens (LinkRead done stack chain node) = Pending d w m tokens done stack (spell_chain chain ++ Free (cond node Pipe Dot) ∷ []) × GoodLine d w stack chain
+Stands d w m tokens (CallRead done stack chain call) = Pending d w m tokens done stack (spell_chain chain ++ spell_call call) × GoodLine d w stack chain
+Stands d w m tokens (ParenRead done stack chain call) =
+    Pending d w m tokens done stack (spell_chain chain ++ (spell_call call ++ Free OpenParen ∷ [])) × GoodLine d w stack chain × (opens stack < d)
 Stands d w m tokens (Stopped fault) = Unit {0}
 
 -- lists that were turned round
@@ -157,11 +157,11 @@ joints_spelled : (links rest : JointTrees) → spell_joints (joints_onto links r
 joints_spelled NoJoints rest = refl
 joints_spelled (MoreJoints node name args at links) rest =
     joints_spelled links (MoreJoints node name args at rest)
-    ∙ sym (append_assoc (spell_links links) (Free (cond node Pipe Dot) ∷ At (Ident name) at ∷ Free Open ∷ spell_vals args) (spell_joints rest))
+    ∙ sym (append_assoc (spell_links links) (Free (cond node Pipe Dot) ∷ At (Ident name) at ∷ Free OpenParen ∷ spell_vals args) (spell_joints rest))
 
 -- a whole chain's tokens
-line_spelled : (line : Line) → At (Ident line.head) line.at ∷ spell_joints (joints_onto line.links NoJoints) ≡ spell_line line
-line_spelled line = ap (λ (l : List Mark). At (Ident line.head) line.at ∷ l) (joints_spelled line.links NoJoints ∙ append-nil (spell_links line.links))
+chain_spelled : (chain : Chain) → At (Ident chain.head) chain.at ∷ spell_joints (joints_onto chain.links NoJoints) ≡ spell_chain chain
+chain_spelled chain = ap (λ (l : List Mark). At (Ident chain.head) chain.at ∷ l) (joints_spelled chain.links NoJoints ∙ append-nil (spell_links chain.links))
 
 -- one more statement
 script_spelled : (done : List StmtTree) (stmt : StmtTree) → spell_script (done ++ stmt ∷ []) ≡ spell_script done ++ spell_stmt stmt
@@ -212,17 +212,17 @@ begin_stands d w m tokens done token Var h a e =
     (λ (lt : ltb (length done) m ≡ true). record {
       before = h;
       room = ltb-true (length done) m lt;
-      spots = tt;
+      contexts = tt;
       spelled = snoc (spell_script done) (spell_script done ++ At Var token.start ∷ []) (At Var token.start) tokens token a (e, refl) refl;
     })
     tt
 begin_stands d w m tokens done token (Ident name) h a e =
-    tested (Stands d w m (tokens ++ token ∷ [])) (ltb (length done) m) (LineRead done [] (record { head = name; links = NoJoints; at = token.start })) (TooMany token.start)
+    tested (Stands d w m (tokens ++ token ∷ [])) (ltb (length done) m) (ChainRead done [] (record { head = name; links = NoJoints; at = token.start })) (TooMany token.start)
     (λ (lt : ltb (length done) m ≡ true). (
       record {
         before = h;
         room = ltb-true (length done) m lt;
-        spots = tt;
+        contexts = tt;
         spelled = snoc (spell_script done) (spell_script done ++ At (Ident name) token.start ∷ []) (At (Ident name) token.start) tokens token a (e, refl) refl;
       },
       record { fits = tt; deep = omega arith; wide = omega arith },
@@ -240,9 +240,9 @@ one_of (ChainVal head links place) name at h = tt
 regroup : (o l c r v m : List Mark) → ((o ++ (l ++ (c ++ r))) ++ v) ++ m ≡ o ++ (l ++ (c ++ (r ++ (v ++ m))))
 regroup o l c r v m = simp append_assoc
 
-argue_stands : (d w m : ℕ) (tokens : List Token) (done : List StmtTree) (stack : List Spot) (line : Line) (call : Call) (args : ValTrees) (v : ValTree) (token : Token) (kind : Kind) → Pending d w m tokens done (Argument line call args ∷ stack) (spell_val v) → GoodVal d w stack (Argument line call args) v → token.kind ≡ kind → Stands d w m (tokens ++ token ∷ []) (argue done stack line call (MoreVals v args) token.start kind)
-argue_stands d w m tokens done stack line call args v token Close p g e =
-    let h = p.spots in
+argue_stands : (d w m : ℕ) (tokens : List Token) (done : List StmtTree) (stack : List Context) (chain : Chain) (call : Call) (args : ValTrees) (v : ValTree) (token : Token) (kind : Kind) → Pending d w m tokens done (Argument chain call args ∷ stack) (spell_val v) → GoodVal d w stack (Argument chain call args) v → token.kind ≡ kind → Stands d w m (tokens ++ token ∷ []) (argue done stack chain call (MoreVals v args) token.start kind)
+argue_stands d w m tokens done stack chain call args v token CloseParen p g e =
+    let h = p.contexts in
     let l = h.0.0 in
     let a = h.0.1 in
     let all = vals_onto (MoreVals v args) NoVals in
@@ -254,37 +254,37 @@ argue_stands d w m tokens done stack line call args v token Close p g e =
     let aw = a.wide in
     let gd = g.deep in
     let gw = g.wide in
-    let whole : spell_vals all ≡ spell_read args ++ (spell_val v ++ Free Close ∷ []) = vals_spelled args v NoVals in
-    let flat : ((spell_open done stack ++ (spell_line line ++ (spell_call call ++ (Free Open ∷ spell_read args)))) ++ spell_val v) ++ Free Close ∷ [] ≡ spell_open done stack ++ (At (Ident line.head) line.at ∷ (spell_links line.links ++ (Free (cond call.node Pipe Dot) ∷ At (Ident call.name) call.at ∷ Free Open ∷ (spell_read args ++ (spell_val v ++ Free Close ∷ []))))) =
-    regroup (spell_open done stack) (spell_line line) (spell_call call) (Free Open ∷ spell_read args) (spell_val v) (Free Close ∷ []) in
-    let turned : spell_open done stack ++ (At (Ident line.head) line.at ∷ (spell_links line.links ++ (Free (cond call.node Pipe Dot) ∷ At (Ident call.name) call.at ∷ Free Open ∷ (spell_read args ++ (spell_val v ++ Free Close ∷ []))))) ≡ spell_open done stack ++ spell_line (linked line call all) =
-    ap (λ (x : List Mark). spell_open done stack ++ (At (Ident line.head) line.at ∷ (spell_links line.links ++ (Free (cond call.node Pipe Dot) ∷ At (Ident call.name) call.at ∷ Free Open ∷ x)))) (sym whole) in (
+    let whole : spell_vals all ≡ spell_read args ++ (spell_val v ++ Free CloseParen ∷ []) = vals_spelled args v NoVals in
+    let flat : ((spell_open done stack ++ (spell_chain chain ++ (spell_call call ++ (Free OpenParen ∷ spell_read args)))) ++ spell_val v) ++ Free CloseParen ∷ [] ≡ spell_open done stack ++ (At (Ident chain.head) chain.at ∷ (spell_links chain.links ++ (Free (cond call.node Pipe Dot) ∷ At (Ident call.name) call.at ∷ Free OpenParen ∷ (spell_read args ++ (spell_val v ++ Free CloseParen ∷ []))))) =
+    regroup (spell_open done stack) (spell_chain chain) (spell_call call) (Free OpenParen ∷ spell_read args) (spell_val v) (Free CloseParen ∷ []) in
+    let turned : spell_open done stack ++ (At (Ident chain.head) chain.at ∷ (spell_links chain.links ++ (Free (cond call.node Pipe Dot) ∷ At (Ident call.name) call.at ∷ Free OpenParen ∷ (spell_read args ++ (spell_val v ++ Free CloseParen ∷ []))))) ≡ spell_open done stack ++ spell_chain (linked chain call all) =
+    ap (λ (x : List Mark). spell_open done stack ++ (At (Ident chain.head) chain.at ∷ (spell_links chain.links ++ (Free (cond call.node Pipe Dot) ∷ At (Ident call.name) call.at ∷ Free OpenParen ∷ x)))) (sym whole) in (
       record {
         before = p.before;
         room = p.room;
-        spots = h.1;
+        contexts = h.1;
         spelled =
-            snoc (spell_open done (Argument line call args ∷ stack) ++ spell_val v) (spell_open done stack ++ spell_line (linked line call all)) (Free Close) tokens token p.spelled e (flat ∙ turned);
+            snoc (spell_open done (Argument chain call args ∷ stack) ++ spell_val v) (spell_open done stack ++ spell_chain (linked chain call all)) (Free CloseParen) tokens token p.spelled e (flat ∙ turned);
       },
       record { fits = (vals_fit (MoreVals v args) NoVals (g.fits, a.fits) tt, l.fits); deep = omega arith; wide = omega arith },
     )
-argue_stands d w m tokens done stack line call args v token Comma p g e =
-    let h = p.spots in
+argue_stands d w m tokens done stack chain call args v token Comma p g e =
+    let h = p.contexts in
     let a = h.0.1 in
     let ad = a.deep in
     let aw = a.wide in
     let gd = g.deep in
     let gw = g.wide in
-    let flat : ((spell_open done stack ++ (spell_line line ++ (spell_call call ++ (Free Open ∷ spell_read args)))) ++ spell_val v) ++ Free Comma ∷ [] ≡ spell_open done stack ++ (spell_line line ++ (spell_call call ++ (Free Open ∷ (spell_read args ++ (spell_val v ++ Free Comma ∷ []))))) =
-    regroup (spell_open done stack) (spell_line line) (spell_call call) (Free Open ∷ spell_read args) (spell_val v) (Free Comma ∷ []) in
+    let flat : ((spell_open done stack ++ (spell_chain chain ++ (spell_call call ++ (Free OpenParen ∷ spell_read args)))) ++ spell_val v) ++ Free Comma ∷ [] ≡ spell_open done stack ++ (spell_chain chain ++ (spell_call call ++ (Free OpenParen ∷ (spell_read args ++ (spell_val v ++ Free Comma ∷ []))))) =
+    regroup (spell_open done stack) (spell_chain chain) (spell_call call) (Free OpenParen ∷ spell_read args) (spell_val v) (Free Comma ∷ []) in
     record {
       before = p.before;
       room = p.room;
-      spots = ((h.0.0, record { fits = (g.fits, a.fits); deep = omega arith; wide = omega arith }), h.1);
+      contexts = ((h.0.0, record { fits = (g.fits, a.fits); deep = omega arith; wide = omega arith }), h.1);
       spelled =
-          snoc (spell_open done (Argument line call args ∷ stack) ++ spell_val v) (spell_open done (Argument line call (MoreVals v args) ∷ stack)) (Free Comma) tokens token p.spelled e flat;
+          snoc (spell_open done (Argument chain call args ∷ stack) ++ spell_val v) (spell_open done (Argument chain call (MoreVals v args) ∷ stack)) (Free Comma) tokens token p.spelled e flat;
     }
-argue_stands d w m tokens done stack line call args v token _ p g e = tt
+argue_stands d w m tokens done stack chain call args v token _ p g e = tt
 
 pub declared_done : (d w m : ℕ) (tokens : List Token) (done : List StmtTree) (name : List ℕ) (at : ℕ) (v : ValTree) → Pending d w m tokens done (Variable name at ∷ []) (spell_val v) → GoodVal d w [] (Variable name at) v → Done d w m (done ++ VarStmt name v at ∷ []) × Agree tokens (spell_script (done ++ VarStmt name v at ∷ []))
 declared_done d w m tokens done name at v p g =
@@ -294,187 +294,187 @@ declared_done d w m tokens done name at v p g =
           (append_assoc (spell_script done) (At Var at ∷ Free (Ident name) ∷ Free Assign ∷ []) (spell_val v) ∙ sym (script_spelled done (VarStmt name v at))) p.spelled,
     )
 
-pub settle_stands : (d w m : ℕ) (tokens : List Token) (done : List StmtTree) (stack : List Spot) (spot : Spot) (v : ValTree) (token : Token) (kind : Kind) → Pending d w m tokens done (spot ∷ stack) (spell_val v) → GoodVal d w stack spot v → token.kind ≡ kind → Stands d w m (tokens ++ token ∷ []) (settle m done stack spot v token.start kind)
+pub settle_stands : (d w m : ℕ) (tokens : List Token) (done : List StmtTree) (stack : List Context) (context : Context) (v : ValTree) (token : Token) (kind : Kind) → Pending d w m tokens done (context ∷ stack) (spell_val v) → GoodVal d w stack context v → token.kind ≡ kind → Stands d w m (tokens ++ token ∷ []) (settle m done stack context v token.start kind)
 settle_stands d w m tokens done [] (Variable name at) v token kind p g e =
     let x = declared_done d w m tokens done name at v p g in
     begin_stands d w m tokens (done ++ VarStmt name v at ∷ []) token kind x.0 x.1 e
-settle_stands d w m tokens done (top ∷ stack) (Variable name at) v token kind p g e = let h = p.spots in let none : top ∷ stack ≡ [] = h.0 in absurd (cc)
-settle_stands d w m tokens done stack (Argument line call args) v token kind p g e = argue_stands d w m tokens done stack line call args v token kind p g e
+settle_stands d w m tokens done (top ∷ stack) (Variable name at) v token kind p g e = let h = p.contexts in let none : top ∷ stack ≡ [] = h.0 in absurd (cc)
+settle_stands d w m tokens done stack (Argument chain call args) v token kind p g e = argue_stands d w m tokens done stack chain call args v token kind p g e
 
 -- a chain as a value
-pub line_valued : (d w m : ℕ) (tokens : List Token) (done : List StmtTree) (stack : List Spot) (spot : Spot) (line : Line) → Pending d w m tokens done (spot ∷ stack) (spell_line line) → GoodLine d w (spot ∷ stack) line → Pending d w m tokens done (spot ∷ stack) (spell_val (chained line)) × GoodVal d w stack spot (chained line)
-line_valued d w m tokens done stack spot line p g =
-    let deep = joints_depth line.links NoJoints in
-    let wide = joints_width line.links NoJoints in
+pub chain_valued : (d w m : ℕ) (tokens : List Token) (done : List StmtTree) (stack : List Context) (context : Context) (chain : Chain) → Pending d w m tokens done (context ∷ stack) (spell_chain chain) → GoodLine d w (context ∷ stack) chain → Pending d w m tokens done (context ∷ stack) (spell_val (chain_value chain)) × GoodVal d w stack context (chain_value chain)
+chain_valued d w m tokens done stack context chain p g =
+    let deep = joints_depth chain.links NoJoints in
+    let wide = joints_width chain.links NoJoints in
     let gd = g.deep in
     let gw = g.wide in (
       record {
         before = p.before;
         room = p.room;
-        spots = p.spots;
-        spelled = move tokens (spell_open done (spot ∷ stack) ++ spell_line line) (spell_open done (spot ∷ stack) ++ spell_val (chained line)) (ap (λ (l : List Mark). spell_open done (spot ∷ stack) ++ l) (sym (line_spelled line))) p.spelled;
+        contexts = p.contexts;
+        spelled = move tokens (spell_open done (context ∷ stack) ++ spell_chain chain) (spell_open done (context ∷ stack) ++ spell_val (chain_value chain)) (ap (λ (l : List Mark). spell_open done (context ∷ stack) ++ l) (sym (chain_spelled chain))) p.spelled;
       },
-      record { fits = joints_fit line.links NoJoints g.fits tt; star = tt; deep = omega arith; wide = omega arith },
+      record { fits = joints_fit chain.links NoJoints g.fits tt; star = tt; deep = omega arith; wide = omega arith },
     )
 
 -- a chain as a statement
-pub line_done : (d w m : ℕ) (tokens : List Token) (done : List StmtTree) (line : Line) → Pending d w m tokens done [] (spell_line line) → GoodLine d w [] line → Done d w m (done ++ piped line ∷ []) × Agree tokens (spell_script (done ++ piped line ∷ []))
-line_done d w m tokens done line p g =
-    let deep = joints_depth line.links NoJoints in
-    let wide = joints_width line.links NoJoints in
+pub chain_done : (d w m : ℕ) (tokens : List Token) (done : List StmtTree) (chain : Chain) → Pending d w m tokens done [] (spell_chain chain) → GoodLine d w [] chain → Done d w m (done ++ chain_stmt chain ∷ []) × Agree tokens (spell_script (done ++ chain_stmt chain ∷ []))
+chain_done d w m tokens done chain p g =
+    let deep = joints_depth chain.links NoJoints in
+    let wide = joints_width chain.links NoJoints in
     let gd = g.deep in
     let gw = g.wide in (
-      done_more d w m done (piped line) p.before p.room (joints_fit line.links NoJoints g.fits tt) (omega arith) (omega arith),
-      move tokens (spell_script done ++ spell_line line) (spell_script (done ++ piped line ∷ []))
-          (ap (λ (l : List Mark). spell_script done ++ l) (sym (line_spelled line)) ∙ sym (script_spelled done (piped line))) p.spelled,
+      done_more d w m done (chain_stmt chain) p.before p.room (joints_fit chain.links NoJoints g.fits tt) (omega arith) (omega arith),
+      move tokens (spell_script done ++ spell_chain chain) (spell_script (done ++ chain_stmt chain ∷ []))
+          (ap (λ (l : List Mark). spell_script done ++ l) (sym (chain_spelled chain)) ∙ sym (script_spelled done (chain_stmt chain))) p.spelled,
     )
 
-leave_stands : (d w m : ℕ) (tokens : List Token) (done : List StmtTree) (stack : List Spot) (line : Line) (token : Token) (kind : Kind) → Pending d w m tokens done stack (spell_line line) → GoodLine d w stack line → token.kind ≡ kind → Stands d w m (tokens ++ token ∷ []) (leave m done stack line token.start kind)
-leave_stands d w m tokens done [] line token kind p g e =
-    let x = line_done d w m tokens done line p g in
-    begin_stands d w m tokens (done ++ piped line ∷ []) token kind x.0 x.1 e
-leave_stands d w m tokens done (spot ∷ stack) line token kind p g e =
-    let x = line_valued d w m tokens done stack spot line p g in
-    settle_stands d w m tokens done stack spot (chained line) token kind x.0 x.1 e
+leave_stands : (d w m : ℕ) (tokens : List Token) (done : List StmtTree) (stack : List Context) (chain : Chain) (token : Token) (kind : Kind) → Pending d w m tokens done stack (spell_chain chain) → GoodLine d w stack chain → token.kind ≡ kind → Stands d w m (tokens ++ token ∷ []) (leave m done stack chain token.start kind)
+leave_stands d w m tokens done [] chain token kind p g e =
+    let x = chain_done d w m tokens done chain p g in
+    begin_stands d w m tokens (done ++ chain_stmt chain ∷ []) token kind x.0 x.1 e
+leave_stands d w m tokens done (context ∷ stack) chain token kind p g e =
+    let x = chain_valued d w m tokens done stack context chain p g in
+    settle_stands d w m tokens done stack context (chain_value chain) token kind x.0 x.1 e
 
 -- a statement that is no more than the name of a dbrp statement
-bare_word : (b : Bool) (line : Line) → is_bare line.links && b ≡ true → (line.links ≡ NoJoints) × (b ≡ true)
-bare_word b line e =
+bare_word : (b : Bool) (chain : Chain) → is_bare chain.links && b ≡ true → (chain.links ≡ NoJoints) × (b ≡ true)
+bare_word b chain e =
     let go : (links : JointTrees) → is_bare links && b ≡ true → (links ≡ NoJoints) × (b ≡ true) =
     elim [
       | NoJoints ↦ λ h. (refl, h)
       | MoreJoints node name args at rest ↦ λ h. absurd (cc)
     ] in
-    go line.links e
+    go chain.links e
 
 word_is : (a b : List ℕ) → bytes_eq a b ≡ true → a ≡ b
 word_is a b e = grind (arith, bytes_eq-Decides)
 
-dbrp_stands : (d w m : ℕ) (tokens : List Token) (done : List StmtTree) (stack : List Spot) (line : Line) (db : List ℕ) (token : Token) → Pending d w m tokens done stack (spell_line line) → token.kind ≡ Reference db → is_dbrp stack line ≡ true → Stands d w m (tokens ++ token ∷ []) (DbRead done db line.at)
-dbrp_stands d w m tokens done [] line db token p e t =
-    let x = bare_word (bytes_eq line.head word_dbrp) line t in
-    let name : line.head ≡ word_dbrp = word_is line.head word_dbrp x.1 in
-    let marks : spell_line line ≡ At (Ident word_dbrp) line.at ∷ [] =
-    both (λ (h : List ℕ) (l : JointTrees). At (Ident h) line.at ∷ spell_links l) line.head word_dbrp line.links NoJoints name x.0 in
+dbrp_stands : (d w m : ℕ) (tokens : List Token) (done : List StmtTree) (stack : List Context) (chain : Chain) (db : List ℕ) (token : Token) → Pending d w m tokens done stack (spell_chain chain) → token.kind ≡ Reference db → is_dbrp stack chain ≡ true → Stands d w m (tokens ++ token ∷ []) (DbRead done db chain.at)
+dbrp_stands d w m tokens done [] chain db token p e t =
+    let x = bare_word (bytes_eq chain.head word_dbrp) chain t in
+    let name : chain.head ≡ word_dbrp = word_is chain.head word_dbrp x.1 in
+    let marks : spell_chain chain ≡ At (Ident word_dbrp) chain.at ∷ [] =
+    both (λ (h : List ℕ) (l : JointTrees). At (Ident h) chain.at ∷ spell_links l) chain.head word_dbrp chain.links NoJoints name x.0 in
     record {
       before = p.before;
       room = p.room;
-      spots = tt;
+      contexts = tt;
       spelled =
-          snoc (spell_script done ++ At (Ident word_dbrp) line.at ∷ []) (spell_script done ++ (At (Ident word_dbrp) line.at ∷ Free (Reference db) ∷ [])) (Free (Reference db)) tokens token
-          (move tokens (spell_script done ++ spell_line line) (spell_script done ++ At (Ident word_dbrp) line.at ∷ []) (ap (λ (l : List Mark). spell_script done ++ l) marks) p.spelled) e
-          (append_assoc (spell_script done) (At (Ident word_dbrp) line.at ∷ []) (Free (Reference db) ∷ []));
+          snoc (spell_script done ++ At (Ident word_dbrp) chain.at ∷ []) (spell_script done ++ (At (Ident word_dbrp) chain.at ∷ Free (Reference db) ∷ [])) (Free (Reference db)) tokens token
+          (move tokens (spell_script done ++ spell_chain chain) (spell_script done ++ At (Ident word_dbrp) chain.at ∷ []) (ap (λ (l : List Mark). spell_script done ++ l) marks) p.spelled) e
+          (append_assoc (spell_script done) (At (Ident word_dbrp) chain.at ∷ []) (Free (Reference db) ∷ []));
     }
-dbrp_stands d w m tokens done (spot ∷ stack) line db token p e t = absurd (cc)
+dbrp_stands d w m tokens done (context ∷ stack) chain db token p e t = absurd (cc)
 
 -- one more mark of a part of a statement
-pending_more : (d w m : ℕ) (tokens : List Token) (done : List StmtTree) (stack : List Spot) (a b : List Mark) (mark : Mark) (token : Token) → Pending d w m tokens done stack a → Is (token ∷ []) mark → a ++ mark ∷ [] ≡ b → Pending d w m (tokens ++ token ∷ []) done stack b
+pending_more : (d w m : ℕ) (tokens : List Token) (done : List StmtTree) (stack : List Context) (a b : List Mark) (mark : Mark) (token : Token) → Pending d w m tokens done stack a → Is (token ∷ []) mark → a ++ mark ∷ [] ≡ b → Pending d w m (tokens ++ token ∷ []) done stack b
 pending_more d w m tokens done stack a b mark token p i e = record {
   before = p.before;
   room = p.room;
-  spots = p.spots;
+  contexts = p.contexts;
   spelled =
       snoc (spell_open done stack ++ a) (spell_open done stack ++ b) mark tokens token p.spelled i
       (append_assoc (spell_open done stack) a (mark ∷ []) ∙ ap (λ (l : List Mark). spell_open done stack ++ l) e);
 }
 
-follow_stands : (d w m : ℕ) (tokens : List Token) (done : List StmtTree) (stack : List Spot) (line : Line) (token : Token) (kind : Kind) → Pending d w m tokens done stack (spell_line line) → GoodLine d w stack line → token.kind ≡ kind → Stands d w m (tokens ++ token ∷ []) (follow m done stack line token.start kind)
-follow_stands d w m tokens done stack line token Pipe p g e = (pending_more d w m tokens done stack (spell_line line) (spell_line line ++ Free Pipe ∷ []) (Free Pipe) token p e refl, g)
-follow_stands d w m tokens done stack line token Dot p g e = (pending_more d w m tokens done stack (spell_line line) (spell_line line ++ Free Dot ∷ []) (Free Dot) token p e refl, g)
-follow_stands d w m tokens done stack line token (Reference db) p g e =
-    chosen (Stands d w m (tokens ++ token ∷ [])) (is_dbrp stack line) (DbRead done db line.at) (leave m done stack line token.start (Reference db))
-    (λ (t : is_dbrp stack line ≡ true). dbrp_stands d w m tokens done stack line db token p e t)
-    (leave_stands d w m tokens done stack line token (Reference db) p g e)
-follow_stands d w m tokens done stack line token kind p g e = leave_stands d w m tokens done stack line token kind p g e
+follow_stands : (d w m : ℕ) (tokens : List Token) (done : List StmtTree) (stack : List Context) (chain : Chain) (token : Token) (kind : Kind) → Pending d w m tokens done stack (spell_chain chain) → GoodLine d w stack chain → token.kind ≡ kind → Stands d w m (tokens ++ token ∷ []) (follow m done stack chain token.start kind)
+follow_stands d w m tokens done stack chain token Pipe p g e = (pending_more d w m tokens done stack (spell_chain chain) (spell_chain chain ++ Free Pipe ∷ []) (Free Pipe) token p e refl, g)
+follow_stands d w m tokens done stack chain token Dot p g e = (pending_more d w m tokens done stack (spell_chain chain) (spell_chain chain ++ Free Dot ∷ []) (Free Dot) token p e refl, g)
+follow_stands d w m tokens done stack chain token (Reference db) p g e =
+    chosen (Stands d w m (tokens ++ token ∷ [])) (is_dbrp stack chain) (DbRead done db chain.at) (leave m done stack chain token.start (Reference db))
+    (λ (t : is_dbrp stack chain ≡ true). dbrp_stands d w m tokens done stack chain db token p e t)
+    (leave_stands d w m tokens done stack chain token (Reference db) p g e)
+follow_stands d w m tokens done stack chain token kind p g e = leave_stands d w m tokens done stack chain token kind p g e
 
-pub spot_room : (d w : ℕ) (stack : List Spot) (spot : Spot) → GoodSpot d w stack spot → opens stack + opens_spot spot ≤ d
-spot_room d w [] (Variable name at) h = omega arith
-spot_room d w (top ∷ stack) (Variable name at) h = let none : top ∷ stack ≡ [] = h in absurd (cc)
-spot_room d w stack (Argument line call args) h = let a = h.1 in let k = a.deep in omega arith
+pub context_room : (d w : ℕ) (stack : List Context) (context : Context) → GoodContext d w stack context → opens stack + opens_context context ≤ d
+context_room d w [] (Variable name at) h = omega arith
+context_room d w (top ∷ stack) (Variable name at) h = let none : top ∷ stack ≡ [] = h in absurd (cc)
+context_room d w stack (Argument chain call args) h = let a = h.1 in let k = a.deep in omega arith
 
 -- where a value comes, one more mark
-ready_more : (d w m : ℕ) (tokens : List Token) (done : List StmtTree) (stack : List Spot) (spot : Spot) (mark : Mark) (token : Token) → Ready d w m tokens done stack spot → Is (token ∷ []) mark → Pending d w m (tokens ++ token ∷ []) done (spot ∷ stack) (mark ∷ [])
-ready_more d w m tokens done stack spot mark token p i = record {
+ready_more : (d w m : ℕ) (tokens : List Token) (done : List StmtTree) (stack : List Context) (context : Context) (mark : Mark) (token : Token) → Ready d w m tokens done stack context → Is (token ∷ []) mark → Pending d w m (tokens ++ token ∷ []) done (context ∷ stack) (mark ∷ [])
+ready_more d w m tokens done stack context mark token p i = record {
   before = p.before;
   room = p.room;
-  spots = p.spots;
-  spelled = snoc (spell_open done (spot ∷ stack)) (spell_open done (spot ∷ stack) ++ mark ∷ []) mark tokens token p.spelled i refl;
+  contexts = p.contexts;
+  spelled = snoc (spell_open done (context ∷ stack)) (spell_open done (context ∷ stack) ++ mark ∷ []) mark tokens token p.spelled i refl;
 }
 
-star_stands : (d w m : ℕ) (tokens : List Token) (done : List StmtTree) (stack : List Spot) (spot : Spot) (token : Token) → Ready d w m tokens done stack spot → token.kind ≡ Sign Mul → Stands d w m (tokens ++ token ∷ []) (star done stack spot token.start)
+star_stands : (d w m : ℕ) (tokens : List Token) (done : List StmtTree) (stack : List Context) (context : Context) (token : Token) → Ready d w m tokens done stack context → token.kind ≡ Operator Mul → Stands d w m (tokens ++ token ∷ []) (star done stack context token.start)
 star_stands d w m tokens done stack (Variable name at) token p e = tt
-star_stands d w m tokens done stack (Argument line call args) token p e =
-    let h = p.spots in
-    let k = spot_room d w stack (Argument line call args) h.0 in
-    (ready_more d w m tokens done stack (Argument line call args) (At (Sign Mul) token.start) token p (e, refl), record { fits = tt; star = tt; deep = omega arith; wide = omega arith })
+star_stands d w m tokens done stack (Argument chain call args) token p e =
+    let h = p.contexts in
+    let k = context_room d w stack (Argument chain call args) h.0 in
+    (ready_more d w m tokens done stack (Argument chain call args) (At (Operator Mul) token.start) token p (e, refl), record { fits = tt; star = tt; deep = omega arith; wide = omega arith })
 
-pub value_stands : (d w m : ℕ) (tokens : List Token) (done : List StmtTree) (stack : List Spot) (spot : Spot) (token : Token) (kind : Kind) → Ready d w m tokens done stack spot → token.kind ≡ kind → Stands d w m (tokens ++ token ∷ []) (value done stack spot token.start kind)
-value_stands d w m tokens done stack spot token (Literal lit) p e =
-    let h = p.spots in
-    let k = spot_room d w stack spot h.0 in
-    (ready_more d w m tokens done stack spot (Signed lit token.start) token p (inl (e, refl)), record { fits = tt; star = tt; deep = omega arith; wide = omega arith })
-value_stands d w m tokens done stack spot token (Sign Sub) p e = ready_more d w m tokens done stack spot (At (Sign Sub) token.start) token p (e, refl)
-value_stands d w m tokens done stack spot token (Sign Mul) p e = star_stands d w m tokens done stack spot token p e
-value_stands d w m tokens done stack spot token Lambda p e =
-    let h = p.spots in
-    let k = spot_room d w stack spot h.0 in
+pub value_stands : (d w m : ℕ) (tokens : List Token) (done : List StmtTree) (stack : List Context) (context : Context) (token : Token) (kind : Kind) → Ready d w m tokens done stack context → token.kind ≡ kind → Stands d w m (tokens ++ token ∷ []) (value done stack context token.start kind)
+value_stands d w m tokens done stack context token (Literal lit) p e =
+    let h = p.contexts in
+    let k = context_room d w stack context h.0 in
+    (ready_more d w m tokens done stack context (Signed lit token.start) token p (inl (e, refl)), record { fits = tt; star = tt; deep = omega arith; wide = omega arith })
+value_stands d w m tokens done stack context token (Operator Sub) p e = ready_more d w m tokens done stack context (At (Operator Sub) token.start) token p (e, refl)
+value_stands d w m tokens done stack context token (Operator Mul) p e = star_stands d w m tokens done stack context token p e
+value_stands d w m tokens done stack context token Lambda p e =
+    let h = p.contexts in
+    let k = context_room d w stack context h.0 in
     record {
       front = tokens ++ token ∷ [];
       back = [];
       joined = sym (append-nil (tokens ++ token ∷ []));
-      outer = ready_more d w m tokens done stack spot (At Lambda token.start) token p (e, refl);
+      outer = ready_more d w m tokens done stack context (At Lambda token.start) token p (e, refl);
       stands = record { good = tt; spelled = refl; counted = refl; room = omega arith; few = omega arith };
       going = tt;
     }
-value_stands d w m tokens done stack spot token (Ident name) p e =
-    let h = p.spots in
-    let k = spot_room d w stack spot h.0 in
-    (ready_more d w m tokens done stack spot (At (Ident name) token.start) token p (e, refl), record { fits = tt; deep = omega arith; wide = omega arith })
-value_stands d w m tokens done stack spot token _ p e = tt
+value_stands d w m tokens done stack context token (Ident name) p e =
+    let h = p.contexts in
+    let k = context_room d w stack context h.0 in
+    (ready_more d w m tokens done stack context (At (Ident name) token.start) token p (e, refl), record { fits = tt; deep = omega arith; wide = omega arith })
+value_stands d w m tokens done stack context token _ p e = tt
 
-signed_stands : (d w m : ℕ) (tokens : List Token) (done : List StmtTree) (stack : List Spot) (spot : Spot) (place : ℕ) (token : Token) (lit : Lit) (found : Option Lit) → Pending d w m tokens done (spot ∷ stack) (At (Sign Sub) place ∷ []) → token.kind ≡ Literal lit → minus lit ≡ found → Stands d w m (tokens ++ token ∷ []) (signed done stack spot place token.start found)
-signed_stands d w m tokens done stack spot place token lit None p e f = tt
-signed_stands d w m tokens done stack spot place token lit (Some number) p e f =
-    let h = p.spots in
-    let k = spot_room d w stack spot h.0 in
-    let before = spell_open done (spot ∷ stack) in
-    let c = split before (At (Sign Sub) place ∷ []) tokens p.spelled in
-    let o = first (At (Sign Sub) place) [] c.back tt c.back_agrees in
+signed_stands : (d w m : ℕ) (tokens : List Token) (done : List StmtTree) (stack : List Context) (context : Context) (place : ℕ) (token : Token) (lit : Lit) (found : Option Lit) → Pending d w m tokens done (context ∷ stack) (At (Operator Sub) place ∷ []) → token.kind ≡ Literal lit → minus lit ≡ found → Stands d w m (tokens ++ token ∷ []) (signed done stack context place token.start found)
+signed_stands d w m tokens done stack context place token lit None p e f = tt
+signed_stands d w m tokens done stack context place token lit (Some number) p e f =
+    let h = p.contexts in
+    let k = context_room d w stack context h.0 in
+    let before = spell_open done (context ∷ stack) in
+    let c = split before (At (Operator Sub) place ∷ []) tokens p.spelled in
+    let o = first (At (Operator Sub) place) [] c.back tt c.back_agrees in
     let one : c.back ≡ o.token ∷ [] = o.joined ∙ ap (λ (l : List Token). o.token ∷ l) o.rest_agrees in
     let joined : tokens ++ token ∷ [] ≡ c.front ++ (o.token ∷ token ∷ []) =
     ap (λ (l : List Token). l ++ token ∷ []) (c.joined ∙ ap (λ (l : List Token). c.front ++ l) one) ∙ append_assoc c.front (o.token ∷ []) (token ∷ []) in
     let is_minus : IsMinus token.kind number = subst (λ (x : Kind). IsMinus x number) (sym e) f in
     let agrees : Agree (c.front ++ (o.token ∷ token ∷ [])) (before ++ Signed number place ∷ []) =
     snoc_two before (before ++ Signed number place ∷ []) (Signed number place) c.front o.token token c.front_agrees (inr (o.is.0, o.is.1, is_minus)) refl in (
-      record { before = p.before; room = p.room; spots = p.spots; spelled = subst (λ (l : List Token). Agree l (before ++ Signed number place ∷ [])) (sym joined) agrees },
+      record { before = p.before; room = p.room; contexts = p.contexts; spelled = subst (λ (l : List Token). Agree l (before ++ Signed number place ∷ [])) (sym joined) agrees },
       record { fits = tt; star = tt; deep = omega arith; wide = omega arith },
     )
 
-number_stands : (d w m : ℕ) (tokens : List Token) (done : List StmtTree) (stack : List Spot) (spot : Spot) (place : ℕ) (token : Token) (kind : Kind) → Pending d w m tokens done (spot ∷ stack) (At (Sign Sub) place ∷ []) → token.kind ≡ kind → Stands d w m (tokens ++ token ∷ []) (number done stack spot place token.start kind)
-number_stands d w m tokens done stack spot place token (Literal lit) p e = signed_stands d w m tokens done stack spot place token lit (minus lit) p e refl
-number_stands d w m tokens done stack spot place token _ p e = tt
+number_stands : (d w m : ℕ) (tokens : List Token) (done : List StmtTree) (stack : List Context) (context : Context) (place : ℕ) (token : Token) (kind : Kind) → Pending d w m tokens done (context ∷ stack) (At (Operator Sub) place ∷ []) → token.kind ≡ kind → Stands d w m (tokens ++ token ∷ []) (number done stack context place token.start kind)
+number_stands d w m tokens done stack context place token (Literal lit) p e = signed_stands d w m tokens done stack context place token lit (minus lit) p e refl
+number_stands d w m tokens done stack context place token _ p e = tt
 
-opening_stands : (d w m : ℕ) (tokens : List Token) (done : List StmtTree) (stack : List Spot) (line : Line) (call : Call) (token : Token) (kind : Kind) → Pending d w m tokens done stack (spell_line line ++ spell_call call) → GoodLine d w stack line → token.kind ≡ kind → Stands d w m (tokens ++ token ∷ []) (opening d done stack line call token.start kind)
-opening_stands d w m tokens done stack line call token Open p g e =
-    tested (Stands d w m (tokens ++ token ∷ [])) (ltb (opens stack) d) (ParenRead done stack line call) (Deep token.start)
+opening_stands : (d w m : ℕ) (tokens : List Token) (done : List StmtTree) (stack : List Context) (chain : Chain) (call : Call) (token : Token) (kind : Kind) → Pending d w m tokens done stack (spell_chain chain ++ spell_call call) → GoodLine d w stack chain → token.kind ≡ kind → Stands d w m (tokens ++ token ∷ []) (opening d done stack chain call token.start kind)
+opening_stands d w m tokens done stack chain call token OpenParen p g e =
+    tested (Stands d w m (tokens ++ token ∷ [])) (ltb (opens stack) d) (ParenRead done stack chain call) (Deep token.start)
     (λ (lt : ltb (opens stack) d ≡ true). (
-      pending_more d w m tokens done stack (spell_line line ++ spell_call call) (spell_line line ++ (spell_call call ++ Free Open ∷ [])) (Free Open) token p e (append_assoc (spell_line line) (spell_call call) (Free Open ∷ [])),
+      pending_more d w m tokens done stack (spell_chain chain ++ spell_call call) (spell_chain chain ++ (spell_call call ++ Free OpenParen ∷ [])) (Free OpenParen) token p e (append_assoc (spell_chain chain) (spell_call call) (Free OpenParen ∷ [])),
       g,
       ltb-true (opens stack) d lt,
     ))
     tt
-opening_stands d w m tokens done stack line call token _ p g e = tt
+opening_stands d w m tokens done stack chain call token _ p g e = tt
 
-opened_stands : (d w m : ℕ) (tokens : List Token) (done : List StmtTree) (stack : List Spot) (line : Line) (call : Call) (token : Token) (kind : Kind) → Pending d w m tokens done stack (spell_line line ++ (spell_call call ++ Free Open ∷ [])) → GoodLine d w stack line → opens stack < d → token.kind ≡ kind → Stands d w m (tokens ++ token ∷ []) (opened done stack line call token.start kind)
-opened_stands d w m tokens done stack line call token Close p g lt e =
+opened_stands : (d w m : ℕ) (tokens : List Token) (done : List StmtTree) (stack : List Context) (chain : Chain) (call : Call) (token : Token) (kind : Kind) → Pending d w m tokens done stack (spell_chain chain ++ (spell_call call ++ Free OpenParen ∷ [])) → GoodLine d w stack chain → opens stack < d → token.kind ≡ kind → Stands d w m (tokens ++ token ∷ []) (opened done stack chain call token.start kind)
+opened_stands d w m tokens done stack chain call token CloseParen p g lt e =
     let gd = g.deep in
     let gw = g.wide in (
-      pending_more d w m tokens done stack (spell_line line ++ (spell_call call ++ Free Open ∷ [])) (spell_line (linked line call NoVals)) (Free Close) token p e (append_assoc (spell_line line) (spell_call call ++ Free Open ∷ []) (Free Close ∷ [])),
+      pending_more d w m tokens done stack (spell_chain chain ++ (spell_call call ++ Free OpenParen ∷ [])) (spell_chain (linked chain call NoVals)) (Free CloseParen) token p e (append_assoc (spell_chain chain) (spell_call call ++ Free OpenParen ∷ []) (Free CloseParen ∷ [])),
       record { fits = (tt, g.fits); deep = omega arith; wide = omega arith },
     )
-opened_stands d w m tokens done stack line call token kind p g lt e =
-    value_stands d w m tokens done stack (Argument line call NoVals) token kind
-    (record { before = p.before; room = p.room; spots = ((g, record { fits = tt; deep = omega arith; wide = omega arith }), p.spots); spelled = p.spelled }) e
+opened_stands d w m tokens done stack chain call token kind p g lt e =
+    value_stands d w m tokens done stack (Argument chain call NoVals) token kind
+    (record { before = p.before; room = p.room; contexts = ((g, record { fits = tt; deep = omega arith; wide = omega arith }), p.contexts); spelled = p.spelled }) e
 
 declare_stands : (d w m : ℕ) (tokens : List Token) (done : List StmtTree) (at : ℕ) (token : Token) (kind : Kind) → Pending d w m tokens done [] (At Var at ∷ []) → token.kind ≡ kind → Stands d w m (tokens ++ token ∷ []) (declare done at token.start kind)
 declare_stands d w m tokens done at token (Ident name) p e = pending_more d w m tokens done [] (At Var at ∷ []) (At Var at ∷ Free (Ident name) ∷ []) (Free (Ident name)) token p e refl
@@ -483,7 +483,7 @@ declare_stands d w m tokens done at token _ p e = tt
 assign_stands : (d w m : ℕ) (tokens : List Token) (done : List StmtTree) (name : List ℕ) (at : ℕ) (token : Token) (kind : Kind) → Pending d w m tokens done [] (At Var at ∷ Free (Ident name) ∷ []) → token.kind ≡ kind → Stands d w m (tokens ++ token ∷ []) (assign done name at token.start kind)
 assign_stands d w m tokens done name at token Assign p e =
     let q = pending_more d w m tokens done [] (At Var at ∷ Free (Ident name) ∷ []) (At Var at ∷ Free (Ident name) ∷ Free Assign ∷ []) (Free Assign) token p e refl in
-    record { before = q.before; room = q.room; spots = (refl, tt); spelled = q.spelled }
+    record { before = q.before; room = q.room; contexts = (refl, tt); spelled = q.spelled }
 assign_stands d w m tokens done name at token _ p e = tt
 
 dotted_stands : (d w m : ℕ) (tokens : List Token) (done : List StmtTree) (db : List ℕ) (at : ℕ) (token : Token) (kind : Kind) → Pending d w m tokens done [] (At (Ident word_dbrp) at ∷ Free (Reference db) ∷ []) → token.kind ≡ kind → Stands d w m (tokens ++ token ∷ []) (dotted done db at token.start kind)
@@ -499,30 +499,30 @@ target_stands d w m tokens done db at token (Reference rp) p e =
     )
 target_stands d w m tokens done db at token _ p e = tt
 
-link_stands : (d w m : ℕ) (tokens : List Token) (done : List StmtTree) (stack : List Spot) (line : Line) (node : Bool) (token : Token) (kind : Kind) → Pending d w m tokens done stack (spell_line line ++ Free (cond node Pipe Dot) ∷ []) → GoodLine d w stack line → token.kind ≡ kind → Stands d w m (tokens ++ token ∷ []) (link done stack line node token.start kind)
-link_stands d w m tokens done stack line node token (Ident name) p g e = (
-  pending_more d w m tokens done stack (spell_line line ++ Free (cond node Pipe Dot) ∷ []) (spell_line line ++ (Free (cond node Pipe Dot) ∷ At (Ident name) token.start ∷ [])) (At (Ident name) token.start) token p (e, refl) (append_assoc (spell_line line) (Free (cond node Pipe Dot) ∷ []) (At (Ident name) token.start ∷ [])),
+link_stands : (d w m : ℕ) (tokens : List Token) (done : List StmtTree) (stack : List Context) (chain : Chain) (node : Bool) (token : Token) (kind : Kind) → Pending d w m tokens done stack (spell_chain chain ++ Free (cond node Pipe Dot) ∷ []) → GoodLine d w stack chain → token.kind ≡ kind → Stands d w m (tokens ++ token ∷ []) (link done stack chain node token.start kind)
+link_stands d w m tokens done stack chain node token (Ident name) p g e = (
+  pending_more d w m tokens done stack (spell_chain chain ++ Free (cond node Pipe Dot) ∷ []) (spell_chain chain ++ (Free (cond node Pipe Dot) ∷ At (Ident name) token.start ∷ [])) (At (Ident name) token.start) token p (e, refl) (append_assoc (spell_chain chain) (Free (cond node Pipe Dot) ∷ []) (At (Ident name) token.start ∷ [])),
   g,
 )
-link_stands d w m tokens done stack line node token _ p g e = tt
+link_stands d w m tokens done stack chain node token _ p g e = tt
 
 -- a whole lambda as a value
-pub lambda_valued : (d w m : ℕ) (tokens front back : List Token) (done : List StmtTree) (stack : List Spot) (spot : Spot) (at : ℕ) (body : Tree) → tokens ≡ front ++ back → Pending d w m front done (spot ∷ stack) (At Lambda at ∷ []) → faults.Whole (d - (opens stack + opens_spot spot)) w back body → Pending d w m tokens done (spot ∷ stack) (spell_val (LambdaVal body at)) × GoodVal d w stack spot (LambdaVal body at)
-lambda_valued d w m tokens front back done stack spot at body j p x =
-    let h = p.spots in
-    let k = spot_room d w stack spot h.0 in
+pub lambda_valued : (d w m : ℕ) (tokens front back : List Token) (done : List StmtTree) (stack : List Context) (context : Context) (at : ℕ) (body : Tree) → tokens ≡ front ++ back → Pending d w m front done (context ∷ stack) (At Lambda at ∷ []) → faults.Whole (d - (opens stack + opens_context context)) w back body → Pending d w m tokens done (context ∷ stack) (spell_val (LambdaVal body at)) × GoodVal d w stack context (LambdaVal body at)
+lambda_valued d w m tokens front back done stack context at body j p x =
+    let h = p.contexts in
+    let k = context_room d w stack context h.0 in
     let room = x.room in
-    let before = spell_open done (spot ∷ stack) in
+    let before = spell_open done (context ∷ stack) in
     let agrees : Agree (front ++ back) ((before ++ At Lambda at ∷ []) ++ spell body) = join (before ++ At Lambda at ∷ []) (spell body) front back p.spelled x.spelled in
     let whole : Agree (front ++ back) (before ++ spell_val (LambdaVal body at)) = move (front ++ back) ((before ++ At Lambda at ∷ []) ++ spell body) (before ++ spell_val (LambdaVal body at)) (append_assoc before (At Lambda at ∷ []) (spell body)) agrees in (
-      record { before = p.before; room = p.room; spots = p.spots; spelled = subst (λ (l : List Token). Agree l (before ++ spell_val (LambdaVal body at))) (sym j) whole },
+      record { before = p.before; room = p.room; contexts = p.contexts; spelled = subst (λ (l : List Token). Agree l (before ++ spell_val (LambdaVal body at))) (sym j) whole },
       record { fits = x.fits; star = tt; deep = omega arith; wide = x.few },
     )
 
 -- one more token of a lambda
-inside_more : (d w m : ℕ) (tokens : List Token) (done : List StmtTree) (stack : List Spot) (spot : Spot) (at : ℕ) (inner next : lambdas.State) (token : Token) → (i : Inside d w m tokens done stack spot at inner) → lambdas.step (d - (opens stack + opens_spot spot)) w inner token ≡ next → faults.IsGoing next → Inside d w m (tokens ++ token ∷ []) done stack spot at next
-inside_more d w m tokens done stack spot at inner next token i e g =
-    let room = d - (opens stack + opens_spot spot) in
+inside_more : (d w m : ℕ) (tokens : List Token) (done : List StmtTree) (stack : List Context) (context : Context) (at : ℕ) (inner next : lambdas.State) (token : Token) → (i : Inside d w m tokens done stack context at inner) → lambdas.step (d - (opens stack + opens_context context)) w inner token ≡ next → faults.IsGoing next → Inside d w m (tokens ++ token ∷ []) done stack context at next
+inside_more d w m tokens done stack context at inner next token i e g =
+    let room = d - (opens stack + opens_context context) in
     record {
       front = i.front;
       back = i.back ++ token ∷ [];
@@ -532,15 +532,15 @@ inside_more d w m tokens done stack spot at inner next token i e g =
       going = g;
     }
 
-within_stands : (d w m : ℕ) (tokens : List Token) (done : List StmtTree) (stack : List Spot) (spot : Spot) (at : ℕ) (inner next : lambdas.State) (token : Token) → Inside d w m tokens done stack spot at inner → lambdas.step (d - (opens stack + opens_spot spot)) w inner token ≡ next → Stands d w m (tokens ++ token ∷ []) (within m done stack spot at token.start token.kind next)
-within_stands d w m tokens done stack spot at inner (lambdas.Wanting st n) token i e = inside_more d w m tokens done stack spot at inner (lambdas.Wanting st n) token i e tt
-within_stands d w m tokens done stack spot at inner (lambdas.Opened st n) token i e = inside_more d w m tokens done stack spot at inner (lambdas.Opened st n) token i e tt
-within_stands d w m tokens done stack spot at inner (lambdas.Holding st t n) token i e = inside_more d w m tokens done stack spot at inner (lambdas.Holding st t n) token i e tt
-within_stands d w m tokens done stack spot at inner (lambdas.Ended body) token i e =
-    let x = faults.ended (d - (opens stack + opens_spot spot)) w i.back inner token body i.stands i.going e in
-    let v = lambda_valued d w m tokens i.front i.back done stack spot at body i.joined i.outer x in
-    settle_stands d w m tokens done stack spot (LambdaVal body at) token token.kind v.0 v.1 refl
-within_stands d w m tokens done stack spot at inner (lambdas.Stopped f) token i e = tt
+within_stands : (d w m : ℕ) (tokens : List Token) (done : List StmtTree) (stack : List Context) (context : Context) (at : ℕ) (inner next : lambdas.State) (token : Token) → Inside d w m tokens done stack context at inner → lambdas.step (d - (opens stack + opens_context context)) w inner token ≡ next → Stands d w m (tokens ++ token ∷ []) (within m done stack context at token.start token.kind next)
+within_stands d w m tokens done stack context at inner (lambdas.OperandNext st n) token i e = inside_more d w m tokens done stack context at inner (lambdas.OperandNext st n) token i e tt
+within_stands d w m tokens done stack context at inner (lambdas.CallOpened st n) token i e = inside_more d w m tokens done stack context at inner (lambdas.CallOpened st n) token i e tt
+within_stands d w m tokens done stack context at inner (lambdas.OperandRead st t n) token i e = inside_more d w m tokens done stack context at inner (lambdas.OperandRead st t n) token i e tt
+within_stands d w m tokens done stack context at inner (lambdas.Ended body) token i e =
+    let x = faults.ended (d - (opens stack + opens_context context)) w i.back inner token body i.stands i.going e in
+    let v = lambda_valued d w m tokens i.front i.back done stack context at body i.joined i.outer x in
+    settle_stands d w m tokens done stack context (LambdaVal body at) token token.kind v.0 v.1 refl
+within_stands d w m tokens done stack context at inner (lambdas.Stopped f) token i e = tt
 
 pub step_stands : (d w m : ℕ) (tokens : List Token) (s : State) (token : Token) → Stands d w m tokens s → Stands d w m (tokens ++ token ∷ []) (step d w m s token)
 step_stands d w m tokens (Between done) token h = begin_stands d w m tokens done token token.kind h.0 h.1 refl
@@ -548,15 +548,15 @@ step_stands d w m tokens (VarRead done at) token h = declare_stands d w m tokens
 step_stands d w m tokens (NameRead done name at) token h = assign_stands d w m tokens done name at token token.kind h refl
 step_stands d w m tokens (DbRead done db at) token h = dotted_stands d w m tokens done db at token token.kind h refl
 step_stands d w m tokens (DotRead done db at) token h = target_stands d w m tokens done db at token token.kind h refl
-step_stands d w m tokens (Valuing done stack spot) token h = value_stands d w m tokens done stack spot token token.kind h refl
-step_stands d w m tokens (MinusRead done stack spot at) token h = number_stands d w m tokens done stack spot at token token.kind h refl
-step_stands d w m tokens (ValueRead done stack spot v) token h = settle_stands d w m tokens done stack spot v token token.kind h.0 h.1 refl
-step_stands d w m tokens (InLambda done stack spot at inner) token h =
-    within_stands d w m tokens done stack spot at inner (lambdas.step (d - (opens stack + opens_spot spot)) w inner token) token h refl
-step_stands d w m tokens (LineRead done stack line) token h = follow_stands d w m tokens done stack line token token.kind h.0 h.1 refl
-step_stands d w m tokens (LinkRead done stack line node) token h = link_stands d w m tokens done stack line node token token.kind h.0 h.1 refl
-step_stands d w m tokens (CallRead done stack line call) token h = opening_stands d w m tokens done stack line call token token.kind h.0 h.1 refl
-step_stands d w m tokens (ParenRead done stack line call) token h = opened_stands d w m tokens done stack line call token token.kind h.0 h.1 h.2 refl
+step_stands d w m tokens (ValueNext done stack context) token h = value_stands d w m tokens done stack context token token.kind h refl
+step_stands d w m tokens (MinusRead done stack context at) token h = number_stands d w m tokens done stack context at token token.kind h refl
+step_stands d w m tokens (ValueRead done stack context v) token h = settle_stands d w m tokens done stack context v token token.kind h.0 h.1 refl
+step_stands d w m tokens (InLambda done stack context at inner) token h =
+    within_stands d w m tokens done stack context at inner (lambdas.step (d - (opens stack + opens_context context)) w inner token) token h refl
+step_stands d w m tokens (ChainRead done stack chain) token h = follow_stands d w m tokens done stack chain token token.kind h.0 h.1 refl
+step_stands d w m tokens (LinkRead done stack chain node) token h = link_stands d w m tokens done stack chain node token token.kind h.0 h.1 refl
+step_stands d w m tokens (CallRead done stack chain call) token h = opening_stands d w m tokens done stack chain call token token.kind h.0 h.1 refl
+step_stands d w m tokens (ParenRead done stack chain call) token h = opened_stands d w m tokens done stack chain call token token.kind h.0 h.1 h.2 refl
 step_stands d w m tokens (Stopped f) token h = tt
 
 pub run_stands : (d w m : ℕ) (more tokens : List Token) (s : State) → Stands d w m tokens s → Stands d w m (tokens ++ more) (run d w m more s)

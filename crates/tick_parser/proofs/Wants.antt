@@ -4,7 +4,7 @@ use Rattle.std.specs.Prelude.{pos}
 use Rattle.kap_base.specs.declared.expr.Lit.TheVariants.{Int}
 use Rattle.kap_base.specs.Tree.{Tree}
 use Rattle.tick_lexer.specs.declared.token.Kind.{Kind}
-use Rattle.tick_lexer.specs.declared.token.Kind.TheVariants.{Ident, Literal, Reference, Open, Close, Dot, Assign, Var}
+use Rattle.tick_lexer.specs.declared.token.Kind.TheVariants.{Ident, Literal, Reference, OpenParen, CloseParen, Dot, Assign, Var}
 use Rattle.tick_lexer.specs.declared.token.Token.{Token}
 use Rattle.tick_parser.specs.declared.fault.Want.{Want}
 use Rattle.tick_parser.specs.declared.fault.Want.TheVariants.{Name, Equal, Value, Open as WantOpen, Close as WantClose, Ref, Dot as WantDot}
@@ -14,7 +14,7 @@ use Rattle.tick_parser.specs.Trees.{StmtTree}
 use Rattle.tick_parser.specs.Script.{depth_script, width_script, Reads, Within}
 use Rattle.tick_parser.specs.Refusal.{Begins, Can, Cannot, IsWhole, IsIdent, IsReference, IsAssign, IsOpen, IsDot, Needs}
 use Rattle.tick_parser.specs.Lambdas as lambdas
-use Rattle.tick_parser.specs.Machine.{Line, Call, Spot, Variable, Argument, State, Between, VarRead, NameRead, DbRead, DotRead, Valuing, MinusRead, ValueRead, InLambda, LineRead, LinkRead, CallRead, ParenRead, Stopped, opens_spot, opens, within, step, run, Got, Refuses, closed, finish}
+use Rattle.tick_parser.specs.Machine.{Chain, Call, Context, Variable, Argument, State, Between, VarRead, NameRead, DbRead, DotRead, ValueNext, MinusRead, ValueRead, InLambda, ChainRead, LinkRead, CallRead, ParenRead, Stopped, opens_context, opens, within, step, run, Got, Refuses, closed, finish}
 use Rattle.tick_parser.proofs.LambdaComplete.{Below}
 use Rattle.tick_parser.proofs.LambdaSound as sound
 use Rattle.tick_parser.proofs.CompleteScript.{whole_run}
@@ -49,8 +49,8 @@ here_next d w m tokens s token h g =
     record { is = run-append d w m tokens (token ∷ []) (Between []) ∙ ap (λ (x : State). step d w m x token) h.is; going = g }
 
 room_more : (d w m : ℕ) (tokens : List Token) (s : State) → Stands d w m tokens s → HasRoom (d + 1) s
-room_more d w m tokens (LinkRead done stack line node) h = let l = h.1 in let k = l.deep in omega arith
-room_more d w m tokens (CallRead done stack line call) h = let l = h.1 in let k = l.deep in omega arith
+room_more d w m tokens (LinkRead done stack chain node) h = let l = h.1 in let k = l.deep in omega arith
+room_more d w m tokens (CallRead done stack chain call) h = let l = h.1 in let k = l.deep in omega arith
 room_more d w m tokens _ h = tt
 
 -- where the reader stands some script goes on
@@ -108,69 +108,69 @@ abbrev zero : Kind
 zero = Literal (Int (pos 0))
 
 -- behind an operand, by what is open in the lambda
-held_needs : (d w m : ℕ) (tokens : List Token) (done : List StmtTree) (stack : List Spot) (spot : Spot) (at : ℕ) (st : List lambdas.Frame) (x : Tree) (n : ℕ) (s : List lambdas.Frame) (y : Tree) → Here d w m tokens (InLambda done stack spot at (lambdas.Holding st x n)) → lambdas.reduce 0 st x ≡ record { stack = s; tree = y } → Below 0 s → Needs (wanted_held spot s) tokens
+held_needs : (d w m : ℕ) (tokens : List Token) (done : List StmtTree) (stack : List Context) (context : Context) (at : ℕ) (st : List lambdas.Frame) (x : Tree) (n : ℕ) (s : List lambdas.Frame) (y : Tree) → Here d w m tokens (InLambda done stack context at (lambdas.OperandRead st x n)) → lambdas.reduce 0 st x ≡ record { stack = s; tree = y } → Below 0 s → Needs (wanted_held context s) tokens
 held_needs d w m tokens done stack (Variable name place) at st x n [] y h e b =
-    whole_of d w m tokens (InLambda done stack (Variable name place) at (lambdas.Holding st x n)) _ h
-    (ap (λ (held : lambdas.Held). closed 0 done (Variable name place) at (lambdas.done_at 0 held.stack held.tree)) e)
-held_needs d w m tokens done stack (Argument line call args) at st x n [] y h e b =
-    let spot = Argument line call args in
-    let here = InLambda done stack spot at (lambdas.Holding st x n) in (
-      can d w m tokens here Close h
-          (subst (λ (held : lambdas.Held). IsGoing (within (m + 1) done stack spot at 0 Close (lambdas.close_top held.stack held.tree n 0))) (sym e) tt),
+    whole_of d w m tokens (InLambda done stack (Variable name place) at (lambdas.OperandRead st x n)) _ h
+    (ap (λ (held : lambdas.HeldOperand). closed 0 done (Variable name place) at (lambdas.done_at 0 held.stack held.tree)) e)
+held_needs d w m tokens done stack (Argument chain call args) at st x n [] y h e b =
+    let context = Argument chain call args in
+    let here = InLambda done stack context at (lambdas.OperandRead st x n) in (
+      can d w m tokens here CloseParen h
+          (subst (λ (held : lambdas.HeldOperand). IsGoing (within (m + 1) done stack context at 0 CloseParen (lambdas.close_top held.stack held.tree n 0))) (sym e) tt),
       cannot d w m tokens here zero WantClose h
-          (ap (λ (held : lambdas.Held). within m done stack spot at 0 zero (lambdas.leave held.stack held.tree 0)) e),
+          (ap (λ (held : lambdas.HeldOperand). within m done stack context at 0 zero (lambdas.leave held.stack held.tree 0)) e),
       cannot d w m tokens here Var WantClose h
-          (ap (λ (held : lambdas.Held). within m done stack spot at 0 Var (lambdas.leave held.stack held.tree 0)) e),
+          (ap (λ (held : lambdas.HeldOperand). within m done stack context at 0 Var (lambdas.leave held.stack held.tree 0)) e),
     )
-held_needs d w m tokens done stack spot at st x n (lambdas.Paren place ∷ s) y h e b =
-    let here = InLambda done stack spot at (lambdas.Holding st x n) in (
-      can d w m tokens here Close h
-          (subst (λ (held : lambdas.Held). IsGoing (within (m + 1) done stack spot at 0 Close (lambdas.close_top held.stack held.tree n 0))) (sym e) tt),
+held_needs d w m tokens done stack context at st x n (lambdas.Paren place ∷ s) y h e b =
+    let here = InLambda done stack context at (lambdas.OperandRead st x n) in (
+      can d w m tokens here CloseParen h
+          (subst (λ (held : lambdas.HeldOperand). IsGoing (within (m + 1) done stack context at 0 CloseParen (lambdas.close_top held.stack held.tree n 0))) (sym e) tt),
       cannot d w m tokens here zero WantClose h
-          (ap (λ (held : lambdas.Held). within m done stack spot at 0 zero (lambdas.leave held.stack held.tree 0)) e),
+          (ap (λ (held : lambdas.HeldOperand). within m done stack context at 0 zero (lambdas.leave held.stack held.tree 0)) e),
       cannot d w m tokens here Var WantClose h
-          (ap (λ (held : lambdas.Held). within m done stack spot at 0 Var (lambdas.leave held.stack held.tree 0)) e),
+          (ap (λ (held : lambdas.HeldOperand). within m done stack context at 0 Var (lambdas.leave held.stack held.tree 0)) e),
     )
-held_needs d w m tokens done stack spot at st x n (lambdas.Args name args place ∷ s) y h e b =
-    let here = InLambda done stack spot at (lambdas.Holding st x n) in (
-      can d w m tokens here Close h
-          (subst (λ (held : lambdas.Held). IsGoing (within (m + 1) done stack spot at 0 Close (lambdas.close_top held.stack held.tree n 0))) (sym e) tt),
+held_needs d w m tokens done stack context at st x n (lambdas.Args name args place ∷ s) y h e b =
+    let here = InLambda done stack context at (lambdas.OperandRead st x n) in (
+      can d w m tokens here CloseParen h
+          (subst (λ (held : lambdas.HeldOperand). IsGoing (within (m + 1) done stack context at 0 CloseParen (lambdas.close_top held.stack held.tree n 0))) (sym e) tt),
       cannot d w m tokens here zero WantClose h
-          (ap (λ (held : lambdas.Held). within m done stack spot at 0 zero (lambdas.leave held.stack held.tree 0)) e),
+          (ap (λ (held : lambdas.HeldOperand). within m done stack context at 0 zero (lambdas.leave held.stack held.tree 0)) e),
       cannot d w m tokens here Var WantClose h
-          (ap (λ (held : lambdas.Held). within m done stack spot at 0 Var (lambdas.leave held.stack held.tree 0)) e),
+          (ap (λ (held : lambdas.HeldOperand). within m done stack context at 0 Var (lambdas.leave held.stack held.tree 0)) e),
     )
-held_needs d w m tokens done stack spot at st x n (lambdas.Minus place ∷ s) y h e b = absurd (omega arith)
-held_needs d w m tokens done stack spot at st x n (lambdas.Negation place ∷ s) y h e b = absurd (omega arith)
-held_needs d w m tokens done stack spot at st x n (lambdas.Left op t place ∷ s) y h e b = absurd (omega arith)
+held_needs d w m tokens done stack context at st x n (lambdas.Minus place ∷ s) y h e b = absurd (omega arith)
+held_needs d w m tokens done stack context at st x n (lambdas.Negation place ∷ s) y h e b = absurd (omega arith)
+held_needs d w m tokens done stack context at st x n (lambdas.Left op t place ∷ s) y h e b = absurd (omega arith)
 
-lambda_needs : (d w m : ℕ) (tokens : List Token) (done : List StmtTree) (stack : List Spot) (spot : Spot) (at : ℕ) (inner : lambdas.State) → Here d w m tokens (InLambda done stack spot at inner) → Needs (wanted (InLambda done stack spot at inner)) tokens
-lambda_needs d w m tokens done stack spot at (lambdas.Wanting st n) h =
-    let here = InLambda done stack spot at (lambdas.Wanting st n) in
+lambda_needs : (d w m : ℕ) (tokens : List Token) (done : List StmtTree) (stack : List Context) (context : Context) (at : ℕ) (inner : lambdas.State) → Here d w m tokens (InLambda done stack context at inner) → Needs (wanted (InLambda done stack context at inner)) tokens
+lambda_needs d w m tokens done stack context at (lambdas.OperandNext st n) h =
+    let here = InLambda done stack context at (lambdas.OperandNext st n) in
     (can d w m tokens here zero h tt, can d w m tokens here (Reference []) h tt, cannot d w m tokens here Var _ h refl)
-lambda_needs d w m tokens done stack spot at (lambdas.Opened st n) h =
-    let here = InLambda done stack spot at (lambdas.Opened st n) in
+lambda_needs d w m tokens done stack context at (lambdas.CallOpened st n) h =
+    let here = InLambda done stack context at (lambdas.CallOpened st n) in
     (can d w m tokens here zero h tt, can d w m tokens here (Reference []) h tt, cannot d w m tokens here Var _ h refl)
-lambda_needs d w m tokens done stack spot at (lambdas.Holding st x n) h =
-    let i = here_stands d w m tokens (InLambda done stack spot at (lambdas.Holding st x n)) h in
-    let room = d - (opens stack + opens_spot spot) in
+lambda_needs d w m tokens done stack context at (lambdas.OperandRead st x n) h =
+    let i = here_stands d w m tokens (InLambda done stack context at (lambdas.OperandRead st x n)) h in
+    let room = d - (opens stack + opens_context context) in
     let c : sound.Carries room w i.back st x n = i.stands in
     let held = lambdas.reduce 0 st x in
     let r = sound.reduced st room 0 6 x c.over (omega arith) in
-    held_needs d w m tokens done stack spot at st x n held.stack held.tree h refl r.below
-lambda_needs d w m tokens done stack spot at (lambdas.Ended x) h =
-    let i = here_stands d w m tokens (InLambda done stack spot at (lambdas.Ended x)) h in elim i.going [ ]
-lambda_needs d w m tokens done stack spot at (lambdas.Stopped f) h =
-    let i = here_stands d w m tokens (InLambda done stack spot at (lambdas.Stopped f)) h in elim i.going [ ]
+    held_needs d w m tokens done stack context at st x n held.stack held.tree h refl r.below
+lambda_needs d w m tokens done stack context at (lambdas.Ended x) h =
+    let i = here_stands d w m tokens (InLambda done stack context at (lambdas.Ended x)) h in elim i.going [ ]
+lambda_needs d w m tokens done stack context at (lambdas.Stopped f) h =
+    let i = here_stands d w m tokens (InLambda done stack context at (lambdas.Stopped f)) h in elim i.going [ ]
 
 -- what may stand where only one thing may
 only_name : (d w m : ℕ) (tokens : List Token) (done : List StmtTree) (at : ℕ) → Here d w m tokens (VarRead done at) → (kind : Kind) → Can kind tokens → IsIdent kind
 only_name d w m tokens done at h (Ident name) o = tt
 only_name d w m tokens done at h kind o = absurd (cannot d w m tokens (VarRead done at) kind Name h refl o)
 
-only_link : (d w m : ℕ) (tokens : List Token) (done : List StmtTree) (stack : List Spot) (line : Line) (node : Bool) → Here d w m tokens (LinkRead done stack line node) → (kind : Kind) → Can kind tokens → IsIdent kind
-only_link d w m tokens done stack line node h (Ident name) o = tt
-only_link d w m tokens done stack line node h kind o = absurd (cannot d w m tokens (LinkRead done stack line node) kind Name h refl o)
+only_link : (d w m : ℕ) (tokens : List Token) (done : List StmtTree) (stack : List Context) (chain : Chain) (node : Bool) → Here d w m tokens (LinkRead done stack chain node) → (kind : Kind) → Can kind tokens → IsIdent kind
+only_link d w m tokens done stack chain node h (Ident name) o = tt
+only_link d w m tokens done stack chain node h kind o = absurd (cannot d w m tokens (LinkRead done stack chain node) kind Name h refl o)
 
 only_assign : (d w m : ℕ) (tokens : List Token) (done : List StmtTree) (name : List ℕ) (at : ℕ) → Here d w m tokens (NameRead done name at) → (kind : Kind) → Can kind tokens → IsAssign kind
 only_assign d w m tokens done name at h Assign o = tt
@@ -184,24 +184,24 @@ only_reference : (d w m : ℕ) (tokens : List Token) (done : List StmtTree) (db 
 only_reference d w m tokens done db at h (Reference name) o = tt
 only_reference d w m tokens done db at h kind o = absurd (cannot d w m tokens (DotRead done db at) kind Ref h refl o)
 
-only_open : (d w m : ℕ) (tokens : List Token) (done : List StmtTree) (stack : List Spot) (line : Line) (call : Call) → Here d w m tokens (CallRead done stack line call) → (kind : Kind) → Can kind tokens → IsOpen kind
-only_open d w m tokens done stack line call h Open o = tt
-only_open d w m tokens done stack line call h kind o = absurd (cannot d w m tokens (CallRead done stack line call) kind WantOpen h refl o)
+only_open : (d w m : ℕ) (tokens : List Token) (done : List StmtTree) (stack : List Context) (chain : Chain) (call : Call) → Here d w m tokens (CallRead done stack chain call) → (kind : Kind) → Can kind tokens → IsOpen kind
+only_open d w m tokens done stack chain call h OpenParen o = tt
+only_open d w m tokens done stack chain call h kind o = absurd (cannot d w m tokens (CallRead done stack chain call) kind WantOpen h refl o)
 
-argument_needs : (d w m : ℕ) (tokens : List Token) (s : State) → Here d w m tokens s → IsGoing (step (d + 1) (w + 1) (m + 1) s (sample Close)) → step d w m s (sample zero) ≡ Stopped (Expected WantClose 0) → step d w m s (sample Var) ≡ Stopped (Expected WantClose 0) → Needs WantClose tokens
-argument_needs d w m tokens s h g e f = (can d w m tokens s Close h g, cannot d w m tokens s zero WantClose h e, cannot d w m tokens s Var WantClose h f)
+argument_needs : (d w m : ℕ) (tokens : List Token) (s : State) → Here d w m tokens s → IsGoing (step (d + 1) (w + 1) (m + 1) s (sample CloseParen)) → step d w m s (sample zero) ≡ Stopped (Expected WantClose 0) → step d w m s (sample Var) ≡ Stopped (Expected WantClose 0) → Needs WantClose tokens
+argument_needs d w m tokens s h g e f = (can d w m tokens s CloseParen h g, cannot d w m tokens s zero WantClose h e, cannot d w m tokens s Var WantClose h f)
 
 value_needs : (d w m : ℕ) (tokens : List Token) (s : State) → Here d w m tokens s → IsGoing (step (d + 1) (w + 1) (m + 1) s (sample zero)) → step d w m s (sample (Reference [])) ≡ Stopped (Expected Value 0) → step d w m s (sample Var) ≡ Stopped (Expected Value 0) → Needs Value tokens
 value_needs d w m tokens s h g e f = (can d w m tokens s zero h g, cannot d w m tokens s (Reference []) Value h e, cannot d w m tokens s Var Value h f)
 
-call_needs : (d w m : ℕ) (tokens : List Token) (done : List StmtTree) (stack : List Spot) (line : Line) (call : Call) → Here d w m tokens (CallRead done stack line call) → Needs WantOpen tokens
-call_needs d w m tokens done stack line call h =
-    let i = here_stands d w m tokens (CallRead done stack line call) h in
+call_needs : (d w m : ℕ) (tokens : List Token) (done : List StmtTree) (stack : List Context) (chain : Chain) (call : Call) → Here d w m tokens (CallRead done stack chain call) → Needs WantOpen tokens
+call_needs d w m tokens done stack chain call h =
+    let i = here_stands d w m tokens (CallRead done stack chain call) h in
     let l = i.1 in
     let k = l.deep in
-    let goes : IsGoing (step (d + 1) (w + 1) (m + 1) (CallRead done stack line call) (sample Open)) =
-    subst (λ (b : Bool). IsGoing (cond b (ParenRead done stack line call) (Stopped (Deep 0)))) (sym (lt-ltb (opens stack) (d + 1) (omega arith))) tt in
-    ((Open, tt, can d w m tokens (CallRead done stack line call) Open h goes), only_open d w m tokens done stack line call h)
+    let goes : IsGoing (step (d + 1) (w + 1) (m + 1) (CallRead done stack chain call) (sample OpenParen)) =
+    subst (λ (b : Bool). IsGoing (cond b (ParenRead done stack chain call) (Stopped (Deep 0)))) (sym (lt-ltb (opens stack) (d + 1) (omega arith))) tt in
+    ((OpenParen, tt, can d w m tokens (CallRead done stack chain call) OpenParen h goes), only_open d w m tokens done stack chain call h)
 
 -- what the reader wants is what the grammar needs there
 pub needs : (d w m : ℕ) (tokens : List Token) (s : State) → Here d w m tokens s → Needs (wanted s) tokens
@@ -210,15 +210,15 @@ needs d w m tokens (VarRead done at) h = ((Ident [], tt, can d w m tokens (VarRe
 needs d w m tokens (NameRead done name at) h = ((Assign, tt, can d w m tokens (NameRead done name at) Assign h tt), only_assign d w m tokens done name at h)
 needs d w m tokens (DbRead done db at) h = ((Dot, tt, can d w m tokens (DbRead done db at) Dot h tt), only_dot d w m tokens done db at h)
 needs d w m tokens (DotRead done db at) h = ((Reference [], tt, can d w m tokens (DotRead done db at) (Reference []) h tt), only_reference d w m tokens done db at h)
-needs d w m tokens (Valuing done stack spot) h = value_needs d w m tokens (Valuing done stack spot) h tt refl refl
-needs d w m tokens (MinusRead done stack spot at) h = value_needs d w m tokens (MinusRead done stack spot at) h tt refl refl
+needs d w m tokens (ValueNext done stack context) h = value_needs d w m tokens (ValueNext done stack context) h tt refl refl
+needs d w m tokens (MinusRead done stack context at) h = value_needs d w m tokens (MinusRead done stack context at) h tt refl refl
 needs d w m tokens (ValueRead done stack (Variable name at) v) h = whole_of d w m tokens (ValueRead done stack (Variable name at) v) _ h refl
-needs d w m tokens (ValueRead done stack (Argument line call args) v) h = argument_needs d w m tokens (ValueRead done stack (Argument line call args) v) h tt refl refl
-needs d w m tokens (InLambda done stack spot at inner) h = lambda_needs d w m tokens done stack spot at inner h
-needs d w m tokens (LineRead done [] line) h = whole_of d w m tokens (LineRead done [] line) _ h refl
-needs d w m tokens (LineRead done (Variable name at ∷ stack) line) h = whole_of d w m tokens (LineRead done (Variable name at ∷ stack) line) _ h refl
-needs d w m tokens (LineRead done (Argument outer call args ∷ stack) line) h = argument_needs d w m tokens (LineRead done (Argument outer call args ∷ stack) line) h tt refl refl
-needs d w m tokens (LinkRead done stack line node) h = ((Ident [], tt, can d w m tokens (LinkRead done stack line node) (Ident []) h tt), only_link d w m tokens done stack line node h)
-needs d w m tokens (CallRead done stack line call) h = call_needs d w m tokens done stack line call h
-needs d w m tokens (ParenRead done stack line call) h = value_needs d w m tokens (ParenRead done stack line call) h tt refl refl
+needs d w m tokens (ValueRead done stack (Argument chain call args) v) h = argument_needs d w m tokens (ValueRead done stack (Argument chain call args) v) h tt refl refl
+needs d w m tokens (InLambda done stack context at inner) h = lambda_needs d w m tokens done stack context at inner h
+needs d w m tokens (ChainRead done [] chain) h = whole_of d w m tokens (ChainRead done [] chain) _ h refl
+needs d w m tokens (ChainRead done (Variable name at ∷ stack) chain) h = whole_of d w m tokens (ChainRead done (Variable name at ∷ stack) chain) _ h refl
+needs d w m tokens (ChainRead done (Argument outer call args ∷ stack) chain) h = argument_needs d w m tokens (ChainRead done (Argument outer call args ∷ stack) chain) h tt refl refl
+needs d w m tokens (LinkRead done stack chain node) h = ((Ident [], tt, can d w m tokens (LinkRead done stack chain node) (Ident []) h tt), only_link d w m tokens done stack chain node h)
+needs d w m tokens (CallRead done stack chain call) h = call_needs d w m tokens done stack chain call h
+needs d w m tokens (ParenRead done stack chain call) h = value_needs d w m tokens (ParenRead done stack chain call) h tt refl refl
 needs d w m tokens (Stopped f) h = elim h.going [ ]

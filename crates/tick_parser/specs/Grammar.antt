@@ -6,7 +6,7 @@ use Rattle.kap_base.specs.declared.expr.Op.{Op}
 use Rattle.kap_base.specs.declared.expr.Op.TheVariants.{Or, And, Eq, Ne, Match, NoMatch, Lt, Le, Gt, Ge, Add, Sub, Mul, Div, Rem}
 use Rattle.kap_base.specs.Tree.{Tree, LitTree, RefTree, NameTree, CallTree, GroupTree, NegTree, NotTree, BinTree, Trees, NoTrees, MoreTrees}
 use Rattle.tick_lexer.specs.declared.token.Kind.{Kind}
-use Rattle.tick_lexer.specs.declared.token.Kind.TheVariants.{Ident, Literal, Reference, Sign, Bang, Open, Close, Comma}
+use Rattle.tick_lexer.specs.declared.token.Kind.TheVariants.{Ident, Literal, Reference, Operator, Not, OpenParen, CloseParen, Comma}
 use Rattle.tick_lexer.specs.declared.token.Token.{Token}
 
 -- how tightly an operator binds
@@ -59,20 +59,20 @@ abbrev mutual
   spell (LitTree lit at) = At (Literal lit) at ∷ []
   spell (RefTree name at) = At (Reference name) at ∷ []
   spell (NameTree name at) = At (Ident name) at ∷ []
-  spell (CallTree name args at) = At (Ident name) at ∷ Free Open ∷ spell_args args
-  spell (GroupTree inner at) = At Open at ∷ (spell inner ++ Free Close ∷ [])
-  spell (NegTree operand at) = At (Sign Sub) at ∷ spell operand
-  spell (NotTree operand at) = At Bang at ∷ spell operand
-  spell (BinTree op left right at) = spell left ++ At (Sign op) at ∷ spell right
+  spell (CallTree name args at) = At (Ident name) at ∷ Free OpenParen ∷ spell_args args
+  spell (GroupTree inner at) = At OpenParen at ∷ (spell inner ++ Free CloseParen ∷ [])
+  spell (NegTree operand at) = At (Operator Sub) at ∷ spell operand
+  spell (NotTree operand at) = At Not at ∷ spell operand
+  spell (BinTree op left right at) = spell left ++ At (Operator op) at ∷ spell right
 
   -- arguments, and the parenthesis behind them
   pub spell_args : Trees → List Mark
-  spell_args NoTrees = Free Close ∷ []
+  spell_args NoTrees = Free CloseParen ∷ []
   spell_args (MoreTrees first rest) = spell first ++ spell_rest rest
 
   -- further arguments, each behind a comma, and the parenthesis behind them
   pub spell_rest : Trees → List Mark
-  spell_rest NoTrees = Free Close ∷ []
+  spell_rest NoTrees = Free CloseParen ∷ []
   spell_rest (MoreTrees first rest) = Free Comma ∷ (spell first ++ spell_rest rest)
 
 -- the number or duration with a minus before it; in a script none is written with its sign
@@ -105,7 +105,7 @@ Is tokens (At kind place) = IsOneToken (λ t. (t.kind ≡ kind) × (t.start ≡ 
 Is tokens (Free kind) = IsOneToken (λ t. t.kind ≡ kind) tokens
 Is tokens (Signed lit place) =
     IsOneToken (λ t. (t.kind ≡ Literal lit) × (t.start ≡ place)) tokens
-    ⊎ AreTwoTokens (λ t u. (t.kind ≡ Sign Sub) × (t.start ≡ place) × IsMinus u.kind lit) tokens
+    ⊎ AreTwoTokens (λ t u. (t.kind ≡ Operator Sub) × (t.start ≡ place) × IsMinus u.kind lit) tokens
 
 -- these are the marks' tokens, one mark after the other
 abbrev pub Agree : List Token → List Mark → Type 0

@@ -4,7 +4,7 @@ use Rattle.kap_base.specs.declared.expr.Op.{Op}
 use Rattle.kap_base.specs.declared.expr.Op.TheVariants.{Sub}
 use Rattle.kap_base.specs.Tree.{Tree, LitTree, RefTree, NameTree, CallTree, GroupTree, NegTree, NotTree, BinTree, Trees, NoTrees, MoreTrees, reversed_onto}
 use Rattle.tick_lexer.specs.declared.token.Kind.{Kind}
-use Rattle.tick_lexer.specs.declared.token.Kind.TheVariants.{Ident, Literal, Reference, Sign, Bang, Open, Close, Comma}
+use Rattle.tick_lexer.specs.declared.token.Kind.TheVariants.{Ident, Literal, Reference, Operator, Not, OpenParen, CloseParen, Comma}
 use Rattle.tick_lexer.specs.declared.token.Token.{Token}
 use Rattle.tick_parser.specs.declared.fault.Want.TheVariants.{Operand, Close as WantClose}
 use Rattle.tick_parser.specs.declared.fault.ParseFault.{ParseFault}
@@ -21,18 +21,18 @@ pub data Frame : Type 0 where
   Args : (name : List ℕ) (done : Trees) (at : ℕ) → Frame
 
 -- an operand that was read, over what is open
-pub record Held : Type 0 where
+pub record HeldOperand : Type 0 where
   pub stack : List Frame
   pub tree : Tree
 
 -- count is the number of binary operators so far
 pub data State : Type 0 where
   -- an operand comes
-  Wanting : (stack : List Frame) (count : ℕ) → State
+  OperandNext : (stack : List Frame) (count : ℕ) → State
   -- a call was opened, and an operand or its end comes
-  Opened : (stack : List Frame) (count : ℕ) → State
+  CallOpened : (stack : List Frame) (count : ℕ) → State
   -- an operand was read
-  Holding : (stack : List Frame) (tree : Tree) (count : ℕ) → State
+  OperandRead : (stack : List Frame) (tree : Tree) (count : ℕ) → State
   -- the lambda ended before this token
   Ended : (tree : Tree) → State
   Stopped : (fault : ParseFault) → State
@@ -47,7 +47,7 @@ opens (Paren at ∷ stack) = opens stack + 1
 opens (Args name done at ∷ stack) = opens stack + 1
 
 -- closes unary operators, and binary ones that bind as tightly as this level
-abbrev pub reduce : ℕ → List Frame → Tree → Held
+abbrev pub reduce : ℕ → List Frame → Tree → HeldOperand
 reduce n [] tree = record { stack = []; tree = tree }
 reduce n (Minus at ∷ stack) tree = reduce n stack (NegTree tree at)
 reduce n (Negation at ∷ stack) tree = reduce n stack (NotTree tree at)
@@ -58,16 +58,16 @@ reduce n (Args name done at ∷ stack) tree = record { stack = Args name done at
 
 -- a parenthesis or a unary operator
 abbrev pub opening : ℕ → Frame → List Frame → ℕ → ℕ → State
-opening deep frame stack count at = cond (ltb (opens stack) deep) (Wanting (frame ∷ stack) count) (Stopped (Deep at))
+opening deep frame stack count at = cond (ltb (opens stack) deep) (OperandNext (frame ∷ stack) count) (Stopped (Deep at))
 
 -- a token where an operand comes
 abbrev pub operand : ℕ → List Frame → ℕ → ℕ → Kind → State
-operand deep stack count at (Literal lit) = Holding stack (LitTree lit at) count
-operand deep stack count at (Reference name) = Holding stack (RefTree name at) count
-operand deep stack count at (Ident name) = Holding stack (NameTree name at) count
-operand deep stack count at Open = opening deep (Paren at) stack count at
-operand deep stack count at (Sign Sub) = opening deep (Minus at) stack count at
-operand deep stack count at Bang = opening deep (Negation at) stack count at
+operand deep stack count at (Literal lit) = OperandRead stack (LitTree lit at) count
+operand deep stack count at (Reference name) = OperandRead stack (RefTree name at) count
+operand deep stack count at (Ident name) = OperandRead stack (NameTree name at) count
+operand deep stack count at OpenParen = opening deep (Paren at) stack count at
+operand deep stack count at (Operator Sub) = opening deep (Minus at) stack count at
+operand deep stack count at Not = opening deep (Negation at) stack count at
 operand deep stack count at _ = Stopped (Expected Operand at)
 
 -- a token that ends the lambda, where no parenthesis is open
@@ -78,51 +78,51 @@ leave _ tree at = Stopped (Expected WantClose at)
 -- a parenthesis behind an operand: the arguments of a name
 abbrev pub calling : ℕ → List Frame → ℕ → ℕ → Tree → State
 calling deep stack count at (NameTree name place) =
-    cond (ltb (opens stack) deep) (Opened (Args name NoTrees place ∷ stack) count) (Stopped (Deep at))
+    cond (ltb (opens stack) deep) (CallOpened (Args name NoTrees place ∷ stack) count) (Stopped (Deep at))
 calling deep stack count at tree = let held = reduce 0 stack tree in leave held.stack held.tree at
 
 -- a binary operator
-abbrev pub joining : ℕ → Op → ℕ → ℕ → Held → State
+abbrev pub joining : ℕ → Op → ℕ → ℕ → HeldOperand → State
 joining wide op count at held =
-    cond (ltb count wide) (Wanting (Left op held.tree at ∷ held.stack) (count + 1)) (Stopped (Deep at))
+    cond (ltb count wide) (OperandNext (Left op held.tree at ∷ held.stack) (count + 1)) (Stopped (Deep at))
 
 -- the innermost parenthesis is closed
 abbrev pub close_top : List Frame → Tree → ℕ → ℕ → State
 close_top [] tree count at = Ended tree
-close_top (Paren place ∷ stack) tree count at = Holding stack (GroupTree tree place) count
+close_top (Paren place ∷ stack) tree count at = OperandRead stack (GroupTree tree place) count
 close_top (Args name done place ∷ stack) tree count at =
-    Holding stack (CallTree name (reversed_onto (MoreTrees tree done) NoTrees) place) count
+    OperandRead stack (CallTree name (reversed_onto (MoreTrees tree done) NoTrees) place) count
 close_top _ tree count at = Stopped (Expected WantClose at)
 
 -- a comma behind an argument
 abbrev pub next_top : List Frame → Tree → ℕ → ℕ → State
 next_top [] tree count at = Ended tree
-next_top (Args name done place ∷ stack) tree count at = Wanting (Args name (MoreTrees tree done) place ∷ stack) count
+next_top (Args name done place ∷ stack) tree count at = OperandNext (Args name (MoreTrees tree done) place ∷ stack) count
 next_top _ tree count at = Stopped (Expected WantClose at)
 
 -- a call without arguments is closed
 abbrev pub close_empty : List Frame → ℕ → ℕ → State
-close_empty (Args name done place ∷ stack) count at = Holding stack (CallTree name (reversed_onto done NoTrees) place) count
+close_empty (Args name done place ∷ stack) count at = OperandRead stack (CallTree name (reversed_onto done NoTrees) place) count
 close_empty _ count at = Stopped (Expected Operand at)
 
 -- a token behind an operand
 abbrev pub after : ℕ → ℕ → List Frame → Tree → ℕ → ℕ → Kind → State
-after deep wide stack tree count at Open = calling deep stack count at tree
-after deep wide stack tree count at (Sign op) = joining wide op count at (reduce (level op) stack tree)
-after deep wide stack tree count at Close = let held = reduce 0 stack tree in close_top held.stack held.tree count at
+after deep wide stack tree count at OpenParen = calling deep stack count at tree
+after deep wide stack tree count at (Operator op) = joining wide op count at (reduce (level op) stack tree)
+after deep wide stack tree count at CloseParen = let held = reduce 0 stack tree in close_top held.stack held.tree count at
 after deep wide stack tree count at Comma = let held = reduce 0 stack tree in next_top held.stack held.tree count at
 after deep wide stack tree count at _ = let held = reduce 0 stack tree in leave held.stack held.tree at
 
 -- a token where a call was opened
 abbrev pub opened : ℕ → List Frame → ℕ → ℕ → Kind → State
-opened deep stack count at Close = close_empty stack count at
+opened deep stack count at CloseParen = close_empty stack count at
 opened deep stack count at kind = operand deep stack count at kind
 
 -- deep: how many parentheses and unary operators may be open; wide: how many binary operators there may be
 abbrev pub step : ℕ → ℕ → State → Token → State
-step deep wide (Wanting stack count) token = operand deep stack count token.start token.kind
-step deep wide (Opened stack count) token = opened deep stack count token.start token.kind
-step deep wide (Holding stack tree count) token = after deep wide stack tree count token.start token.kind
+step deep wide (OperandNext stack count) token = operand deep stack count token.start token.kind
+step deep wide (CallOpened stack count) token = opened deep stack count token.start token.kind
+step deep wide (OperandRead stack tree count) token = after deep wide stack tree count token.start token.kind
 step deep wide (Ended tree) token = Ended tree
 step deep wide (Stopped fault) token = Stopped fault
 
@@ -141,8 +141,8 @@ done_at at _ tree = Refuses (Expected WantClose at)
 
 -- the tokens end here
 abbrev pub finish : ℕ → State → Answer
-finish at (Wanting stack count) = Refuses (Expected Operand at)
-finish at (Opened stack count) = Refuses (Expected Operand at)
-finish at (Holding stack tree count) = let held = reduce 0 stack tree in done_at at held.stack held.tree
+finish at (OperandNext stack count) = Refuses (Expected Operand at)
+finish at (CallOpened stack count) = Refuses (Expected Operand at)
+finish at (OperandRead stack tree count) = let held = reduce 0 stack tree in done_at at held.stack held.tree
 finish at (Ended tree) = Got tree
 finish at (Stopped fault) = Refuses fault

@@ -2,8 +2,9 @@
 use Rattle.std.specs.Prelude.{◌≡◌, ◌⊎◌, ℕ, ◌≤◌, List, [], ◌∷◌, ◌++◌, length, pos}
 use Rattle.kap_base.specs.declared.expr.Lit.TheVariants.{Int}
 use Rattle.tick_lexer.specs.declared.token.Kind.{Kind}
-use Rattle.tick_lexer.specs.declared.token.Kind.TheVariants.{Ident, Literal, Reference, Sign, Bang, Open, Close, Dot, Assign, Var}
+use Rattle.tick_lexer.specs.declared.token.Kind.TheVariants.{Ident, Literal, Reference, Operator, Not, OpenParen, CloseParen, Dot, Assign, Var}
 use Rattle.tick_lexer.specs.declared.token.Token.{Token}
+use Rattle.tick_parser.specs.declared.limits.TheConstants.{DEPTH_LIMIT, OPERATOR_LIMIT, STATEMENT_LIMIT}
 use Rattle.tick_parser.specs.declared.fault.Want.{Want}
 use Rattle.tick_parser.specs.declared.fault.Want.TheVariants.{Statement, Name, Equal, Value, Open as WantOpen, Close as WantClose, Ref, Dot as WantDot, Operand}
 use Rattle.tick_parser.specs.declared.fault.ParseFault.{ParseFault}
@@ -58,7 +59,7 @@ IsAssign _ = ⊥
 
 -- a parenthesis that opens
 abbrev pub IsOpen : Kind → Type 0
-IsOpen Open = Unit {0}
+IsOpen OpenParen = Unit {0}
 IsOpen _ = ⊥
 
 -- a dot
@@ -78,13 +79,13 @@ Needs WantDot tokens = Only IsDot tokens
 Needs Ref tokens = Only IsReference tokens
 Needs Value tokens = Can (Literal (Int (pos 0))) tokens × Cannot (Reference []) tokens × Cannot Var tokens
 Needs Operand tokens = Can (Literal (Int (pos 0))) tokens × Can (Reference []) tokens × Cannot Var tokens
-Needs WantClose tokens = Can Close tokens × Cannot (Literal (Int (pos 0))) tokens × Cannot Var tokens
+Needs WantClose tokens = Can CloseParen tokens × Cannot (Literal (Int (pos 0))) tokens × Cannot Var tokens
 
 -- a parenthesis or an operator
 abbrev pub IsOpening : Kind → Type 0
-IsOpening Open = Unit {0}
-IsOpening Bang = Unit {0}
-IsOpening (Sign op) = Unit {0}
+IsOpening OpenParen = Unit {0}
+IsOpening Not = Unit {0}
+IsOpening (Operator op) = Unit {0}
 IsOpening _ = ⊥
 
 -- a token with which a statement begins
@@ -139,3 +140,7 @@ Lacks deep wide many tokens _ = ⊥
 -- the first place where no reading goes on, and why
 abbrev pub Refused : ℕ → ℕ → ℕ → List Token → ParseFault → Type 0
 Refused deep wide many tokens fault = Stops deep wide many tokens fault ⊎ Lacks deep wide many tokens fault
+
+-- the tokens are refused so by this parser
+abbrev pub IsRefused : List Token → ParseFault → Type 0
+IsRefused tokens fault = Refused DEPTH_LIMIT OPERATOR_LIMIT STATEMENT_LIMIT tokens fault

@@ -1,8 +1,9 @@
 -- The grammar of scripts: which trees there are, and the tokens of each.
 use Rattle.std.specs.Prelude.{ℕ, ◌+◌, ◌≤◌, max, cond, List, [], ◌∷◌, ◌++◌, length}
 use Rattle.kap_base.specs.declared.expr.Op.TheVariants.{Mul}
-use Rattle.tick_lexer.specs.declared.token.Kind.TheVariants.{Ident, Reference, Sign, Open, Close, Comma, Dot, Pipe, Assign, Var, Lambda}
+use Rattle.tick_lexer.specs.declared.token.Kind.TheVariants.{Ident, Reference, Operator, OpenParen, CloseParen, Comma, Dot, Pipe, Assign, Var, Lambda}
 use Rattle.tick_lexer.specs.declared.token.Token.{Token}
+use Rattle.tick_parser.specs.declared.limits.TheConstants.{DEPTH_LIMIT, OPERATOR_LIMIT, STATEMENT_LIMIT}
 use Rattle.tick_parser.specs.Trees.{ValTree, LitVal, StarVal, LambdaVal, ChainVal, ValTrees, NoVals, MoreVals, JointTrees, NoJoints, MoreJoints, StmtTree, VarStmt, DbrpStmt, ChainStmt}
 use Rattle.tick_parser.specs.Grammar.{Fits, Mark, At, Free, Signed, spell, Agree, depth, binaries}
 
@@ -10,25 +11,25 @@ use Rattle.tick_parser.specs.Grammar.{Fits, Mark, At, Free, Signed, spell, Agree
 abbrev mutual
   pub spell_val : ValTree → List Mark
   spell_val (LitVal lit at) = Signed lit at ∷ []
-  spell_val (StarVal at) = At (Sign Mul) at ∷ []
+  spell_val (StarVal at) = At (Operator Mul) at ∷ []
   spell_val (LambdaVal body at) = At Lambda at ∷ spell body
   spell_val (ChainVal head links at) = At (Ident head) at ∷ spell_joints links
 
   -- arguments, and the parenthesis behind them
   pub spell_vals : ValTrees → List Mark
-  spell_vals NoVals = Free Close ∷ []
+  spell_vals NoVals = Free CloseParen ∷ []
   spell_vals (MoreVals first rest) = spell_val first ++ spell_more rest
 
   -- further arguments, each behind a comma, and the parenthesis behind them
   pub spell_more : ValTrees → List Mark
-  spell_more NoVals = Free Close ∷ []
+  spell_more NoVals = Free CloseParen ∷ []
   spell_more (MoreVals first rest) = Free Comma ∷ (spell_val first ++ spell_more rest)
 
   -- nodes behind `|`, properties behind a dot
   pub spell_joints : JointTrees → List Mark
   spell_joints NoJoints = []
   spell_joints (MoreJoints node name args at rest) =
-      Free (cond node Pipe Dot) ∷ At (Ident name) at ∷ Free Open ∷ (spell_vals args ++ spell_joints rest)
+      Free (cond node Pipe Dot) ∷ At (Ident name) at ∷ Free OpenParen ∷ (spell_vals args ++ spell_joints rest)
 
 -- the name with which a dbrp statement begins
 abbrev pub word_dbrp : List ℕ
@@ -139,3 +140,7 @@ pub record Within (deep wide many : ℕ) (script : List StmtTree) : Type 0 where
   pub depth_fits : depth_script script ≤ deep
   pub width_fits : width_script script ≤ wide
   pub count_fits : length script ≤ many
+
+-- the tokens are those of this script, which keeps the limits of the parser
+abbrev pub IsScriptOf : List Token → List StmtTree → Type 0
+IsScriptOf tokens script = Reads tokens script × Within DEPTH_LIMIT OPERATOR_LIMIT STATEMENT_LIMIT script

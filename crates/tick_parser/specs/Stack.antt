@@ -5,11 +5,11 @@ use Rattle.kap_base.specs.Tree.{tree_of, trees_of}
 use Rattle.tick_parser.specs.declared.stack.Frame.{Frame}
 use Rattle.tick_parser.specs.declared.stack.Frame.TheVariants.{Minus, Negation, Left, Paren, Args}
 use Rattle.tick_parser.specs.declared.stack.Stack.{Stack}
-use Rattle.tick_parser.specs.declared.stack.Held.{Held}
-use Rattle.tick_parser.specs.declared.lambda.Lambda.{Lambda}
-use Rattle.tick_parser.specs.declared.lambda.Lambda.TheVariants.{Wanting, Opened, Holding}
-use Rattle.tick_parser.specs.declared.lambda.Turn.{Turn}
-use Rattle.tick_parser.specs.declared.lambda.Turn.TheVariants.{On, Ended}
+use Rattle.tick_parser.specs.declared.stack.HeldOperand.{HeldOperand}
+use Rattle.tick_parser.specs.declared.lambda.OpenLambda.{OpenLambda}
+use Rattle.tick_parser.specs.declared.lambda.OpenLambda.TheVariants.{OperandNext, CallOpened, OperandRead}
+use Rattle.tick_parser.specs.declared.lambda.LambdaStep.{LambdaStep}
+use Rattle.tick_parser.specs.declared.lambda.LambdaStep.TheVariants.{On, Ended}
 use Rattle.tick_parser.specs.declared.fault.ParseFault.{ParseFault}
 use Rattle.tick_parser.specs.declared.fault.ParseFault.TheVariants.{NoMemory}
 use Rattle.tick_parser.specs.Lambdas as lambdas
@@ -22,41 +22,41 @@ frame_of (Paren at) = lambdas.Paren at
 frame_of (Args name done at) = lambdas.Args name (trees_of done) at
 
 -- the last on top
-abbrev pub stacked : List Frame → List lambdas.Frame → List lambdas.Frame
-stacked [] onto = onto
-stacked (frame ∷ frames) onto = stacked frames (frame_of frame ∷ onto)
+abbrev pub frames_onto : List Frame → List lambdas.Frame → List lambdas.Frame
+frames_onto [] onto = onto
+frames_onto (frame ∷ frames) onto = frames_onto frames (frame_of frame ∷ onto)
 
 abbrev pub frames_of : Stack → List lambdas.Frame
-frames_of stack = stacked stack.frames.items []
+frames_of stack = frames_onto stack.frames.items []
 
-abbrev pub held_of : Held → lambdas.Held
+abbrev pub held_of : HeldOperand → lambdas.HeldOperand
 held_of held = record { stack = frames_of held.stack; tree = tree_of held.tree }
 
 -- the code's count of what is open is right
 abbrev pub IsCounted : Stack → Type 0
 IsCounted stack = stack.open ≡ lambdas.opens (frames_of stack)
 
-abbrev pub lambda_of : Lambda → lambdas.State
-lambda_of (Wanting stack) = lambdas.Wanting (frames_of stack) stack.count
-lambda_of (Opened stack) = lambdas.Opened (frames_of stack) stack.count
-lambda_of (Holding stack tree) = lambdas.Holding (frames_of stack) (tree_of tree) stack.count
+abbrev pub lambda_of : OpenLambda → lambdas.State
+lambda_of (OperandNext stack) = lambdas.OperandNext (frames_of stack) stack.count
+lambda_of (CallOpened stack) = lambdas.CallOpened (frames_of stack) stack.count
+lambda_of (OperandRead stack tree) = lambdas.OperandRead (frames_of stack) (tree_of tree) stack.count
 
-abbrev pub IsCountedLambda : Lambda → Type 0
-IsCountedLambda (Wanting stack) = IsCounted stack
-IsCountedLambda (Opened stack) = IsCounted stack
-IsCountedLambda (Holding stack tree) = IsCounted stack
+abbrev pub IsCountedLambda : OpenLambda → Type 0
+IsCountedLambda (OperandNext stack) = IsCounted stack
+IsCountedLambda (CallOpened stack) = IsCounted stack
+IsCountedLambda (OperandRead stack tree) = IsCounted stack
 
 -- the reader goes on so, or the lambda has ended
-abbrev pub Turns : Turn → lambdas.State → Type 0
-Turns (On lambda) to = (lambda_of lambda ≡ to) × IsCountedLambda lambda
-Turns (Ended tree) to = lambdas.Ended (tree_of tree) ≡ to
+abbrev pub StepsTo : LambdaStep → lambdas.State → Type 0
+StepsTo (On lambda) to = (lambda_of lambda ≡ to) × IsCountedLambda lambda
+StepsTo (Ended tree) to = lambdas.Ended (tree_of tree) ≡ to
 
 -- the code goes where the reader goes, or it has stopped with this fault
-abbrev pub Moves : Result Turn ParseFault → lambdas.State → Type 0
-Moves (Ok turn) to = Turns turn to
-Moves (Err fault) to = (fault ≡ NoMemory) ⊎ (to ≡ lambdas.Stopped fault)
+abbrev pub LambdaMoves : Result LambdaStep ParseFault → lambdas.State → Type 0
+LambdaMoves (Ok turn) to = StepsTo turn to
+LambdaMoves (Err fault) to = (fault ≡ NoMemory) ⊎ (to ≡ lambdas.Stopped fault)
 
 -- the lambda is the reader's, or it refuses with this fault
-abbrev pub Answers : Result Expr ParseFault → lambdas.Answer → Type 0
-Answers (Ok expr) answer = answer ≡ lambdas.Got (tree_of expr)
-Answers (Err fault) answer = (fault ≡ NoMemory) ⊎ (answer ≡ lambdas.Refuses fault)
+abbrev pub LambdaEnds : Result Expr ParseFault → lambdas.Answer → Type 0
+LambdaEnds (Ok expr) answer = answer ≡ lambdas.Got (tree_of expr)
+LambdaEnds (Err fault) answer = (fault ≡ NoMemory) ⊎ (answer ≡ lambdas.Refuses fault)

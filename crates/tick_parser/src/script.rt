@@ -1,10 +1,9 @@
 //! Scripts as trees: statements, chains and values.
 
-ghost use Rattle.std.specs.Prelude.{◌≡◌, IfOk};
-ghost use Rattle.tick_parser.specs.Trees.{NoJoints, NoVals, chain_tree, joint_tree, joints_onto, joints_tree, stmt_tree, val_tree, vals_onto, vals_tree};
+ghost use Rattle.std.specs.Prelude.{◌≡◌};
+ghost use Rattle.tick_parser.specs.Trees.{NoJoints, NoVals, joints_onto, joints_tree, vals_onto, vals_tree};
 
-use kap_base::{Duplicate, Expr, ItemList, Lit, NoMemory, Text};
-use std::alloc::Global;
+use kap_base::{Expr, ItemList, Lit, Text};
 use std::mem;
 
 /// The statements of a script, in order.
@@ -61,7 +60,7 @@ pub enum Val {
     Chain(Chain),
 }
 
-/// A list of values, the first on top. It is walked, copied, turned round and dropped by loops.
+/// A list of values, the first on top. It is walked, turned round and dropped by loops.
 #[cycle(script)]
 pub enum Vals {
     /// No value.
@@ -70,7 +69,7 @@ pub enum Vals {
     More(Box<Val>, Box<Vals>),
 }
 
-/// A list of nodes and properties, the first on top. It is walked, copied, turned round and dropped by loops.
+/// A list of nodes and properties, the first on top. It is walked, turned round and dropped by loops.
 #[cycle(script)]
 pub enum Links {
     /// No node and no property.
@@ -103,87 +102,7 @@ impl Drop for Links {
     }
 }
 
-impl Stmt {
-    /// A statement of the same tree.
-    pub fn copy(&self, alloc: Global) -> Result<Stmt, NoMemory>
-        ensures { IfOk result (λ copy. stmt_tree copy ≡ stmt_tree self.now) }
-    {
-        match self {
-            Stmt::Var { name, value, at } => Ok(Stmt::Var {
-                name: name.copy(alloc)?,
-                value: value.copy(alloc)?,
-                at: *at,
-            }),
-            Stmt::Dbrp { db, rp, at } => Ok(Stmt::Dbrp {
-                db: db.copy(alloc)?,
-                rp: rp.copy(alloc)?,
-                at: *at,
-            }),
-            Stmt::Chain(chain) => Ok(Stmt::Chain(chain.copy(alloc)?)),
-        }
-    }
-}
-
-impl Chain {
-    /// A chain of the same tree.
-    #[cycle(copy)]
-    pub fn copy(&self, alloc: Global) -> Result<Chain, NoMemory>
-        ensures { IfOk result (λ copy. chain_tree copy ≡ chain_tree self.now) }
-    {
-        Ok(Chain {
-            head: self.head.copy(alloc)?,
-            links: self.links.copy(alloc)?,
-            at: self.at,
-        })
-    }
-}
-
-impl Joint {
-    /// A node or a property of the same tree.
-    #[cycle(copy)]
-    pub fn copy(&self, alloc: Global) -> Result<Joint, NoMemory>
-        ensures { IfOk result (λ copy. joint_tree copy ≡ joint_tree self.now) }
-    {
-        Ok(Joint {
-            node: self.node,
-            name: self.name.copy(alloc)?,
-            args: self.args.copy(alloc)?,
-            at: self.at,
-        })
-    }
-}
-
-impl Val {
-    /// A value of the same tree.
-    #[cycle(copy)]
-    pub fn copy(&self, alloc: Global) -> Result<Val, NoMemory>
-        ensures { IfOk result (λ copy. val_tree copy ≡ val_tree self.now) }
-    {
-        match self {
-            Val::Lit(lit, at) => Ok(Val::Lit(lit.copy(alloc)?, *at)),
-            Val::Star(at) => Ok(Val::Star(*at)),
-            Val::Lambda(body, at) => Ok(Val::Lambda(body.copy(alloc)?, *at)),
-            Val::Chain(chain) => Ok(Val::Chain(chain.copy(alloc)?)),
-        }
-    }
-}
-
 impl Vals {
-    /// A list of the same trees.
-    #[cycle(copy)]
-    pub fn copy(&self, alloc: Global) -> Result<Vals, NoMemory>
-        ensures { IfOk result (λ copy. vals_tree copy ≡ vals_tree self.now) }
-    {
-        let mut turned = Vals::End;
-        let mut rest = self;
-        while let Vals::More(first, more) = rest {
-            let copy = first.copy(alloc)?;
-            turned = Vals::More(Box::new(alloc, copy)?, Box::new(alloc, turned)?);
-            rest = more;
-        }
-        Ok(turned.reversed())
-    }
-
     /// The list from its last element to its first. It takes no memory.
     pub fn reversed(mut self) -> Vals
         ensures { vals_tree result ≡ vals_onto (vals_tree self) NoVals }
@@ -198,21 +117,6 @@ impl Vals {
 }
 
 impl Links {
-    /// A list of the same trees.
-    #[cycle(copy)]
-    pub fn copy(&self, alloc: Global) -> Result<Links, NoMemory>
-        ensures { IfOk result (λ copy. joints_tree copy ≡ joints_tree self.now) }
-    {
-        let mut turned = Links::End;
-        let mut rest = self;
-        while let Links::More(first, more) = rest {
-            let copy = first.copy(alloc)?;
-            turned = Links::More(Box::new(alloc, copy)?, Box::new(alloc, turned)?);
-            rest = more;
-        }
-        Ok(turned.reversed())
-    }
-
     /// The list from its last element to its first. It takes no memory.
     pub fn reversed(mut self) -> Links
         ensures { joints_tree result ≡ joints_onto (joints_tree self) NoJoints }

@@ -51,17 +51,23 @@ pub(crate) struct Stack {
 
 /// What is open, and the operand that was read.
 #[derive(Drop)]
-pub(crate) struct Held {
+pub(crate) struct HeldOperand {
     pub stack: Stack,
     pub tree: Expr,
 }
 
 impl Stack {
     /// Closes unary operators, and binary ones that bind as tightly as this level.
-    #[tactic(auto, using(crate::proofs::Stacks::stacked_push))]
-    pub(crate) fn reduce(mut self, alloc: Global, least: u8, tree: Expr) -> Result<Held, NoMemory>
+    #[tactic(auto, using(crate::proofs::Stacks::frames_push))]
+    pub(crate) fn reduce(
+        mut self,
+        alloc: Global,
+        least: u8,
+        tree: Expr,
+    ) -> Result<HeldOperand, NoMemory>
         requires { IsCounted self }
-        ensures held { IfOk result (λ held. held_of held ≡ reduce least (frames_of self) (tree_of tree)) }
+        ensures held { IfOk result (λ held. held_of held ≡ reduce least (frames_of self)
+            (tree_of tree)) }
         ensures counted { IfOk result (λ held. IsCounted held.stack) }
         ensures count { IfOk result (λ held. held.stack.count ≡ self.count) }
     {
@@ -81,10 +87,10 @@ impl Stack {
                 }
                 other => {
                     self.frames.push(other)?;
-                    return Ok(Held { stack: self, tree });
+                    return Ok(HeldOperand { stack: self, tree });
                 }
             }
         }
-        Ok(Held { stack: self, tree })
+        Ok(HeldOperand { stack: self, tree })
     }
 }

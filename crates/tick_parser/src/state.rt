@@ -1,12 +1,14 @@
 //! What was read of a script so far.
 
+ghost use Rattle.std.specs.Prelude.{◌≡◌, []};
 ghost use Rattle.tick_parser.specs.Machine.{finish, step};
-ghost use Rattle.tick_parser.specs.States.{Answers, IsCountedState, Moves, state_of};
+ghost use Rattle.tick_parser.specs.Trees.{script_tree};
+ghost use Rattle.tick_parser.specs.States.{Finishes, IsCountedState, Moves, contexts_of, state_of};
 
 use crate::fault::{ParseFault, Want};
-use crate::lambda::Lambda;
+use crate::lambda::OpenLambda;
 use crate::script::{Chain, Stmt, Tree, Val, Vals};
-use crate::steps;
+use crate::statements;
 use kap_base::{ItemList, Text};
 use std::alloc::Global;
 use tick_lexer::Token;
@@ -22,7 +24,7 @@ pub(crate) struct Call {
 
 /// Where a value stands.
 #[derive(Drop)]
-pub(crate) enum Spot {
+pub(crate) enum Context {
     /// It is what a variable stands for.
     Variable(Text, u32),
     /// It is an argument. The links of the chain and the arguments that were read go from the last to the first.
@@ -31,10 +33,10 @@ pub(crate) enum Spot {
 
 /// The statements that were read, and where the chain or value stands that is read now.
 #[derive(Drop)]
-pub(crate) struct Open {
+pub(crate) struct Nesting {
     pub done: Vec<Stmt>,
     /// The innermost last; nothing where the chain is a statement.
-    pub stack: Vec<Spot>,
+    pub stack: Vec<Context>,
     /// How many parentheses of arguments are open.
     pub count: u32,
 }
@@ -53,21 +55,36 @@ pub(crate) enum State {
     /// The dot of a dbrp statement.
     DotRead(Vec<Stmt>, Text, u32),
     /// The sign before a value.
-    Valuing(Open, Spot),
+    ValueNext(Nesting, Context),
     /// A minus before a value.
-    MinusRead(Open, Spot, u32),
+    MinusRead(Nesting, Context, u32),
     /// A value of which nothing more can come.
-    ValueRead(Open, Spot, Val),
+    ValueRead(Nesting, Context, Val),
     /// A part of a lambda.
-    InLambda(Open, Spot, u32, Lambda),
+    InLambda(Nesting, Context, u32, OpenLambda),
     /// The head or a link of a chain.
-    LineRead(Open, Chain),
+    ChainRead(Nesting, Chain),
     /// A pipe, or else a dot, in a chain.
-    LinkRead(Open, Chain, bool),
+    LinkRead(Nesting, Chain, bool),
     /// The name of a node or a property.
-    CallRead(Open, Chain, Call),
+    CallRead(Nesting, Chain, Call),
     /// Its parenthesis.
-    ParenRead(Open, Chain, Call),
+    ParenRead(Nesting, Chain, Call),
+}
+
+impl Nesting {
+    /// Behind these statements nothing is open.
+    pub(crate) fn new(alloc: Global, done: Vec<Stmt>) -> Nesting
+        ensures done { script_tree result.done.items ≡ script_tree done.items }
+        ensures none { contexts_of result ≡ [] }
+        ensures count { result.count ≡ 0 }
+    {
+        Nesting {
+            done,
+            stack: Vec::new(alloc),
+            count: 0,
+        }
+    }
 }
 
 impl State {
@@ -77,26 +94,32 @@ impl State {
         ensures { Moves result (step 64 512 4096 (state_of self) token.now) }
     {
         match self {
-            State::Between(done) => steps::read_start(alloc, done, token),
-            State::VarRead(done, at) => steps::read_name(alloc, done, at, token),
-            State::NameRead(done, name, at) => steps::read_equal(alloc, done, name, at, token),
-            State::DbRead(done, db, at) => steps::read_dot(done, db, at, token),
-            State::DotRead(done, db, at) => steps::read_policy(alloc, done, db, at, token),
-            State::Valuing(open, spot) => open.value(alloc, spot, token),
-            State::MinusRead(open, spot, at) => open.number(spot, at, token),
-            State::ValueRead(open, spot, value) => open.settle(alloc, spot, value, token),
-            State::InLambda(open, spot, at, lambda) => open.lambda(alloc, spot, at, lambda, token),
-            State::LineRead(open, chain) => open.follow(alloc, chain, token),
-            State::LinkRead(open, chain, node) => open.link(alloc, chain, node, token),
-            State::CallRead(open, chain, call) => open.parenthesis(chain, call, token),
-            State::ParenRead(open, chain, call) => open.first(alloc, chain, call, token),
+            State::Between(done) => statements::read_start(alloc, done, token),
+            State::VarRead(done, at) => statements::read_name(alloc, done, at, token),
+            State::NameRead(done, name, at) => statements::read_equal(alloc, done, name, at, token),
+            State::DbRead(done, db, at) => statements::read_dot(done, db, at, token),
+            State::DotRead(done, db, at) => statements::read_policy(alloc, done, db, at, token),
+            State::ValueNext(open, context) => open.read_value(alloc, context, token),
+            State::MinusRead(open, context, at) => open.read_number(context, at, token),
+            State::ValueRead(open, context, value) => open.read_behind_value(
+                alloc, context, value, token,
+            ),
+            State::InLambda(open, context, at, lambda) => open.read_lambda(
+                alloc, context, at, lambda, token,
+            ),
+            State::ChainRead(open, chain) => open.read_in_chain(alloc, chain, token),
+            State::LinkRead(open, chain, node) => open.read_link(alloc, chain, node, token),
+            State::CallRead(open, chain, call) => open.read_parenthesis(chain, call, token),
+            State::ParenRead(open, chain, call) => open.read_first_argument(
+                alloc, chain, call, token,
+            ),
         }
     }
 
     /// The script, where the tokens end here.
     pub(crate) fn finish(self, alloc: Global, end: u32) -> Result<Tree, ParseFault>
         requires { IsCountedState self }
-        ensures { Answers result (finish end (state_of self)) }
+        ensures { Finishes result (finish end (state_of self)) }
     {
         match self {
             State::Between(done) => Ok(ItemList::from_items(done)),
@@ -105,12 +128,14 @@ impl State {
             State::DbRead(..) => Err(ParseFault::Expected(Want::Dot, end)),
             State::DotRead(..) => Err(ParseFault::Expected(Want::Ref, end)),
             State::CallRead(..) => Err(ParseFault::Expected(Want::Open, end)),
-            State::Valuing(..) | State::MinusRead(..) | State::ParenRead(..) => {
+            State::ValueNext(..) | State::MinusRead(..) | State::ParenRead(..) => {
                 Err(ParseFault::Expected(Want::Value, end))
             }
-            State::ValueRead(open, spot, value) => open.settled(spot, value, end),
-            State::InLambda(open, spot, at, lambda) => open.closed(alloc, spot, at, lambda, end),
-            State::LineRead(open, chain) => open.left(chain, end),
+            State::ValueRead(open, context, value) => open.finish_value(context, value, end),
+            State::InLambda(open, context, at, lambda) => open.finish_lambda(
+                alloc, context, at, lambda, end,
+            ),
+            State::ChainRead(open, chain) => open.finish_chain(chain, end),
         }
     }
 }

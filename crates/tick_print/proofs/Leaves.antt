@@ -8,11 +8,12 @@ use Rattle.std.specs.Str.Parse.{digits_value}
 use Rattle.kap_base.specs.declared.expr.Lit.{Lit}
 use Rattle.kap_base.specs.declared.expr.Lit.TheVariants.{Int, Dur, Str, Bool as Truth, Regex}
 use Rattle.kap_base.specs.Texts.{backslash, ends_with}
+use Rattle.tick_lexer.specs.declared.limits.TheConstants.{DURATION_LIMIT}
 use Rattle.tick_lexer.specs.declared.token.Kind.{Kind}
 use Rattle.tick_lexer.specs.declared.token.Kind.TheVariants.{Literal}
 use Rattle.tick_lexer.specs.declared.unit.Unit as units
 use Rattle.tick_lexer.specs.declared.unit.Unit.TheVariants.{Week, Day, Hour, Minute, Second, Milli, Micro, MicroSign}
-use Rattle.tick_lexer.specs.Spelling.{IsPlainNumeral, IsDuration, has_leading_zero, unit_nanos, longest_duration, EndsPlain, Quoted, Tripled, Spelled}
+use Rattle.tick_lexer.specs.Spelling.{IsPlainNumeral, IsDuration, has_leading_zero, unit_nanos, EndsPlain, Quoted, Tripled, Spelled}
 use Rattle.tick_parser.specs.Grammar.{minus, IsMinus}
 use Rattle.tick_print.specs.Print.{in_quotes, string_text, divides, largest_unit, unit_of, counted, lit_text}
 
@@ -77,7 +78,7 @@ whole n m h =
     let turned = mul_comm (n / m) m in
     omega arith
 
-counted_spelled : (n : ℕ) → n % 1000 ≡ 0 → n ≤ longest_duration → IsDuration n (counted n (unit_of n))
+counted_spelled : (n : ℕ) → n % 1000 ≡ 0 → n ≤ DURATION_LIMIT → IsDuration n (counted n (unit_of n))
 counted_spelled n h small =
     let unit = unit_of n in
     let size = unit_nanos unit in
@@ -92,7 +93,7 @@ counted_spelled n h small =
       value = whole n size (unit_divides n h) ∙ sym (ap (λ (v : ℕ). v * size) number.1);
     }
 
-dur_spelled : (nanos : ℕ) (s : List ℕ) → IsDuration nanos s → nanos ≤ longest_duration → Spelled (Literal (Dur (pos nanos))) (counted nanos (unit_of nanos))
+dur_spelled : (nanos : ℕ) (s : List ℕ) → IsDuration nanos s → nanos ≤ DURATION_LIMIT → Spelled (Literal (Dur (pos nanos))) (counted nanos (unit_of nanos))
 dur_spelled nanos s h small = (nanos, refl, counted_spelled nanos (whole_micros nanos s h) small, small)
 
 same_byte : (b k : ℕ) → nat_eq b k ≡ true → b ≡ k
@@ -123,7 +124,7 @@ str_spelled text s h =
 at_int : (n : ℤ) (k : ℕ) → n ≡ pos k → k < 2 ^ 63 → Spelled (Literal (Int n)) (lit_text (Int n))
 at_int n k e h = subst (λ (z : ℤ). Spelled (Literal (Int z)) (lit_text (Int z))) (sym e) (int_spelled k h)
 
-at_dur : (n : ℤ) (k : ℕ) (s : List ℕ) → n ≡ pos k → IsDuration k s → k ≤ longest_duration → Spelled (Literal (Dur n)) (lit_text (Dur n))
+at_dur : (n : ℤ) (k : ℕ) (s : List ℕ) → n ≡ pos k → IsDuration k s → k ≤ DURATION_LIMIT → Spelled (Literal (Dur n)) (lit_text (Dur n))
 at_dur n k s e h small = subst (λ (z : ℤ). Spelled (Literal (Dur z)) (lit_text (Dur z))) (sym e) (dur_spelled k s h small)
 
 -- what some bytes spell its canonical text spells

@@ -4,7 +4,7 @@ use Rattle.kap_base.specs.declared.expr.Lit.{Lit}
 use Rattle.kap_base.specs.declared.expr.Op.TheVariants.{Sub}
 use Rattle.kap_base.specs.Tree.{Tree, LitTree, RefTree, NameTree, CallTree, GroupTree, NegTree, NotTree, BinTree, Trees, NoTrees, MoreTrees}
 use Rattle.tick_lexer.specs.declared.token.Kind.{Kind}
-use Rattle.tick_lexer.specs.declared.token.Kind.TheVariants.{Ident, Var, Lambda, Literal, Reference, Sign, Bang, Assign, Open, Close, Comma, Dot, Pipe}
+use Rattle.tick_lexer.specs.declared.token.Kind.TheVariants.{Ident, Var, Lambda, Literal, Reference, Operator, Not, Assign, OpenParen, CloseParen, Comma, Dot, Pipe}
 use Rattle.tick_lexer.specs.declared.token.Token.{Token}
 use Rattle.tick_lexer.specs.Spelling.{IsName, is_reserved, EndsPlain, Spelled, IsAllowed, takes_pattern}
 use Rattle.tick_parser.specs.Trees.{ValTree, LitVal, StarVal, LambdaVal, ChainVal, ValTrees, NoVals, MoreVals, JointTrees, NoJoints, MoreJoints, StmtTree, VarStmt, DbrpStmt, ChainStmt}
@@ -28,7 +28,7 @@ abbrev mutual
   CanPrint pattern (GroupTree inner at) = CanPrint true inner
   CanPrint pattern (NegTree operand at) = CanPrint false operand
   CanPrint pattern (NotTree operand at) = CanPrint false operand
-  CanPrint pattern (BinTree op left right at) = CanPrint pattern left × CanPrint (takes_pattern (Sign op)) right
+  CanPrint pattern (BinTree op left right at) = CanPrint pattern left × CanPrint (takes_pattern (Operator op)) right
 
   pub CanPrintAll : Trees → Type 0
   CanPrintAll NoTrees = Unit {0}
@@ -74,23 +74,23 @@ mutual
       let l = lead_at (Ident name) at [] ts pattern h s in
       name_of name l.bytes l.spelled
   can_print (CallTree name args at) ts pattern h s =
-      let l = lead_at (Ident name) at (Free Open ∷ spell_args args) ts pattern h s in
-      let o = lead_free Open (spell_args args) l.rest false l.agrees l.spelt in
+      let l = lead_at (Ident name) at (Free OpenParen ∷ spell_args args) ts pattern h s in
+      let o = lead_free OpenParen (spell_args args) l.rest false l.agrees l.spelt in
       (name_of name l.bytes l.spelled, can_args args o.rest o.agrees o.spelt)
   can_print (GroupTree inner at) ts pattern h s =
-      let o = lead_at Open at (spell inner ++ Free Close ∷ []) ts pattern h s in
-      let p = parts (spell inner) (Free Close ∷ []) o.rest true o.agrees o.spelt in
+      let o = lead_at OpenParen at (spell inner ++ Free CloseParen ∷ []) ts pattern h s in
+      let p = parts (spell inner) (Free CloseParen ∷ []) o.rest true o.agrees o.spelt in
       can_print inner p.front true p.front_agrees p.front_spelt
   can_print (NegTree inner at) ts pattern h s =
-      let o = lead_at (Sign Sub) at (spell inner) ts pattern h s in
+      let o = lead_at (Operator Sub) at (spell inner) ts pattern h s in
       can_print inner o.rest false o.agrees o.spelt
   can_print (NotTree inner at) ts pattern h s =
-      let o = lead_at Bang at (spell inner) ts pattern h s in
+      let o = lead_at Not at (spell inner) ts pattern h s in
       can_print inner o.rest false o.agrees o.spelt
   can_print (BinTree op left right at) ts pattern h s =
-      let p = parts (spell left) (At (Sign op) at ∷ spell right) ts pattern h s in
-      let o = lead_at (Sign op) at (spell right) p.back p.flag p.back_agrees p.back_spelt in
-      (can_print left p.front pattern p.front_agrees p.front_spelt, can_print right o.rest (takes_pattern (Sign op)) o.agrees o.spelt)
+      let p = parts (spell left) (At (Operator op) at ∷ spell right) ts pattern h s in
+      let o = lead_at (Operator op) at (spell right) p.back p.flag p.back_agrees p.back_spelt in
+      (can_print left p.front pattern p.front_agrees p.front_spelt, can_print right o.rest (takes_pattern (Operator op)) o.agrees o.spelt)
 
   can_args : (args : Trees) (ts : List Token) → Agree ts (spell_args args) → Spelt true ts → CanPrintAll args
   can_args NoTrees ts h s = tt
@@ -110,7 +110,7 @@ one_value [] pattern lit at i s = elim i [ ]
 one_value (t ∷ []) pattern lit at i s = let one = s.0 in inl (lit_spelled lit one.0 (subst (λ (k : Kind). Spelled k one.0) i.0 one.1))
 one_value (t ∷ u ∷ ts) pattern lit at i s = elim i [ ]
 
-two_values : (front : List Token) (pattern : Bool) (lit : Lit) (at : ℕ) → AreTwoTokens (λ (t u : Token). (t.kind ≡ Sign Sub) × (t.start ≡ at) × IsMinus u.kind lit) front → Spelt pattern front → IsValue lit
+two_values : (front : List Token) (pattern : Bool) (lit : Lit) (at : ℕ) → AreTwoTokens (λ (t u : Token). (t.kind ≡ Operator Sub) × (t.start ≡ at) × IsMinus u.kind lit) front → Spelt pattern front → IsValue lit
 two_values [] pattern lit at i s = elim i [ ]
 two_values (t ∷ []) pattern lit at i s = elim i [ ]
 two_values (t ∷ u ∷ []) pattern lit at i s = let more = s.2 in let one = more.0 in behind_minus u.kind lit one.0 i.2 one.1
@@ -121,7 +121,7 @@ can_value lit at ts pattern h s =
     let c = cut h.0 h.1 pattern (subst (λ (l : List Token). Spelt pattern l) h.2 s) in
     ⊎_elim
     (λ (i : IsOneToken (λ (t : Token). (t.kind ≡ Literal lit) × (t.start ≡ at)) h.0). one_value h.0 pattern lit at i c.front)
-    (λ (i : AreTwoTokens (λ (t u : Token). (t.kind ≡ Sign Sub) × (t.start ≡ at) × IsMinus u.kind lit) h.0). two_values h.0 pattern lit at i c.front)
+    (λ (i : AreTwoTokens (λ (t u : Token). (t.kind ≡ Operator Sub) × (t.start ≡ at) × IsMinus u.kind lit) h.0). two_values h.0 pattern lit at i c.front)
     h.3
 
 mutual
@@ -151,9 +151,9 @@ mutual
   can_joints : (links : JointTrees) (ts : List Token) (pattern : Bool) → Agree ts (spell_joints links) → Spelt pattern ts → CanJoints links
   can_joints NoJoints ts pattern h s = tt
   can_joints (MoreJoints node name args at others) ts pattern h s =
-      let j = lead_free (cond node Pipe Dot) (At (Ident name) at ∷ Free Open ∷ (spell_vals args ++ spell_joints others)) ts pattern h s in
-      let l = lead_at (Ident name) at (Free Open ∷ (spell_vals args ++ spell_joints others)) j.rest (takes_pattern (cond node Pipe Dot)) j.agrees j.spelt in
-      let o = lead_free Open (spell_vals args ++ spell_joints others) l.rest false l.agrees l.spelt in
+      let j = lead_free (cond node Pipe Dot) (At (Ident name) at ∷ Free OpenParen ∷ (spell_vals args ++ spell_joints others)) ts pattern h s in
+      let l = lead_at (Ident name) at (Free OpenParen ∷ (spell_vals args ++ spell_joints others)) j.rest (takes_pattern (cond node Pipe Dot)) j.agrees j.spelt in
+      let o = lead_free OpenParen (spell_vals args ++ spell_joints others) l.rest false l.agrees l.spelt in
       let p = parts (spell_vals args) (spell_joints others) o.rest true o.agrees o.spelt in
       (name_of name l.bytes l.spelled, can_vals args p.front true p.front_agrees p.front_spelt, can_joints others p.back p.flag p.back_agrees p.back_spelt)
 

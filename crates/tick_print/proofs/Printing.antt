@@ -8,9 +8,9 @@ use Rattle.kap_base.specs.declared.expr.Lit.TheVariants.{Int, Dur, Str, Bool as 
 use Rattle.kap_base.specs.declared.expr.Op.{Op}
 use Rattle.kap_base.specs.declared.expr.Op.TheVariants.{Or, And, Eq, Ne, Match, NoMatch, Lt, Le, Gt, Ge, Add, Sub, Mul, Div, Rem}
 use Rattle.kap_base.specs.Tree.{Tree, LitTree, RefTree, NameTree, CallTree, GroupTree, NegTree, NotTree, BinTree, Trees, NoTrees, MoreTrees}
-use Rattle.tick_lexer.specs.declared.token.Kind.TheVariants.{Ident, Literal, Reference, Sign, Bang, Open, Close, Comma}
+use Rattle.tick_lexer.specs.declared.token.Kind.TheVariants.{Ident, Literal, Reference, Operator, Not, OpenParen, CloseParen, Comma}
 use Rattle.tick_lexer.specs.Bytes.{is_letter, is_digit, is_word, NotFirst, starts_micro}
-use Rattle.tick_lexer.specs.Spelling.{IsName, IsDuration, unit_bytes, operator_bytes, Quoted, Tripled, Spelled, is_dot, is_colon, is_single_quote, is_equals, is_tilde, Ends, IsAllowed, takes_pattern}
+use Rattle.tick_lexer.specs.Spelling.{IsName, IsDuration, unit_bytes, operator_bytes, Quoted, Tripled, Spelled, is_dot, is_colon, is_single_quote, is_equals, is_tilde, EndsToken, IsAllowed, takes_pattern}
 use Rattle.tick_parser.specs.Grammar.{Fits, AllFit, level, Mark, At, Free, spell, spell_args, spell_rest}
 use Rattle.tick_print.specs.Print.{in_quotes, lit_text, tree_text, args_text, further_text}
 use Rattle.tick_print.specs.Places.{bare, bare_all}
@@ -42,7 +42,7 @@ no_micro [] h = refl
 no_micro (b ∷ []) h = refl
 no_micro (b ∷ c ∷ rest) h = ap (λ (t : Bool). t && eqb c 181) h
 
-pub lit_ends : (lit : Lit) (s rest : List ℕ) → Follows rest → Ends (Literal lit) s rest
+pub lit_ends : (lit : Lit) (s rest : List ℕ) → Follows rest → EndsToken (Literal lit) s rest
 lit_ends (Int n) s rest h = (not_first is_word rest refl refl refl refl h, not_first is_dot rest refl refl refl refl h, no_micro rest (not_first is_micro rest refl refl refl refl h))
 lit_ends (Dur n) s rest h = not_first is_word rest refl refl refl refl h
 lit_ends (Str text) s rest h = λ e. not_first is_single_quote rest refl refl refl refl h
@@ -52,7 +52,7 @@ lit_ends (Regex text) s rest h = tt
 pub name_ends : (rest : List ℕ) → Follows rest → NotFirst is_word rest × NotFirst is_colon rest
 name_ends rest h = (not_first is_word rest refl refl refl refl h, not_first is_colon rest refl refl refl refl h)
 
-sign_ends : (op : Op) (s rest : List ℕ) → Ends (Sign op) s (32 ∷ rest)
+sign_ends : (op : Op) (s rest : List ℕ) → EndsToken (Operator op) s (32 ∷ rest)
 sign_ends Or s rest = refl
 sign_ends And s rest = refl
 sign_ends Eq s rest = tt
@@ -69,7 +69,7 @@ sign_ends Mul s rest = tt
 sign_ends Div s rest = refl
 sign_ends Rem s rest = tt
 
-sign_allowed : (op : Op) → IsAllowed false (Sign op)
+sign_allowed : (op : Op) → IsAllowed false (Operator op)
 sign_allowed Div = refl
 sign_allowed _ = tt
 
@@ -173,47 +173,47 @@ mutual
   }
   printed (CallTree name args place) pattern at rest h f =
       let n = at_name name ((codes "(" ++ args_text args) ++ rest) pattern at h.0 (refl, refl) in
-      let o = free_one Open (codes "(") (args_text args ++ rest) false n.stop refl tt tt in
+      let o = free_one OpenParen (codes "(") (args_text args ++ rest) false n.stop refl tt tt in
       let a = printed_args args o.stop rest h.1 in
       record {
         again = CallTree name a.again at;
         same = ap (λ (x : Trees). CallTree name x 0) a.same;
         fits = λ n x. a.fits x;
         written =
-            both name (codes "(" ++ args_text args) (At (Ident name) at ∷ []) (Free Open ∷ spell_args a.again) pattern false false at rest n
-            (both (codes "(") (args_text args) (Free Open ∷ []) (spell_args a.again) false true false n.stop rest o a.written);
+            both name (codes "(" ++ args_text args) (At (Ident name) at ∷ []) (Free OpenParen ∷ spell_args a.again) pattern false false at rest n
+            (both (codes "(") (args_text args) (Free OpenParen ∷ []) (spell_args a.again) false true false n.stop rest o a.written);
       }
   printed (GroupTree inner place) pattern at rest h f =
-      let o = at_one Open (codes "(") ((tree_text inner ++ codes ")") ++ rest) pattern at refl tt tt in
+      let o = at_one OpenParen (codes "(") ((tree_text inner ++ codes ")") ++ rest) pattern at refl tt tt in
       let i = printed inner true o.stop (codes ")" ++ rest) h (inr (inl refl)) in
       let w = i.written in
-      let c = free_one Close (codes ")") rest false w.stop refl tt tt in
+      let c = free_one CloseParen (codes ")") rest false w.stop refl tt tt in
       record {
         again = GroupTree i.again at;
         same = ap (λ (x : Tree). GroupTree x 0) i.same;
         fits = λ n x. i.fits 0 x;
         written =
-            both (codes "(") (tree_text inner ++ codes ")") (At Open at ∷ []) (spell i.again ++ Free Close ∷ []) pattern true false at rest o
-            (both (tree_text inner) (codes ")") (spell i.again) (Free Close ∷ []) true false false o.stop rest w c);
+            both (codes "(") (tree_text inner ++ codes ")") (At OpenParen at ∷ []) (spell i.again ++ Free CloseParen ∷ []) pattern true false at rest o
+            (both (tree_text inner) (codes ")") (spell i.again) (Free CloseParen ∷ []) true false false o.stop rest w c);
       }
   printed (NegTree inner place) pattern at rest h f =
-      let m = at_one (Sign Sub) (codes "-") (tree_text inner ++ rest) pattern at refl tt tt in
+      let m = at_one (Operator Sub) (codes "-") (tree_text inner ++ rest) pattern at refl tt tt in
       let i = printed inner false m.stop rest h f in
       record {
         again = NegTree i.again at;
         same = ap (λ (x : Tree). NegTree x 0) i.same;
         fits = λ n x. i.fits 6 x;
-        written = both (codes "-") (tree_text inner) (At (Sign Sub) at ∷ []) (spell i.again) pattern false false at rest m i.written;
+        written = both (codes "-") (tree_text inner) (At (Operator Sub) at ∷ []) (spell i.again) pattern false false at rest m i.written;
       }
   printed (NotTree inner place) pattern at rest h f =
       let ends = no_second (tree_text inner ++ rest) (starts_append (tree_text inner) rest (text_starts inner false h)) in
-      let m = at_one Bang (codes "!") (tree_text inner ++ rest) pattern at refl ends tt in
+      let m = at_one Not (codes "!") (tree_text inner ++ rest) pattern at refl ends tt in
       let i = printed inner false m.stop rest h f in
       record {
         again = NotTree i.again at;
         same = ap (λ (x : Tree). NotTree x 0) i.same;
         fits = λ n x. i.fits 6 x;
-        written = both (codes "!") (tree_text inner) (At Bang at ∷ []) (spell i.again) pattern false false at rest m i.written;
+        written = both (codes "!") (tree_text inner) (At Not at ∷ []) (spell i.again) pattern false false at rest m i.written;
       }
   printed (BinTree op left right place) pattern at rest h f =
       let right_text = codes " " ++ tree_text right in
@@ -221,17 +221,17 @@ mutual
       let l = printed left pattern at ((codes " " ++ tail) ++ rest) h.0 (inl refl) in
       let w = l.written in
       let sign_at = w.stop + 1 in
-      let t = at_one (Sign op) (operator_bytes op) (right_text ++ rest) false sign_at refl (sign_ends op (operator_bytes op) (tree_text right ++ rest)) (sign_allowed op) in
-      let r = printed right (takes_pattern (Sign op)) (t.stop + 1) rest h.1 f in
-      let behind = white 32 (tree_text right) (spell r.again) (takes_pattern (Sign op)) false t.stop rest refl r.written in
-      let signed = both (operator_bytes op) right_text (At (Sign op) sign_at ∷ []) (spell r.again) false (takes_pattern (Sign op)) false sign_at rest t behind in
+      let t = at_one (Operator op) (operator_bytes op) (right_text ++ rest) false sign_at refl (sign_ends op (operator_bytes op) (tree_text right ++ rest)) (sign_allowed op) in
+      let r = printed right (takes_pattern (Operator op)) (t.stop + 1) rest h.1 f in
+      let behind = white 32 (tree_text right) (spell r.again) (takes_pattern (Operator op)) false t.stop rest refl r.written in
+      let signed = both (operator_bytes op) right_text (At (Operator op) sign_at ∷ []) (spell r.again) false (takes_pattern (Operator op)) false sign_at rest t behind in
       record {
         again = BinTree op l.again r.again sign_at;
         same = ap (λ (x : Tree). BinTree op x (bare r.again) 0) l.same ∙ ap (λ (x : Tree). BinTree op (bare left) x 0) r.same;
         fits = λ n x. (x.0, l.fits (level op) x.1, r.fits (level op + 1) x.2);
         written =
-            both (tree_text left) (codes " " ++ tail) (spell l.again) (At (Sign op) sign_at ∷ spell r.again) pattern false false at rest w
-            (white 32 tail (At (Sign op) sign_at ∷ spell r.again) false false w.stop rest refl signed);
+            both (tree_text left) (codes " " ++ tail) (spell l.again) (At (Operator op) sign_at ∷ spell r.again) pattern false false at rest w
+            (white 32 tail (At (Operator op) sign_at ∷ spell r.again) false false w.stop rest refl signed);
       }
 
   pub printed_args : (args : Trees) (at : ℕ) (rest : List ℕ) → CanPrintAll args → AllPrinted args spell_args (args_text args) true at rest
@@ -239,7 +239,7 @@ mutual
     again = NoTrees;
     same = refl;
     fits = λ x. tt;
-    written = free_one Close (codes ")") rest true at refl tt tt;
+    written = free_one CloseParen (codes ")") rest true at refl tt tt;
   }
   printed_args (MoreTrees one others) at rest h =
       let a = printed one true at (further_text others ++ rest) h.0 (rest_follows others rest) in
@@ -257,7 +257,7 @@ mutual
     again = NoTrees;
     same = refl;
     fits = λ x. tt;
-    written = free_one Close (codes ")") rest false at refl tt tt;
+    written = free_one CloseParen (codes ")") rest false at refl tt tt;
   }
   printed_rest (MoreTrees one others) at rest h =
       let both_text = tree_text one ++ further_text others in

@@ -5,7 +5,7 @@ use Rattle.kap_base.specs.declared.expr.Lit.TheVariants.{Int, Dur, Str, Bool as 
 use Rattle.kap_base.specs.declared.expr.Op.TheVariants.{Sub, Mul}
 use Rattle.kap_base.specs.Tree.{Tree}
 use Rattle.tick_lexer.specs.declared.token.Kind.{Kind}
-use Rattle.tick_lexer.specs.declared.token.Kind.TheVariants.{Ident, Var, Lambda, Literal, Reference, Sign, Assign, Open, Close, Comma, Dot, Pipe}
+use Rattle.tick_lexer.specs.declared.token.Kind.TheVariants.{Ident, Var, Lambda, Literal, Reference, Operator, Assign, OpenParen, CloseParen, Comma, Dot, Pipe}
 use Rattle.tick_lexer.specs.declared.token.Token.{Token}
 use Rattle.tick_lexer.specs.Spelling.{Spelled, IsAllowed}
 use Rattle.tick_parser.specs.Trees.{ValTree, LitVal, StarVal, LambdaVal, ChainVal, ValTrees, NoVals, MoreVals, JointTrees, NoJoints, MoreJoints, StmtTree, VarStmt, DbrpStmt, ChainStmt}
@@ -31,9 +31,9 @@ number_allowed (Truth b) lit e = tt
 number_allowed (Regex text) lit e = absurd (cc)
 
 -- a minus and a number are the tokens of the number with its minus
-as_minus : (lit plain : Lit) (at place : ℕ) (tokens : List Token) → minus plain ≡ Some lit → Agree tokens (At (Sign Sub) at ∷ At (Literal plain) place ∷ []) → Agree tokens (Signed lit at ∷ [])
+as_minus : (lit plain : Lit) (at place : ℕ) (tokens : List Token) → minus plain ≡ Some lit → Agree tokens (At (Operator Sub) at ∷ At (Literal plain) place ∷ []) → Agree tokens (Signed lit at ∷ [])
 as_minus lit plain at place tokens e h =
-    let f = first (At (Sign Sub) at) (At (Literal plain) place ∷ []) tokens tt h in
+    let f = first (At (Operator Sub) at) (At (Literal plain) place ∷ []) tokens tt h in
     let g = first (At (Literal plain) place) [] f.rest tt f.rest_agrees in
     let sign = f.is in
     let number = g.is in
@@ -45,9 +45,9 @@ as_minus lit plain at place tokens e h =
 negative_written : (lit : Lit) (at : ℕ) (rest : List ℕ) → IsNegative lit → Follows rest → Written (lit_text lit) (Signed lit at ∷ []) true false at rest
 negative_written lit at rest h f =
     let plain = h.plain in
-    let sign = at_one (Sign Sub) (codes "-") (lit_text plain ++ rest) true at refl tt tt in
+    let sign = at_one (Operator Sub) (codes "-") (lit_text plain ++ rest) true at refl tt tt in
     let number = at_one (Literal plain) (lit_text plain) rest false sign.stop h.spelled (lit_ends plain (lit_text plain) rest f) (number_allowed plain lit h.is_minus) in
-    let two = both (codes "-") (lit_text plain) (At (Sign Sub) at ∷ []) (At (Literal plain) sign.stop ∷ []) true false false at rest sign number in
+    let two = both (codes "-") (lit_text plain) (At (Operator Sub) at ∷ []) (At (Literal plain) sign.stop ∷ []) true false false at rest sign number in
     subst (λ (s : List ℕ). Written s (Signed lit at ∷ []) true false at rest) (sym h.text)
     (record { tokens = two.tokens; stop = two.stop; agrees = as_minus lit plain at sign.stop two.tokens h.is_minus two.agrees; reads = two.reads })
 
@@ -105,7 +105,7 @@ mutual
     same = refl;
     fits = λ x. tt;
     single = λ x. x;
-    written = at_one (Sign Mul) (codes "*") rest true at refl tt tt;
+    written = at_one (Operator Mul) (codes "*") rest true at refl tt tt;
   }
   printed_val (LambdaVal body place) at rest h f =
       let l = at_one Lambda (codes "lambda:") ((codes " " ++ tree_text body) ++ rest) true at refl tt tt in
@@ -135,7 +135,7 @@ mutual
     again = NoVals;
     same = refl;
     fits = λ x. tt;
-    written = free_one Close (codes ")") rest true at refl tt tt;
+    written = free_one CloseParen (codes ")") rest true at refl tt tt;
   }
   printed_vals (MoreVals first others) at rest h =
       let a = printed_val first at (more_text others ++ rest) h.0 (more_follows others rest) in
@@ -153,7 +153,7 @@ mutual
     again = NoVals;
     same = refl;
     fits = λ x. tt;
-    written = free_one Close (codes ")") rest false at refl tt tt;
+    written = free_one CloseParen (codes ")") rest false at refl tt tt;
   }
   printed_more (MoreVals first others) at rest h =
       let both_text = val_text first ++ more_text others in
@@ -183,19 +183,19 @@ mutual
       let opened = codes "(" ++ inside in
       let j = joint_written node at ((name ++ opened) ++ rest) in
       let n = at_name name (opened ++ rest) false j.stop h.0 (refl, refl) in
-      let o = free_one Open (codes "(") (inside ++ rest) false n.stop refl tt tt in
+      let o = free_one OpenParen (codes "(") (inside ++ rest) false n.stop refl tt tt in
       let v = printed_vals args o.stop (joints_text others ++ rest) h.1 in
       let w = v.written in
       let l = printed_joints others w.stop rest h.2 f in
       let in_marks = spell_vals v.again ++ spell_joints l.again in
       let inner = both (vals_text args) (joints_text others) (spell_vals v.again) (spell_joints l.again) true false false o.stop rest w l.written in
-      let called = both (codes "(") inside (Free Open ∷ []) in_marks false true false n.stop rest o inner in
-      let node_named = both name opened (At (Ident name) j.stop ∷ []) (Free Open ∷ in_marks) false false false j.stop rest n called in
+      let called = both (codes "(") inside (Free OpenParen ∷ []) in_marks false true false n.stop rest o inner in
+      let node_named = both name opened (At (Ident name) j.stop ∷ []) (Free OpenParen ∷ in_marks) false false false j.stop rest n called in
       record {
         again = MoreJoints node name v.again j.stop l.again;
         same = ap (λ (x : ValTrees). MoreJoints node name x 0 (bare_joints l.again)) v.same ∙ ap (λ (x : JointTrees). MoreJoints node name (bare_vals args) 0 x) l.same;
         fits = λ x. (v.fits x.0, l.fits x.1);
-        written = both (cond node (codes "|") (codes ".")) (name ++ opened) (Free (cond node Pipe Dot) ∷ []) (At (Ident name) j.stop ∷ Free Open ∷ in_marks) false false false at rest j node_named;
+        written = both (cond node (codes "|") (codes ".")) (name ++ opened) (Free (cond node Pipe Dot) ∷ []) (At (Ident name) j.stop ∷ Free OpenParen ∷ in_marks) false false false at rest j node_named;
       }
 
 pub record StmtPrinted (stmt : StmtTree) (at : ℕ) (rest : List ℕ) : Type 0 where

@@ -3,7 +3,7 @@ use Rattle.std.proofs.Common.{◌≡◌, ℕ, Bool, List, [], ◌∷◌, ◌++�
 use Rattle.tick_lexer.specs.declared.token.Kind.{Kind}
 use Rattle.tick_lexer.specs.declared.token.Token.{Token}
 use Rattle.tick_lexer.specs.Spelling.{Spelled, IsAllowed, takes_pattern}
-use Rattle.tick_lexer.specs.Script.{Whole, Reads}
+use Rattle.tick_lexer.specs.Script.{Whole, ContinuesWith}
 use Rattle.tick_parser.specs.Grammar.{Mark, At, Free, Is, Agree}
 use Rattle.tick_parser.proofs.Agreeing.{IsSingle, first, split}
 
@@ -12,7 +12,7 @@ abbrev pub Spelt : Bool → List Token → Type 0
 Spelt pattern [] = Unit {0}
 Spelt pattern (t ∷ ts) = ((s : List ℕ) × Spelled t.kind s) × IsAllowed pattern t.kind × Spelt (takes_pattern t.kind) ts
 
-pub all_spelt : (ts : List Token) (pattern : Bool) (at : ℕ) (text : List ℕ) → Reads ts Whole pattern at text → Spelt pattern ts
+pub all_spelt : (ts : List Token) (pattern : Bool) (at : ℕ) (text : List ℕ) → ContinuesWith ts Whole pattern at text → Spelt pattern ts
 all_spelt [] pattern at text h = tt
 all_spelt (t ∷ ts) pattern at text h =
     let next = h.1 in

@@ -2,6 +2,7 @@
 use Rattle.std.specs.Prelude.{◌≡◌, ℕ, List}
 use Rattle.tick_lexer.specs.declared.token.Token.{Token}
 use Rattle.tick_lexer.specs.Script.{HasTokens}
+use Rattle.tick_parser.specs.declared.limits.TheConstants.{DEPTH_LIMIT, OPERATOR_LIMIT, STATEMENT_LIMIT}
 use Rattle.tick_parser.specs.Trees.{StmtTree}
 use Rattle.tick_parser.specs.Script.{Reads, Within}
 use Rattle.tick_print.specs.Places.{bare_script}
@@ -12,7 +13,7 @@ pub record WasRead (script : List StmtTree) : Type 0 where
   pub tokens : List Token
   pub lexed : HasTokens text tokens
   pub parsed : Reads tokens script
-  pub within : Within 64 512 4096 script
+  pub within : Within DEPTH_LIMIT OPERATOR_LIMIT STATEMENT_LIMIT script
 
 -- the text has tokens, and these are a script's that keeps the parser's limits and is this one, places aside
 pub record IsTextOf (script : List StmtTree) (text : List ℕ) : Type 0 where
@@ -20,5 +21,5 @@ pub record IsTextOf (script : List StmtTree) (text : List ℕ) : Type 0 where
   pub again : List StmtTree
   pub lexed : HasTokens text tokens
   pub parsed : Reads tokens again
-  pub within : Within 64 512 4096 again
+  pub within : Within DEPTH_LIMIT OPERATOR_LIMIT STATEMENT_LIMIT again
   pub same : bare_script again ≡ bare_script script

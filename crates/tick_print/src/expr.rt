@@ -10,7 +10,8 @@ use kap_base::{Expr, Exprs, NoMemory};
 /// Appends an expression.
 #[cycle(print)]
 pub fn write_expr(expr: &Expr, out: &mut String) -> Result<(), NoMemory>
-    ensures { OnOk result (string_bytes out.new ≡ string_bytes out.old ++ tree_text (tree_of expr.now)) }
+    ensures { OnOk result (string_bytes out.new ≡ string_bytes out.old ++ tree_text
+        (tree_of expr.now)) }
 {
     match expr {
         Expr::Lit(lit, _at) => write_lit(lit, out),
@@ -47,7 +48,8 @@ pub fn write_expr(expr: &Expr, out: &mut String) -> Result<(), NoMemory>
 /// Appends arguments, and the parenthesis behind them.
 #[cycle(print)]
 fn write_args(args: &Exprs, out: &mut String) -> Result<(), NoMemory>
-    ensures { OnOk result (string_bytes out.new ≡ string_bytes out.old ++ args_text (trees_of args.now)) }
+    ensures { OnOk result (string_bytes out.new ≡ string_bytes out.old ++ args_text
+        (trees_of args.now)) }
 {
     let mut rest = args;
     let mut is_first = true;

@@ -3,7 +3,7 @@
 ghost use Rattle.std.specs.Prelude.{◌≡◌, ◌≤◌, ◌↔◌, IfOk, IfSome, IsSome, length, List};
 ghost use Rattle.tick_lexer.specs.declared.token.Token.{Token};
 ghost use Rattle.tick_lexer.specs.Script.{HasTokens};
-ghost use Rattle.tick_parser.specs.Script.{Reads, Within};
+ghost use Rattle.tick_parser.specs.Script.{IsScriptOf, Reads};
 ghost use Rattle.tick_parser.specs.Trees.{StmtTree, script_tree};
 ghost use Rattle.tick_print.specs.Law.{IsTextOf, WasRead};
 ghost use Rattle.tick_print.specs.Places.{bare_script};
@@ -12,7 +12,7 @@ ghost use Rattle.tick_print.specs.Print.{script_text};
 use crate::script::print;
 use kap_base::NoMemory;
 use std::alloc::Global;
-use tick_lexer::{LexFault, Tokens, lex, text_reads_in_one_way};
+use tick_lexer::{LexFault, SCRIPT_LIMIT, Tokens, lex, text_reads_in_one_way};
 use tick_parser::{ParseFault, Tree, not_both, one_tree, parse};
 
 /// The print of a script that was read is read as that script, places aside, whatever its length. It does nothing: its
@@ -23,7 +23,7 @@ pub fn print_is_read_again()
 
 /// The tokens of a text that has some.
 fn tokens_of(alloc: Global, text: &str) -> Result<Tokens, NoMemory>
-    requires short { length text.now ≤ 65536 }
+    requires short { length text.now ≤ SCRIPT_LIMIT }
     requires has { (tokens : List Token) × HasTokens text.now tokens }
     ensures { IfOk result (λ tokens. HasTokens text.now tokens) }
 {
@@ -40,7 +40,7 @@ fn tokens_of(alloc: Global, text: &str) -> Result<Tokens, NoMemory>
 
 /// The script of tokens that have one within the parser's limits.
 fn script_of(alloc: Global, tokens: &Tokens) -> Result<Tree, NoMemory>
-    requires { (script : List StmtTree) × Reads tokens.now script × Within 64 512 4096 script }
+    requires { (script : List StmtTree) × IsScriptOf tokens.now script }
     ensures { IfOk result (λ tree. Reads tokens.now (script_tree tree)) }
 {
     not_both();
@@ -55,14 +55,16 @@ fn script_of(alloc: Global, tokens: &Tokens) -> Result<Tree, NoMemory>
 /// its print has more than the 65,536 bytes that `lex` takes. `NoMemory` comes where an allocation fails.
 pub fn reread(alloc: Global, tree: &Tree) -> Result<Option<Tree>, NoMemory>
     requires { WasRead (script_tree tree.now) }
-    ensures same { IfOk result (λ again. IfSome again (λ again. bare_script (script_tree again) ≡ bare_script (script_tree tree.now))) }
-    ensures some { IfOk result (λ again. IsSome again ↔ (length (script_text (script_tree tree.now)) ≤ 65536)) }
+    ensures same { IfOk result (λ again. IfSome again
+        (λ again. bare_script (script_tree again) ≡ bare_script (script_tree tree.now))) }
+    ensures some { IfOk result (λ again. IsSome again ↔
+        (length (script_text (script_tree tree.now)) ≤ SCRIPT_LIMIT)) }
 {
     text_reads_in_one_way();
     one_tree();
     print_is_read_again();
     let text = print(alloc, tree)?;
-    if text.as_str().len() > 65536 {
+    if text.as_str().len() > SCRIPT_LIMIT {
         return Ok(None);
     }
     let tokens = tokens_of(alloc, text.as_str())?;

@@ -5,8 +5,6 @@ mod expr;
 mod law;
 mod literal;
 mod script;
-#[cfg(test)]
-mod tests;
 
 pub use law::{print_is_read_again, reread};
 pub use script::print;

@@ -52,7 +52,8 @@ fn write_escaped(quote: u8, text: &str, out: &mut String) -> Result<(), NoMemory
 /// Appends a text in quotes.
 pub fn write_quoted(quote: char, text: &str, out: &mut String) -> Result<(), NoMemory>
     requires { quote < 128 }
-    ensures { OnOk result (string_bytes out.new ≡ string_bytes out.old ++ in_quotes quote text.now) }
+    ensures { OnOk result
+        (string_bytes out.new ≡ string_bytes out.old ++ in_quotes quote text.now) }
 {
     out.push(quote)?;
     write_escaped(quote as u8, text, out)?;

@@ -13,7 +13,8 @@ use tick_parser::{Links, Stmt, Tree, Val, Vals};
 /// Appends a value.
 #[cycle(print)]
 fn write_val(val: &Val, out: &mut String) -> Result<(), NoMemory>
-    ensures { OnOk result (string_bytes out.new ≡ string_bytes out.old ++ val_text (val_tree val.now)) }
+    ensures { OnOk result (string_bytes out.new ≡ string_bytes out.old ++ val_text
+        (val_tree val.now)) }
 {
     match val {
         Val::Lit(lit, _at) => write_lit(lit, out),
@@ -32,7 +33,8 @@ fn write_val(val: &Val, out: &mut String) -> Result<(), NoMemory>
 /// Appends arguments, and the parenthesis behind them.
 #[cycle(print)]
 fn write_vals(vals: &Vals, out: &mut String) -> Result<(), NoMemory>
-    ensures { OnOk result (string_bytes out.new ≡ string_bytes out.old ++ vals_text (vals_tree vals.now)) }
+    ensures { OnOk result (string_bytes out.new ≡ string_bytes out.old ++ vals_text
+        (vals_tree vals.now)) }
 {
     let mut rest = vals;
     let mut is_first = true;
@@ -50,7 +52,8 @@ fn write_vals(vals: &Vals, out: &mut String) -> Result<(), NoMemory>
 /// Appends nodes and properties.
 #[cycle(print)]
 fn write_links(links: &Links, out: &mut String) -> Result<(), NoMemory>
-    ensures { OnOk result (string_bytes out.new ≡ string_bytes out.old ++ joints_text (joints_tree links.now)) }
+    ensures { OnOk result (string_bytes out.new ≡ string_bytes out.old ++ joints_text
+        (joints_tree links.now)) }
 {
     let mut rest = links;
     while let Links::More(joint, more) = rest {
@@ -65,7 +68,8 @@ fn write_links(links: &Links, out: &mut String) -> Result<(), NoMemory>
 
 /// Appends a statement, without its line feed.
 fn write_stmt(stmt: &Stmt, out: &mut String) -> Result<(), NoMemory>
-    ensures { OnOk result (string_bytes out.new ≡ string_bytes out.old ++ stmt_text (stmt_tree stmt.now)) }
+    ensures { OnOk result (string_bytes out.new ≡ string_bytes out.old ++ stmt_text
+        (stmt_tree stmt.now)) }
 {
     match stmt {
         Stmt::Var { name, value, .. } => {

@@ -5,7 +5,7 @@ use Rattle.std.proofs.lemmas.Bool.Decides.{nat_tests}
 use Rattle.tick_vars.specs.Nodes.{PropTree, NodeTree}
 use Rattle.tick_vars.specs.Names.{Scope}
 use Rattle.tick_vars.specs.Binding.{with_prop}
-use Rattle.tick_vars.specs.Law.{Anchor, OnNode, OnName, Event, Makes, Sets, Declares, Uses, Sees, arg_of, node_at, nodes_made, number_of, props_on}
+use Rattle.tick_vars.specs.Law.{Upstream, OnNode, OnName, Event, MakesNode, SetsProp, DeclaresName, UsesValue, NamesDbrp, arg_of, node_at, nodes_made, number_of, props_on}
 use Rattle.tick_vars.proofs.Playing.{AllBelow, NodeBelow, length_with_prop, play}
 
 -- nodes from this number on, with these properties more
@@ -45,37 +45,37 @@ given_set p q number (suc other) at prop (node ∷ nodes) is here there =
 
 made_same : (scope : Scope) (p q : ℕ → List PropTree) (next : ℕ) (es : List Event) → ((n : ℕ) → next ≤ n → p n ≡ q n) → nodes_made scope p next es ≡ nodes_made scope q next es
 made_same scope p q next [] same = refl
-made_same scope p q next (Makes kind under args at ∷ es) same = λ i.
+made_same scope p q next (MakesNode kind under args at ∷ es) same = λ i.
     record { kind = kind; parent = node_at scope under; args = map (arg_of scope) args; props = same next (omega arith) i; at = at } ∷ made_same scope p q (next + 1) es (λ n le. same n (omega arith)) i
-made_same scope p q next (Sets name on args at ∷ es) same = made_same scope p q next es same
-made_same scope p q next (Declares name value ∷ es) same = made_same scope p q next es same
-made_same scope p q next (Uses value ∷ es) same = made_same scope p q next es same
-made_same scope p q next (Sees dbrp ∷ es) same = made_same scope p q next es same
+made_same scope p q next (SetsProp name on args at ∷ es) same = made_same scope p q next es same
+made_same scope p q next (DeclaresName name value ∷ es) same = made_same scope p q next es same
+made_same scope p q next (UsesValue value ∷ es) same = made_same scope p q next es same
+made_same scope p q next (NamesDbrp dbrp ∷ es) same = made_same scope p q next es same
 
-pub below : (f : Scope) (next : ℕ) (on : Anchor) → NodeBelow f next on → node_at f on < next
+pub below : (f : Scope) (next : ℕ) (on : Upstream) → NodeBelow f next on → node_at f on < next
 below f next (OnNode number) h = h
 below f next (OnName name) h = let e : number_of (f name) ≡ h.0 = ap number_of h.2 in let lt = h.3 in omega arith
 
 pub gathered : (f : Scope) (es : List Event) (next : ℕ) (nodes : List NodeTree) → length nodes ≡ next → AllBelow f next es
     → play f es nodes ≡ given (λ n. props_on f n es) 0 nodes ++ nodes_made f (λ n. props_on f n es) next es
 gathered f [] next nodes len stands = given_none 0 nodes ∙ sym (append-nil (given (λ _. []) 0 nodes))
-gathered f (Makes kind under args at ∷ es) next nodes len stands =
+gathered f (MakesNode kind under args at ∷ es) next nodes len stands =
     let node : NodeTree = record { kind = kind; parent = node_at f under; args = map (arg_of f) args; props = []; at = at } in
     let p : ℕ → List PropTree = λ n. props_on f n es in
     let more = length_push nodes node in
     gathered f es (next + 1) (nodes ++ node ∷ []) (omega arith) stands.2
     ∙ ap (λ l. l ++ nodes_made f p (next + 1) es) (given_push p 0 next nodes node (omega arith))
     ∙ append_assoc (given p 0 nodes) (record node { props = p next } ∷ []) (nodes_made f p (next + 1) es)
-gathered f (Sets name on args at ∷ es) next nodes len stands =
+gathered f (SetsProp name on args at ∷ es) next nodes len stands =
     let prop : PropTree = record { name = name; args = map (arg_of f) args; at = at } in
     let number = node_at f on in
     let p : ℕ → List PropTree = λ n. props_on f n es in
-    let q : ℕ → List PropTree = λ n. props_on f n (Sets name on args at ∷ es) in
+    let q : ℕ → List PropTree = λ n. props_on f n (SetsProp name on args at ∷ es) in
     let lt = below f next on stands.0 in
     let here : q number ≡ prop ∷ p number = ap (λ b. cond b (prop ∷ p number) (p number)) (eq-eqb number number refl) in
     let there : (n : ℕ) → (n ≡ number → ⊥) → q n ≡ p n = λ n other. let e : eqb number n ≡ false = grind (arith, nat_tests) in ap (λ b. cond b (prop ∷ p n) (p n)) e in
     gathered f es next (with_prop number prop nodes) (length_with_prop number prop nodes ∙ len) stands.2
     ∙ (λ i. given_set p q 0 number number prop nodes (omega arith) here there i ++ made_same f p q next es (λ n le. sym (there n (λ same. omega arith))) i)
-gathered f (Declares name value ∷ es) next nodes len stands = gathered f es next nodes len stands.1
-gathered f (Uses value ∷ es) next nodes len stands = gathered f es next nodes len stands.1
-gathered f (Sees dbrp ∷ es) next nodes len stands = gathered f es next nodes len stands
+gathered f (DeclaresName name value ∷ es) next nodes len stands = gathered f es next nodes len stands.1
+gathered f (UsesValue value ∷ es) next nodes len stands = gathered f es next nodes len stands.1
+gathered f (NamesDbrp dbrp ∷ es) next nodes len stands = gathered f es next nodes len stands

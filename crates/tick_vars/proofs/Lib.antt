@@ -10,3 +10,5 @@ mod Quiet
 mod Statements
 mod Written
 mod Naming
+mod Finding
+mod FirstFaults

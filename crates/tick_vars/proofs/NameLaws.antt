@@ -11,7 +11,7 @@ use Rattle.tick_vars.specs.declared.nodes.Dbrp.{Dbrp}
 use Rattle.tick_vars.specs.declared.fault.VarFault.{VarFault}
 use Rattle.tick_vars.specs.Nodes.{NodeArg, NodeTree, arg_tree, node_tree, node_trees}
 use Rattle.tick_vars.specs.Names.{Scope, first_scope, scope_of, with_name}
-use Rattle.tick_vars.specs.Binding.{SoFar, at_first, stream_node}
+use Rattle.tick_vars.specs.Binding.{Progress, at_first, stream_node}
 use Rattle.tick_vars.proofs.Steps.{same_value}
 
 chosen : {A B : Type 0} (f : A → B) (test : Bool) (x : A) (other : Option A) → option_map f (cond test (Some x) other) ≡ cond test (Some (f x)) (option_map f other)
@@ -35,7 +35,7 @@ first_put m scope is put = sym (ap (λ s. Ok (with_name (codes "stream") (NodeAr
 -- what there is before the first statement
 pub begun : (scope : Scope) (node : RawNode) (before nodes : List RawNode) (dbrps : List Dbrp) → ◌≡◌ {A = Result Scope VarFault} (Ok first_scope) (Ok scope)
     → ◌≡◌ {A = Result NodeTree VarFault} (Ok stream_node) (Ok (node_tree node)) → before ≡ [] → nodes ≡ before ++ node ∷ [] → dbrps ≡ []
-    → ◌≡◌ {A = Result SoFar VarFault} (Ok at_first) (Ok (record { scope = scope; nodes = node_trees nodes; dbrps = dbrps }))
+    → ◌≡◌ {A = Result Progress VarFault} (Ok at_first) (Ok (record { scope = scope; nodes = node_trees nodes; dbrps = dbrps }))
 begun scope node before nodes dbrps names is first one none =
     let stream : stream_node ∷ [] ≡ node_trees nodes = ap (λ n. n ∷ []) (same_value stream_node (node_tree node) is) ∙ sym (ap node_trees (one ∙ ap (λ l. l ++ node ∷ []) first)) in
     λ i. Ok (record { scope = same_value first_scope scope names i; nodes = stream i; dbrps = sym none i })

@@ -9,8 +9,8 @@ use Rattle.tick_vars.specs.declared.fault.VarFault.{VarFault}
 use Rattle.tick_vars.specs.declared.fault.VarFault.TheVariants.{Twice}
 use Rattle.tick_vars.specs.Nodes.{ArgTree}
 use Rattle.tick_vars.specs.Names.{Scope, is_batch, is_taken, with_name}
-use Rattle.tick_vars.specs.Binding.{Made, SoFar, bound_stmt, bound_stmts, bound_val}
-use Rattle.tick_vars.specs.Law.{OnName, Event, Declares, Uses, Sees, Settled, all_done, dbrps_seen, done_along, done_by, done_in, in_the_end, pipes_along, pipes_in, pipes_of, source}
+use Rattle.tick_vars.specs.Binding.{WithNodes, Progress, bound_stmt, bound_stmts, bound_val}
+use Rattle.tick_vars.specs.Law.{OnName, Event, DeclaresName, UsesValue, NamesDbrp, Settled, all_done, dbrps_seen, done_along, done_by, done_in, in_the_end, pipes_along, pipes_in, pipes_of, written_val}
 use Rattle.tick_vars.proofs.Steps.{Extends, both_ok, same_value}
 use Rattle.tick_vars.proofs.Quiet.{dbrps_append, quiet_along, quiet_dbrps, quiet_in, quiet_scope, scope_append}
 use Rattle.tick_vars.proofs.Simulation.{Done, InScope, done_both, done_nothing, length_done, scope_more, arg_settled, val_done}
@@ -36,45 +36,45 @@ with_name_scope k s name arg ins settled other told =
     ]
 
 -- a `var` that was bound
-pub declared_ok : (s s' : SoFar) (name : List ℕ) (value : ValTree) (at : ℕ) → bound_stmt s (VarStmt name value at) ≡ Ok s'
-    → (made : Made ArgTree) × (bound_val s.scope s.nodes value ≡ Ok made) × (s.scope name ≡ None) × (record { scope = with_name name made.value s.scope; nodes = made.nodes; dbrps = s.dbrps } ≡ s') × (is_taken s.scope name ≡ false)
+pub declared_ok : (s s' : Progress) (name : List ℕ) (value : ValTree) (at : ℕ) → bound_stmt s (VarStmt name value at) ≡ Ok s'
+    → (made : WithNodes ArgTree) × (bound_val s.scope s.nodes value ≡ Ok made) × (s.scope name ≡ None) × (record { scope = with_name name made.value s.scope; nodes = made.nodes; dbrps = s.dbrps } ≡ s') × (is_taken s.scope name ≡ false)
 declared_ok s s' name value at is =
-    let rest : Result SoFar VarFault = bound_val s.scope s.nodes value >>= λ made. Ok (record { scope = with_name name made.value s.scope; nodes = made.nodes; dbrps = s.dbrps }) in
+    let rest : Result Progress VarFault = bound_val s.scope s.nodes value >>= λ made. Ok (record { scope = with_name name made.value s.scope; nodes = made.nodes; dbrps = s.dbrps }) in
     let free : (is_taken s.scope name ≡ false) × (rest ≡ Ok s') =
     elim (is_taken s.scope name) as (λ b. cond b (Err (Twice at)) rest ≡ Ok s' → (b ≡ false) × (rest ≡ Ok s')) [ true ↦ λ e. absurd cc | false ↦ λ e. (refl, e) ] is in
     let a = both_ok (bound_val s.scope s.nodes value) (λ made. Ok (record { scope = with_name name made.value s.scope; nodes = made.nodes; dbrps = s.dbrps })) s' free.1 in
     (a.0, a.1, fresh (is_batch name) (s.scope name) free.0, same_value _ s' a.2, free.0)
 
-pub stmt_extends : (s s' : SoFar) (stmt : StmtTree) → bound_stmt s stmt ≡ Ok s' → Extends s.scope s'.scope
+pub stmt_extends : (s s' : Progress) (stmt : StmtTree) → bound_stmt s stmt ≡ Ok s' → Extends s.scope s'.scope
 stmt_extends s s' (VarStmt name value at) is =
     let d = declared_ok s s' name value at is in
-    subst (λ (x : SoFar). Extends s.scope x.scope) d.3 (with_name_extends s.scope name (d.0).value d.2)
-stmt_extends s s' (DbrpStmt db rp at) is = subst (λ (x : SoFar). Extends s.scope x.scope) (same_value _ s' is) (λ name arg told. told)
+    subst (λ (x : Progress). Extends s.scope x.scope) d.3 (with_name_extends s.scope name (d.0).value d.2)
+stmt_extends s s' (DbrpStmt db rp at) is = subst (λ (x : Progress). Extends s.scope x.scope) (same_value _ s' is) (λ name arg told. told)
 stmt_extends s s' (ChainStmt head links at) is =
     let a = both_ok (bound_val s.scope s.nodes (ChainVal head links at)) (λ made. Ok (record s { nodes = made.nodes })) s' is in
-    subst (λ (x : SoFar). Extends s.scope x.scope) (same_value _ s' a.2) (λ name arg told. told)
+    subst (λ (x : Progress). Extends s.scope x.scope) (same_value _ s' a.2) (λ name arg told. told)
 
-pub stmts_extend : (script : List StmtTree) (s s' : SoFar) → bound_stmts s script ≡ Ok s' → Extends s.scope s'.scope
-stmts_extend [] s s' is = subst (λ (x : SoFar). Extends s.scope x.scope) (same_value s s' is) (λ name arg told. told)
+pub stmts_extend : (script : List StmtTree) (s s' : Progress) → bound_stmts s script ≡ Ok s' → Extends s.scope s'.scope
+stmts_extend [] s s' is = subst (λ (x : Progress). Extends s.scope x.scope) (same_value s s' is) (λ name arg told. told)
 stmts_extend (stmt ∷ script) s s' is =
     let a = both_ok (bound_stmt s stmt) (λ x. bound_stmts x script) s' is in
     λ name arg told. stmts_extend script a.0 s' a.2 name arg (stmt_extends s a.0 stmt a.1 name arg told)
 
-pub record StmtsDone (f : Scope) (next count : ℕ) (events : List Event) (s s' : SoFar) : Type 0 where
+pub record StmtsDone (f : Scope) (next count : ℕ) (events : List Event) (s s' : Progress) : Type 0 where
   pub scope_is : s'.scope ≡ in_the_end s.scope events
   pub dbrps_are : s'.dbrps ≡ s.dbrps ++ dbrps_seen events
   pub in_scope : InScope (next + count) s'.scope
   pub done : Done f next count events s.nodes s'.nodes
 
-pub stmt_done : (f : Scope) (s s' : SoFar) (stmt : StmtTree) (next : ℕ) → Extends s.scope f → InScope next s.scope → length s.nodes ≡ next → bound_stmt s stmt ≡ Ok s'
+pub stmt_done : (f : Scope) (s s' : Progress) (stmt : StmtTree) (next : ℕ) → Extends s.scope f → InScope next s.scope → length s.nodes ≡ next → bound_stmt s stmt ≡ Ok s'
     → StmtsDone f next (pipes_of stmt) (done_by next stmt) s s'
 stmt_done f s s' (VarStmt name value at) next ext ins len is =
     let d = declared_ok s s' name value at is in
     let count = pipes_in value in
-    let src = source next value in
+    let src = written_val next value in
     let here = val_done s.scope s.scope (λ n a told. told) value next s.nodes d.0 ins len d.1 in
     let v = val_done s.scope f ext value next s.nodes d.0 ins len d.1 in
-    let last : List Event = Declares name src ∷ [] in
+    let last : List Event = DeclaresName name src ∷ [] in
     let scope : with_name name (d.0).value s.scope ≡ in_the_end s.scope (done_in next value ++ last) =
     ap (λ x. with_name name x s.scope) here.0 ∙ sym (scope_append s.scope (done_in next value) last ∙ ap (λ x. in_the_end x last) (quiet_scope s.scope (done_in next value) (quiet_in value next))) in
     let dbrps : s.dbrps ≡ s.dbrps ++ dbrps_seen (done_in next value ++ last) =
@@ -88,7 +88,7 @@ stmt_done f s s' (VarStmt name value at) next ext ins len is =
       done = done_both f next count 0 count (done_in next value) last s.nodes (d.0).nodes (d.0).nodes (omega arith) v.2 tail;
     })
 stmt_done f s s' (DbrpStmt db rp at) next ext ins len is =
-    subst (λ x. StmtsDone f next 0 (Sees (record { db = db; rp = rp }) ∷ []) s x) (same_value (record s { dbrps = s.dbrps ++ record { db = db; rp = rp } ∷ [] }) s' is) (record {
+    subst (λ x. StmtsDone f next 0 (NamesDbrp (record { db = db; rp = rp }) ∷ []) s x) (same_value (record s { dbrps = s.dbrps ++ record { db = db; rp = rp } ∷ [] }) s' is) (record {
       scope_is = refl;
       dbrps_are = refl;
       in_scope = scope_more next (next + 0) s.scope (omega arith) ins;
@@ -99,7 +99,7 @@ stmt_done f s s' (ChainStmt head links at) next ext ins len is =
     let a = both_ok (bound_val s.scope s.nodes chain) (λ made. Ok (record s { nodes = made.nodes })) s' is in
     let v = val_done s.scope f ext chain next s.nodes a.0 ins len a.1 in
     let events = done_along next (OnName head) links in
-    let last : List Event = Uses (source next chain) ∷ [] in
+    let last : List Event = UsesValue (written_val next chain) ∷ [] in
     let quiet = quiet_along links next (OnName head) in
     let count = pipes_along links in
     let dbrps : dbrps_seen (events ++ last) ≡ [] = dbrps_append events last ∙ ap (λ l. l ++ []) (quiet_dbrps events quiet) in
@@ -115,7 +115,7 @@ pub pipes_in_all : List StmtTree → ℕ
 pipes_in_all [] = 0
 pipes_in_all (stmt ∷ script) = pipes_of stmt + pipes_in_all script
 
-pub stmts_done : (f : Scope) (script : List StmtTree) (s s' : SoFar) (next : ℕ) → Extends s'.scope f → InScope next s.scope → length s.nodes ≡ next → bound_stmts s script ≡ Ok s'
+pub stmts_done : (f : Scope) (script : List StmtTree) (s s' : Progress) (next : ℕ) → Extends s'.scope f → InScope next s.scope → length s.nodes ≡ next → bound_stmts s script ≡ Ok s'
     → StmtsDone f next (pipes_in_all script) (all_done next script) s s'
 unfolding pipes_in_all
 stmts_done f [] s s' next ext ins len is = subst (λ x. StmtsDone f next 0 [] s x) (same_value s s' is) (record {

@@ -4,7 +4,7 @@ use Rattle.std.specs.Prelude.{codes}
 use Rattle.tick_parser.specs.Trees.{StmtTree}
 use Rattle.tick_vars.specs.Nodes.{NodeArg, PropTree, NodeTree, BoundTree}
 use Rattle.tick_vars.specs.Names.{Scope, first_scope}
-use Rattle.tick_vars.specs.Binding.{SoFar, at_first, bound_of, bound_stmts, stream_node}
+use Rattle.tick_vars.specs.Binding.{Progress, at_first, bound_of, bound_stmts, stream_node}
 use Rattle.tick_vars.specs.Law.{Event, IsSettled, as_written, dbrps_seen, events_of, in_the_end, nodes_made, props_on}
 use Rattle.tick_vars.proofs.Steps.{both_ok, same_value}
 use Rattle.tick_vars.proofs.Statements.{StmtsDone, pipes_in_all, stmts_done, with_name_scope}
@@ -17,15 +17,15 @@ first_in_scope = with_name_scope 1 (λ _. None) (codes "stream") (NodeArg 0 0) (
 
 -- the end of a script that was bound
 record Ended (script : List StmtTree) (bound : BoundTree) : Type 0 where
-  so_far : SoFar
-  bound_is : record { dbrps = so_far.dbrps; nodes = so_far.nodes } ≡ bound
-  done : StmtsDone so_far.scope 1 (pipes_in_all script) (events_of script) at_first so_far
+  progress : Progress
+  bound_is : record { dbrps = progress.dbrps; nodes = progress.nodes } ≡ bound
+  done : StmtsDone progress.scope 1 (pipes_in_all script) (events_of script) at_first progress
 
 ended : (script : List StmtTree) (bound : BoundTree) → bound_of script ≡ Ok bound → Ended script bound
 ended script bound is =
     let a = both_ok (bound_stmts at_first script) (λ s. Ok (record { dbrps = s.dbrps; nodes = s.nodes })) bound is in
     record {
-      so_far = a.0;
+      progress = a.0;
       bound_is = same_value (record { dbrps = (a.0).dbrps; nodes = (a.0).nodes }) bound a.2;
       done = stmts_done (a.0).scope script at_first a.0 1 (λ name arg told. told) first_in_scope refl a.1;
     }
@@ -34,10 +34,10 @@ ended script bound is =
 abbrev nodes_of : Scope → List Event → List NodeTree
 nodes_of f events = record stream_node { props = props_on f 0 events } ∷ nodes_made f (λ number. props_on f number events) 1 events
 
-ended_nodes : (script : List StmtTree) (bound : BoundTree) (e : Ended script bound) → bound.nodes ≡ nodes_of (e.so_far).scope (events_of script)
+ended_nodes : (script : List StmtTree) (bound : BoundTree) (e : Ended script bound) → bound.nodes ≡ nodes_of (e.progress).scope (events_of script)
 ended_nodes script bound e =
     let d = e.done in
-    sym (ap (λ b. b.nodes) e.bound_is) ∙ (d.done).after_is ∙ gathered (e.so_far).scope (events_of script) 1 (stream_node ∷ []) refl (d.done).stands
+    sym (ap (λ b. b.nodes) e.bound_is) ∙ (d.done).after_is ∙ gathered (e.progress).scope (events_of script) 1 (stream_node ∷ []) refl (d.done).stands
 
 pub written : (script : List StmtTree) (bound : BoundTree) → bound_of script ≡ Ok bound → bound ≡ as_written script
 written script bound is =
@@ -51,7 +51,7 @@ pub settled : (script : List StmtTree) (bound : BoundTree) → bound_of script �
 settled script bound is =
     let e = ended script bound is in
     let d = e.done in
-    let f = (e.so_far).scope in
+    let f = (e.progress).scope in
     let events = events_of script in
     let props : ℕ → List PropTree = λ number. props_on f number events in
     let nodes = ended_nodes script bound e in

@@ -10,25 +10,25 @@ use Rattle.tick_vars.specs.Names.{Scope, first_scope, is_taken, with_name, hande
 use Rattle.tick_vars.specs.Binding.{stream_node}
 
 -- what a chain goes on from: the node with a number, or what a name stands for
-pub data Anchor : Type 0 where
-  OnNode : (number : ℕ) → Anchor
-  OnName : (name : List ℕ) → Anchor
+pub data Upstream : Type 0 where
+  OnNode : (number : ℕ) → Upstream
+  OnName : (name : List ℕ) → Upstream
 
 -- a value as the script has it: a literal, the star, a lambda, or a chain, of which the end counts
-pub data Source : Type 0 where
-  FromLit : (lit : Lit) (at : ℕ) → Source
-  FromStar : (at : ℕ) → Source
-  FromLambda : (body : Tree) (at : ℕ) → Source
-  FromChain : (last : Anchor) (at : ℕ) → Source
+pub data Written : Type 0 where
+  FromLit : (lit : Lit) (at : ℕ) → Written
+  FromStar : (at : ℕ) → Written
+  FromLambda : (body : Tree) (at : ℕ) → Written
+  FromChain : (last : Upstream) (at : ℕ) → Written
 
 -- what a script does: `|` makes a node, `.` sets a property, `var` declares a name, a chain as a statement uses what it ends with, and
 -- `dbrp` names a pair
 pub data Event : Type 0 where
-  Makes : (kind : List ℕ) (under : Anchor) (args : List Source) (at : ℕ) → Event
-  Sets : (name : List ℕ) (on : Anchor) (args : List Source) (at : ℕ) → Event
-  Declares : (name : List ℕ) (value : Source) → Event
-  Uses : (value : Source) → Event
-  Sees : (dbrp : Dbrp) → Event
+  MakesNode : (kind : List ℕ) (under : Upstream) (args : List Written) (at : ℕ) → Event
+  SetsProp : (name : List ℕ) (on : Upstream) (args : List Written) (at : ℕ) → Event
+  DeclaresName : (name : List ℕ) (value : Written) → Event
+  UsesValue : (value : Written) → Event
+  NamesDbrp : (dbrp : Dbrp) → Event
 
 -- how many `|` stand in a value, in values, in links
 abbrev mutual
@@ -48,22 +48,22 @@ abbrev mutual
 
 -- The end of a chain: its last `|`, or what it goes on from. Nodes are numbered in the order in which they are made, from the
 -- number that is next; those among the arguments of a `|` come before its own.
-abbrev pub end_of : ℕ → Anchor → JointTrees → Anchor
-end_of next on NoJoints = on
-end_of next on (MoreJoints true name args at rest) = end_of (next + pipes_among args + 1) (OnNode (next + pipes_among args)) rest
-end_of next on (MoreJoints false name args at rest) = end_of (next + pipes_among args) on rest
+abbrev pub chain_end : ℕ → Upstream → JointTrees → Upstream
+chain_end next on NoJoints = on
+chain_end next on (MoreJoints true name args at rest) = chain_end (next + pipes_among args + 1) (OnNode (next + pipes_among args)) rest
+chain_end next on (MoreJoints false name args at rest) = chain_end (next + pipes_among args) on rest
 
 -- a value as the script has it, where this number is next
-abbrev pub source : ℕ → ValTree → Source
-source next (LitVal lit at) = FromLit lit at
-source next (StarVal at) = FromStar at
-source next (LambdaVal body at) = FromLambda body at
-source next (ChainVal head links at) = FromChain (end_of next (OnName head) links) at
+abbrev pub written_val : ℕ → ValTree → Written
+written_val next (LitVal lit at) = FromLit lit at
+written_val next (StarVal at) = FromStar at
+written_val next (LambdaVal body at) = FromLambda body at
+written_val next (ChainVal head links at) = FromChain (chain_end next (OnName head) links) at
 
 -- values, from left to right
-abbrev pub sources : ℕ → ValTrees → List Source
-sources next NoVals = []
-sources next (MoreVals first rest) = source next first ∷ sources (next + pipes_in first) rest
+abbrev pub written_vals : ℕ → ValTrees → List Written
+written_vals next NoVals = []
+written_vals next (MoreVals first rest) = written_val next first ∷ written_vals (next + pipes_in first) rest
 
 -- what is done in a value, in values, along links
 abbrev mutual
@@ -77,18 +77,18 @@ abbrev mutual
   done_among next NoVals = []
   done_among next (MoreVals first rest) = done_in next first ++ done_among (next + pipes_in first) rest
 
-  pub done_along : ℕ → Anchor → JointTrees → List Event
+  pub done_along : ℕ → Upstream → JointTrees → List Event
   done_along next on NoJoints = []
   done_along next on (MoreJoints true name args at rest) =
-      done_among next args ++ Makes name on (sources next args) at ∷ done_along (next + pipes_among args + 1) (OnNode (next + pipes_among args)) rest
+      done_among next args ++ MakesNode name on (written_vals next args) at ∷ done_along (next + pipes_among args + 1) (OnNode (next + pipes_among args)) rest
   done_along next on (MoreJoints false name args at rest) =
-      done_among next args ++ Sets name on (sources next args) at ∷ done_along (next + pipes_among args) on rest
+      done_among next args ++ SetsProp name on (written_vals next args) at ∷ done_along (next + pipes_among args) on rest
 
 -- what a statement does
 abbrev pub done_by : ℕ → StmtTree → List Event
-done_by next (VarStmt name value at) = done_in next value ++ Declares name (source next value) ∷ []
-done_by next (DbrpStmt db rp at) = Sees (record { db = db; rp = rp }) ∷ []
-done_by next (ChainStmt head links at) = done_along next (OnName head) links ++ Uses (source next (ChainVal head links at)) ∷ []
+done_by next (VarStmt name value at) = done_in next value ++ DeclaresName name (written_val next value) ∷ []
+done_by next (DbrpStmt db rp at) = NamesDbrp (record { db = db; rp = rp }) ∷ []
+done_by next (ChainStmt head links at) = done_along next (OnName head) links ++ UsesValue (written_val next (ChainVal head links at)) ∷ []
 
 -- how many `|` stand in a statement
 abbrev pub pipes_of : StmtTree → ℕ
@@ -132,12 +132,12 @@ number_of (Some (NodeArg number at)) = number
 number_of other = 0
 
 -- the node that a chain goes on from
-abbrev pub node_at : Scope → Anchor → ℕ
+abbrev pub node_at : Scope → Upstream → ℕ
 node_at scope (OnNode number) = number
 node_at scope (OnName name) = number_of (scope name)
 
 -- a value as an argument; a script without faults uses no name that stands for nothing
-abbrev pub arg_of : Scope → Source → ArgTree
+abbrev pub arg_of : Scope → Written → ArgTree
 arg_of scope (FromLit lit at) = LitArg lit at
 arg_of scope (FromStar at) = StarArg at
 arg_of scope (FromLambda body at) = LambdaArg (replaced scope body) at
@@ -147,27 +147,27 @@ arg_of scope (FromChain (OnName name) at) = handed_on at (unwrap_or (scope name)
 -- what names stand for in the end: each for its value, in which the names before it stand for what they do
 abbrev pub in_the_end : Scope → List Event → Scope
 in_the_end scope [] = scope
-in_the_end scope (Declares name value ∷ events) = in_the_end (with_name name (arg_of scope value) scope) events
+in_the_end scope (DeclaresName name value ∷ events) = in_the_end (with_name name (arg_of scope value) scope) events
 in_the_end scope (event ∷ events) = in_the_end scope events
 
 -- the properties that are set on the node with this number, in order
 abbrev pub props_on : Scope → ℕ → List Event → List PropTree
 props_on scope number [] = []
-props_on scope number (Sets name on args at ∷ events) =
+props_on scope number (SetsProp name on args at ∷ events) =
     if node_at scope on == number then record { name = name; args = map (arg_of scope) args; at = at } ∷ props_on scope number events else props_on scope number events
 props_on scope number (event ∷ events) = props_on scope number events
 
 -- the nodes that are made, in order, from the number that is next, where each number has these properties
 abbrev pub nodes_made : Scope → (ℕ → List PropTree) → ℕ → List Event → List NodeTree
 nodes_made scope props next [] = []
-nodes_made scope props next (Makes kind under args at ∷ events) =
+nodes_made scope props next (MakesNode kind under args at ∷ events) =
     record { kind = kind; parent = node_at scope under; args = map (arg_of scope) args; props = props next; at = at } ∷ nodes_made scope props (next + 1) events
 nodes_made scope props next (event ∷ events) = nodes_made scope props next events
 
 -- the pairs of a database and a retention policy, in order
 abbrev pub dbrps_seen : List Event → List Dbrp
 dbrps_seen [] = []
-dbrps_seen (Sees dbrp ∷ events) = dbrp ∷ dbrps_seen events
+dbrps_seen (NamesDbrp dbrp ∷ events) = dbrp ∷ dbrps_seen events
 dbrps_seen (event ∷ events) = dbrps_seen events
 
 -- The script as it is written: behind the stream its `|` in the order in which they are made, each with its arguments and with the
@@ -253,12 +253,12 @@ abbrev mutual
   AllHaveValues scope (MoreTrees first rest) = HasValues scope first × AllHaveValues scope rest
 
 -- what a chain goes on from is a node
-abbrev pub IsNode : Scope → Anchor → Type 0
+abbrev pub IsNode : Scope → Upstream → Type 0
 IsNode scope (OnNode number) = Unit {0}
 IsNode scope (OnName name) = (number : ℕ) × (place : ℕ) × (scope name ≡ Some (NodeArg number place))
 
 -- what is written stands for something
-abbrev pub IsArg : Scope → Source → Type 0
+abbrev pub IsArg : Scope → Written → Type 0
 IsArg scope (FromLit lit at) = Unit {0}
 IsArg scope (FromStar at) = Unit {0}
 IsArg scope (FromLambda body at) = HasValues scope body
@@ -266,19 +266,19 @@ IsArg scope (FromChain (OnNode number) at) = Unit {0}
 IsArg scope (FromChain (OnName name) at) = (arg : ArgTree) × (scope name ≡ Some arg)
 
 -- the same of each of a list
-abbrev pub AreArgs : Scope → List Source → Type 0
+abbrev pub AreArgs : Scope → List Written → Type 0
 AreArgs scope [] = Unit {0}
 AreArgs scope (first ∷ rest) = IsArg scope first × AreArgs scope rest
 
 -- Each name is used behind its `var`, and stands for what may stand there; each `var` declares a new name.
 abbrev pub AreNamed : Scope → List Event → Type 0
 AreNamed scope [] = Unit {0}
-AreNamed scope (Makes kind under args at ∷ events) = IsNode scope under × AreArgs scope args × AreNamed scope events
-AreNamed scope (Sets name on args at ∷ events) = IsNode scope on × AreArgs scope args × AreNamed scope events
-AreNamed scope (Declares name value ∷ events) =
+AreNamed scope (MakesNode kind under args at ∷ events) = IsNode scope under × AreArgs scope args × AreNamed scope events
+AreNamed scope (SetsProp name on args at ∷ events) = IsNode scope on × AreArgs scope args × AreNamed scope events
+AreNamed scope (DeclaresName name value ∷ events) =
     (is_taken scope name ≡ false) × IsArg scope value × AreNamed (with_name name (arg_of scope value) scope) events
-AreNamed scope (Uses value ∷ events) = IsArg scope value × AreNamed scope events
-AreNamed scope (Sees dbrp ∷ events) = AreNamed scope events
+AreNamed scope (UsesValue value ∷ events) = IsArg scope value × AreNamed scope events
+AreNamed scope (NamesDbrp dbrp ∷ events) = AreNamed scope events
 
 -- a script whose names are all in order
 abbrev pub IsWellNamed : List StmtTree → Type 0

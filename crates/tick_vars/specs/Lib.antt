@@ -3,3 +3,4 @@ pub mod Names
 pub mod Binding
 pub mod Making
 pub mod Law
+pub mod FirstFault

@@ -1,7 +1,7 @@
 -- The nodes of a script, apart from how they lie in memory.
 use Rattle.std.specs.Prelude.{ℕ, List, map}
 use Rattle.kap_base.specs.declared.expr.Lit.{Lit}
-use Rattle.kap_base.specs.Tree.{Tree, tree_of}
+use Rattle.kap_base.specs.Tree.{Tree}
 use Rattle.tick_vars.specs.declared.nodes.Arg.{Arg}
 use Rattle.tick_vars.specs.declared.nodes.Arg.TheVariants.{Lit as Literal, Star, Lambda, Node}
 use Rattle.tick_vars.specs.declared.nodes.Prop.{Prop}
@@ -39,7 +39,7 @@ pub record BoundTree : Type 0 where
 abbrev pub arg_tree : Arg → ArgTree
 arg_tree (Literal lit at) = LitArg lit at
 arg_tree (Star at) = StarArg at
-arg_tree (Lambda body at) = LambdaArg (tree_of body) at
+arg_tree (Lambda body at) = LambdaArg body at
 arg_tree (Node number at) = NodeArg number at
 
 -- the trees of arguments

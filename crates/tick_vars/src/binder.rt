@@ -29,7 +29,8 @@ struct Binder<'a> {
 
 /// The name stands for this from here on.
 fn put_name<'a>(names: &mut Names<'a>, name: &'a str, arg: Arg) -> Result<(), VarFault>
-    ensures { Gives (λ _. scope_of names.new) result (Ok (with_name name.now (arg_tree arg) (scope_of names.old))) }
+    ensures { Gives (λ _. scope_of names.new) result
+        (Ok (with_name name.now (arg_tree arg) (scope_of names.old))) }
 {
     names.insert(name, arg)?;
     Ok(())
@@ -72,7 +73,8 @@ fn begin<'a>(alloc: Global) -> Result<Binder<'a>, VarFault>
 
 /// Binds one statement more.
 fn bind_stmt<'a>(alloc: Global, binder: &mut Binder<'a>, stmt: &'a Stmt) -> Result<(), VarFault>
-    ensures { Gives (λ _. made_by binder.new) result (bound_stmt (made_by binder.old) (stmt_tree stmt.now)) }
+    ensures { Gives (λ _. made_by binder.new) result
+        (bound_stmt (made_by binder.old) (stmt_tree stmt.now)) }
 {
     match stmt {
         Stmt::Var { name, value, at } => {
@@ -106,12 +108,14 @@ fn bind_all(alloc: Global, stmts: &[Stmt]) -> Result<Binder<'_>, VarFault>
 }
 
 /// A script with its names bound (Kapacitor 1.6 TICKscript language reference: Variables, Nodes, Chaining), or its first
-/// fault from left to right. It goes over the script once. A name that stands for a literal, a node or a lambda is replaced
-/// by it wherever it is used, so each use of a long lambda takes its room. `NoMemory` comes where an allocation fails, and
-/// at a node that would get the number 2^32.
+/// fault from left to right, as `first_fault_of_names` says. It goes over the script once. A name that stands for a literal,
+/// a node or a lambda is replaced by it wherever it is used; texts and lambdas are shared by all uses, so a use takes the
+/// room of an `Arg`, however long they are. `NoMemory` comes where an allocation fails, and at a node that would get the
+/// number 2^32.
 pub fn bind(alloc: Global, tree: &Tree) -> Result<Bound, VarFault>
     ensures bound { IfOk result (λ bound. bound_of (script_tree tree.now) ≡ Ok (bound_tree bound)) }
-    ensures fault { IfErr result (λ fault. fault ≢ VarFault.NoMemory → bound_of (script_tree tree.now) ≡ Err fault) }
+    ensures fault { IfErr result (λ fault. fault ≢ VarFault.NoMemory → bound_of
+        (script_tree tree.now) ≡ Err fault) }
 {
     let binder = bind_all(alloc, tree.as_slice())?;
     Ok(Bound {

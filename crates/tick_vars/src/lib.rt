@@ -7,13 +7,9 @@ mod lambda;
 mod law;
 mod names;
 mod nodes;
-#[cfg(test)]
-mod shown;
-#[cfg(test)]
-mod tests;
 mod values;
 
 pub use binder::bind;
 pub use fault::VarFault;
-pub use law::{bound_as_written, bound_where_well_named};
+pub use law::{bound_as_written, bound_where_well_named, first_fault_of_names};
 pub use nodes::{Arg, Args, Bound, Dbrp, Dbrps, Prop, Props, RawNode, RawNodes};

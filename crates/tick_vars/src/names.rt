@@ -31,7 +31,8 @@ pub(crate) fn is_taken(names: &Names, name: &Text) -> bool
 
 /// What the name at this place stands for.
 pub(crate) fn look_up<'a>(names: &'a Names, name: &Text, at: u32) -> Result<&'a Arg, VarFault>
-    ensures arg { IfOk result (λ arg. looked_up (scope_of names.now) name.now at ≡ Ok (arg_tree arg.now)) }
+    ensures arg { IfOk result (λ arg. looked_up (scope_of names.now) name.now at ≡ Ok
+        (arg_tree arg.now)) }
     ensures fault { IfErr result (λ fault. looked_up (scope_of names.now) name.now at ≡ Err fault) }
 {
     if is_batch(name) {
@@ -45,7 +46,7 @@ pub(crate) fn look_up<'a>(names: &'a Names, name: &Text, at: u32) -> Result<&'a 
 
 impl Arg {
     /// The argument that is handed on by a name at this place, which stands for this one.
-    pub(crate) fn hand_on(&self, alloc: Global, at: u32) -> Result<Arg, VarFault>
+    pub(crate) fn copy_at(&self, alloc: Global, at: u32) -> Result<Arg, VarFault>
         ensures { Gives arg_tree result (Ok (handed_on at (arg_tree self.now))) }
     {
         match self {

@@ -1,6 +1,6 @@
 //! What a script is once its names are bound: nodes with their arguments and properties.
 
-use kap_base::{Expr, ItemList, Lit, Text};
+use kap_base::{ItemList, Lit, SharedExpr, Text};
 
 /// An argument of a node or a property. The number last in each variant is a place, a byte offset in the script. What stands
 /// for a name has the place of that name, but for a lambda, which keeps its own.
@@ -10,8 +10,9 @@ pub enum Arg {
     Lit(Lit, u32),
     /// The star, which stands for every dimension.
     Star(u32),
-    /// A lambda with its literals in the place of names; the place is that of the word `lambda`.
-    Lambda(Expr, u32),
+    /// A lambda with its literals in the place of names, shared by all that its name hands it to; the place is that of the
+    /// word `lambda`.
+    Lambda(SharedExpr, u32),
     /// A node by its number; the place is that of the name with which its chain begins.
     Node(u32, u32),
 }

@@ -2,7 +2,7 @@
 
 ghost use Rattle.std.specs.Prelude.{◌≡◌, ◌++◌, ◌∷◌, [], length, IfOk, OnOk};
 ghost use Rattle.tick_parser.specs.Trees.{MoreJoints, joint_tree, joints_tree, val_tree, vals_tree, chain_tree};
-ghost use Rattle.tick_vars.specs.Binding.{Made, bound_links, bound_val, bound_vals, linked, with_prop};
+ghost use Rattle.tick_vars.specs.Binding.{WithNodes, bound_links, bound_val, bound_vals, linked, with_prop};
 ghost use Rattle.tick_vars.specs.Making.{Gives, made_with};
 ghost use Rattle.tick_vars.specs.Names.{scope_of};
 ghost use Rattle.tick_vars.specs.Nodes.{arg_tree, arg_trees, node_trees, prop_tree};
@@ -11,7 +11,7 @@ use crate::fault::VarFault;
 use crate::lambda::bind_lambda;
 use crate::names::{Names, look_up};
 use crate::nodes::{Arg, Args, Prop, Props, RawNode};
-use kap_base::{Duplicate, NoMemory};
+use kap_base::{Duplicate, NoMemory, SharedExpr};
 use std::alloc::Global;
 use tick_parser::{Chain, Joint, Links, Val, Vals};
 
@@ -29,7 +29,8 @@ fn add_node(nodes: &mut Vec<RawNode>, node: RawNode) -> Result<u32, NoMemory>
 
 /// Adds a property to the node with this number.
 fn add_prop(nodes: &mut [RawNode], number: u32, prop: Prop) -> Result<(), NoMemory>
-    ensures { OnOk result (node_trees nodes.new ≡ with_prop number (prop_tree prop) (node_trees nodes.old)) }
+    ensures { OnOk result (node_trees nodes.new ≡ with_prop number (prop_tree prop)
+        (node_trees nodes.old)) }
 {
     let index = number as usize;
     if index < nodes.len() {
@@ -46,12 +47,16 @@ pub(crate) fn bind_val(
     nodes: &mut Vec<RawNode>,
     val: &Val,
 ) -> Result<Arg, VarFault>
-    ensures { Gives (made_with arg_tree nodes.new.items) result (bound_val (scope_of names.now) (node_trees nodes.old.items) (val_tree val.now)) }
+    ensures { Gives (made_with arg_tree nodes.new.items) result
+        (bound_val (scope_of names.now) (node_trees nodes.old.items) (val_tree val.now)) }
 {
     match val {
         Val::Lit(lit, at) => Ok(Arg::Lit(lit.copy(alloc)?, *at)),
         Val::Star(at) => Ok(Arg::Star(*at)),
-        Val::Lambda(body, at) => Ok(Arg::Lambda(bind_lambda(alloc, names, body)?, *at)),
+        Val::Lambda(body, at) => {
+            let body = bind_lambda(alloc, names, body)?;
+            Ok(Arg::Lambda(SharedExpr::new(alloc, body)?, *at))
+        }
         Val::Chain(chain) => bind_chain(alloc, names, nodes, chain),
     }
 }
@@ -64,11 +69,12 @@ pub(crate) fn bind_chain(
     nodes: &mut Vec<RawNode>,
     chain: &Chain,
 ) -> Result<Arg, VarFault>
-    ensures { Gives (made_with arg_tree nodes.new.items) result (bound_val (scope_of names.now) (node_trees nodes.old.items) (chain_tree chain.now)) }
+    ensures { Gives (made_with arg_tree nodes.new.items) result
+        (bound_val (scope_of names.now) (node_trees nodes.old.items) (chain_tree chain.now)) }
 {
     let head = look_up(names, &chain.head, chain.at)?;
     match &chain.links {
-        Links::End => head.hand_on(alloc, chain.at),
+        Links::End => head.copy_at(alloc, chain.at),
         Links::More(_, _) => {
             let number = head.node(chain.at)?;
             let last = bind_links(alloc, names, nodes, number, &chain.links)?;
@@ -86,7 +92,9 @@ fn bind_links(
     number: u32,
     links: &Links,
 ) -> Result<u32, VarFault>
-    ensures { Gives (made_with (λ last. last) nodes.new.items) result (bound_links (scope_of names.now) (record { value = number; nodes = node_trees nodes.old.items }) (joints_tree links.now)) }
+    ensures { Gives (made_with (λ last. last) nodes.new.items) result
+        (bound_links (scope_of names.now) (record
+        { value = number; nodes = node_trees nodes.old.items }) (joints_tree links.now)) }
 {
     let mut last = number;
     let mut rest = links;
@@ -106,7 +114,9 @@ fn bind_joint(
     number: u32,
     joint: &Joint,
 ) -> Result<u32, VarFault>
-    ensures { Gives (made_with (λ last. last) nodes.new.items) result (bound_links (scope_of names.now) (record { value = number; nodes = node_trees nodes.old.items }) (joint_tree joint.now)) }
+    ensures { Gives (made_with (λ last. last) nodes.new.items) result
+        (bound_links (scope_of names.now) (record
+        { value = number; nodes = node_trees nodes.old.items }) (joint_tree joint.now)) }
 {
     let args = bind_vals(alloc, names, nodes, &joint.args)?;
     let name = joint.name.copy(alloc)?;
@@ -134,7 +144,9 @@ fn bind_vals(
     nodes: &mut Vec<RawNode>,
     vals: &Vals,
 ) -> Result<Args, VarFault>
-    ensures { Gives (made_with arg_trees nodes.new.items) result (bound_vals (scope_of names.now) (record { value = []; nodes = node_trees nodes.old.items }) (vals_tree vals.now)) }
+    ensures { Gives (made_with arg_trees nodes.new.items) result
+        (bound_vals (scope_of names.now) (record { value = []; nodes = node_trees nodes.old.items })
+        (vals_tree vals.now)) }
 {
     let mut args = Args::new(alloc);
     let mut rest = vals;

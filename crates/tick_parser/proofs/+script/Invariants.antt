@@ -1,7 +1,7 @@
 use Rattle.std.proofs.Common.{◌≤◌}
 use Rattle.tick_parser.specs.declared.script.Links.{size-Links}
 use Rattle.tick_parser.specs.declared.script.Vals.{size-Vals}
-use Rattle.tick_parser.proofs.+script.LitVal as goal
+use Rattle.tick_parser.proofs.+script.Given as goal
 
 -- What is left is no deeper than the list at the start, so each element is less deep than it.
 abbrev pub invariant-script::Vals::drop-loop-self : goal.invariant-script::Vals::drop-loop-self

@@ -1,5 +1,5 @@
 use Rattle.std.proofs.Common.{sym}
-use Rattle.line_points.proofs.BodyLaws.{line_no_feed, lines-next, lines-fail, lines-end}
+use Rattle.line_points.proofs.BodyLaws.{line_no_feed, lines-start, lines-next, lines-fail, lines-reached, lines-end}
 use Rattle.line_points.proofs.body.read_body.Goals as goal
 
 pub add_line-requires-clause-line : goal.add_line-requires-clause-line
@@ -13,3 +13,9 @@ lines-preserved c = lines-next c.args.db.now c.args.rp.now c.args.mode.now c.lin
 
 pub returns-clause-points : goal.returns-clause-points
 returns-clause-points c = lines-end c.args.db.now c.args.rp.now c.args.mode.now c.lines.before c.lines.points c.lines.rest.now c.args.body.now c.lines.invariant (sym c.lines-test.ensures)
+
+pub returns-in-Err-clause-reached : goal.returns-in-Err-clause-reached
+returns-in-Err-clause-reached c = lines-reached c.args.db.now c.args.rp.now c.args.mode.now c.lines.before c.lines.points c.lines.rest.now c.args.body.now c.first_line.result.0.now c.without_return-line.result.now c.lines.invariant (sym c.lines-test.ensures) c.first_line.ensures.line c.without_return-line.ensures
+
+pub lines-init : goal.lines-init
+lines-init c = lines-start c.args.db.now c.args.rp.now c.args.mode.now c.new-points.result c.args.body.now c.new-points.ensures

@@ -1,6 +1,6 @@
 use Rattle.std.proofs.Common.{◌-◌, ◌≤◌, length}
 use Rattle.tick_lexer.proofs.Lexing.{Continues}
-use Rattle.tick_lexer.proofs.lexer.lex.LitVal as goal
+use Rattle.tick_lexer.proofs.lexer.lex.Given as goal
 
 -- Whatever the lexer takes of the rest, it takes behind the tokens so far.
 abbrev pub invariant-tokens : goal.invariant-tokens

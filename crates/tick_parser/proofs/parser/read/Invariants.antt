@@ -2,7 +2,7 @@ use Rattle.std.proofs.Common.{◌≡◌, [], drop}
 use Rattle.tick_parser.specs.Refusal.{ended}
 use Rattle.tick_parser.specs.Machine.{run, Between}
 use Rattle.tick_parser.specs.States.{state_of, IsCountedState}
-use Rattle.tick_parser.proofs.parser.read.LitVal as goal
+use Rattle.tick_parser.proofs.parser.read.Given as goal
 
 -- Over the tokens that are left the run from here is the run over all from the start.
 abbrev pub invariant-loop-token : goal.invariant-loop-token

@@ -2,7 +2,7 @@ use Rattle.std.proofs.Common.{◌≡◌, ◌≤◌, ◌++◌, cond, string_bytes
 use Rattle.kap_base.specs.Tree.{trees_of}
 use Rattle.kap_base.specs.declared.expr.Exprs.{size-Exprs}
 use Rattle.tick_print.specs.Print.{args_text, further_text}
-use Rattle.tick_print.proofs.expr.+print.LitVal as goal
+use Rattle.tick_print.proofs.expr.+print.Given as goal
 
 -- What was written and the text of what is left are the whole text.
 abbrev pub invariant-write_args-loop-rest : goal.invariant-write_args-loop-rest

@@ -3,7 +3,7 @@ use Rattle.tick_parser.specs.Trees.{joints_tree, vals_tree}
 use Rattle.tick_parser.specs.declared.script.Links.{size-Links}
 use Rattle.tick_parser.specs.declared.script.Vals.{size-Vals}
 use Rattle.tick_print.specs.Print.{joints_text, more_text, vals_text}
-use Rattle.tick_print.proofs.script.+print.LitVal as goal
+use Rattle.tick_print.proofs.script.+print.Given as goal
 
 -- What was written and the text of what is left are the whole text.
 abbrev pub invariant-write_vals-loop-rest : goal.invariant-write_vals-loop-rest

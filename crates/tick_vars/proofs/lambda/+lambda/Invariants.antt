@@ -3,7 +3,7 @@ use Rattle.kap_base.specs.Tree.{reversed_onto, trees_of}
 use Rattle.kap_base.specs.Words.{◌>>=◌}
 use Rattle.kap_base.specs.declared.expr.Exprs.{size-Exprs}
 use Rattle.tick_vars.specs.Names.{bound_lambdas, scope_of}
-use Rattle.tick_vars.proofs.lambda.+lambda.LitVal as goal
+use Rattle.tick_vars.proofs.lambda.+lambda.Given as goal
 
 -- What is left, bound and put behind what was bound so far, is the list, bound.
 abbrev pub invariant-bind_lambdas-loop-rest : goal.invariant-bind_lambdas-loop-rest

@@ -5,7 +5,7 @@ use Rattle.tick_parser.specs.declared.script.Vals.{size-Vals}
 use Rattle.tick_vars.specs.Binding.{bound_links, bound_vals}
 use Rattle.tick_vars.specs.Names.{scope_of}
 use Rattle.tick_vars.specs.Nodes.{arg_trees, node_trees}
-use Rattle.tick_vars.proofs.values.+values.LitVal as goal
+use Rattle.tick_vars.proofs.values.+values.Given as goal
 
 -- From here what is left gives what the whole gives from the start.
 abbrev pub invariant-bind_links-loop-rest : goal.invariant-bind_links-loop-rest

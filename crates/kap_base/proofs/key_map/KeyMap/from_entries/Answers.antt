@@ -7,4 +7,4 @@ pub returns-then-rises : goal.returns-then-rises
 returns-then-rises g c = rising c.args.entries.items (holds _ (sym (rw c.deref.ensures.value at c.if-rises.ensures)))
 
 pub returns : goal.returns
-returns g c = c.in_ok-last_of_each.ensures.same ∙ stable c.args.entries.items c.in_ok-sorted.field-0.items c.in_ok-sorted.ensures.stable (sym c.in_ok-sorted.ensures.same)
+returns g c = c.in_ok-last_of_each.ensures.same ∙ stable c.args.entries.items c.in_ok-sort_entries.field-0.items c.in_ok-sort_entries.ensures.stable (sym c.in_ok-sort_entries.ensures.same)

@@ -2,7 +2,7 @@ use Rattle.std.proofs.Common.{◌≡◌, length}
 use Rattle.kap_base.specs.Tree.{tree_of}
 use Rattle.tick_parser.specs.Lambdas.{reduce}
 use Rattle.tick_parser.specs.Stack.{frames_of, IsCounted}
-use Rattle.tick_parser.proofs.stack.Stack.reduce.LitVal as goal
+use Rattle.tick_parser.proofs.stack.Stack.reduce.Given as goal
 
 -- Closing what is left of the stack over the tree that is held is what closing was at the start.
 abbrev pub invariant-loop-frame : goal.invariant-loop-frame

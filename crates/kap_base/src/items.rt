@@ -1,0 +1,103 @@
+//! What nodes hand on to one another, and what they do.
+
+use crate::groups::Batch;
+use crate::point::Point;
+use crate::text::Text;
+use std::fmt;
+
+/// The number of a source point in a run or a store, from 1. What a node gives has the stamp of the point that caused it.
+#[derive(Clone, Copy, Debug, PartialEq, Eq, PartialOrd, Ord)]
+pub struct Stamp(pub u64);
+
+/// What a node hands on: a point, or points that a window gives together.
+#[derive(Debug, PartialEq, Eq, Drop)]
+pub enum Body {
+    /// A point of a stream.
+    Point(Point),
+    /// The points of a window.
+    Batch(Batch),
+}
+
+/// What a node hands on, with its stamp.
+#[derive(Debug, PartialEq, Eq, Drop)]
+pub struct Item {
+    /// The stamp of the source point that caused it.
+    pub stamp: Stamp,
+    /// The point or the points.
+    pub body: Body,
+}
+
+/// The level of an alert (Kapacitor 1.6: alert node), in rising order.
+#[derive(Clone, Copy, Debug, PartialEq, Eq, PartialOrd, Ord)]
+pub enum Level {
+    /// Nothing is wrong, printed `OK`.
+    Fine,
+    /// Printed `INFO`.
+    Info,
+    /// Printed `WARNING`.
+    Warning,
+    /// Printed `CRITICAL`.
+    Critical,
+}
+
+impl Level {
+    ghost use Rattle.std.specs.Prelude.{◌≡◌};
+    ghost use Rattle.kap_base.specs.Levels.{level_name};
+
+    /// The word that it is printed as.
+    pub fn name(&self) -> &'static str
+        ensures { result.now ≡ level_name self.now }
+    {
+        match self {
+            Level::Fine => "OK",
+            Level::Info => "INFO",
+            Level::Warning => "WARNING",
+            Level::Critical => "CRITICAL",
+        }
+    }
+}
+
+impl fmt::Display for Level {
+    fn fmt<W: fmt::Write>(&self, f: &mut fmt::Formatter<W>) -> fmt::Result {
+        f.write_str(self.name())
+    }
+}
+
+/// What an alert node tells a topic of a point (Kapacitor 1.6: alert events).
+#[derive(Debug, PartialEq, Eq, Drop)]
+pub struct Event {
+    /// The topic.
+    pub topic: Text,
+    /// The id of what is watched.
+    pub id: Text,
+    /// How bad it is.
+    pub level: Level,
+    /// The time of the point, in nanoseconds from 1970-01-01T00:00:00Z on.
+    pub time: i64,
+    /// The message for people.
+    pub message: Text,
+}
+
+/// What a node does beside handing items on.
+#[derive(Debug, PartialEq, Eq, Drop)]
+pub enum What {
+    /// It logs a point.
+    Line(Point),
+    /// It tells a topic of an event.
+    Event(Event),
+}
+
+/// What a node does: when, in which life, which node, and which of its effects with the same stamp.
+#[derive(Debug, PartialEq, Eq, Drop)]
+pub struct Effect {
+    /// The stamp of the source point that caused it.
+    pub stamp: Stamp,
+    /// The number of the life of its task, from 1.
+    pub life: u32,
+    /// The number of the node in its task.
+    pub node: u32,
+    /// How many effects the node gave before with the same stamp.
+    pub seq: u32,
+    /// What is done.
+    pub what: What,
+}

@@ -1,0 +1,120 @@
+//! Texts and expressions with many owners: what a name of a script stands for is used many times and kept once.
+
+ghost use Rattle.std.specs.Prelude.{◌≡◌, IfOk, nat_eq};
+ghost use Rattle.std.specs.Cmp.{partial_equiv_from_equiv};
+ghost use Rattle.std.specs.Cmp.Lexicographic.{nat_list_eq_equiv, pointwise};
+ghost use Rattle.kap_base.specs.Tree.{tree_of};
+
+use crate::duplicate::Duplicate;
+use crate::expr::Expr;
+use crate::memory::NoMemory;
+use crate::text::Text;
+use std::alloc::Global;
+use std::marker::Model;
+use std::sync::Arc;
+
+/// A text that many owners share, which contracts see as its bytes. A copy is one owner more, and takes no room.
+#[derive(Debug, Drop)]
+pub struct SharedText {
+    text: Arc<Text, Global>,
+}
+
+impl Model for SharedText {
+    ghost use Rattle.std.specs.Prelude.{List, ℕ};
+
+    ghost Value = { List ℕ };
+
+    ghost view = { λ s. s.text.value };
+}
+
+impl SharedText {
+    /// The text, with one owner.
+    pub fn new(alloc: Global, text: Text) -> Result<SharedText, NoMemory>
+        ensures { IfOk result (λ shared. shared ≡ text) }
+    {
+        Ok(SharedText {
+            text: Arc::new(alloc, text)?,
+        })
+    }
+
+    /// The text.
+    pub fn text(&self) -> &Text
+        ensures { result.now ≡ self.now }
+    {
+        &self.text
+    }
+
+    /// Its bytes, as text.
+    pub fn as_str(&self) -> &str
+        ensures { result.now ≡ self.now }
+    {
+        self.text().as_str()
+    }
+}
+
+impl PartialEq for SharedText {
+    ghost eq = { λ x y. pointwise nat_eq x y };
+
+    ghost laws = { partial_equiv_from_equiv nat_list_eq_equiv };
+
+    fn eq(&self, other: &SharedText) -> bool {
+        self.as_str() == other.as_str()
+    }
+}
+
+impl Eq for SharedText {
+    ghost laws = { nat_list_eq_equiv };
+}
+
+impl Duplicate for SharedText {
+    fn copy(&self, alloc: Global) -> Result<SharedText, NoMemory> {
+        let _ = alloc;
+        Ok(SharedText {
+            text: Arc::try_clone(&self.text)?,
+        })
+    }
+}
+
+/// An expression that many owners share, which contracts see as its tree. A copy is one owner more, and takes no room.
+#[derive(Drop)]
+pub struct SharedExpr {
+    expr: Arc<Expr, Global>,
+}
+
+impl Model for SharedExpr {
+    ghost use Rattle.kap_base.specs.Tree.{Tree, tree_of};
+    ghost use Rattle.kap_base.specs.TreeCode.{tree_code};
+
+    ghost Value = { Tree };
+
+    ghost coded = { tree_code };
+
+    ghost view = { λ s. tree_of s.expr.value };
+}
+
+impl SharedExpr {
+    /// The expression, with one owner.
+    pub fn new(alloc: Global, expr: Expr) -> Result<SharedExpr, NoMemory>
+        ensures { IfOk result (λ shared. shared ≡ tree_of expr) }
+    {
+        Ok(SharedExpr {
+            expr: Arc::new(alloc, expr)?,
+        })
+    }
+
+    /// The expression.
+    pub fn expr(&self) -> &Expr
+        ensures { tree_of result.now ≡ self.now }
+    {
+        &self.expr
+    }
+}
+
+impl Duplicate for SharedExpr {
+    fn copy(&self, alloc: Global) -> Result<SharedExpr, NoMemory> {
+        let _ = alloc;
+        Ok(SharedExpr {
+            expr: Arc::try_clone(&self.expr)?,
+        })
+    }
+}

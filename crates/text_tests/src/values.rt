@@ -1,0 +1,125 @@
+//! Texts, lists, maps, points and expressions: that their calls find memory, and what they print.
+
+ghost use Rattle.std.specs.Prelude.{◌≡◌};
+ghost use Rattle.kap_base.specs.Texts.{has_line_feed};
+
+use kap_base::{
+    Bytes, Duplicate, Expr, Exprs, Fields, ItemList, KeyMap, Lit, Names, NoMemory, Op, Point,
+    SharedExpr, SharedText, Text, TextFault, Value, utf8_text,
+};
+use line_points::{Mode, read_line};
+use std::alloc::Global;
+use std::process::Abort;
+use std::test::Fail;
+
+fn text(alloc: Global, bytes: &str) -> Result<Text, Fail> {
+    Ok(Text::from_str(alloc, bytes)?)
+}
+
+fn fields(alloc: Global, entries: &[(&str, i64)]) -> Result<Fields, Fail> {
+    let mut list = Vec::new(alloc);
+    for (key, number) in entries {
+        list.push((text(alloc, key)?, Value::Int(*number)))?;
+    }
+    Ok(Fields::from_entries(alloc, list)?)
+}
+
+#[test]
+fn bytes_are_texts_where_they_are_utf8(rt: HostRuntime) -> Result<(), Fail> {
+    let alloc = rt.alloc();
+    assert_eq!(rt; Text::from_bytes(alloc, "µ".as_bytes())?, text(alloc, "µ")?);
+    assert!(rt; matches!(Text::from_bytes(alloc, b"\xff"), Err(TextFault::NotUtf8)));
+    let copied = text(alloc, "cpu")?.copy(alloc)?;
+    assert_eq!(rt; Text::from_string(String::from_str(alloc, "cpu")?), copied);
+    assert_eq!(rt; copied.to_string(alloc)?.as_str(), "cpu");
+    assert_eq!(rt; NoMemory.to_string(alloc)?.as_str(), "no memory");
+    assert_eq!(rt; utf8_text(b"a\xe0\x80"), Err(2));
+    Ok(())
+}
+
+#[test]
+fn lists_take_items_at_their_end(rt: HostRuntime) -> Result<(), Fail> {
+    let alloc = rt.alloc();
+    let mut bytes = Bytes::new(alloc);
+    assert!(rt; bytes.is_empty());
+    bytes.push(1)?;
+    bytes.append(&[2, 3])?;
+    assert_eq!(rt; bytes.copy(alloc)?.as_slice(), [1, 2, 3].as_slice());
+    let mut names = Names::new(alloc);
+    names.push(text(alloc, "a")?)?;
+    assert!(rt; names.copy(alloc)? == names);
+    Ok(())
+}
+
+#[test]
+fn the_last_of_equal_keys_counts(rt: HostRuntime) -> Result<(), Fail> {
+    let alloc = rt.alloc();
+    let sorted = fields(alloc, &[("b", 1), ("a", 2), ("c", 3), ("a", 4), ("b", 5)])?;
+    let mut built = KeyMap::new(alloc);
+    for (key, number) in [("c", 3), ("b", 0), ("a", 4), ("b", 5)] {
+        built.insert(text(alloc, key)?, Value::Int(number))?;
+    }
+    assert!(rt; built == sorted);
+    assert!(rt; built.copy(alloc)? == sorted);
+    assert!(rt; matches!(sorted.get(&text(alloc, "b")?), Some(Value::Int(5))));
+    assert!(rt; !sorted.contains_key(&text(alloc, "d")?));
+    Ok(())
+}
+
+fn has_feed(bytes: &[u8]) -> bool
+    ensures { result ≡ has_line_feed bytes.now }
+{
+    bytes.iter().any(|b| *b == b'\n')
+}
+
+fn point(rt: &(impl AllocGlobal + Abort)) -> Result<Point, Fail> {
+    let name = text(rt.alloc(), "d")?;
+    let line = b"cpu,host=a x=1i 5".as_slice();
+    assert!(rt; !has_feed(line) && !has_feed(name.bytes()));
+    let point = read_line(rt.alloc(), line, &name, &name, &Mode::Recording);
+    Ok(point.ok().flatten().ok_or("no point")?)
+}
+
+#[test]
+fn points_are_copied(rt: HostRuntime) -> Result<(), Fail> {
+    let alloc = rt.alloc();
+    let first = point(&rt)?;
+    let mut other = first.copy(alloc)?;
+    assert!(rt; first == other);
+    other.time = 6;
+    assert!(rt; first != other);
+    Ok(())
+}
+
+fn sum(alloc: Global) -> Result<Expr, Fail> {
+    let mut args = Exprs::End;
+    for number in [1, 2] {
+        let first = Box::new(alloc, Expr::Lit(Lit::Int(number), 0))?;
+        args = Exprs::More(first, Box::new(alloc, args)?);
+    }
+    let call = Expr::Call(text(alloc, "f")?, args, 4);
+    let shared = SharedText::new(alloc, text(alloc, "s")?)?;
+    let lit = Expr::Lit(Lit::Str(shared), 9);
+    let sum = Expr::Bin(Op::Add, Box::new(alloc, call)?, Box::new(alloc, lit)?, 7);
+    Ok(Expr::Group(Box::new(alloc, Expr::Not(Box::new(alloc, sum)?, 2))?, 1))
+}
+
+/// It asks for what may go to another thread, and does nothing.
+fn send<T: Send>(value: T) -> T {
+    value
+}
+
+#[test]
+fn expressions_are_copied_and_shared(rt: HostRuntime) -> Result<(), Fail> {
+    let alloc = rt.alloc();
+    let first = sum(alloc)?;
+    assert!(rt; first.copy(alloc)? == first);
+    let shared = send(SharedExpr::new(alloc, first)?);
+    let other = shared.copy(alloc)?;
+    assert!(rt; *other.expr() == sum(alloc)?);
+    let name = SharedText::new(alloc, text(alloc, "warn")?)?;
+    assert!(rt; send(name.copy(alloc)?) == name);
+    let points = ItemList::from_items(Vec::from_array(alloc, [send(point(&rt)?)])?);
+    assert_eq!(rt; points.len(), 1);
+    Ok(())
+}

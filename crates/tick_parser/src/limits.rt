@@ -1,0 +1,10 @@
+//! How much a script may have.
+
+/// How many parentheses and unary operators may be open at a token.
+pub const DEPTH_LIMIT: u32 = 64;
+
+/// How many binary operators a lambda may have.
+pub const OPERATOR_LIMIT: u32 = 512;
+
+/// How many statements a script may have.
+pub const STATEMENT_LIMIT: usize = 4096;
