@@ -18,7 +18,7 @@ pub mod PrintedLaws
 pub mod BodyLaws
 pub mod BlankLaws
 pub mod PrintLaws
-pub mod BeforeLaws
+pub mod TagFaultLaws
 pub mod FloatLaws
 pub mod FieldFaultLaws
 pub mod TimeFaultLaws

@@ -1,6 +1,6 @@
 -- A line has the fault of its row in the table of faults, and no other.
 use Rattle.std.proofs.Common.{◌≡◌, ℕ, zero, suc, Bool, true, false, not, cond, ◌&&◌, ◌||◌, ◌⊎◌, Option, Some, None, List, [], ◌∷◌, ◌++◌, length, Ok, Err, refl, sym, ap, subst, ◌∙◌, arith, inl, inr, ltb, eqb}
-use Rattle.std.specs.Prelude.{Result, ℤ}
+use Rattle.std.specs.Prelude.{ℤ}
 use Rattle.std.specs.Str.{is_utf8}
 use Rattle.std.proofs.lemmas.Bool.{ltb-true, ltb-false, le-ltb, lt-ltb}
 use Rattle.std.proofs.lemmas.Bool.Decides.{nat_tests}
@@ -17,18 +17,18 @@ use Rattle.line_points.specs.declared.fault.LineFault.TheVariants as faults
 use Rattle.line_points.specs.declared.part.Part.TheVariants as parts
 use Rattle.line_points.specs.declared.mode.Mode.{Mode}
 use Rattle.line_points.specs.Parts.{comma, space, begins, is_space, stops, without_spaces, text_from, text_at, is_at_separator}
-use Rattle.line_points.specs.Line.{Tag, differ, measurement_at, tags_from, tags_at, fields_at, time_of, point_of, stored_of, line_of, is_live, is_blank, Faulty}
+use Rattle.line_points.specs.Line.{Tag, differ, measurement_at, tags_at, fields_at, time_of, point_of, stored_of, line_of, is_live, is_blank, Faulty}
 use Rattle.line_points.specs.Grammar.{IsBlank, spaces}
 use Rattle.line_points.specs.FaultRows.{SpellsBefore, none_before, byte_before, escape_before, TagsBefore, SpelledUpTo, NoMeasurement, FieldPlace, first_place, later_place, FaultOfText, measurement_row, tag_row, no_field_row, field_row, time_row, FaultOfStored, utf8_row, text_row, FaultOfLine, long_row, short_row}
-use Rattle.kap_base.proofs.TestLaws.{first_of, first_false, second_false, not_true, ok_is, err_is, bind_ok, bind_err, made_err, else_ok, then_ok}
+use Rattle.kap_base.proofs.TestLaws.{first_of, second_false, not_true, err_is, bind_err, made_err}
 use Rattle.line_points.proofs.SpellLaws.{Reading, at_end, at_stop, over_escape, over_plain, reading, step_stop}
 use Rattle.line_points.proofs.SpaceLaws.{after_spaces, spaces_skipped, behind_spaces, some_before}
-use Rattle.line_points.proofs.BeforeLaws.{text_read, text_again, TagsRead, tags_read, tags_are_bad, bad_tags_again, next-before, over_tags}
+use Rattle.line_points.proofs.TagLaws.{tag_map_read, next-before, tags_up_to}
+use Rattle.line_points.proofs.TagFaultLaws.{tags_are_bad, bad_tags_again}
 use Rattle.line_points.proofs.FieldFaultLaws.{FieldsFault, no_fields, bad_field, fields_fault, place_fault, no_fields_read}
 use Rattle.line_points.proofs.TimeFaultLaws.{time_fault, time_fault_read}
-use Rattle.line_points.proofs.WholeLaws.{no_sign, here_next, next_here, field_map_taken, field_map_again, fields_some}
+use Rattle.line_points.proofs.WholeLaws.{NameRead, name_read, name_again, field_map_taken, field_map_again, fields_some}
 use Rattle.line_points.proofs.TimeLaws.{empty_nil}
-use Rattle.line_points.proofs.LineLaws.{onto, ended}
 use Rattle.line_points.proofs.BlankLaws.{blank_is, is_blank_line}
 
 -- ---- the measurement
@@ -80,34 +80,7 @@ none_again (b ∷ rest) h = elim (begins_with number_sign (b ∷ rest)) as (λ t
   | false ↦ λ t. let stop : stops parts.Measurement b ≡ true = grind (arith, nat_tests) in rw (t, step_stop parts.Measurement b rest stop) refl
 ] refl
 
-record NameRead (bytes text rest : List ℕ) : Type 0 where
-  name : List ℕ
-  is : bytes ≡ name ++ rest
-  some : is_empty text ≡ false
-  no_comment : begins_with number_sign text ≡ false
-  spells : SpellsBefore parts.Measurement rest text name
-  next : is_at_separator rest ≡ true
-
-name_read : (bytes : List ℕ) (read : List ℕ × List ℕ) → measurement_at bytes ≡ Ok read → NameRead bytes read.0 read.1
-unfolding measurement_at
-name_read bytes read e =
-    let text = text_at parts.Measurement bytes in
-    let g = else_ok (begins_with number_sign bytes || is_empty text.0) faults.Measurement text read e in
-    let t = text_read parts.Measurement bytes in
-    let made : NameRead bytes text.0 text.1 = record {
-      name = t.spelling;
-      is = t.is;
-      some = second_false (begins_with number_sign bytes) (is_empty text.0) g.0;
-      no_comment = no_sign (reading parts.Measurement bytes) (first_false (begins_with number_sign bytes) (is_empty text.0) g.0);
-      spells = t.spells;
-      next = here_next text.1 t.here;
-    } in
-    subst (λ (x : List ℕ × List ℕ). NameRead bytes x.0 x.1) g.1 made
-
-name_no_sign : {rest text name : List ℕ} → SpellsBefore parts.Measurement rest text name → is_empty text ≡ false → begins_with number_sign text ≡ false → begins_with number_sign (name ++ rest) ≡ false
-name_no_sign none_before some none = absurd cc
-name_no_sign (byte_before b text bytes h more) some none = none
-name_no_sign (escape_before b text bytes h more) some none = refl
+-- ---- up to a place
 
 name_no_space : {rest text name : List ℕ} → SpellsBefore parts.Measurement rest text name → is_empty text ≡ false → begins is_space (name ++ rest) ≡ false
 name_no_space none_before some = absurd cc
@@ -115,12 +88,6 @@ name_no_space {rest} (byte_before b text bytes h more) some =
     let goes : stops parts.Measurement b ≡ false = not_true (stops parts.Measurement b) (first_of (not (stops parts.Measurement b)) _ h) in
     second_false (eqb b comma) (is_space b) goes
 name_no_space (escape_before b text bytes h more) some = refl
-
-name_again : (text name rest : List ℕ) → SpellsBefore parts.Measurement rest text name → is_empty text ≡ false → begins_with number_sign text ≡ false → is_at_separator rest ≡ true → measurement_at (name ++ rest) ≡ Ok (text, rest)
-unfolding measurement_at
-name_again text name rest spells some none next = rw (name_no_sign spells some none, text_again spells (next_here rest next), some) refl
-
--- ---- up to a place
 
 built : (line text name behind tags rest : List ℕ) (ts : List Tag) → NameRead (without_spaces line) text behind → behind ≡ tags ++ rest → TagsBefore rest ts tags → differ ts ≡ true → is_at_separator rest ≡ true → SpelledUpTo line ts rest
 built line text name behind tags rest ts n is spells apart next =
@@ -147,26 +114,6 @@ name_up_to : (line : List ℕ) (ts : List Tag) (rest : List ℕ) → (s : Spelle
 name_up_to line ts rest s =
     ap measurement_at (bytes_up_to line ts rest s) ∙ name_again s.text s.name (s.tags ++ rest) s.name_spelled s.some_name s.no_comment (next-before s.tags_spelled s.ends)
 
-tags_up_to : (tags rest : List ℕ) (ts : List Tag) → TagsBefore rest ts tags → differ ts ≡ true → is_at_separator rest ≡ true → begins_with comma rest ≡ false → tags_at (tags ++ rest) ≡ Ok (with_entries empty ts, rest)
-unfolding tags_at
-tags_up_to tags rest ts spells apart next none =
-    let o = over_tags spells (length (tags ++ rest)) (omega arith) next in
-    let read : tags_from (length (tags ++ rest)) (tags ++ rest) ≡ Ok (ts, rest) = o.same ∙ ap (onto ts) (ended o.left rest none) ∙ ap (λ (x : List Tag). let y : Result (List Tag × List ℕ) LineFault = Ok (x, rest) in y) (append-nil ts) in
-    rw (read, apart) refl
-
-record TagMapRead (bytes rest : List ℕ) : Type 0 where
-  ts : List Tag
-  apart : differ ts ≡ true
-  read : TagsRead bytes ts rest
-
-tag_map_read : (bytes : List ℕ) (tags : KeyMap (List ℕ) × List ℕ) → tags_at bytes ≡ Ok tags → TagMapRead bytes tags.1
-unfolding tags_at
-tag_map_read bytes tags e =
-    let t = bind_ok (tags_from (length bytes) bytes) (λ x. cond (differ x.0) (Ok (with_entries empty x.0, x.1)) (Err faults.Tag)) tags e in
-    let g = then_ok (differ t.0.0) faults.Tag (Ok (with_entries empty t.0.0, t.0.1)) tags t.2 in
-    let rest_is : t.0.1 ≡ tags.1 = ap (λ (x : KeyMap (List ℕ) × List ℕ). x.1) (ok_is {E = LineFault} (with_entries empty t.0.0, t.0.1) tags g.1) in
-    subst (TagMapRead bytes) rest_is (record { ts = t.0.0; apart = g.0; read = tags_read (length bytes) bytes t.0.0 t.0.1 (omega arith) t.1 })
-
 -- ---- a line has the fault of its row
 
 place_some : {behind rest : List ℕ} → FieldPlace behind rest → is_empty behind ≡ false
@@ -187,19 +134,19 @@ tag_fault mode line f name name_is e =
 field_fault : (mode : Mode) (line : List ℕ) (f : LineFault) (name : List ℕ × List ℕ) (tags : KeyMap (List ℕ) × List ℕ) → measurement_at (without_spaces line) ≡ Ok name → tags_at name.1 ≡ Ok tags → FieldsFault tags.1 f → FaultOfText mode line f
 field_fault mode line _ name tags name_is tags_are (no_fields none) =
     let n = name_read (without_spaces line) name name_is in
-    let t = tag_map_read name.1 tags tags_are in
+    let t = tag_map_read name.1 tags.0 tags.1 tags_are in
     let s = spaces_only tags.1 none in
     no_field_row t.ts s.0 (subst (SpelledUpTo line t.ts) s.1 (built line name.0 n.name name.1 t.read.front tags.1 t.ts n t.read.is t.read.spells t.apart (t.read.next n.next)))
 field_fault mode line f name tags name_is tags_are (bad_field _ rest place fault) =
     let n = name_read (without_spaces line) name name_is in
-    let t = tag_map_read name.1 tags tags_are in
+    let t = tag_map_read name.1 tags.0 tags.1 tags_are in
     let s = behind_spaces tags.1 (t.read.next n.next) t.read.none (some_before tags.1 (place_some place)) in
     field_row f t.ts s.more (without_spaces tags.1) rest (subst (SpelledUpTo line t.ts) s.is (built line name.0 n.name name.1 t.read.front tags.1 t.ts n t.read.is t.read.spells t.apart (t.read.next n.next))) place fault
 
 last_fault : (mode : Mode) (line : List ℕ) (f : LineFault) (name : List ℕ × List ℕ) (tags : KeyMap (List ℕ) × List ℕ) (fields : KeyMap Value × List ℕ) → measurement_at (without_spaces line) ≡ Ok name → tags_at name.1 ≡ Ok tags → fields_at tags.1 ≡ Ok fields → time_of mode (without_spaces fields.1) ≡ Err f → FaultOfText mode line f
 last_fault mode line f name tags fields name_is tags_are fields_are e =
     let n = name_read (without_spaces line) name name_is in
-    let t = tag_map_read name.1 tags tags_are in
+    let t = tag_map_read name.1 tags.0 tags.1 tags_are in
     let m = field_map_taken tags.1 fields.0 fields.1 fields_are in
     let s = behind_spaces tags.1 (t.read.next n.next) t.read.none (some_before tags.1 m.some) in
     let up = subst (SpelledUpTo line t.ts) (s.is ∙ ap (λ (x : List ℕ). space ∷ (spaces s.more ++ x)) m.taken.is) (built line name.0 n.name name.1 t.read.front tags.1 t.ts n t.read.is t.read.spells t.apart (t.read.next n.next)) in

@@ -7,6 +7,7 @@ use Rattle.line_points.specs.declared.part.Part.{Part}
 use Rattle.line_points.specs.declared.part.Part.TheVariants as parts
 use Rattle.line_points.specs.Parts.{escapes, stops, ends, opens_escape, begins, text_from, text_at}
 use Rattle.line_points.specs.Grammar.{stands_alone, Spells, no_bytes, plain, behind_backslash}
+use Rattle.line_points.specs.FaultRows.{stands_before, SpellsBefore, none_before, byte_before, escape_before}
 use Rattle.kap_base.proofs.TestLaws.{first_of, second_of, both, not_true, not_false}
 
 -- the part ends here
@@ -83,37 +84,57 @@ reading part (b ∷ c ∷ bs) =
 -- ---- what is read is spelled so
 
 -- the bytes begin with a spelling of the text, and the part ends behind it
+pub record TextRead (part : Part) (bytes text rest : List ℕ) : Type 0 where
+  pub spelling : List ℕ
+  pub is : bytes ≡ spelling ++ rest
+  pub spells : SpellsBefore part rest text spelling
+  pub here : ends_here part rest ≡ true
+
+alone : (part : Part) (b : ℕ) (bs : List ℕ) → stops part b ≡ false → opens_escape part false b bs ≡ false → stands_before part b bs ≡ true
+alone part b bs goes none = both (not (stops part b)) _ (not_false (stops part b) goes) (not_false _ none)
+
+read_text : {part : Part} {bytes text rest : List ℕ} → Reading part bytes text rest → TextRead part bytes text rest
+read_text at_end = record { spelling = []; is = refl; spells = none_before; here = refl }
+read_text (at_stop b bs h) = record { spelling = []; is = refl; spells = none_before; here = h }
+read_text (over_escape b bs text rest h more) =
+    let t = read_text more in
+    record { spelling = backslash ∷ b ∷ t.spelling; is = ap (λ (x : List ℕ). backslash ∷ b ∷ x) t.is; spells = escape_before b text t.spelling h t.spells; here = t.here }
+read_text {part} (over_plain b bs text rest goes none more) =
+    let t = read_text more in
+    record { spelling = b ∷ t.spelling; is = ap (λ (x : List ℕ). b ∷ x) t.is; spells = byte_before b text t.spelling (alone part b (t.spelling ++ rest) goes (subst (λ (x : List ℕ). opens_escape part false b x ≡ false) t.is none)) t.spells; here = t.here }
+
+pub text_read : (part : Part) (bytes : List ℕ) → TextRead part bytes (text_at part bytes).0 (text_at part bytes).1
+text_read part bytes = read_text (reading part bytes)
+
+-- where a part ends behind it, a backslash at the end of a spelling would be an escape
+follows : (part : Part) (bytes rest : List ℕ) → begins (escapes part) (bytes ++ rest) ≡ false → ends_here part rest ≡ true → is_empty rest ≡ false → begins (λ c. not (escapes part c)) bytes ≡ true
+follows part [] [] none here some = absurd cc
+follows part [] (r ∷ rest) none here some = let can = stops-escape part r here in absurd cc
+follows part (c ∷ bytes) rest none here some = not_false (escapes part c) none
+
+stands : (part : Part) (b : ℕ) (bytes rest : List ℕ) → stands_before part b (bytes ++ rest) ≡ true → ends_here part rest ≡ true → is_empty rest ≡ false → stands_alone part b bytes ≡ true
+stands part b bytes rest h here some =
+    both (not (stops part b)) _ (first_of (not (stops part b)) _ h)
+    (elim (eqb b backslash) as (λ t. (t && begins (escapes part) (bytes ++ rest)) ≡ false → (not t || begins (λ c. not (escapes part c)) bytes) ≡ true) [
+      | false ↦ λ _. refl
+      | true ↦ λ none. follows part bytes rest none here some
+    ] (not_true _ (second_of (not (stops part b)) _ h)))
+
+-- what is spelled before the end of a part is spelled whatever follows
+pub whole : {part : Part} {rest text bytes : List ℕ} → SpellsBefore part rest text bytes → ends_here part rest ≡ true → is_empty rest ≡ false → Spells part text bytes
+whole none_before here some = no_bytes
+whole {part} {rest} (byte_before b text bytes h more) here some = plain b text bytes (stands part b bytes rest h here some) (whole more here some)
+whole (escape_before b text bytes h more) here some = behind_backslash b text bytes h (whole more here some)
+
+-- the bytes begin with a spelling of the text, and the part ends behind it
 pub record Taken (part : Part) (bytes text rest : List ℕ) : Type 0 where
   pub spelling : List ℕ
   pub is : bytes ≡ spelling ++ rest
   pub spells : Spells part text spelling
   pub here : ends_here part rest ≡ true
 
-alone : (part : Part) (b : ℕ) (spelling rest bs : List ℕ) → stops part b ≡ false → opens_escape part false b bs ≡ false → bs ≡ spelling ++ rest → ends_here part rest ≡ true → is_empty rest ≡ false → stands_alone part b spelling ≡ true
-alone part b spelling rest bs goes none is here some =
-    both (not (stops part b)) _ (not_false (stops part b) goes)
-    (elim (eqb b backslash) as (λ t. (t && begins (escapes part) bs) ≡ false → (not t || begins (λ c. not (escapes part c)) spelling) ≡ true) [
-      | false ↦ λ _. refl
-      | true ↦ λ none. follows part spelling rest (ap (begins (escapes part)) (sym is) ∙ none) here some
-    ] none)
-  where
-    follows : (part : Part) (spelling rest : List ℕ) → begins (escapes part) (spelling ++ rest) ≡ false → ends_here part rest ≡ true → is_empty rest ≡ false → begins (λ c. not (escapes part c)) spelling ≡ true
-    follows part [] [] none here some = absurd cc
-    follows part [] (r ∷ rest) none here some = let can = stops-escape part r here in absurd cc
-    follows part (c ∷ spelling) rest none here some = not_false (escapes part c) none
-
-pub taken : {part : Part} {bytes text rest : List ℕ} → Reading part bytes text rest → is_empty rest ≡ false → Taken part bytes text rest
-taken at_end some = absurd cc
-taken (at_stop b bs h) some = record { spelling = []; is = refl; spells = no_bytes; here = h }
-taken (over_escape b bs text rest h more) some =
-    let t = taken more some in
-    record { spelling = backslash ∷ b ∷ t.spelling; is = ap (λ (x : List ℕ). backslash ∷ b ∷ x) t.is; spells = behind_backslash b text t.spelling h t.spells; here = t.here }
-taken {part} (over_plain b bs text rest goes none more) some =
-    let t = taken more some in
-    record { spelling = b ∷ t.spelling; is = ap (λ (x : List ℕ). b ∷ x) t.is; spells = plain b text t.spelling (alone part b t.spelling rest bs goes none t.is t.here some) t.spells; here = t.here }
-
 pub text_taken : (part : Part) (bytes : List ℕ) → is_empty (text_at part bytes).1 ≡ false → Taken part bytes (text_at part bytes).0 (text_at part bytes).1
-text_taken part bytes some = taken (reading part bytes) some
+text_taken part bytes some = let t = text_read part bytes in record { spelling = t.spelling; is = t.is; spells = whole t.spells t.here some; here = t.here }
 
 -- ---- what is spelled is read
 
@@ -133,10 +154,20 @@ unfolding text_from
 no_text part [] here = refl
 no_text part (b ∷ bs) here = step_stop part b bs here
 
+pub text_again : {part : Part} {rest text spelling : List ℕ} → SpellsBefore part rest text spelling → ends_here part rest ≡ true → text_at part (spelling ++ rest) ≡ (text, rest)
+text_again {part} {rest} none_before here = no_text part rest here
+text_again {part} {rest} (byte_before b text bytes h more) here =
+    step_plain part b (bytes ++ rest) (not_true (stops part b) (first_of (not (stops part b)) _ h)) (not_true _ (second_of (not (stops part b)) _ h))
+    ∙ ap (keep b) (text_again more here)
+text_again {part} {rest} (escape_before b text bytes h more) here =
+    step_escape part b (bytes ++ rest) h ∙ ap (keep b) (text_again more here)
+
+-- what is spelled whatever follows is spelled before these bytes
+pub before : {part : Part} {text bytes : List ℕ} → Spells part text bytes → (rest : List ℕ) → SpellsBefore part rest text bytes
+before no_bytes rest = none_before
+before {part} (plain b text bytes h more) rest =
+    byte_before b text bytes (both (not (stops part b)) _ (first_of (not (stops part b)) _ h) (not_false _ (begun_alone part b bytes rest (second_of (not (stops part b)) _ h)))) (before more rest)
+before (behind_backslash b text bytes h more) rest = escape_before b text bytes h (before more rest)
+
 pub spelling_again : {part : Part} {text spelling : List ℕ} → Spells part text spelling → (rest : List ℕ) → ends_here part rest ≡ true → text_at part (spelling ++ rest) ≡ (text, rest)
-spelling_again {part} no_bytes rest here = no_text part rest here
-spelling_again {part} (plain b text bytes h more) rest here =
-    step_plain part b (bytes ++ rest) (not_true (stops part b) (first_of (not (stops part b)) _ h)) (begun_alone part b bytes rest (second_of (not (stops part b)) _ h))
-    ∙ ap (keep b) (spelling_again more rest here)
-spelling_again {part} (behind_backslash b text bytes h more) rest here =
-    step_escape part b (bytes ++ rest) h ∙ ap (keep b) (spelling_again more rest here)
+spelling_again spells rest here = text_again (before spells rest) here

@@ -16,11 +16,12 @@ use Rattle.line_points.specs.declared.fault.LineFault.TheVariants as faults
 use Rattle.line_points.specs.declared.part.Part.TheVariants as parts
 use Rattle.line_points.specs.declared.mode.Mode.{Mode}
 use Rattle.line_points.specs.Parts.{comma, equals, space, begins, is_space, without_spaces, text_at, is_at_separator}
-use Rattle.line_points.specs.Line.{Tag, Field, differ, measurement_at, tags_from, tags_at, fields_from, fields_at, time_of, point_of, stored_of, line_of, is_live, is_blank}
+use Rattle.line_points.specs.Line.{Tag, Field, differ, measurement_at, tags_at, fields_from, fields_at, time_of, point_of, stored_of, line_of, is_live, is_blank}
+use Rattle.line_points.specs.FaultRows.{SpellsBefore, none_before, byte_before, escape_before}
 use Rattle.line_points.specs.Grammar.{Spells, no_bytes, plain, behind_backslash, spaces, SpellsTags, SpellsFields, one_field, more_fields, SpellsTime, Spelled, IsOf}
-use Rattle.kap_base.proofs.TestLaws.{first_false, second_false, ok_is, bind_ok, else_ok, then_ok, unless_ok}
-use Rattle.line_points.proofs.SpellLaws.{ends_here, Reading, at_end, at_stop, over_escape, over_plain, reading, text_taken, spelling_again}
-use Rattle.line_points.proofs.TagLaws.{some_behind, TagsTaken, tags_taken, next-tags, tags_again}
+use Rattle.kap_base.proofs.TestLaws.{first_false, second_false, ok_is, bind_ok, else_ok, unless_ok}
+use Rattle.line_points.proofs.SpellLaws.{ends_here, Reading, at_end, at_stop, over_escape, over_plain, reading, text_read, text_again, whole, before}
+use Rattle.line_points.proofs.TagLaws.{some_behind, tag_map_read, next-before, tags_whole, tags_before, tags_up_to}
 use Rattle.line_points.proofs.FieldLaws.{FieldsTaken, fields_taken, fields_again}
 use Rattle.line_points.proofs.SpaceLaws.{after_spaces, spaces_skipped, some_before, behind_spaces}
 use Rattle.line_points.proofs.TimeLaws.{time_taken, time_again, next-time, no_comma-time}
@@ -42,48 +43,41 @@ pub next_here : (rest : List ℕ) → is_at_separator rest ≡ true → ends_her
 next_here [] h = refl
 next_here (b ∷ bs) h = h
 
-record NameTaken (bytes name rest : List ℕ) : Type 0 where
-  spelling : List ℕ
-  is : bytes ≡ spelling ++ rest
-  some : is_empty name ≡ false
-  no_comment : begins_with number_sign name ≡ false
-  spells : Spells parts.Measurement name spelling
-  next : is_at_separator rest ≡ true
+-- the bytes begin with a spelling of the measurement
+pub record NameRead (bytes text rest : List ℕ) : Type 0 where
+  pub name : List ℕ
+  pub is : bytes ≡ name ++ rest
+  pub some : is_empty text ≡ false
+  pub no_comment : begins_with number_sign text ≡ false
+  pub spells : SpellsBefore parts.Measurement rest text name
+  pub next : is_at_separator rest ≡ true
 
-name_taken : (bytes name rest : List ℕ) → measurement_at bytes ≡ Ok (name, rest) → is_empty rest ≡ false → NameTaken bytes name rest
+pub name_read : (bytes : List ℕ) (read : List ℕ × List ℕ) → measurement_at bytes ≡ Ok read → NameRead bytes read.0 read.1
 unfolding measurement_at
-name_taken bytes name rest e some =
+name_read bytes read e =
     let text = text_at parts.Measurement bytes in
-    let g = else_ok (begins_with number_sign bytes || is_empty text.0) faults.Measurement text (name, rest) e in
-    let some_rest : is_empty text.1 ≡ false = ap (λ (x : List ℕ × List ℕ). is_empty x.1) g.1 ∙ some in
-    let t = text_taken parts.Measurement bytes some_rest in
-    let made : NameTaken bytes text.0 text.1 = record {
-      spelling = t.spelling;
+    let g = else_ok (begins_with number_sign bytes || is_empty text.0) faults.Measurement text read e in
+    let t = text_read parts.Measurement bytes in
+    let made : NameRead bytes text.0 text.1 = record {
+      name = t.spelling;
       is = t.is;
       some = second_false (begins_with number_sign bytes) (is_empty text.0) g.0;
       no_comment = no_sign (reading parts.Measurement bytes) (first_false (begins_with number_sign bytes) (is_empty text.0) g.0);
       spells = t.spells;
       next = here_next text.1 t.here;
     } in
-    subst (λ (x : List ℕ × List ℕ). NameTaken bytes x.0 x.1) g.1 made
+    subst (λ (x : List ℕ × List ℕ). NameRead bytes x.0 x.1) g.1 made
 
--- ---- tags and fields as maps
+name_no_sign : {rest text name : List ℕ} → SpellsBefore parts.Measurement rest text name → is_empty text ≡ false → begins_with number_sign text ≡ false → begins_with number_sign (name ++ rest) ≡ false
+name_no_sign none_before some none = absurd cc
+name_no_sign (byte_before b text bytes h more) some none = none
+name_no_sign (escape_before b text bytes h more) some none = refl
 
-record TagMapTaken (bytes : List ℕ) (tags : KeyMap (List ℕ)) (rest : List ℕ) : Type 0 where
-  ts : List Tag
-  are : tags ≡ with_entries empty ts
-  apart : differ ts ≡ true
-  taken : TagsTaken bytes ts rest
+pub name_again : (text name rest : List ℕ) → SpellsBefore parts.Measurement rest text name → is_empty text ≡ false → begins_with number_sign text ≡ false → is_at_separator rest ≡ true → measurement_at (name ++ rest) ≡ Ok (text, rest)
+unfolding measurement_at
+name_again text name rest spells some none next = rw (name_no_sign spells some none, text_again spells (next_here rest next), some) refl
 
-tag_map_taken : (bytes : List ℕ) (tags : KeyMap (List ℕ)) (rest : List ℕ) → tags_at bytes ≡ Ok (tags, rest) → is_empty rest ≡ false → TagMapTaken bytes tags rest
-unfolding tags_at
-tag_map_taken bytes tags rest e some =
-    let t = bind_ok (tags_from (length bytes) bytes) (λ x. cond (differ x.0) (Ok (with_entries empty x.0, x.1)) (Err faults.Tag)) (tags, rest) e in
-    let g = then_ok (differ t.0.0) faults.Tag (Ok (with_entries empty t.0.0, t.0.1)) (tags, rest) t.2 in
-    let end_is = ok_is {E = LineFault} (with_entries empty t.0.0, t.0.1) (tags, rest) g.1 in
-    let some_end : is_empty t.0.1 ≡ false = ap (λ (x : KeyMap (List ℕ) × List ℕ). is_empty x.1) end_is ∙ some in
-    let made : TagMapTaken bytes (with_entries empty t.0.0) t.0.1 = record { ts = t.0.0; are = refl; apart = g.0; taken = tags_taken (length bytes) bytes t.0.0 t.0.1 (omega arith) t.1 some_end } in
-    subst (λ (x : KeyMap (List ℕ) × List ℕ). TagMapTaken bytes x.0 x.1) end_is made
+-- ---- the map of the fields
 
 pub record FieldMapTaken (bytes : List ℕ) (fields : KeyMap Value) (rest : List ℕ) : Type 0 where
   pub fs : List Field
@@ -109,26 +103,26 @@ regrouped line before name tags between fields time behind a b c d e p q r s t u
 pub parts_spelled : (db rp : List ℕ) (mode : Mode) (line name : List ℕ) (tags : KeyMap (List ℕ)) (fields : KeyMap Value) (time : ℤ) (behind_name behind_tags behind_fields : List ℕ) → measurement_at (without_spaces line) ≡ Ok (name, behind_name) → tags_at behind_name ≡ Ok (tags, behind_tags) → fields_at behind_tags ≡ Ok (fields, behind_fields) → time_of mode (without_spaces behind_fields) ≡ Ok time → Spelled mode (record { db = db; rp = rp; name = name; tags = tags; fields = fields; dims = []; by_name = false; time = time }) line
 parts_spelled db rp mode line name tags fields time behind_name behind_tags behind_fields name_is tags_are fields_are time_is =
     let f = field_map_taken behind_tags fields behind_fields fields_are in
-    let t = tag_map_taken behind_name tags behind_tags tags_are (some_before behind_tags f.some) in
-    let some_tail : is_empty behind_name ≡ false = ap is_empty t.taken.is ∙ some_behind t.taken.front behind_tags (some_before behind_tags f.some) in
-    let n = name_taken (without_spaces line) name behind_name name_is some_tail in
+    let t = tag_map_read behind_name tags behind_tags tags_are in
+    let some_tail : is_empty behind_name ≡ false = ap is_empty t.read.is ∙ some_behind t.read.front behind_tags (some_before behind_tags f.some) in
+    let n = name_read (without_spaces line) (name, behind_name) name_is in
     let m = time_taken mode time behind_fields f.taken.next f.taken.none time_is in
     let first = after_spaces line in
-    let middle = behind_spaces behind_tags (t.taken.next n.next) t.taken.none (some_before behind_tags f.some) in
+    let middle = behind_spaces behind_tags (t.read.next n.next) t.read.none (some_before behind_tags f.some) in
     record {
       before = first.count;
-      name = n.spelling;
-      tags = t.taken.front;
+      name = n.name;
+      tags = t.read.front;
       between = middle.more;
       fields = f.taken.front;
       time = m.time;
       behind = m.behind;
-      line_is = regrouped line (spaces first.count) n.spelling t.taken.front (spaces middle.more) f.taken.front m.time (spaces m.behind) (without_spaces line) behind_name behind_tags (without_spaces behind_tags) behind_fields first.is n.is t.taken.is middle.is f.taken.is m.is;
+      line_is = regrouped line (spaces first.count) n.name t.read.front (spaces middle.more) f.taken.front m.time (spaces m.behind) (without_spaces line) behind_name behind_tags (without_spaces behind_tags) behind_fields first.is n.is t.read.is middle.is f.taken.is m.is;
       some_name = n.some;
       no_comment = n.no_comment;
-      name_spelled = n.spells;
+      name_spelled = whole n.spells (next_here behind_name n.next) some_tail;
       ts = t.ts;
-      tags_spelled = t.taken.spells;
+      tags_spelled = tags_whole t.read.spells (t.read.next n.next) (some_before behind_tags f.some);
       keys_differ = t.apart;
       tags_are = t.are;
       fs = f.fs;
@@ -213,21 +207,6 @@ spelled_some no_bytes rest some = absurd cc
 spelled_some (plain b text bytes h more) rest some = refl
 spelled_some (behind_backslash b text bytes h more) rest some = refl
 
-pub spelled_no_sign : {name spelling : List ℕ} → Spells parts.Measurement name spelling → (rest : List ℕ) → is_empty name ≡ false → begins_with number_sign name ≡ false → begins_with number_sign (spelling ++ rest) ≡ false
-spelled_no_sign no_bytes rest some none = absurd cc
-spelled_no_sign (plain b text bytes h more) rest some none = none
-spelled_no_sign (behind_backslash b text bytes h more) rest some none = refl
-
-name_again : (name spelling rest : List ℕ) → Spells parts.Measurement name spelling → is_empty name ≡ false → begins_with number_sign name ≡ false → is_at_separator rest ≡ true → measurement_at (spelling ++ rest) ≡ Ok (name, rest)
-unfolding measurement_at
-name_again name spelling rest spells some none next =
-    rw (spelled_no_sign spells rest some none, spelling_again spells rest (next_here rest next), some) refl
-
-tag_map_again : (ts : List Tag) (front rest : List ℕ) → SpellsTags ts front → differ ts ≡ true → is_at_separator rest ≡ true → begins_with comma rest ≡ false → tags_at (front ++ rest) ≡ Ok (with_entries empty ts, rest)
-unfolding tags_at
-tag_map_again ts front rest spells apart next none =
-    rw (tags_again spells (length (front ++ rest)) rest (omega arith) next none, apart) refl
-
 key_first : {k key : List ℕ} → Spells parts.Key k key → (more rest : List ℕ) → is_empty k ≡ false → begins is_space ((key ++ more) ++ rest) ≡ false
 key_first no_bytes more rest some = absurd cc
 key_first (plain b text bytes h spells) more rest some = grind (arith, nat_tests)
@@ -261,8 +240,9 @@ unfolding point_of
 parts_again db rp mode p between behind name tags fields time ts fs is name_spelled some none tags_spelled apart tags_are fields_spelled fields_are time_spelled =
     let last = time ++ spaces behind in
     let middle = space ∷ (spaces between ++ (fields ++ last)) in
-    let n = name_again p.name name (tags ++ middle) name_spelled some none (next-tags tags_spelled middle refl) in
-    let t = tag_map_again ts tags middle tags_spelled apart refl refl in
+    let spelled_before = tags_before tags_spelled middle in
+    let n = name_again p.name name (tags ++ middle) (before name_spelled (tags ++ middle)) some none (next-before spelled_before refl) in
+    let t = tags_up_to tags middle ts spelled_before apart refl refl in
     let f = field_map_again fs fields last between fields_spelled (next-time time_spelled behind) (no_comma-time time_spelled behind) in
     rw (n, t, f, time_again time_spelled behind) (ap (λ (x : PointValue). Ok x) (same_point db rp p ts fs is tags_are fields_are))
 
@@ -282,7 +262,7 @@ never_blank mode p line s =
     let rest = s.tags ++ (space ∷ (spaces s.between ++ (s.fields ++ (s.time ++ spaces s.behind)))) in
     ap (λ (x : List ℕ). is_blank (without_spaces x)) s.line_is
     ∙ ap is_blank (spaces_skipped s.before (s.name ++ rest) (spelled_first s.name_spelled rest s.some_name))
-    ∙ rw (spelled_some s.name_spelled rest s.some_name, spelled_no_sign s.name_spelled rest s.some_name s.no_comment) refl
+    ∙ rw (spelled_some s.name_spelled rest s.some_name, name_no_sign (before s.name_spelled rest) s.some_name s.no_comment) refl
 
 no_matter : (b : Bool) → (b && false) ≡ false
 no_matter true = refl

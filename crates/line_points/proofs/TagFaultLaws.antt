@@ -1,192 +1,22 @@
--- Texts and tags that are read are spelled so before what follows them, also where the line ends; and where a tag is faulty.
-use Rattle.std.proofs.Common.{◌≡◌, ℕ, zero, suc, ◌<◌, ◌≤◌, Bool, true, false, not, cond, ◌&&◌, ◌||◌, List, [], ◌∷◌, ◌++◌, length, drop, Ok, Err, refl, sym, ap, subst, ◌∙◌, append_assoc, arith}
+-- Where a tag is faulty: what is read, and what stands there.
+use Rattle.std.proofs.Common.{◌≡◌, ℕ, zero, suc, ◌≤◌, Bool, true, false, not, cond, ◌&&◌, ◌||◌, List, [], ◌∷◌, ◌++◌, length, drop, Ok, Err, refl, sym, ap, subst, ◌∙◌, append_assoc, arith}
 use Rattle.std.specs.Prelude.{Result, bytes_eq}
 use Rattle.std.specs.List.{list_any}
 use Rattle.std.specs.FinMap.{empty}
-use Rattle.std.proofs.lemmas.List.{append-nil, length-append}
+use Rattle.std.proofs.lemmas.List.{append-nil}
 use Rattle.std.proofs.lemmas.List.Folds.{list_any-append}
 use Rattle.kap_base.specs.Words.{◌>>=◌}
-use Rattle.kap_base.specs.Texts.{backslash, is_empty, begins_with}
+use Rattle.kap_base.specs.Texts.{is_empty, begins_with}
 use Rattle.kap_base.specs.Maps.{KeyMap, with_entries}
 use Rattle.line_points.specs.declared.fault.LineFault.{LineFault}
 use Rattle.line_points.specs.declared.fault.LineFault.TheVariants as faults
-use Rattle.line_points.specs.declared.part.Part.{Part}
 use Rattle.line_points.specs.declared.part.Part.TheVariants as parts
-use Rattle.line_points.specs.Parts.{comma, equals, stops, opens_escape, text_at, is_at_separator}
+use Rattle.line_points.specs.Parts.{comma, equals, text_at}
 use Rattle.line_points.specs.Line.{Tag, differ, tag_at, tags_from, tags_at}
-use Rattle.line_points.specs.Grammar.{Spells}
-use Rattle.line_points.specs.FaultRows.{stands_before, SpellsBefore, none_before, byte_before, escape_before, TagsBefore, no_tag_before, tag_before, NewTag}
-use Rattle.kap_base.proofs.TestLaws.{first_of, second_of, first_false, both, not_true, not_false, ok_is, bind_ok, guard_ok}
-use Rattle.line_points.proofs.SpellLaws.{ends_here, keep, Reading, at_end, at_stop, over_escape, over_plain, reading, text_taken, spelling_again, step_plain, step_escape, no_text}
-use Rattle.line_points.proofs.TagLaws.{no_equals, next_here, here_next, begins_some, behind_first, one_tag}
+use Rattle.line_points.specs.FaultRows.{SpellsBefore, TagsBefore, no_tag_before, tag_before, NewTag}
+use Rattle.kap_base.proofs.TestLaws.{first_of, second_of, first_false, both, not_true, not_false, ok_is, bind_ok}
+use Rattle.line_points.proofs.TagLaws.{behind_first, TagRead, tag_read, tag_shorter, new_again, regrouped, over_tags}
 use Rattle.line_points.proofs.LineLaws.{onto, with_first, comma-shorter}
-
--- ---- texts
-
--- the bytes begin with a spelling of the text, and the part ends behind it
-pub record TextRead (part : Part) (bytes text rest : List ℕ) : Type 0 where
-  pub spelling : List ℕ
-  pub is : bytes ≡ spelling ++ rest
-  pub spells : SpellsBefore part rest text spelling
-  pub here : ends_here part rest ≡ true
-
-alone : (part : Part) (b : ℕ) (bs : List ℕ) → stops part b ≡ false → opens_escape part false b bs ≡ false → stands_before part b bs ≡ true
-alone part b bs goes none = both (not (stops part b)) _ (not_false (stops part b) goes) (not_false _ none)
-
-read_text : {part : Part} {bytes text rest : List ℕ} → Reading part bytes text rest → TextRead part bytes text rest
-read_text at_end = record { spelling = []; is = refl; spells = none_before; here = refl }
-read_text (at_stop b bs h) = record { spelling = []; is = refl; spells = none_before; here = h }
-read_text (over_escape b bs text rest h more) =
-    let t = read_text more in
-    record { spelling = backslash ∷ b ∷ t.spelling; is = ap (λ (x : List ℕ). backslash ∷ b ∷ x) t.is; spells = escape_before b text t.spelling h t.spells; here = t.here }
-read_text {part} (over_plain b bs text rest goes none more) =
-    let t = read_text more in
-    record { spelling = b ∷ t.spelling; is = ap (λ (x : List ℕ). b ∷ x) t.is; spells = byte_before b text t.spelling (alone part b (t.spelling ++ rest) goes (subst (λ (x : List ℕ). opens_escape part false b x ≡ false) t.is none)) t.spells; here = t.here }
-
-pub text_read : (part : Part) (bytes : List ℕ) → TextRead part bytes (text_at part bytes).0 (text_at part bytes).1
-text_read part bytes = read_text (reading part bytes)
-
-pub text_again : {part : Part} {rest text spelling : List ℕ} → SpellsBefore part rest text spelling → ends_here part rest ≡ true → text_at part (spelling ++ rest) ≡ (text, rest)
-text_again {part} {rest} none_before here = no_text part rest here
-text_again {part} {rest} (byte_before b text bytes h more) here =
-    step_plain part b (bytes ++ rest) (not_true (stops part b) (first_of (not (stops part b)) _ h)) (not_true _ (second_of (not (stops part b)) _ h))
-    ∙ ap (keep b) (text_again more here)
-text_again {part} {rest} (escape_before b text bytes h more) here =
-    step_escape part b (bytes ++ rest) h ∙ ap (keep b) (text_again more here)
-
--- ---- one tag
-
--- the bytes begin with a spelling of the tag
-pub record TagRead (bytes : List ℕ) (tag : Tag) (rest : List ℕ) : Type 0 where
-  pub key : List ℕ
-  pub value : List ℕ
-  pub is : bytes ≡ key ++ (equals ∷ (value ++ rest))
-  pub some_key : is_empty tag.0 ≡ false
-  pub some_value : is_empty tag.1 ≡ false
-  pub key_spells : Spells parts.Key tag.0 key
-  pub value_spells : SpellsBefore parts.Key rest tag.1 value
-  pub next : is_at_separator rest ≡ true
-
-pub tag_read : (bytes : List ℕ) (tag : Tag) (rest : List ℕ) → tag_at bytes ≡ Ok (tag, rest) → TagRead bytes tag rest
-unfolding tag_at
-tag_read bytes tag rest e =
-    let k = text_at parts.Key bytes in
-    let v = text_at parts.Key (drop 1 k.1) in
-    let g = guard_ok (begins_with equals k.1 && not (is_empty k.0) && not (is_empty v.0) && not (begins_with equals v.1)) faults.Tag ((k.0, v.0), v.1) (tag, rest) e in
-    let three : (begins_with equals k.1 && not (is_empty k.0) && not (is_empty v.0)) ≡ true = first_of _ (not (begins_with equals v.1)) g.0 in
-    let two : (begins_with equals k.1 && not (is_empty k.0)) ≡ true = first_of _ (not (is_empty v.0)) three in
-    let found : begins_with equals k.1 ≡ true = first_of _ (not (is_empty k.0)) two in
-    let kt = text_taken parts.Key bytes (begins_some equals k.1 found) in
-    let vt = text_read parts.Key (drop 1 k.1) in
-    let made : TagRead bytes (k.0, v.0) v.1 = record {
-      key = kt.spelling;
-      value = vt.spelling;
-      is = kt.is ∙ ap (λ (x : List ℕ). kt.spelling ++ x) (behind_first equals k.1 found ∙ ap (λ (x : List ℕ). equals ∷ x) vt.is);
-      some_key = not_true (is_empty k.0) (second_of (begins_with equals k.1) _ two);
-      some_value = not_true (is_empty v.0) (second_of (begins_with equals k.1 && not (is_empty k.0)) _ three);
-      key_spells = kt.spells;
-      value_spells = vt.spells;
-      next = here_next v.1 vt.here (not_true (begins_with equals v.1) (second_of (begins_with equals k.1 && not (is_empty k.0) && not (is_empty v.0)) _ g.0));
-    } in
-    subst (λ (x : Tag × List ℕ). TagRead bytes x.0 x.1) g.1 made
-
-tag_again : (k v key value rest : List ℕ) → is_empty k ≡ false → is_empty v ≡ false → Spells parts.Key k key → SpellsBefore parts.Key rest v value → is_at_separator rest ≡ true → tag_at (key ++ (equals ∷ (value ++ rest))) ≡ Ok ((k, v), rest)
-unfolding tag_at
-tag_again k v key value rest some_key some_value key_spells value_spells next =
-    let key_is = spelling_again key_spells (equals ∷ (value ++ rest)) refl in
-    let value_is = text_again value_spells (next_here rest next) in
-    rw (key_is, value_is, some_key, some_value, no_equals rest next) refl
-
-new_again : (ts : List Tag) (bytes : List ℕ) → (t : NewTag ts bytes) → tag_at bytes ≡ Ok ((t.k, t.v), t.rest)
-new_again ts bytes t = ap tag_at t.is ∙ tag_again t.k t.v t.key t.value t.rest t.some_key t.some_value t.key_spelled t.value_spelled t.ends
-
-tag_shorter : (bytes rest : List ℕ) (tag : Tag) → TagRead bytes tag rest → length rest < length bytes
-tag_shorter bytes rest tag t = omega (arith, ap length t.is, length-append t.key (equals ∷ (t.value ++ rest)), length-append t.value rest)
-
--- ---- all tags
-
--- the bytes begin with a spelling of the tags, and no tag follows
-pub record TagsRead (bytes : List ℕ) (tags : List Tag) (rest : List ℕ) : Type 0 where
-  pub front : List ℕ
-  pub is : bytes ≡ front ++ rest
-  pub spells : TagsBefore rest tags front
-  pub next : is_at_separator bytes ≡ true → is_at_separator rest ≡ true
-  pub none : begins_with comma rest ≡ false
-
-regrouped : (bytes key value after front rest : List ℕ) → begins_with comma bytes ≡ true → drop 1 bytes ≡ key ++ (equals ∷ (value ++ after)) → after ≡ front ++ rest → bytes ≡ (comma ∷ (key ++ (equals ∷ (value ++ front)))) ++ rest
-regrouped bytes key value after front rest found is behind_is =
-    behind_first comma bytes found
-    ∙ ap (λ (x : List ℕ). comma ∷ x) (is
-    ∙ ap (λ (x : List ℕ). key ++ (equals ∷ (value ++ x))) behind_is
-    ∙ ap (λ (x : List ℕ). key ++ (equals ∷ x)) (sym (append_assoc value front rest))
-    ∙ sym (append_assoc key (equals ∷ (value ++ front)) rest))
-
-one_more : (bytes after rest : List ℕ) (tag : Tag) (tags : List Tag) → begins_with comma bytes ≡ true → TagRead (drop 1 bytes) tag after → TagsRead after tags rest → TagsRead bytes (tag ∷ tags) rest
-one_more bytes after rest tag tags found t ts =
-    record {
-      front = comma ∷ (t.key ++ (equals ∷ (t.value ++ ts.front)));
-      is = regrouped bytes t.key t.value after ts.front rest found t.is ts.is;
-      spells = tag_before tag.0 tag.1 t.key t.value tags ts.front t.some_key t.some_value t.key_spells (subst (λ (x : List ℕ). SpellsBefore parts.Key x tag.1 t.value) ts.is t.value_spells) ts.spells;
-      next = λ _. ts.next t.next;
-      none = ts.none;
-    }
-
-pub tags_read : (n : ℕ) (bytes : List ℕ) (tags : List Tag) (rest : List ℕ) → length bytes ≤ n → tags_from n bytes ≡ Ok (tags, rest) → TagsRead bytes tags rest
-unfolding tags_from
-tags_read zero [] tags rest le e =
-    let made : TagsRead [] [] [] = record { front = []; is = refl; spells = no_tag_before; next = λ h. h; none = refl } in
-    subst (λ (x : List Tag × List ℕ). TagsRead [] x.0 x.1) (ok_is {E = LineFault} ([], []) (tags, rest) e) made
-tags_read zero (b ∷ bs) tags rest le e = absurd (omega arith)
-tags_read (suc n) bytes tags rest le e =
-    elim (begins_with comma bytes) as (λ b. begins_with comma bytes ≡ b → cond b (tag_at (drop 1 bytes) >>= λ tag. with_first tag.0 (tags_from n tag.1)) (Ok ([], bytes)) ≡ Ok (tags, rest) → TagsRead bytes tags rest) [
-      | false ↦ λ none e.
-          let made : TagsRead bytes [] bytes = record { front = []; is = refl; spells = no_tag_before; next = λ h. h; none = none } in
-          subst (λ (x : List Tag × List ℕ). TagsRead bytes x.0 x.1) (ok_is {E = LineFault} ([], bytes) (tags, rest) e) made
-      | true ↦ λ found e.
-          let t = bind_ok (tag_at (drop 1 bytes)) (λ tag. with_first tag.0 (tags_from n tag.1)) (tags, rest) e in
-          let ts = bind_ok (tags_from n t.0.1) (λ x. Ok (t.0.0 ∷ x.0, x.1)) (tags, rest) t.2 in
-          let tag = tag_read (drop 1 bytes) t.0.0 t.0.1 t.1 in
-          let more = tags_read n t.0.1 ts.0.0 ts.0.1 (omega (arith, tag_shorter (drop 1 bytes) t.0.1 t.0.0 tag, comma-shorter bytes found)) ts.1 in
-          subst (λ (x : List Tag × List ℕ). TagsRead bytes x.0 x.1) (ok_is {E = LineFault} (t.0.0 ∷ ts.0.0, ts.0.1) (tags, rest) ts.2) (one_more bytes t.0.1 ts.0.1 t.0.0 ts.0.0 found tag more)
-    ] refl e
-
--- behind a spelling of tags a comma, a space or nothing comes next, where it does so behind them
-pub next-before : {rest : List ℕ} {tags : List Tag} {front : List ℕ} → TagsBefore rest tags front → is_at_separator rest ≡ true → is_at_separator (front ++ rest) ≡ true
-next-before no_tag_before next = next
-next-before (tag_before k v key value ts more some_key some_value key_spells value_spells spells) next = refl
-
--- the tags in front are read
-pub record OverTags (ts : List Tag) (n : ℕ) (bytes rest : List ℕ) : Type 0 where
-  pub left : ℕ
-  pub enough : length rest ≤ left
-  pub same : tags_from n bytes ≡ onto ts (tags_from left rest)
-
-none_onto : (read : Result (List Tag × List ℕ) LineFault) → read ≡ onto [] read
-none_onto (Ok x) = refl
-none_onto (Err f) = refl
-
-first_onto : (t : Tag) (ts : List Tag) (read : Result (List Tag × List ℕ) LineFault) → with_first t (onto ts read) ≡ onto (t ∷ ts) read
-first_onto t ts (Ok x) = refl
-first_onto t ts (Err f) = refl
-
-pub over_tags : {rest : List ℕ} {tags : List Tag} {front : List ℕ} → TagsBefore rest tags front → (n : ℕ) → length (front ++ rest) ≤ n → is_at_separator rest ≡ true → OverTags tags n (front ++ rest) rest
-over_tags {rest} no_tag_before n le next = record { left = n; enough = le; same = none_onto (tags_from n rest) }
-over_tags {rest} (tag_before k v key value ts more some_key some_value key_spells value_spells spells) zero le next = absurd (omega arith)
-over_tags {rest} (tag_before k v key value ts more some_key some_value key_spells value_spells spells) (suc n) le next =
-    let behind : (key ++ (equals ∷ (value ++ more))) ++ rest ≡ key ++ (equals ∷ (value ++ (more ++ rest))) =
-    append_assoc key (equals ∷ (value ++ more)) rest ∙ ap (λ (x : List ℕ). key ++ (equals ∷ x)) (append_assoc value more rest) in
-    let shorter : length (more ++ rest) ≤ n = omega (arith, ap length behind, length-append key (equals ∷ (value ++ (more ++ rest))), length-append value (more ++ rest)) in
-    let read = tag_again k v key value (more ++ rest) some_key some_value key_spells value_spells (next-before spells next) in
-    let o = over_tags spells n shorter next in
-    record {
-      left = o.left;
-      enough = o.enough;
-      same =
-          ap (λ (x : List ℕ). tags_from (suc n) (comma ∷ x)) behind
-          ∙ one_tag n (key ++ (equals ∷ (value ++ (more ++ rest)))) (more ++ rest) (k, v) read
-          ∙ ap (with_first (k, v)) o.same
-          ∙ first_onto (k, v) ts (tags_from o.left rest);
-    }
 
 -- ---- a tag that is none
 
