@@ -7,11 +7,13 @@ use Rattle.std.proofs.lemmas.Bool.Decides.{nat_tests}
 use Rattle.tick_lexer.specs.declared.token.LexFault.{LexFault}
 use Rattle.tick_lexer.specs.declared.token.Token.{Token}
 use Rattle.tick_lexer.specs.Script.{HasTokens, HasFirstFault}
+use Rattle.tick_lexer.specs.declared.limits.TheConstants.{SCRIPT_LIMIT}
 use Rattle.tick_lexer.proofs.Texts as texts
 use Rattle.tick_parser.specs.declared.fault.ParseFault.{ParseFault}
 use Rattle.tick_parser.specs.Trees.{StmtTree}
-use Rattle.tick_parser.specs.Script.{Reads, Within}
-use Rattle.tick_parser.specs.Refusal.{Refused}
+use Rattle.tick_parser.specs.Script.{IsScriptOf, Reads}
+use Rattle.tick_parser.specs.Refusal.{IsRefused}
+use Rattle.tick_parser.specs.declared.limits.TheConstants.{DEPTH_LIMIT, OPERATOR_LIMIT, STATEMENT_LIMIT}
 use Rattle.tick_parser.proofs.Reading as readings
 use Rattle.tick_parser.proofs.OneFault as faults
 use Rattle.tick_vars.specs.declared.fault.VarFault.{VarFault}
@@ -30,12 +32,12 @@ use Rattle.kap_base.proofs.Utf8Laws.{breaks_there, one_place}
 
 -- a text has the tokens of one script
 same_script : (text : List ℕ) (a b : List StmtTree) → Parses text a → Parses text b → a ≡ b
-same_script text a b p q = readings.one_tree p.tokens a b p.read (subst (λ ts. Reads ts b) (texts.one_list text q.tokens p.tokens q.lexed p.lexed) q.read)
+same_script text a b p q = readings.one_tree p.tokens a b p.spelled.0 (subst (λ ts. Reads ts b) (texts.one_list text q.tokens p.tokens q.lexed p.lexed) q.spelled.0)
 
 -- tokens that are refused are no script's
-refused_tokens : (text : List ℕ) (script : List StmtTree) (tokens : List Token) (fault : ParseFault) → Parses text script → HasTokens text tokens → Refused 64 512 4096 tokens fault → ⊥
+refused_tokens : (text : List ℕ) (script : List StmtTree) (tokens : List Token) (fault : ParseFault) → Parses text script → HasTokens text tokens → IsRefused tokens fault → ⊥
 refused_tokens text script tokens fault p has refused =
-    readings.not_both 64 512 4096 p.tokens script fault p.read p.within (subst (λ ts. Refused 64 512 4096 ts fault) (texts.one_list text tokens p.tokens has p.lexed) refused)
+    readings.not_both DEPTH_LIMIT OPERATOR_LIMIT STATEMENT_LIMIT p.tokens script fault p.spelled.0 p.spelled.1 (subst (λ ts. IsRefused ts fault) (texts.one_list text tokens p.tokens has p.lexed) refused)
 
 ok_or_err : {A E : Type 0} (a : A) (e : E) (r : Result A E) → r ≡ Ok a → r ≡ Err e → ⊥
 ok_or_err {A = A} {E = E} a e r p q = let w : ◌≡◌ {A = Result A E} (Ok a) (Err e) = sym p ∙ q in absurd (cc)
@@ -65,7 +67,7 @@ one_refusal text (Lex fault) NoMemory p q = absurd q
 one_refusal text (Parse fault) (NotUtf8 at) p q = absurd (q.0 p.0)
 one_refusal text (Parse fault) (Lex other) p q = absurd (texts.not_both text p.1.0 other p.1.1 q.1)
 one_refusal text (Parse fault) (Parse other) p q =
-    ap Parse (faults.one_fault 64 512 4096 p.1.0 fault other p.1.2 (subst (λ ts. Refused 64 512 4096 ts other) (texts.one_list text q.1.0 p.1.0 q.1.1 p.1.1) q.1.2))
+    ap Parse (faults.one_fault DEPTH_LIMIT OPERATOR_LIMIT STATEMENT_LIMIT p.1.0 fault other p.1.2 (subst (λ ts. IsRefused ts other) (texts.one_list text q.1.0 p.1.0 q.1.1 p.1.1) q.1.2))
 one_refusal text (Parse fault) (Name other) p q = absurd (refused_tokens text q.0 p.1.0 fault q.1 p.1.1 p.1.2)
 one_refusal text (Parse fault) NoMemory p q = absurd q
 one_refusal text (Name fault) (NotUtf8 at) p q = absurd (q.0 p.1.utf8)
@@ -111,13 +113,13 @@ of_names text short script parsed (Ok made) is = (statuses.Ok, (short, (script, 
 of_names text short script parsed (Err fault) is = (statuses.Script (Name fault), (short, (script, parsed, is)))
 
 of_tokens : (text : List ℕ) → IsShort text → IsUtf8 text → (tokens : List Token) → HasTokens text tokens
-    → ((script : List StmtTree) × Reads tokens script × Within 64 512 4096 script) ⊎ ((fault : ParseFault) × Refused 64 512 4096 tokens fault) → Outcome text
+    → ((script : List StmtTree) × IsScriptOf tokens script) ⊎ ((fault : ParseFault) × IsRefused tokens fault) → Outcome text
 of_tokens text short utf8 tokens has (inl read) =
-    of_names text short read.0 (record { tokens = tokens; utf8 = utf8; lexed = has; read = read.1; within = read.2 }) (bound_of read.0) refl
+    of_names text short read.0 (record { tokens = tokens; utf8 = utf8; lexed = has; spelled = read.1 }) (bound_of read.0) refl
 of_tokens text short utf8 tokens has (inr refused) = (statuses.Script (Parse refused.0), (short, (utf8, (tokens, has, refused.1))))
 
 of_text : (text : List ℕ) → IsShort text → IsUtf8 text → ((tokens : List Token) × HasTokens text tokens) ⊎ ((fault : LexFault) × HasFirstFault text fault) → Outcome text
-of_text text short utf8 (inl lexed) = of_tokens text short utf8 lexed.0 lexed.1 (readings.either 64 512 4096 lexed.0)
+of_text text short utf8 (inl lexed) = of_tokens text short utf8 lexed.0 lexed.1 (readings.either DEPTH_LIMIT OPERATOR_LIMIT STATEMENT_LIMIT lexed.0)
 of_text text short utf8 (inr fault) = (statuses.Script (Lex fault.0), (short, (utf8, fault.1)))
 
 of_bytes : (text : List ℕ) → IsShort text → (b : Bool) → is_utf8 text ≡ b → Outcome text
@@ -126,12 +128,12 @@ of_bytes text short false is =
     let refuted : ¬ (IsUtf8 text) = λ utf8. let w = sym is ∙ is_utf8-from_IsUtf8 text utf8 in absurd (cc) in
     (statuses.Script (NotUtf8 (broken_at text)), (short, (refuted, breaks_there text refuted)))
 
-of_length : (text : List ℕ) (b : Bool) → nat_le (length text) 65536 ≡ b → Outcome text
-of_length text true is = let short : length text ≤ 65536 = grind (arith, nat_tests) in of_bytes text short (is_utf8 text) refl
-of_length text false is = let long : 65536 < length text = grind (arith, nat_tests) in (statuses.TooLong, long)
+of_length : (text : List ℕ) (b : Bool) → nat_le (length text) SCRIPT_LIMIT ≡ b → Outcome text
+of_length text true is = let short : length text ≤ SCRIPT_LIMIT = grind (arith, nat_tests) in of_bytes text short (is_utf8 text) refl
+of_length text false is = let long : SCRIPT_LIMIT < length text = grind (arith, nat_tests) in (statuses.TooLong, long)
 
 pub some_status : (text : List ℕ) → Outcome text
-some_status text = of_length text (nat_le (length text) 65536) refl
+some_status text = of_length text (nat_le (length text) SCRIPT_LIMIT) refl
 
 -- ---- a check answers it
 

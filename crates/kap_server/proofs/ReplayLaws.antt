@@ -1,105 +1,126 @@
 -- A replay, point after point.
-use Rattle.std.proofs.Common.{◌≡◌, ℕ, ◌+◌, true, Option, None, Some, List, [], ◌∷◌, ◌++◌, length, take, inl, inr, refl, sym, ap, ◌∙◌, subst, append_assoc, arith, length-append}
-use Rattle.std.specs.Prelude.{◌⊎◌, filter}
+use Rattle.std.proofs.Common.{◌≡◌, ℕ, ◌+◌, ◌≤◌, false, Option, None, Some, List, [], ◌∷◌, ◌++◌, length, take, inl, inr, refl, sym, ap, ◌∙◌, subst, append_assoc, append-nil, arith, length-append}
+use Rattle.std.specs.Prelude.{◌⊎◌, IsTrue, filter}
 use Rattle.std.specs.List.{flat_map}
-use Rattle.std.specs.Io.KnownBytes.{Appends, Consumes}
+use Rattle.std.specs.Io.KnownBytes.{Appends}
+use Rattle.std.proofs.KnownBytes.{Appends-nil, Appends-trans}
 use Rattle.std.proofs.lemmas.Grind.{flat_map-append}
 use Rattle.std.proofs.lemmas.List.Elements.{filter-append}
 use Rattle.std.proofs.lemmas.List.{take-append-le}
-use Rattle.std.proofs.Math.Seq.{take-append-add}
+use Rattle.std.proofs.Math.Seq.{take-append-add, take-length}
 use Rattle.kap_base.specs.Points.{PointValue}
 use Rattle.kap_io.specs.Pieces.{AppendsPrefix}
-use Rattle.std.proofs.KnownBytes.{Appends-nil, Appends-trans}
 use Rattle.recording_file.specs.declared.fault.RecFault.{RecFault}
 use Rattle.recording_file.specs.declared.fault.RecFault.TheVariants as faults
-use Rattle.recording_file.specs.Recording.{Reading, Stop, Ended, Faulty, recording, read, limited}
-use Rattle.recording_file.specs.Finding.{At, room, to_come}
-use Rattle.recording_file.specs.Steps.{GivesPoint, StopsSo, Refuses}
-use Rattle.recording_file.specs.Reading.{start, StopsWith}
-use Rattle.recording_file.proofs.HaltLaws.{ended_left}
-use Rattle.recording_file.proofs.WholeLaws.{given_none, given_more, given_all, given_then}
+use Rattle.recording_file.specs.Recording.{Reading, Stop, Ended, Faulty, reading_of}
+use Rattle.recording_file.specs.Reading.{ReaderState, ReaderReads, Gives, GaveAll, Fails, StopsAt, HasRead}
+use Rattle.recording_file.proofs.ReadLaws.{read_none, read_more, told}
+use Rattle.recording_file.proofs.RecordLaws.{recorded}
 use Rattle.kap_server.specs.declared.status.Status.{Status}
 use Rattle.kap_server.specs.declared.status.Status.TheVariants as statuses
 use Rattle.kap_server.specs.Statuses.{status_of, status_at}
 use Rattle.kap_server.specs.Command.{IsUnlessFailed}
 use Rattle.kap_server.specs.Lines.{is_of, out_line, text_of}
-use Rattle.kap_server.specs.Replaying.{Writes, WritesPrefix, Replayed, IsWritten, Moves, Underway}
-
--- ---- text
+use Rattle.kap_server.specs.Replaying.{Writes, WritesPrefix, Replayed, IsWritten, WritesSome, HasWritten}
 
 -- the text of points is that of the first ones and that of the others
 text-append : (id name : List ℕ) (ps qs : List PointValue) → text_of id name (ps ++ qs) ≡ text_of id name ps ++ text_of id name qs
 text-append id name ps qs = ap (flat_map (out_line id)) (filter-append (is_of name) ps qs) ∙ flat_map-append (out_line id) (filter (is_of name) ps) (filter (is_of name) qs)
 
--- ---- steps
-
 module _ (id name : List ℕ) where
   -- at the start nothing is due
-  pub underway_none : (s w : Option (List ℕ)) → Underway (text_of id name) [] start s s w w
-  underway_none s w = record { points = []; given = given_none s; done = []; written = Appends-nil w; is = refl }
+  pub written_none : (s w : Option (List ℕ)) → HasWritten (text_of id name) [] (record { given = []; got = []; ended = false; spent = false }) s s w w
+  written_none s w = record {
+    read = read_none s;
+    first = λ more none. record { others = (reading_of more).points; all = refl };
+    done = [];
+    written = Appends-nil w;
+    is = refl;
+  }
 
-  module _ (s t w v : Option (List ℕ)) (due : List ℕ) (at : At) (on : Underway (text_of id name) due at s t w v) where
-    -- one point more
-    pub underway_more : (p : PointValue) (b : At) (u x : Option (List ℕ)) (left : List ℕ) → GivesPoint read at b t u p → Moves (due ++ text_of id name (p ∷ [])) left v x → Underway (text_of id name) left b s u w x
-    underway_more p b u x left step moved = record {
-      points = on.points ++ p ∷ [];
-      given = given_more on.points p at b s t u on.given step;
-      done = on.done ++ moved.piece;
-      written = Appends-trans w v x on.done moved.piece on.written moved.written;
-      is = text-append id name on.points (p ∷ [])
-          ∙ ap (λ (l : List ℕ). l ++ text_of id name (p ∷ [])) on.is
-          ∙ append_assoc on.done due (text_of id name (p ∷ []))
-          ∙ ap (λ (l : List ℕ). on.done ++ l) moved.rest
-          ∙ sym (append_assoc on.done moved.piece left);
-    }
-
-    -- the rest of the text was written
-    whole_written : (x : Option (List ℕ)) → Appends v x due → Appends w x (text_of id name on.points)
-    whole_written x p = subst (Appends w x) (sym on.is) (Appends-trans w v x on.done due on.written p)
-
-    writes : (o : Option (List ℕ)) (ps : List PointValue) (stop : Stop) (x : Option (List ℕ)) → StopsWith o ps stop → Appends w x (text_of id name ps) → Writes (text_of id name) o w x stop
-    writes None ps stop x p q = tt
-    writes (Some input) ps stop x p q = (ap (λ (r : Reading). r.stop) p, subst (λ (l : List PointValue). Appends w x (text_of id name l)) (sym (ap (λ (r : Reading). r.points) p)) q)
-
-    -- the input ended
-    pub ends_well : (u x : Option (List ℕ)) → StopsSo read at (to_come at.ended t) Ended → Appends v x due → Replayed (text_of id name) statuses.Ok s u w x
-    ends_well u x p q = writes s on.points Ended x (given_all on.points at s t Ended on.given p) (whole_written x q)
-
-    -- the input is faulty, or failed
-    pub ends_badly : (f : RecFault) (b : At) (u x : Option (List ℕ)) → (at.ended ≡ true → b.ended ≡ true) → Refuses read at b t u f → Appends v x due → Replayed (text_of id name) (status_of f) s u w x
-    ends_badly (faults.Line n fault) b u x stays p q = writes s on.points (Faulty (faults.Line n fault)) x (given_then on.points at b s t u (faults.Line n fault) on.given stays p) (whole_written x q)
-    ends_badly (faults.Truncated n) b u x stays p q = writes s on.points (Faulty (faults.Truncated n)) x (given_then on.points at b s t u (faults.Truncated n) on.given stays p) (whole_written x q)
-    ends_badly faults.Long b u x stays p q = writes s on.points (Faulty faults.Long) x (given_then on.points at b s t u faults.Long on.given stays p) (whole_written x q)
-    ends_badly faults.ReadFault b u x stays p q =
-        let h = given_then on.points at b s t u faults.ReadFault on.given stays p in
-        record {
-          got = h.got;
-          took = h.took;
-          undecided = ap (λ (r : Reading). r.stop) h.undecided;
-          written = subst (λ (l : List PointValue). Appends w x (text_of id name l)) (sym (ap (λ (r : Reading). r.points) h.undecided)) (whole_written x q);
-        }
-    ends_badly faults.NoMemory b u x stays p q = tt
-
-  -- ---- the output failed
-
-  -- a front of what is due is one of the whole text
-  front_of : (w v x : Option (List ℕ)) (done due more : List ℕ) → Appends w v done → AppendsPrefix v x due → AppendsPrefix w x (done ++ (due ++ more))
-  front_of w v x done due more p q =
+  -- a prefix of what is due is one of the whole text
+  prefix_of : (w v x : Option (List ℕ)) (done due more : List ℕ) → Appends w v done → AppendsPrefix v x due → AppendsPrefix w x (done ++ (due ++ more))
+  prefix_of w v x done due more p q =
       let taken : take (length done + q.0) (done ++ (due ++ more)) ≡ done ++ take q.0 due = take-append-add done (due ++ more) q.0 ∙ ap (λ (l : List ℕ). done ++ l) (take-append-le q.0 due more q.1) in
       (length done + q.0, let bound = q.1 in omega (arith, length-append done (due ++ more), length-append due more), subst (Appends w x) (sym taken) (Appends-trans w v x done (take q.0 due) p q.2))
 
-  cut_told : (due : List ℕ) (at : At) (input : List ℕ) (o t w v x : Option (List ℕ)) (on : Underway (text_of id name) due at (Some input) t w v) → o ≡ to_come at.ended t → Consumes (Some input) o on.given.got → AppendsPrefix v x due → AppendsPrefix w x (text_of id name (recording input).points)
-  cut_told due at input None t w v x on is took p = absurd took
-  cut_told due at input (Some y) t w v x on is took p =
-      let rest = (read at.line (limited (room at) (at.bytes ++ y))).points in
-      let all : (recording input).points ≡ on.points ++ rest = ap (λ l. (recording l).points) took ∙ ap (λ (r : Reading). r.points) (on.given.reads y (λ e. ended_left at.ended t y (sym is) e)) in
-      let text_is : text_of id name (recording input).points ≡ on.done ++ (due ++ text_of id name rest) =
-      ap (text_of id name) all ∙ text-append id name on.points rest ∙ ap (λ (l : List ℕ). l ++ text_of id name rest) on.is ∙ append_assoc on.done due (text_of id name rest) in
-      subst (AppendsPrefix w x) (sym text_is) (front_of w v x on.done due (text_of id name rest) on.written p)
+  all_of : (v x : Option (List ℕ)) (due : List ℕ) → Appends v x due → AppendsPrefix v x due
+  all_of v x due p = (length due, omega arith, subst (Appends v x) (sym (take-length due)) p)
 
-  pub cut_off : (due : List ℕ) (at : At) (s t w v x : Option (List ℕ)) → Underway (text_of id name) due at s t w v → AppendsPrefix v x due → WritesPrefix (text_of id name) s w x
-  cut_off due at None t w v x on p = tt
-  cut_off due at (Some input) t w v x on p = cut_told due at input (to_come at.ended t) t w v x on refl on.given.took p
+  none_of : (v : Option (List ℕ)) (due : List ℕ) → AppendsPrefix v v due
+  none_of v due = (0, omega arith, Appends-nil v)
+
+  module _ (s t w v : Option (List ℕ)) (due : List ℕ) (a : ReaderState) (on : HasWritten (text_of id name) due a s t w v) where
+    -- some of what is due was written
+    pub written_some : (left : List ℕ) (x : Option (List ℕ)) → WritesSome due left v x → HasWritten (text_of id name) left a s t w x
+    written_some left x moved = record {
+      read = on.read;
+      first = on.first;
+      done = on.done ++ moved.piece;
+      written = Appends-trans w v x on.done moved.piece on.written moved.written;
+      is = on.is ∙ ap (λ (l : List ℕ). on.done ++ l) moved.rest ∙ sym (append_assoc on.done moved.piece left);
+    }
+
+    -- a point was given, and its text is due
+    pub written_point : (b : ReaderState) (u : Option (List ℕ)) (p : PointValue) (more : List ℕ) → ReaderReads a b t u → Gives a b p → more ≡ due ++ text_of id name (p ∷ []) → HasWritten (text_of id name) more b s u w v
+    written_point b u p more reads gives is = record {
+      read = read_more a b s t u on.read reads;
+      first = gives.next;
+      done = on.done;
+      written = on.written;
+      is = ap (text_of id name) gives.given ∙ text-append id name a.given (p ∷ [])
+          ∙ ap (λ (l : List ℕ). l ++ text_of id name (p ∷ [])) on.is
+          ∙ append_assoc on.done due (text_of id name (p ∷ []))
+          ∙ ap (λ (l : List ℕ). on.done ++ l) (sym is);
+    }
+
+    -- the rest of the text was written
+    whole_written : (x : Option (List ℕ)) (ps : List PointValue) → ps ≡ a.given → Appends v x due → Appends w x (text_of id name ps)
+    whole_written x ps same p = subst (Appends w x) (sym (ap (text_of id name) same ∙ on.is)) (Appends-trans w v x on.done due on.written p)
+
+    -- a prefix of what is due was written, or nothing
+    pub cut_off : (x : Option (List ℕ)) → AppendsPrefix v x due → WritesPrefix (text_of id name) s w x
+    cut_off x p = by s on.read where
+      by : (o : Option (List ℕ)) → HasRead a o t → WritesPrefix (text_of id name) o w x
+      by None read = tt
+      by (Some input) read =
+          let known = told a input t read in
+          let begins = on.first known.left known.none in
+          let text_is : text_of id name (reading_of input).points ≡ on.done ++ (due ++ text_of id name begins.others) =
+          ap (λ (l : List ℕ). text_of id name (reading_of l).points) known.is ∙ ap (text_of id name) begins.all ∙ text-append id name a.given begins.others
+              ∙ ap (λ (l : List ℕ). l ++ text_of id name begins.others) on.is ∙ append_assoc on.done due (text_of id name begins.others) in
+          subst (AppendsPrefix w x) (sym text_is) (prefix_of w v x on.done due (text_of id name begins.others) on.written p)
+
+    pub nothing_more : WritesPrefix (text_of id name) s w v
+    nothing_more = cut_off v (none_of v due)
+
+    module _ (b : ReaderState) (u : Option (List ℕ)) (reads : ReaderReads a b t u) where
+      writes : (stop : Stop) (x : Option (List ℕ)) → b.given ≡ a.given → StopsAt b stop → Appends v x due → Writes (text_of id name) s w x stop
+      writes stop x same stops p = by s (read_more a b s t u on.read reads) where
+        by : (o : Option (List ℕ)) → HasRead b o u → Writes (text_of id name) o w x stop
+        by None read = tt
+        by (Some input) read =
+            let known = told b input u read in
+            let is : reading_of input ≡ record { points = b.given; stop = stop } = ap reading_of known.is ∙ stops known.left known.none in
+            (ap (λ (r : Reading). r.stop) is, whole_written x (reading_of input).points (ap (λ (r : Reading). r.points) is ∙ same) p)
+
+      -- the input ended
+      pub ends_well : (x : Option (List ℕ)) → GaveAll a b → Appends v x due → Replayed (text_of id name) statuses.Ok s u w x
+      ends_well x gave p = writes Ended x gave.given (λ more none.
+          ap (λ (l : List ℕ). reading_of (b.got ++ l)) (none gave.ended) ∙ ap reading_of (append-nil b.got) ∙ recorded b.got b.given gave.whole) p
+
+      -- the input is faulty, or failed
+      pub ends_badly : (f : RecFault) (x : Option (List ℕ)) → Fails a b f → Appends v x due → Replayed (text_of id name) (status_of f) s u w x
+      ends_badly (faults.Line n fault) x fails p = writes (Faulty (faults.Line n fault)) x fails.given fails.why p
+      ends_badly (faults.Truncated n) x fails p = writes (Faulty (faults.Truncated n)) x fails.given fails.why p
+      ends_badly faults.Long x fails p = writes (Faulty faults.Long) x fails.given fails.why p
+      ends_badly faults.ReadFault x fails p = record {
+        got = b.got;
+        took = (read_more a b s t u on.read reads).took;
+        undecided = ap (λ (r : Reading). r.stop) fails.why.undecided;
+        written = whole_written x _ (ap (λ (r : Reading). r.points) fails.why.undecided ∙ fails.given) p;
+      }
+      ends_badly faults.NoMemory x fails p = cut_off x (all_of v x due p)
 
   -- the rest of the text was written, or the output failed
   pub finished : (status result : Status) (s u v w x : Option (List ℕ)) (due : List ℕ) (before after : ℕ) → IsWritten status result v x due before after
@@ -107,16 +128,8 @@ module _ (id name : List ℕ) where
   finished status result s u v w x due before after (inl p) whole part = subst (λ r. Replayed (text_of id name) r s u w x) (sym p.0) (whole p.1)
   finished status result s u v w x due before after (inr p) whole part = subst (λ r. Replayed (text_of id name) r s u w x) (sym p.0) (part p.1)
 
-  -- a point came, and the output failed or memory ran out
-  pub gave_up : (status : Status) (due : List ℕ) (at b : At) (s t u w v x : Option (List ℕ)) (p : PointValue) → Underway (text_of id name) due at s t w v → GivesPoint read at b t u p
-      → (status ≡ statuses.NoMemory) ⊎ (status ≡ statuses.WriteFault) → (status ≡ statuses.WriteFault → AppendsPrefix v x (due ++ text_of id name (p ∷ []))) → Replayed (text_of id name) status s u w x
-  gave_up status due at b s t u w v x p on step (inl memory) part = subst (λ r. Replayed (text_of id name) r s u w x) (sym memory) tt
-  gave_up status due at b s t u w v x p on step (inr fault) part =
-      let still : Moves (due ++ text_of id name (p ∷ [])) (due ++ text_of id name (p ∷ [])) v v = record { piece = []; written = Appends-nil v; rest = refl } in
-      subst (λ r. Replayed (text_of id name) r s u w x) (sym fault) (cut_off (due ++ text_of id name (p ∷ [])) b s u w v x (underway_more s t w v due at on p b u v (due ++ text_of id name (p ∷ [])) step still) (part fault))
-
 -- the status of a replay is that at which reading its input stops
-told_status : (text : List PointValue → List ℕ) (result : Status) (bytes : List ℕ) (t w v : Option (List ℕ)) → Replayed text result (Some bytes) t w v → IsUnlessFailed result (status_at (recording bytes).stop)
+told_status : (text : List PointValue → List ℕ) (result : Status) (bytes : List ℕ) (t w v : Option (List ℕ)) → Replayed text result (Some bytes) t w v → IsUnlessFailed result (status_at (reading_of bytes).stop)
 told_status text statuses.Ok bytes t w v h = inl (ap status_at (sym h.0))
 told_status text statuses.Usage bytes t w v h = absurd h
 told_status text (statuses.Script fault) bytes t w v h = absurd h
@@ -128,5 +141,5 @@ told_status text statuses.NoMemory bytes t w v h = inr (inl refl)
 told_status text statuses.ReadFault bytes t w v h = inr (inr (inl refl))
 told_status text statuses.WriteFault bytes t w v h = inr (inr (inr refl))
 
-pub status_is : (text : List PointValue → List ℕ) (result : Status) (bytes : List ℕ) (s t w v : Option (List ℕ)) → Replayed text result s t w v → s ≡ Some bytes → IsUnlessFailed result (status_at (recording bytes).stop)
+pub status_is : (text : List PointValue → List ℕ) (result : Status) (bytes : List ℕ) (s t w v : Option (List ℕ)) → Replayed text result s t w v → s ≡ Some bytes → IsUnlessFailed result (status_at (reading_of bytes).stop)
 status_is text result bytes s t w v h is = told_status text result bytes t w v (subst (λ o. Replayed text result o t w v) is h)

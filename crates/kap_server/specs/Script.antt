@@ -5,10 +5,10 @@ use Rattle.std.specs.List.{list_all}
 use Rattle.kap_server.specs.Words.{is_name_byte}
 
 -- 1 to 64 letters, digits and `_`, not a digit first
-abbrev pub is_name : List ℕ → Bool
-is_name word = nat_lt 0 (length word) && nat_le (length word) 64 && list_all is_name_byte word && not (is_ascii_digit (slice_index word 0))
+abbrev pub is_plain_name : List ℕ → Bool
+is_plain_name word = nat_lt 0 (length word) && nat_le (length word) 64 && list_all is_name_byte word && not (is_ascii_digit (slice_index word 0))
 
 -- the script filters points by this measurement and logs them
-pub record IsFilter (script name : List ℕ) : Type 0 where
-  pub named : is_name name ≡ true
+pub record IsLogScript (script name : List ℕ) : Type 0 where
+  pub name_is_plain : is_plain_name name ≡ true
   pub is : script ≡ codes "stream|from().measurement('" ++ (name ++ codes "')|log()")

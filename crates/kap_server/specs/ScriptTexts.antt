@@ -26,8 +26,8 @@ of_name names.NoMemory = NoMemory
 of_name fault = Name fault
 
 -- a fault's name, and its place
-abbrev pub placed : List ℕ → ℕ → List ℕ
-placed name at = name ++ (codes " at " ++ decimal at)
+abbrev pub with_place : List ℕ → ℕ → List ℕ
+with_place name at = name ++ (codes " at " ++ decimal at)
 
 -- what the grammar needs
 abbrev pub want_name : Want → List ℕ
@@ -42,34 +42,34 @@ want_name wants.Dot = codes "Dot"
 want_name wants.Operand = codes "Operand"
 
 abbrev pub lex_text : LexFault → List ℕ
-lex_text (lexes.BadChar at) = placed (codes "Lex.BadChar") at
-lex_text (lexes.OpenString at) = placed (codes "Lex.OpenString") at
-lex_text (lexes.OpenRegex at) = placed (codes "Lex.OpenRegex") at
-lex_text (lexes.BadNumber at) = placed (codes "Lex.BadNumber") at
-lex_text (lexes.FloatLiteral at) = placed (codes "Lex.FloatLiteral") at
-lex_text (lexes.OctalLiteral at) = placed (codes "Lex.OctalLiteral") at
-lex_text (lexes.WideInt at) = placed (codes "Lex.WideInt") at
-lex_text (lexes.WideDuration at) = placed (codes "Lex.WideDuration") at
-lex_text (lexes.UserFunction at) = placed (codes "Lex.UserFunction") at
+lex_text (lexes.BadChar at) = with_place (codes "Lex.BadChar") at
+lex_text (lexes.OpenString at) = with_place (codes "Lex.OpenString") at
+lex_text (lexes.OpenRegex at) = with_place (codes "Lex.OpenRegex") at
+lex_text (lexes.BadNumber at) = with_place (codes "Lex.BadNumber") at
+lex_text (lexes.FloatLiteral at) = with_place (codes "Lex.FloatLiteral") at
+lex_text (lexes.OctalLiteral at) = with_place (codes "Lex.OctalLiteral") at
+lex_text (lexes.WideInt at) = with_place (codes "Lex.WideInt") at
+lex_text (lexes.WideDuration at) = with_place (codes "Lex.WideDuration") at
+lex_text (lexes.UserFunction at) = with_place (codes "Lex.UserFunction") at
 lex_text lexes.NoMemory = codes "Lex.NoMemory"
 
 abbrev pub parse_text : ParseFault → List ℕ
-parse_text (parses.Expected want at) = placed (codes "Parse.Expected." ++ want_name want) at
-parse_text (parses.Deep at) = placed (codes "Parse.Deep") at
-parse_text (parses.TooMany at) = placed (codes "Parse.TooMany") at
+parse_text (parses.Expected want at) = with_place (codes "Parse.Expected." ++ want_name want) at
+parse_text (parses.Deep at) = with_place (codes "Parse.Deep") at
+parse_text (parses.TooMany at) = with_place (codes "Parse.TooMany") at
 parse_text parses.NoMemory = codes "Parse.NoMemory"
 
 abbrev pub name_text : VarFault → List ℕ
-name_text (names.Unknown at) = placed (codes "Name.Unknown") at
-name_text (names.Twice at) = placed (codes "Name.Twice") at
-name_text (names.NotValue at) = placed (codes "Name.NotValue") at
-name_text (names.NotNode at) = placed (codes "Name.NotNode") at
-name_text (names.Batch at) = placed (codes "Name.Batch") at
+name_text (names.Unknown at) = with_place (codes "Name.Unknown") at
+name_text (names.Twice at) = with_place (codes "Name.Twice") at
+name_text (names.NotValue at) = with_place (codes "Name.NotValue") at
+name_text (names.NotNode at) = with_place (codes "Name.NotNode") at
+name_text (names.Batch at) = with_place (codes "Name.Batch") at
 name_text names.NoMemory = codes "Name.NoMemory"
 
 -- the names of the fault's variants, joined by dots, and its place
 abbrev pub fault_text : ScriptFault → List ℕ
-fault_text (NotUtf8 at) = placed (codes "NotUtf8") at
+fault_text (NotUtf8 at) = with_place (codes "NotUtf8") at
 fault_text (Lex fault) = lex_text fault
 fault_text (Parse fault) = parse_text fault
 fault_text (Name fault) = name_text fault

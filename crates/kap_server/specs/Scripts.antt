@@ -3,8 +3,8 @@ use Rattle.std.specs.Prelude.{◌≡◌, ℕ, ◌<◌, ◌≤◌, List, length, 
 use Rattle.tick_lexer.specs.declared.token.Token.{Token}
 use Rattle.tick_lexer.specs.Script.{HasTokens, HasFirstFault}
 use Rattle.tick_parser.specs.Trees.{StmtTree}
-use Rattle.tick_parser.specs.Script.{Reads, Within}
-use Rattle.tick_parser.specs.Refusal.{Refused}
+use Rattle.tick_parser.specs.Script.{IsScriptOf}
+use Rattle.tick_parser.specs.Refusal.{IsRefused}
 use Rattle.tick_vars.specs.Nodes.{BoundTree}
 use Rattle.tick_vars.specs.Binding.{bound_of}
 use Rattle.kap_server.specs.declared.script_fault.ScriptFault.{ScriptFault}
@@ -16,8 +16,7 @@ pub record Parses (text : List ℕ) (script : List StmtTree) : Type 0 where
   pub tokens : List Token
   pub utf8 : IsUtf8 text
   pub lexed : HasTokens text tokens
-  pub read : Reads tokens script
-  pub within : Within 64 512 4096 script
+  pub spelled : IsScriptOf tokens script
 
 -- the text is this script's, and each of its names stands for what it should
 pub record Accepts (text : List ℕ) (script : List StmtTree) : Type 0 where
@@ -29,6 +28,6 @@ pub record Accepts (text : List ℕ) (script : List StmtTree) : Type 0 where
 abbrev pub Refuses : List ℕ → ScriptFault → Type 0
 Refuses text (NotUtf8 at) = (¬ (IsUtf8 text)) × BreaksAt text at
 Refuses text (Lex fault) = IsUtf8 text × HasFirstFault text fault
-Refuses text (Parse fault) = IsUtf8 text × ((tokens : List Token) × HasTokens text tokens × Refused 64 512 4096 tokens fault)
+Refuses text (Parse fault) = IsUtf8 text × ((tokens : List Token) × HasTokens text tokens × IsRefused tokens fault)
 Refuses text (Name fault) = (script : List StmtTree) × Parses text script × (bound_of script ≡ Err fault)
 Refuses text NoMemory = ⊥

@@ -4,6 +4,7 @@ ghost use Rattle.std.specs.Prelude.{◌≡◌, ◌≢◌, ◌⊎◌, ◌≤◌, 
 ghost use Rattle.kap_base.specs.Words.{HasRisen};
 ghost use Rattle.recording_file.specs.Reading.{HasEnded};
 ghost use Rattle.tick_parser.specs.Trees.{script_tree};
+ghost use Rattle.tick_lexer.specs.declared.limits.TheConstants.{SCRIPT_LIMIT};
 ghost use Rattle.kap_server.specs.Checking.{Checked, HasForm};
 ghost use Rattle.kap_server.specs.ReadingIn.{IsAll, IsLong, IsShort, ReadsFew};
 ghost use Rattle.kap_server.specs.Scripts.{Accepts, Parses, Refuses};
@@ -13,20 +14,17 @@ use crate::status::Status;
 use kap_base::{Bytes, Text, bytes_break_in_one_place, utf8_text};
 use kap_io::{Failed, Sink, Source, write_all};
 use std::alloc::Global;
-use tick_lexer::lex;
+use tick_lexer::{SCRIPT_LIMIT, lex};
 use tick_parser::{Tree, parse};
 use tick_print::print;
 use tick_vars::bind;
-
-/// How many bytes a script may have.
-const MOST: usize = 65_536;
 
 /// How many bytes are asked of the input at once.
 const PIECE: usize = 4_096;
 
 /// The tree of a text's tokens.
 fn tree_of(alloc: Global, text: &str) -> Result<Tree, ScriptFault>
-    requires { length text.now ≤ 65536 }
+    requires { length text.now ≤ SCRIPT_LIMIT }
     ensures tree { IfOk result (λ tree. Parses text.now (script_tree tree)) }
     ensures fault { IfErr result (λ f. f ≢ ScriptFault.NoMemory → Refuses text.now f) }
 {
@@ -37,7 +35,7 @@ fn tree_of(alloc: Global, text: &str) -> Result<Tree, ScriptFault>
 
 /// The script of a text: the tree of its tokens, whose names stand for what they should.
 fn script_of(alloc: Global, bytes: &[u8]) -> Result<Tree, ScriptFault>
-    requires { length bytes.now ≤ 65536 }
+    requires { length bytes.now ≤ SCRIPT_LIMIT }
     ensures tree { IfOk result (λ tree. Accepts bytes.now (script_tree tree)) }
     ensures fault { IfErr result (λ f. f ≢ ScriptFault.NoMemory → Refuses bytes.now f) }
 {
@@ -53,7 +51,7 @@ fn script_of(alloc: Global, bytes: &[u8]) -> Result<Tree, ScriptFault>
 
 /// The canonical form of the script of a text.
 fn form_of(alloc: Global, bytes: &[u8]) -> Result<Text, ScriptFault>
-    requires { length bytes.now ≤ 65536 }
+    requires { length bytes.now ≤ SCRIPT_LIMIT }
     ensures form { IfOk result (λ form. HasForm bytes.now form) }
     ensures fault { IfErr result (λ f. f ≢ ScriptFault.NoMemory → Refuses bytes.now f) }
 {
@@ -66,10 +64,15 @@ fn form_of(alloc: Global, bytes: &[u8]) -> Result<Text, ScriptFault>
 fn read_script<S: Source>(alloc: Global, input: &mut S) -> Result<Bytes, Status>
     ensures all { IfOk result (λ text. IsShort text × IsAll (S.left input.old) text) }
     ensures ended { IfOk result (λ text. HasEnded (S.left input.old) (S.left input.new)) }
-    ensures err { IfErr result (λ s. (s ≡ Status.TooLong) ⊎ ((s ≡ Status.ReadFault) ⊎ (s ≡ Status.NoMemory))) }
+    ensures err {
+        IfErr result (λ s. (s ≡ Status.TooLong)
+            ⊎ ((s ≡ Status.ReadFault) ⊎ (s ≡ Status.NoMemory)))
+    }
     ensures long { result ≡ Err Status.TooLong → IsLong (S.left input.old) }
     ensures few { result ≡ Err Status.ReadFault → ReadsFew (S.left input.old) (S.left input.new) }
-    ensures rose { result ≡ Err Status.ReadFault → HasRisen (S.faults input.old) (S.faults input.new) }
+    ensures rose {
+        result ≡ Err Status.ReadFault → HasRisen (S.faults input.old) (S.faults input.new)
+    }
     ensures later { S.faults input.old ≤ S.faults input.new }
 {
     let mut piece = [0; PIECE];
@@ -82,7 +85,7 @@ fn read_script<S: Source>(alloc: Global, input: &mut S) -> Result<Bytes, Status>
         if count == 0 {
             return Ok(text);
         }
-        if MOST - text.len() < count {
+        if SCRIPT_LIMIT - text.len() < count {
             return Err(Status::TooLong);
         }
         let (front, _) = piece.split_at(count);
@@ -94,9 +97,11 @@ fn read_script<S: Source>(alloc: Global, input: &mut S) -> Result<Bytes, Status>
 
 /// Writes the canonical form of the script of a text.
 fn write_form<K: Sink>(alloc: Global, text: &[u8], out: &mut K) -> Status
-    requires { length text.now ≤ 65536 }
+    requires { length text.now ≤ SCRIPT_LIMIT }
     ensures checked { Checked result (Some text.now) None (K.written out.old) (K.written out.new) }
-    ensures write_fault { result ≡ Status.WriteFault → HasRisen (K.faults out.old) (K.faults out.new) }
+    ensures write_fault {
+        result ≡ Status.WriteFault → HasRisen (K.faults out.old) (K.faults out.new)
+    }
 {
     match form_of(alloc, text) {
         Ok(form) => match write_all(out, form.bytes()) {
@@ -109,10 +114,17 @@ fn write_form<K: Sink>(alloc: Global, text: &[u8], out: &mut K) -> Status
 
 /// Checks the script that the input gives, and writes its canonical form.
 pub(crate) fn check<S: Source, K: Sink>(alloc: Global, input: &mut S, out: &mut K) -> Status
-    ensures checked { Checked result (S.left input.old) (S.left input.new) (K.written out.old) (K.written out.new) }
+    ensures checked {
+        Checked result (S.left input.old) (S.left input.new) (K.written out.old)
+            (K.written out.new)
+    }
     ensures read { result ≡ Status.Ok → HasEnded (S.left input.old) (S.left input.new) }
-    ensures read_fault { result ≡ Status.ReadFault → HasRisen (S.faults input.old) (S.faults input.new) }
-    ensures write_fault { result ≡ Status.WriteFault → HasRisen (K.faults out.old) (K.faults out.new) }
+    ensures read_fault {
+        result ≡ Status.ReadFault → HasRisen (S.faults input.old) (S.faults input.new)
+    }
+    ensures write_fault {
+        result ≡ Status.WriteFault → HasRisen (K.faults out.old) (K.faults out.new)
+    }
 {
     match read_script(alloc, input) {
         Ok(text) => write_form(alloc, text.as_slice(), out),

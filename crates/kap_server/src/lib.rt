@@ -17,6 +17,3 @@ pub use script_fault::ScriptFault;
 pub use script_texts::script_text;
 pub use status::Status;
 pub use texts::status_text;
-
-#[cfg(test)]
-mod tests;

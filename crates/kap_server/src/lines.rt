@@ -1,3 +1,5 @@
+//! The lines that a replay writes.
+
 ghost use Rattle.std.specs.Prelude.{◌≡◌, ◌++◌, [], ◌∷◌, OnOk};
 ghost use Rattle.kap_server.specs.Lines.{is_of, out_line, text_of};
 

@@ -1,24 +1,32 @@
+//! The one form of script that a replay takes until scripts are compiled.
+
 ghost use Rattle.std.specs.Prelude.{◌≡◌, ◌≢◌, ◌++◌, List, ℕ, MatchOption, IfSome, IfNone};
-ghost use Rattle.kap_server.specs.Script.{is_name, IsFilter};
+ghost use Rattle.kap_server.specs.Script.{is_plain_name, IsLogScript};
 
 use crate::words::has_name_bytes;
 
-/// What follows this front.
-fn behind<'a>(text: &'a [u8], front: &[u8]) -> Option<&'a [u8]>
-    ensures { MatchOption result ((rest : List ℕ) → text.now ≢ front.now ++ rest) (λ rest. text.now ≡ front.now ++ rest.now) }
+/// What follows this prefix.
+fn behind_prefix<'a>(text: &'a [u8], prefix: &[u8]) -> Option<&'a [u8]>
+    ensures {
+        MatchOption result ((rest : List ℕ) → text.now ≢ prefix.now ++ rest)
+            (λ rest. text.now ≡ prefix.now ++ rest.now)
+    }
 {
-    text.strip_prefix(front)
+    text.strip_prefix(prefix)
 }
 
-/// What stands before this end.
-fn before<'a>(text: &'a [u8], end: &[u8]) -> Option<&'a [u8]>
-    ensures { MatchOption result ((rest : List ℕ) → text.now ≢ rest ++ end.now) (λ rest. text.now ≡ rest.now ++ end.now) }
+/// What stands before this suffix.
+fn before_suffix<'a>(text: &'a [u8], suffix: &[u8]) -> Option<&'a [u8]>
+    ensures {
+        MatchOption result ((rest : List ℕ) → text.now ≢ rest ++ suffix.now)
+            (λ rest. text.now ≡ rest.now ++ suffix.now)
+    }
 {
-    text.strip_suffix(end)
+    text.strip_suffix(suffix)
 }
 
-fn is_name(bytes: &[u8]) -> bool
-    ensures { result ≡ is_name bytes.now }
+fn is_plain_name(bytes: &[u8]) -> bool
+    ensures { result ≡ is_plain_name bytes.now }
 {
     match bytes.first() {
         None => false,
@@ -28,10 +36,10 @@ fn is_name(bytes: &[u8]) -> bool
 
 /// The measurement by which a script filters, where the script is of the form.
 pub(crate) fn measurement_of(script: &[u8]) -> Option<&[u8]>
-    ensures found { IfSome result (λ name. IsFilter script.now name.now) }
-    ensures none { IfNone result ((name : List ℕ) → IsFilter script.now name → ⊥) }
+    ensures found { IfSome result (λ name. IsLogScript script.now name.now) }
+    ensures none { IfNone result ((name : List ℕ) → IsLogScript script.now name → ⊥) }
 {
-    let rest = behind(script, b"stream|from().measurement('")?;
-    let name = before(rest, b"')|log()")?;
-    if is_name(name) { Some(name) } else { None }
+    let rest = behind_prefix(script, b"stream|from().measurement('")?;
+    let name = before_suffix(rest, b"')|log()")?;
+    if is_plain_name(name) { Some(name) } else { None }
 }

@@ -1,10 +1,10 @@
 //! What is said of texts that are no scripts.
 
 ghost use Rattle.std.specs.Prelude.{◌≡◌, ◌++◌, IfOk, codes, string_bytes};
-ghost use Rattle.kap_server.specs.ScriptTexts.{fault_text, lex_text, name_text, parse_text, placed, text_of_fault, want_name};
+ghost use Rattle.kap_server.specs.ScriptTexts.{fault_text, lex_text, name_text, parse_text, with_place, text_of_fault, want_name};
 
 use crate::script_fault::ScriptFault;
-use crate::texts::of_bytes;
+use crate::texts::copy_of;
 use itoa::Buffer;
 use kap_base::{Bytes, NoMemory};
 use std::alloc::Global;
@@ -13,8 +13,8 @@ use tick_parser::{ParseFault, Want};
 use tick_vars::VarFault;
 
 /// A fault's name, and its place.
-fn placed(alloc: Global, name: &str, at: u32) -> Result<Bytes, NoMemory>
-    ensures { IfOk result (λ text. text ≡ codes "script: " ++ placed name.now at) }
+fn with_place(alloc: Global, name: &str, at: u32) -> Result<Bytes, NoMemory>
+    ensures { IfOk result (λ text. text ≡ codes "script: " ++ with_place name.now at) }
 {
     let mut digits = Buffer::new();
     let mut text = Bytes::new(alloc);
@@ -29,16 +29,16 @@ fn lex_text(alloc: Global, fault: &LexFault) -> Result<Bytes, NoMemory>
     ensures { IfOk result (λ text. text ≡ codes "script: " ++ lex_text fault.now) }
 {
     match fault {
-        LexFault::BadChar(at) => placed(alloc, "Lex.BadChar", *at),
-        LexFault::OpenString(at) => placed(alloc, "Lex.OpenString", *at),
-        LexFault::OpenRegex(at) => placed(alloc, "Lex.OpenRegex", *at),
-        LexFault::BadNumber(at) => placed(alloc, "Lex.BadNumber", *at),
-        LexFault::FloatLiteral(at) => placed(alloc, "Lex.FloatLiteral", *at),
-        LexFault::OctalLiteral(at) => placed(alloc, "Lex.OctalLiteral", *at),
-        LexFault::WideInt(at) => placed(alloc, "Lex.WideInt", *at),
-        LexFault::WideDuration(at) => placed(alloc, "Lex.WideDuration", *at),
-        LexFault::UserFunction(at) => placed(alloc, "Lex.UserFunction", *at),
-        LexFault::NoMemory => of_bytes(alloc, b"script: Lex.NoMemory"),
+        LexFault::BadChar(at) => with_place(alloc, "Lex.BadChar", *at),
+        LexFault::OpenString(at) => with_place(alloc, "Lex.OpenString", *at),
+        LexFault::OpenRegex(at) => with_place(alloc, "Lex.OpenRegex", *at),
+        LexFault::BadNumber(at) => with_place(alloc, "Lex.BadNumber", *at),
+        LexFault::FloatLiteral(at) => with_place(alloc, "Lex.FloatLiteral", *at),
+        LexFault::OctalLiteral(at) => with_place(alloc, "Lex.OctalLiteral", *at),
+        LexFault::WideInt(at) => with_place(alloc, "Lex.WideInt", *at),
+        LexFault::WideDuration(at) => with_place(alloc, "Lex.WideDuration", *at),
+        LexFault::UserFunction(at) => with_place(alloc, "Lex.UserFunction", *at),
+        LexFault::NoMemory => copy_of(alloc, b"script: Lex.NoMemory"),
     }
 }
 
@@ -62,10 +62,10 @@ fn parse_text(alloc: Global, fault: &ParseFault) -> Result<Bytes, NoMemory>
     ensures { IfOk result (λ text. text ≡ codes "script: " ++ parse_text fault.now) }
 {
     match fault {
-        ParseFault::Expected(want, at) => placed(alloc, expected_name(*want), *at),
-        ParseFault::Deep(at) => placed(alloc, "Parse.Deep", *at),
-        ParseFault::TooMany(at) => placed(alloc, "Parse.TooMany", *at),
-        ParseFault::NoMemory => of_bytes(alloc, b"script: Parse.NoMemory"),
+        ParseFault::Expected(want, at) => with_place(alloc, expected_name(*want), *at),
+        ParseFault::Deep(at) => with_place(alloc, "Parse.Deep", *at),
+        ParseFault::TooMany(at) => with_place(alloc, "Parse.TooMany", *at),
+        ParseFault::NoMemory => copy_of(alloc, b"script: Parse.NoMemory"),
     }
 }
 
@@ -73,12 +73,12 @@ fn name_text(alloc: Global, fault: &VarFault) -> Result<Bytes, NoMemory>
     ensures { IfOk result (λ text. text ≡ codes "script: " ++ name_text fault.now) }
 {
     match fault {
-        VarFault::Unknown(at) => placed(alloc, "Name.Unknown", *at),
-        VarFault::Twice(at) => placed(alloc, "Name.Twice", *at),
-        VarFault::NotValue(at) => placed(alloc, "Name.NotValue", *at),
-        VarFault::NotNode(at) => placed(alloc, "Name.NotNode", *at),
-        VarFault::Batch(at) => placed(alloc, "Name.Batch", *at),
-        VarFault::NoMemory => of_bytes(alloc, b"script: Name.NoMemory"),
+        VarFault::Unknown(at) => with_place(alloc, "Name.Unknown", *at),
+        VarFault::Twice(at) => with_place(alloc, "Name.Twice", *at),
+        VarFault::NotValue(at) => with_place(alloc, "Name.NotValue", *at),
+        VarFault::NotNode(at) => with_place(alloc, "Name.NotNode", *at),
+        VarFault::Batch(at) => with_place(alloc, "Name.Batch", *at),
+        VarFault::NoMemory => copy_of(alloc, b"script: Name.NoMemory"),
     }
 }
 
@@ -88,10 +88,10 @@ pub fn script_text(alloc: Global, fault: &ScriptFault) -> Result<Bytes, NoMemory
     ensures { IfOk result (λ text. text ≡ text_of_fault fault.now) }
 {
     match fault {
-        ScriptFault::NotUtf8(at) => placed(alloc, "NotUtf8", *at),
+        ScriptFault::NotUtf8(at) => with_place(alloc, "NotUtf8", *at),
         ScriptFault::Lex(fault) => lex_text(alloc, fault),
         ScriptFault::Parse(fault) => parse_text(alloc, fault),
         ScriptFault::Name(fault) => name_text(alloc, fault),
-        ScriptFault::NoMemory => of_bytes(alloc, b"script: NoMemory"),
+        ScriptFault::NoMemory => copy_of(alloc, b"script: NoMemory"),
     }
 }

@@ -1,3 +1,5 @@
+//! How a command ended.
+
 ghost use Rattle.std.specs.Prelude.{◌≡◌};
 ghost use Rattle.kap_server.specs.Statuses.{status_of, status_of_script};
 

@@ -1,3 +1,5 @@
+//! What is said of a status.
+
 ghost use Rattle.std.specs.Prelude.{◌≡◌, IfOk};
 ghost use Rattle.kap_server.specs.Statuses.{text_of_status};
 
@@ -8,7 +10,7 @@ use kap_base::{Bytes, NoMemory};
 use line_points::{BodyFault, body_text};
 use std::alloc::Global;
 
-pub(crate) fn of_bytes(alloc: Global, bytes: &[u8]) -> Result<Bytes, NoMemory>
+pub(crate) fn copy_of(alloc: Global, bytes: &[u8]) -> Result<Bytes, NoMemory>
     ensures { IfOk result (λ text. text ≡ bytes.now) }
 {
     let mut text = Bytes::new(alloc);
@@ -16,7 +18,7 @@ pub(crate) fn of_bytes(alloc: Global, bytes: &[u8]) -> Result<Bytes, NoMemory>
     Ok(text)
 }
 
-fn truncated(alloc: Global, line: u64) -> Result<Bytes, NoMemory>
+fn truncated_text(alloc: Global, line: u64) -> Result<Bytes, NoMemory>
     ensures { IfOk result (λ text. text ≡ text_of_status (Status.Truncated line)) }
 {
     let mut digits = Buffer::new();
@@ -31,8 +33,8 @@ pub fn status_text(alloc: Global, status: &Status) -> Result<Bytes, NoMemory>
     ensures { IfOk result (λ text. text ≡ text_of_status status.now) }
 {
     match status {
-        Status::Ok => of_bytes(alloc, b""),
-        Status::Usage => of_bytes(alloc, b"usage"),
+        Status::Ok => copy_of(alloc, b""),
+        Status::Usage => copy_of(alloc, b"usage"),
         Status::Script { fault } => script_text(alloc, fault),
         Status::Line { line, fault } => body_text(
             alloc,
@@ -41,11 +43,11 @@ pub fn status_text(alloc: Global, status: &Status) -> Result<Bytes, NoMemory>
                 fault: *fault,
             },
         ),
-        Status::Truncated { line } => truncated(alloc, *line),
-        Status::TooLong => of_bytes(alloc, b"too long"),
-        Status::ScriptForm => of_bytes(alloc, b"script form"),
-        Status::NoMemory => of_bytes(alloc, b"no memory"),
-        Status::ReadFault => of_bytes(alloc, b"read fault"),
-        Status::WriteFault => of_bytes(alloc, b"write fault"),
+        Status::Truncated { line } => truncated_text(alloc, *line),
+        Status::TooLong => copy_of(alloc, b"too long"),
+        Status::ScriptForm => copy_of(alloc, b"script form"),
+        Status::NoMemory => copy_of(alloc, b"no memory"),
+        Status::ReadFault => copy_of(alloc, b"read fault"),
+        Status::WriteFault => copy_of(alloc, b"write fault"),
     }
 }

@@ -1,12 +1,17 @@
+//! The words of a command line.
+
 ghost use Rattle.std.specs.Prelude.{◌≡◌, ◌&&◌, not, map, codes, string_bytes};
 ghost use Rattle.std.specs.List.{list_all};
 ghost use Rattle.std.specs.Str.{bytes_eq};
 ghost use Rattle.std.specs.Option.{option_map};
-ghost use Rattle.kap_server.specs.Words.{is_letter, is_name_byte, is_id_byte, is_id, is_option, asked, request_of};
+ghost use Rattle.kap_server.specs.Words.{is_id, is_id_byte, is_letter, is_name_byte, is_option, request_in, request_of};
+
+/// How many bytes the id of a task may have.
+pub(crate) const ID_LIMIT: usize = 64;
 
 /// What the words of a command line ask for.
 #[derive(Clone, Copy)]
-pub(crate) enum Ask<'a> {
+pub(crate) enum Request<'a> {
     /// To check the script that the input gives.
     Check,
     /// To replay the recording that the input gives, for the task of this id, which has this script.
@@ -56,24 +61,27 @@ fn is_option(word: &[u8]) -> bool
 fn is_id(word: &[u8]) -> bool
     ensures { result ≡ is_id word.now }
 {
-    !word.is_empty() && word.len() <= 64 && has_id_bytes(word)
+    !word.is_empty() && word.len() <= ID_LIMIT && has_id_bytes(word)
 }
 
 fn is_replay(command: &String, id: &String) -> bool
-    ensures { result ≡ bytes_eq (string_bytes command.now) (codes "replay") && is_id (string_bytes id.now) && not (is_option (string_bytes id.now)) }
+    ensures {
+        result ≡ bytes_eq (string_bytes command.now) (codes "replay") && is_id
+            (string_bytes id.now) && not (is_option (string_bytes id.now))
+    }
 {
     command.as_str() == "replay" && is_id(id.as_bytes()) && !is_option(id.as_bytes())
 }
 
 /// What the words of the command line ask for.
-pub(crate) fn asked(words: &[String]) -> Option<Ask<'_>>
-    ensures { option_map request_of result ≡ asked (map string_bytes words.now) }
+pub(crate) fn request_in(words: &[String]) -> Option<Request<'_>>
+    ensures { option_map request_of result ≡ request_in (map string_bytes words.now) }
 {
     match words {
         [] => None,
         [command] => {
             if command.as_str() == "check" {
-                Some(Ask::Check)
+                Some(Request::Check)
             } else {
                 None
             }
@@ -81,7 +89,7 @@ pub(crate) fn asked(words: &[String]) -> Option<Ask<'_>>
         [_, _] => None,
         [command, id, script] => {
             if is_replay(command, id) {
-                Some(Ask::Replay {
+                Some(Request::Replay {
                     id: id.as_str(),
                     script: script.as_str(),
                 })

@@ -4,14 +4,18 @@
 #[cfg(test)]
 mod codes;
 #[cfg(test)]
-mod values;
-#[cfg(test)]
 mod lexer;
 #[cfg(test)]
 mod parser;
 #[cfg(test)]
+mod points;
+#[cfg(test)]
 mod print;
 #[cfg(test)]
+mod program;
+#[cfg(test)]
 mod scripts;
+#[cfg(test)]
+mod values;
 #[cfg(test)]
 mod vars;
