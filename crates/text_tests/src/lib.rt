@@ -10,6 +10,8 @@ mod parser;
 #[cfg(test)]
 mod print;
 #[cfg(test)]
+mod recordings;
+#[cfg(test)]
 mod program;
 #[cfg(test)]
 mod scripts;
