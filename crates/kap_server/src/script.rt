@@ -7,14 +7,20 @@ use crate::words::has_name_bytes;
 
 /// What follows this prefix.
 fn behind_prefix<'a>(text: &'a [u8], prefix: &[u8]) -> Option<&'a [u8]>
-    ensures { MatchOption result ((rest : List ℕ) → text.now ≢ prefix.now ++ rest) (λ rest. text.now ≡ prefix.now ++ rest.now) }
+    ensures {
+        MatchOption result ((rest : List ℕ) → text.now ≢ prefix.now ++ rest)
+            (λ rest. text.now ≡ prefix.now ++ rest.now)
+    }
 {
     text.strip_prefix(prefix)
 }
 
 /// What stands before this suffix.
 fn before_suffix<'a>(text: &'a [u8], suffix: &[u8]) -> Option<&'a [u8]>
-    ensures { MatchOption result ((rest : List ℕ) → text.now ≢ rest ++ suffix.now) (λ rest. text.now ≡ rest.now ++ suffix.now) }
+    ensures {
+        MatchOption result ((rest : List ℕ) → text.now ≢ rest ++ suffix.now)
+            (λ rest. text.now ≡ rest.now ++ suffix.now)
+    }
 {
     text.strip_suffix(suffix)
 }

@@ -13,7 +13,7 @@ ghost use Rattle.lambda_eval.specs.Refs.{are_fit, is_fit, is_fit_lit, GivesField
 ghost use Rattle.lambda_eval.specs.Values.{all_values, at_name, count_value, reference_value, if_value, lit_value, has_match, only_name, part_value, pattern_in, present_value};
 
 use crate::input::Input;
-use crate::value_ref::{ValueRef, TextRef, at_name};
+use crate::value_ref::{TextRef, ValueRef, at_name};
 use kap_base::{Expr, Exprs, ItemList, Lit, Op, Point, Text, TimePart, Value};
 use lambda_fns::{EvalFault, time_part};
 use lambda_types::{Function, PatternList};
@@ -33,7 +33,8 @@ fn string(text: &Text) -> ValueRef<'_>
 /// The value of a literal.
 fn literal(lit: &Lit, at: u32) -> Result<ValueRef<'_>, EvalFault>
     ensures value { GivesValue result (lit_value at lit.now) }
-    ensures field { (patterns : List (List ℕ)) → IsTrue (is_fit_lit patterns lit.now) → GivesField result }
+    ensures field { (patterns : List (List ℕ))
+        → IsTrue (is_fit_lit patterns lit.now) → GivesField result }
 {
     match lit {
         Lit::Int(number) => Ok(ValueRef::Int(*number)),
@@ -94,8 +95,14 @@ fn count(args: &Exprs, k: u64, at: u32) -> Result<ValueRef<'static>, EvalFault>
 }
 
 /// A function of `"time"`.
-fn part_of(part: TimePart, args: &Exprs, point: &Point, at: u32) -> Result<ValueRef<'static>, EvalFault>
-    ensures value { GivesValue result (part_value part at (only_name (trees_of args.now)) point.now) }
+fn part_of(
+    part: TimePart,
+    args: &Exprs,
+    point: &Point,
+    at: u32,
+) -> Result<ValueRef<'static>, EvalFault>
+    ensures value { GivesValue result
+        (part_value part at (only_name (trees_of args.now)) point.now) }
     ensures field { GivesField result }
 {
     match only_name(args) {
@@ -114,7 +121,8 @@ fn search(
     patterns: &mut PatternList,
 ) -> Result<bool, EvalFault>
     requires fit { IsTrue (is_fit patterns.old (tree_of right.now)) }
-    ensures found { Answers EvalFault.NoMemory result (has_match at (pattern_in (tree_of right.now)) (the_value left.now)) }
+    ensures found { Answers EvalFault.NoMemory result
+        (has_match at (pattern_in (tree_of right.now)) (the_value left.now)) }
     ensures kept { patterns.new ≡ patterns.old }
 {
     let ValueRef::Str(text) = left else {
@@ -138,7 +146,8 @@ fn decide<'a>(
     input: &Input<'a>,
 ) -> Result<ValueRef<'a>, EvalFault>
     requires fit { IsTrue (is_fit patterns.old (tree_of right.now)) }
-    ensures value { GivesValue result (decided stop at (val_at (tree_of right.now) input.now) (the_value left.now)) }
+    ensures value { GivesValue result
+        (decided stop at (val_at (tree_of right.now) input.now) (the_value left.now)) }
     ensures field { GivesField result }
     ensures kept { patterns.new ≡ patterns.old }
 {
@@ -167,7 +176,8 @@ fn join<'a>(
 ) -> Result<ValueRef<'a>, EvalFault>
     requires fit { IsTrue (is_fit patterns.old (tree_of right.now)) }
     requires field { IsTrue (is_value (the_value left)) }
-    ensures value { GivesValue result (op_value_at op at (the_value left.entry) (tree_of right.now) input.now) }
+    ensures value { GivesValue result
+        (op_value_at op at (the_value left.entry) (tree_of right.now) input.now) }
     ensures field { GivesField result }
     ensures kept { patterns.new ≡ patterns.old }
 {
@@ -225,7 +235,8 @@ fn evaluate_all<'a>(
     input: &Input<'a>,
 ) -> Result<ItemList<Value>, EvalFault>
     requires fit { IsTrue (are_fit patterns.old (trees_of args.now)) }
-    ensures values { Answers EvalFault.NoMemory result (all_values (vals_at (trees_of args.now) input.now)) }
+    ensures values { Answers EvalFault.NoMemory result
+        (all_values (vals_at (trees_of args.now) input.now)) }
     ensures fields { IfOk result (λ values. IsTrue (list_all is_value values)) }
     ensures kept { patterns.new ≡ patterns.old }
 {
@@ -250,7 +261,8 @@ fn call<'a>(
     input: &Input<'a>,
 ) -> Result<ValueRef<'a>, EvalFault>
     requires fit { IsTrue (are_fit patterns.old (trees_of args.now)) }
-    ensures value { GivesValue result (call_value_at (function_named name.now) at (trees_of args.now) input.now) }
+    ensures value { GivesValue result
+        (call_value_at (function_named name.now) at (trees_of args.now) input.now) }
     ensures field { GivesField result }
     ensures kept { patterns.new ≡ patterns.old }
 {

@@ -95,7 +95,8 @@ fn field_of<'a>(point: &'a Point, name: &Text) -> Option<ValueRef<'a>>
 
 /// The tag of this name, as a text.
 fn tag_of<'a>(point: &'a Point, name: &Text) -> Option<ValueRef<'a>>
-    ensures seen { option_map the_value result ≡ option_map (λ t. Str t) (get point.now.tags name.now) }
+    ensures seen { option_map the_value result
+        ≡ option_map (λ t. Str t) (get point.now.tags name.now) }
     ensures field { IfSome result (λ seen. IsTrue (is_value (the_value seen))) }
 {
     match point.tags.get(name) {

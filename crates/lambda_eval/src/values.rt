@@ -48,16 +48,12 @@ fn evaluate_whole(
 /// At a point that has what a typed lambda needs, each with its type, neither `Missing` nor `Kind` comes. A text is made only
 /// by `+` and by functions, and copied only as a value or as a function's argument. The lambda keeps what its patterns have
 /// built while they searched.
-pub fn value(
-    alloc: Global,
-    lambda: &mut Lambda,
-    k: u64,
-    point: &Point,
-) -> Result<Value, EvalFault>
+pub fn value(alloc: Global, lambda: &mut Lambda, k: u64, point: &Point) -> Result<Value, EvalFault>
     requires early { k < 2 ^ 62 }
     ensures answer { Answers EvalFault.NoMemory result (val lambda.old k point.now) }
     ensures field { IfOk result (λ v. IsTrue (is_value v)) }
-    ensures typed { (ty : Ty) (needs : List Need) → IsTypedAnswer lambda.old ty needs point.now result }
+    ensures typed { (ty : Ty) (needs : List Need)
+        → IsTypedAnswer lambda.old ty needs point.now result }
     ensures kept { lambda.new ≡ lambda.old }
 {
     evaluate_whole(alloc, lambda, k, point)
@@ -73,7 +69,8 @@ fn join_by_and(
     point: &Point,
 ) -> Result<Value, EvalFault>
     requires early { k < 2 ^ 62 }
-    ensures answer { Answers EvalFault.NoMemory result (and_value at (val right.old k point.now) left.now) }
+    ensures answer { Answers EvalFault.NoMemory result
+        (and_value at (val right.old k point.now) left.now) }
     ensures field { IfOk result (λ v. IsTrue (is_value v)) }
     ensures kept { right.new ≡ right.old }
 {
@@ -99,7 +96,8 @@ pub fn value_of_all(
     point: &Point,
 ) -> Result<Value, EvalFault>
     requires early { k < 2 ^ 62 }
-    ensures answer { Answers EvalFault.NoMemory result (val (joined_by_and at lambdas.old) k point.now) }
+    ensures answer { Answers EvalFault.NoMemory result
+        (val (joined_by_and at lambdas.old) k point.now) }
     ensures field { IfOk result (λ v. IsTrue (is_value v)) }
     ensures typed { (ty : Ty) (needs : List Need)
         → IsTypedAnswer (joined_by_and at lambdas.old) ty needs point.now result }

@@ -9,7 +9,7 @@ ghost use Rattle.kap_base.specs.declared.value.Value.TheVariants.{Int, Bool, Str
 ghost use Rattle.lambda_fns.specs.Calls.{fun_value, int_value, bool_value, string_value, replace_value, substring_value, of_text, of_texts};
 ghost use Rattle.lambda_fns.specs.Texts.{first_place, index_of, trimmed};
 
-use crate::convert::{decimal, number, truth, truth_of_number, written};
+use crate::convert::{decimal, number, text_of_truth, truth, truth_of_number};
 use crate::fault::EvalFault;
 use crate::replace::replace;
 use crate::texts::{contains, index, lower, substring, trim_space, upper};
@@ -58,7 +58,7 @@ fn call_string(alloc: Global, args: &[Value], at: u32) -> Result<Value, EvalFaul
 {
     match args {
         [Value::Int(n)] => Ok(Value::Str(decimal(alloc, *n)?)),
-        [Value::Bool(b)] => Ok(Value::Str(written(alloc, *b)?)),
+        [Value::Bool(b)] => Ok(Value::Str(text_of_truth(alloc, *b)?)),
         [Value::Str(s)] => Ok(Value::Str(s.copy(alloc)?)),
         _ => Err(EvalFault::Kind(at)),
     }
@@ -121,7 +121,8 @@ fn call_index(args: &[Value], at: u32) -> Result<Value, EvalFault>
 
 /// `strToLower(s)`.
 fn call_lower(alloc: Global, args: &[Value], at: u32) -> Result<Value, EvalFault>
-    ensures answer { Answers EvalFault.NoMemory result (of_text (λ s. Str (map to_ascii_lowercase s)) at args.now) }
+    ensures answer { Answers EvalFault.NoMemory result
+        (of_text (λ s. Str (map to_ascii_lowercase s)) at args.now) }
     ensures field { IsTrue (list_all is_value args.now) → IfOk result (λ v. IsTrue (is_value v)) }
 {
     match args {
@@ -132,7 +133,8 @@ fn call_lower(alloc: Global, args: &[Value], at: u32) -> Result<Value, EvalFault
 
 /// `strToUpper(s)`.
 fn call_upper(alloc: Global, args: &[Value], at: u32) -> Result<Value, EvalFault>
-    ensures answer { Answers EvalFault.NoMemory result (of_text (λ s. Str (map to_ascii_uppercase s)) at args.now) }
+    ensures answer { Answers EvalFault.NoMemory result
+        (of_text (λ s. Str (map to_ascii_uppercase s)) at args.now) }
     ensures field { IsTrue (list_all is_value args.now) → IfOk result (λ v. IsTrue (is_value v)) }
 {
     match args {
@@ -143,7 +145,8 @@ fn call_upper(alloc: Global, args: &[Value], at: u32) -> Result<Value, EvalFault
 
 /// `strTrimSpace(s)`.
 fn call_trim(alloc: Global, args: &[Value], at: u32) -> Result<Value, EvalFault>
-    ensures answer { Answers EvalFault.NoMemory result (of_text (λ s. Str (trimmed s)) at args.now) }
+    ensures answer { Answers EvalFault.NoMemory result
+        (of_text (λ s. Str (trimmed s)) at args.now) }
     ensures field { IsTrue (list_all is_value args.now) → IfOk result (λ v. IsTrue (is_value v)) }
 {
     match args {

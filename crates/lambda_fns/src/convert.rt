@@ -69,7 +69,7 @@ pub(crate) fn decimal(alloc: Global, number: i64) -> Result<Text, NoMemory>
 }
 
 /// How a truth value is written.
-pub(crate) fn written(alloc: Global, truth: bool) -> Result<Text, NoMemory>
+pub(crate) fn text_of_truth(alloc: Global, truth: bool) -> Result<Text, NoMemory>
     ensures text { IfOk result (λ text. text ≡ truth_text truth) }
     ensures line { IfOk result (λ text. IsTrue (is_line text)) }
 {

@@ -11,8 +11,10 @@ ghost use Rattle.lambda_fns.specs.Texts.{first_place, IsFirst, IsNowhere, text_o
 
 /// Of values of its types a function gives a value of its type, or `Range`; of others it gives `Kind`.
 pub fn calls_are_typed()
-    ensures of_its_types { (fun : Fun) (args : List Value) (at : ℕ) → IsTrue (takes fun (map sort_of args)) → IsTyped (fun_sort fun) at (fun_value fun args at) }
-    ensures of_others { (fun : Fun) (args : List Value) (at : ℕ) → takes fun (map sort_of args) ≡ false → fun_value fun args at ≡ Err (Kind at) }
+    ensures of_its_types { (fun : Fun) (args : List Value) (at : ℕ)
+        → IsTrue (takes fun (map sort_of args)) → IsTyped (fun_sort fun) at (fun_value fun args at) }
+    ensures of_others { (fun : Fun) (args : List Value) (at : ℕ)
+        → takes fun (map sort_of args) ≡ false → fun_value fun args at ≡ Err (Kind at) }
 {}
 
 /// What `strIndex` finds: the first place of a text in another is one where it stands, and it stands at none before;
@@ -26,6 +28,8 @@ pub fn first_places_are_first()
 pub fn pieces_are_pieces()
     ensures again { (n : ℕ) (a s : List ℕ) → text_of_pieces a (pieces n a s) ≡ s }
     ensures at_most { (n : ℕ) (a s : List ℕ) → length (pieces n a s) ≤ n + 1 }
-    ensures none_is_left { (n : ℕ) (a s : List ℕ) → 0 < length a → length s < n → first_place a (last_piece (pieces n a s)) ≡ None }
-    ensures characters { (n : ℕ) (cs : List ℕ) → text_of_pieces [] (pieces_between n cs) ≡ encode_utf8_all cs }
+    ensures none_is_left { (n : ℕ) (a s : List ℕ)
+        → 0 < length a → length s < n → first_place a (last_piece (pieces n a s)) ≡ None }
+    ensures characters { (n : ℕ) (cs : List ℕ)
+        → text_of_pieces [] (pieces_between n cs) ≡ encode_utf8_all cs }
 {}

@@ -14,4 +14,3 @@ pub use fault::EvalFault;
 pub use laws::{calls_are_typed, first_places_are_first, pieces_are_pieces};
 pub use replace::TEXT_LIMIT;
 pub use time::{parts_are_a_date, time_part};
-

@@ -21,7 +21,8 @@ fn replace_matches(
     count: usize,
 ) -> Result<Option<String>, AllocError>
     requires { 0 < length from.now }
-    ensures { IfOk result (IsGiven string_bytes (text_of_pieces to.now (pieces count from.now text.now))) }
+    ensures { IfOk result
+        (IsGiven string_bytes (text_of_pieces to.now (pieces count from.now text.now))) }
 {
     let mut made = String::new(alloc);
     let mut rest = text;
@@ -45,7 +46,8 @@ fn replace_matches(
 
 /// Appends `to` where some are left, and gives how many are left then.
 fn push_if_left(made: &mut String, to: &str, left: usize) -> Result<usize, AllocError>
-    ensures bytes { OnOk result (string_bytes made.new ≡ string_bytes made.old ++ piece left to.now) }
+    ensures bytes { OnOk result
+        (string_bytes made.new ≡ string_bytes made.old ++ piece left to.now) }
     ensures left { IfOk result (λ now. now ≡ left - 1) }
 {
     if left == 0 {
@@ -57,8 +59,14 @@ fn push_if_left(made: &mut String, to: &str, left: usize) -> Result<usize, Alloc
 
 /// The text with `to` before each of the first characters, as many as `count`, and at the end where there are fewer, and
 /// none where that is too long.
-fn insert_between(alloc: Global, text: &str, to: &str, count: usize) -> Result<Option<String>, AllocError>
-    ensures { IfOk result (IsGiven string_bytes (text_of_pieces to.now (pieces_between count (chars text.now)))) }
+fn insert_between(
+    alloc: Global,
+    text: &str,
+    to: &str,
+    count: usize,
+) -> Result<Option<String>, AllocError>
+    ensures { IfOk result (IsGiven string_bytes
+        (text_of_pieces to.now (pieces_between count (chars text.now)))) }
 {
     let mut made = String::new(alloc);
     let mut left = count;
@@ -110,7 +118,8 @@ pub(crate) fn replace(
     count: i64,
 ) -> Result<Option<Text>, NoMemory>
     ensures given { IfOk result (IsGiven (λ t. t) (replaced text.now from.now to.now count)) }
-    ensures line { IsTrue (is_line text.now) → IsTrue (is_line to.now) → IfOk result (λ made. IfSome made (λ t. IsTrue (is_line t))) }
+    ensures line { IsTrue (is_line text.now) → IsTrue (is_line to.now)
+        → IfOk result (λ made. IfSome made (λ t. IsTrue (is_line t))) }
 {
     match replace_string(alloc, text, from, to, count)? {
         Some(made) => Ok(Some(Text::from_string(made))),

@@ -79,7 +79,8 @@ pub(crate) fn substring(
     to: i64,
 ) -> Result<Option<Text>, NoMemory>
     ensures part { IfOk result (λ made. made ≡ part_of text.now from to) }
-    ensures line { IsTrue (is_line text.now) → IfOk result (λ made. IfSome made (λ part. IsTrue (is_line part))) }
+    ensures line { IsTrue (is_line text.now)
+        → IfOk result (λ made. IfSome made (λ part. IsTrue (is_line part))) }
 {
     if from < 0 || to < from {
         return Ok(None);

@@ -1,11 +1,13 @@
 //! The types of an expression, or the first fault in it.
 
-ghost use Rattle.std.specs.Prelude.{◌≡◌, ◌≢◌, ◌≤◌, ◌↔◌, false, true, IfErr, IfOk, IsTrue, None, Some};
+ghost use Rattle.std.specs.Prelude.{◌≡◌, ◌≢◌, false, true, IfErr, IfOk, None, Option, Some};
 ghost use Rattle.kap_base.specs.Tree.{Tree};
 ghost use Rattle.lambda_types.specs.Builds.{AtMostOneMore};
-ghost use Rattle.lambda_types.specs.Faults.{first_fault, is_pattern, refusal_of};
-ghost use Rattle.kap_base.specs.Words.{HasRisen};
-ghost use Rattle.lambda_types.specs.Typed.{HasSomeType, IsTyped};
+ghost use Rattle.lambda_types.specs.Faults.{FailsBy, IsCounted, Refusal, first_fault, is_pattern};
+ghost use Rattle.lambda_types.specs.FirstFault.{IsFirstFault, NoneBreaks, parts_of};
+ghost use Rattle.lambda_types.specs.Typed.{HasSomeType};
+ghost use Rattle.lambda_types.specs.declared.fault.TypeFault.{TypeFault};
+ghost use Rattle.lambda_types.specs.declared.walk.Position.TheVariants.{Anywhere};
 
 use crate::fault::TypeFault;
 use crate::lambda::Lambda;
@@ -27,13 +29,18 @@ use std::alloc::Global;
 /// - `NoFunction` at a call of no function, then `Arity` at one with more or fewer arguments than its function takes;
 /// - `Mismatch` at an operator or a call that has no type although its parts have, and at a duration or a name that the
 ///   script was to define.
-pub fn infer<P: Patterns>(alloc: Global, expr: &SharedExpr, pats: &mut P) -> Result<Lambda, TypeFault>
+pub fn infer<P: Patterns>(
+    alloc: Global,
+    expr: &SharedExpr,
+    pats: &mut P,
+) -> Result<Lambda, TypeFault>
     ensures same { IfOk result (λ lambda. lambda ≡ expr.now) }
     ensures typed { IfOk result (λ lambda. HasSomeType expr.now) }
     ensures kept { IfOk result (λ lambda. P.refusals pats.new ≡ P.refusals pats.old) }
-    ensures fault { IfErr result (λ f. f ≢ TypeFault.NoMemory → first_fault (refusal_of f (P.refused pats.new)) expr.now ≡ Some f) }
-    ensures untyped { IfErr result (λ f. f ≢ TypeFault.NoMemory → is_pattern f ≡ false → ¬ (HasSomeType expr.now)) }
-    ensures refused { IfErr result (λ f. is_pattern f ≡ true → HasRisen (P.refusals pats.old) (P.refusals pats.new)) }
+    ensures fault { IfErr result (FailsBy (λ r. first_fault r expr.now) (P.refused pats.new)) }
+    ensures untyped { IfErr result (λ f. f ≢ TypeFault.NoMemory → is_pattern f ≡ false
+        → ¬ (HasSomeType expr.now)) }
+    ensures refused { IfErr result (IsCounted (P.refusals pats.old) (P.refusals pats.new)) }
     ensures counted { AtMostOneMore (P.refusals pats.old) (P.refusals pats.new) }
 {
     let mut patterns = Vec::new(alloc);
@@ -50,4 +57,14 @@ pub fn infer<P: Patterns>(alloc: Global, expr: &SharedExpr, pats: &mut P) -> Res
 pub fn typed_without_fault()
     ensures typed { (tree : Tree) → first_fault None tree ≡ None → HasSomeType tree }
     ensures no_fault { (tree : Tree) → HasSomeType tree → first_fault None tree ≡ None }
+{}
+
+/// The fault of an expression is that of its first part, from left to right and parts before the whole, that breaks a rule;
+/// and one where no part breaks one has a type.
+pub fn first_fault_is_first()
+    ensures first { (refused : Option Refusal) (tree : Tree) (f : TypeFault)
+        → first_fault refused tree ≡ Some f → IsFirstFault refused tree f }
+    ensures only { (refused : Option Refusal) (tree : Tree) (f : TypeFault)
+        → IsFirstFault refused tree f → first_fault refused tree ≡ Some f }
+    ensures typed { (tree : Tree) → NoneBreaks None (parts_of Anywhere tree) → HasSomeType tree }
 {}

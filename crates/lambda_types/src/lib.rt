@@ -14,14 +14,13 @@ mod sends;
 mod types;
 mod walk;
 
+pub use cache::CACHE_LIMIT;
 pub use fault::TypeFault;
 pub use functions::Function;
-pub use inference::{infer, typed_without_fault};
-pub use cache::CACHE_LIMIT;
+pub use inference::{first_fault_is_first, infer, typed_without_fault};
 pub use lambda::Lambda;
-pub use pattern_list::PatternList;
 pub use pattern::{Pattern, PatternFault};
+pub use pattern_list::PatternList;
 pub use patterns::{Patterns, RegexPatterns};
-pub use sends::{lambda_sent, pattern_sent};
+pub use sends::{send_lambda, send_pattern};
 pub use types::Ty;
-

@@ -44,7 +44,12 @@ impl Model for RegexPatterns {
 
     ghost Value = { Builds };
 
-    ghost view = { λ p. record { fails = p.fails.items; begun = p.builds; refusals = p.refusals; refused = p.refused.items } };
+    ghost view = { λ p. record {
+      fails = p.fails.items;
+      begun = p.builds;
+      refusals = p.refusals;
+      refused = p.refused.items;
+    } };
 }
 
 impl RegexPatterns {
@@ -88,7 +93,8 @@ impl Patterns for RegexPatterns {
         ensures refusal { IfErr result (λ fault. fault ≡ PatternFault.Refused
             → HasRisen self.old.refusals self.new.refusals × (self.new.refused ≡ text.now)) }
         ensures counted { AtMostOneMore self.old.refusals self.new.refusals }
-        ensures fails { self.old.begun < 2 ^ 64 - 1 → Contains self.old.fails (self.old.begun + 1) → is_ok result ≡ false }
+        ensures fails { self.old.begun < 2 ^ 64 - 1
+            → Contains self.old.fails (self.old.begun + 1) → is_ok result ≡ false }
         ensures numbered { self.old.begun < 2 ^ 64 - 1 → self.new.begun ≡ self.old.begun + 1 }
         ensures numbers { self.new.fails ≡ self.old.fails }
     {

@@ -14,7 +14,7 @@ use Rattle.kap_base.specs.declared.value.Value.TheVariants as values
 use Rattle.kap_base.specs.declared.limits.TheConstants.{TIME_LIMIT}
 use Rattle.line_points.specs.declared.mode.Mode.{Mode}
 use Rattle.line_points.specs.Parts.{comma, equals, quote, space, without_spaces}
-use Rattle.line_points.specs.Numbers.{signed, fits}
+use Rattle.line_points.specs.Numbers.{with_sign, fits}
 use Rattle.line_points.specs.Line.{Tag, Field, measurement_at, tags_at, fields_at, time_of, has_time}
 use Rattle.line_points.specs.Grammar.{spaces, SpellsValue, integer_word, true_word, false_word, quoted_text, SpellsTags, no_tags, more_tags, SpellsFields, one_field, more_fields, SpellsTime, no_time, some_time, Spelled, IsOf}
 use Rattle.std.proofs.lemmas.Int.{to_z-of_z}
@@ -27,7 +27,7 @@ use Rattle.line_points.proofs.EntryLaws.{all-entries, some_entry}
 
 -- ---- values
 
-int_value_is : (n : Bool × ℕ) → fits n ≡ true → is_value (values.Int (signed n)) ≡ true
+int_value_is : (n : Bool × ℕ) → fits n ≡ true → is_value (values.Int (with_sign n)) ≡ true
 int_value_is (true, zero) h = refl
 int_value_is (true, suc m) h = grind (arith, nat_tests)
 int_value_is (false, m) h = h
@@ -72,7 +72,7 @@ some_field (more_fields k v key value fs more some key_spells value_spells spell
 
 -- ---- the time
 
-signed_time : (negative : Bool) (n : ℕ) → nat_le n TIME_LIMIT ≡ true → is_time (signed (negative, n)) ≡ true
+signed_time : (negative : Bool) (n : ℕ) → nat_le n TIME_LIMIT ≡ true → is_time (with_sign (negative, n)) ≡ true
 signed_time true zero h = refl
 signed_time true (suc m) h = grind (arith, nat_tests)
 signed_time false n h = h

@@ -15,7 +15,7 @@ use Rattle.line_points.specs.declared.fault.LineFault.{LineFault}
 use Rattle.line_points.specs.declared.fault.LineFault.TheVariants as faults
 use Rattle.line_points.specs.declared.part.Part.TheVariants as parts
 use Rattle.line_points.specs.Parts.{begins, comma, equals, quote, space, is_space, is_separator, without_spaces, text_at, is_at_separator}
-use Rattle.line_points.specs.Numbers.{is_digits, signed, fits, is_true, is_false}
+use Rattle.line_points.specs.Numbers.{is_digits, with_sign, fits, is_true, is_false}
 use Rattle.line_points.specs.Words.{int_value, integer_of, other_value, word_value, is_float, is_unsigned}
 use Rattle.line_points.specs.Line.{Field, quoted_at, word_at, value_at, field_at, fields_from, fields_at}
 use Rattle.line_points.specs.Grammar.{Spells, SpellsFields, one_field, more_fields, spaces}
@@ -43,7 +43,7 @@ data WordFault (word : List ℕ) : LineFault → Type 0 where
 int_fault : (number : Bool × ℕ) (word : List ℕ) (f : LineFault) → int_value number ≡ Err f → WordFault word f
 int_fault number word f e = by_test (fits number) e
   where
-    by_test : (b : Bool) → cond b (Ok (values.Int (signed number))) (Err faults.Field) ≡ Err f → WordFault word f
+    by_test : (b : Bool) → cond b (Ok (values.Int (with_sign number))) (Err faults.Field) ≡ Err f → WordFault word f
     by_test true e = absurd cc
     by_test false e = subst (WordFault word) (err_is {A = Value} faults.Field f e) is_no_word
 

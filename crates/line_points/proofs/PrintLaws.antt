@@ -21,19 +21,19 @@ use Rattle.line_points.specs.declared.part.Part.{Part}
 use Rattle.line_points.specs.declared.part.Part.TheVariants as parts
 use Rattle.line_points.specs.declared.mode.Mode.TheVariants.{Recording}
 use Rattle.line_points.specs.Parts.{comma, equals, space, escapes, stops, begins}
-use Rattle.line_points.specs.Numbers.{is_digits, signed, fits}
+use Rattle.line_points.specs.Numbers.{is_digits, with_sign, fits}
 use Rattle.line_points.specs.Line.{Tag, Field}
 use Rattle.line_points.specs.Grammar.{Spells, no_bytes, plain, behind_backslash, minus, SpellsValue, integer_word, true_word, false_word, quoted_text, SpellsTags, no_tags, more_tags, SpellsFields, one_field, more_fields, SpellsTime, some_time}
-use Rattle.line_points.specs.Print.{escaped_byte, escaped, value_text, tag_text, field_text, fields_text}
+use Rattle.line_points.specs.Print.{byte_text, part_text, value_text, tag_text, field_text, fields_text}
 use Rattle.line_points.proofs.TestLaws.{first_of, second_of, first_false, second_false, both, not_true, not_false}
 use Rattle.line_points.proofs.SpellLaws.{stops-escape}
 
 -- a text without a byte that the part escapes
-pub escaped-none : (part : Part) (text : List ℕ) → list_any (escapes part) text ≡ false → escaped part text ≡ text
+pub escaped-none : (part : Part) (text : List ℕ) → list_any (escapes part) text ≡ false → part_text part text ≡ text
 escaped-none part [] none = refl
 escaped-none part (b ∷ text) none =
     let plain : escapes part b ≡ false = first_false (escapes part b) (list_any (escapes part) text) none in
-    flat_map-cons (escaped_byte part) b text
+    flat_map-cons (byte_text part) b text
     ∙ rw plain (ap (λ (x : List ℕ). b ∷ x) (escaped-none part text (second_false (escapes part b) (list_any (escapes part) text) none)))
 
 -- ---- texts
@@ -49,39 +49,39 @@ rest_named part b (c ∷ text) named = named
 no_stop : (part : Part) (b : ℕ) → escapes part b ≡ false → stops part b ≡ false
 no_stop part b never = elim (stops part b) as (λ s. stops part b ≡ s → s ≡ false) [ true ↦ λ s. absurd (let can = stops-escape part b s in cc) | false ↦ λ _. refl ] refl
 
-begins-escaped : (part : Part) (c : ℕ) (text : List ℕ) → escapes part backslash ≡ false → begins (λ x. not (escapes part x)) (escaped part (c ∷ text)) ≡ true
+begins-escaped : (part : Part) (c : ℕ) (text : List ℕ) → escapes part backslash ≡ false → begins (λ x. not (escapes part x)) (part_text part (c ∷ text)) ≡ true
 begins-escaped part c text never =
-    ap (begins (λ x. not (escapes part x))) (flat_map-cons (escaped_byte part) c text)
-    ∙ elim (escapes part c) as (λ e. escapes part c ≡ e → begins (λ x. not (escapes part x)) (cond e (backslash ∷ c ∷ []) (c ∷ []) ++ escaped part text) ≡ true) [
+    ap (begins (λ x. not (escapes part x))) (flat_map-cons (byte_text part) c text)
+    ∙ elim (escapes part c) as (λ e. escapes part c ≡ e → begins (λ x. not (escapes part x)) (cond e (backslash ∷ c ∷ []) (c ∷ []) ++ part_text part text) ≡ true) [
       | true ↦ λ _. not_false (escapes part backslash) never
       | false ↦ λ e. not_false (escapes part c) e
     ] refl
 
-lone : (part : Part) (b : ℕ) (text : List ℕ) → escapes part b ≡ false → can_spell part (b ∷ text) ≡ true → (not (eqb b backslash) || begins (λ x. not (escapes part x)) (escaped part text)) ≡ true
+lone : (part : Part) (b : ℕ) (text : List ℕ) → escapes part b ≡ false → can_spell part (b ∷ text) ≡ true → (not (eqb b backslash) || begins (λ x. not (escapes part x)) (part_text part text)) ≡ true
 lone part b text alone named =
-    elim (eqb b backslash) as (λ t. eqb b backslash ≡ t → (not t || begins (λ x. not (escapes part x)) (escaped part text)) ≡ true) [
+    elim (eqb b backslash) as (λ t. eqb b backslash ≡ t → (not t || begins (λ x. not (escapes part x)) (part_text part text)) ≡ true) [
       | false ↦ λ _. refl
       | true ↦ λ t. followed part b text t (subst (λ (x : ℕ). escapes part x ≡ false) (eqb-true _ _ t) alone) named
     ] refl
   where
-    followed : (part : Part) (b : ℕ) (text : List ℕ) → eqb b backslash ≡ true → escapes part backslash ≡ false → can_spell part (b ∷ text) ≡ true → begins (λ x. not (escapes part x)) (escaped part text) ≡ true
+    followed : (part : Part) (b : ℕ) (text : List ℕ) → eqb b backslash ≡ true → escapes part backslash ≡ false → can_spell part (b ∷ text) ≡ true → begins (λ x. not (escapes part x)) (part_text part text) ≡ true
     followed part b [] t never named = absurd (grind (arith, nat_tests))
     followed part b (c ∷ text) t never named = begins-escaped part c text never
 
-pub escaped_spells : (part : Part) (text : List ℕ) → can_spell part text ≡ true → Spells part text (escaped part text)
+pub escaped_spells : (part : Part) (text : List ℕ) → can_spell part text ≡ true → Spells part text (part_text part text)
 escaped_spells part [] named = no_bytes
 escaped_spells part (b ∷ text) named =
     let more = escaped_spells part text (rest_named part b text named) in
-    subst (Spells part (b ∷ text)) (sym (flat_map-cons (escaped_byte part) b text))
-    (elim (escapes part b) as (λ e. escapes part b ≡ e → Spells part (b ∷ text) (cond e (backslash ∷ b ∷ []) (b ∷ []) ++ escaped part text)) [
-      | true ↦ λ e. behind_backslash b text (escaped part text) e more
-      | false ↦ λ e. plain b text (escaped part text) (both (not (stops part b)) _ (not_false (stops part b) (no_stop part b e)) (lone part b text e named)) more
+    subst (Spells part (b ∷ text)) (sym (flat_map-cons (byte_text part) b text))
+    (elim (escapes part b) as (λ e. escapes part b ≡ e → Spells part (b ∷ text) (cond e (backslash ∷ b ∷ []) (b ∷ []) ++ part_text part text)) [
+      | true ↦ λ e. behind_backslash b text (part_text part text) e more
+      | false ↦ λ e. plain b text (part_text part text) (both (not (stops part b)) _ (not_false (stops part b) (no_stop part b e)) (lone part b text e named)) more
     ] refl)
 
 pub name_some : (text : List ℕ) → is_name text ≡ true → is_empty text ≡ false
 name_some text named = not_true (is_empty text) (first_of (not (is_empty text)) (not (ends_with backslash text)) (first_of _ (is_line text) named))
 
-pub name_spells : (part : Part) (text : List ℕ) → escapes part backslash ≡ false → is_name text ≡ true → Spells part text (escaped part text)
+pub name_spells : (part : Part) (text : List ℕ) → escapes part backslash ≡ false → is_name text ≡ true → Spells part text (part_text part text)
 name_spells part text never named =
     let last : not (ends_with backslash text) ≡ true = second_of (not (is_empty text)) _ (first_of _ (is_line text) named) in
     escaped_spells part text (rw (never, last) refl)
@@ -103,10 +103,10 @@ decimal_digits n lt = some_digits (decimal n) (decimal_nonempty n lt) (digits_de
 
 -- ---- values
 
-int_spells : (negative : Bool) (n : ℕ) → n < 2 ^ 64 → fits (negative, n) ≡ true → SpellsValue (values.Int (signed (negative, n))) (minus negative ++ (decimal n ++ codes "i"))
+int_spells : (negative : Bool) (n : ℕ) → n < 2 ^ 64 → fits (negative, n) ≡ true → SpellsValue (values.Int (with_sign (negative, n))) (minus negative ++ (decimal n ++ codes "i"))
 int_spells negative n lt fit =
     let is = digits_value-decimal own n lt in
-    subst (λ (x : ℕ). SpellsValue (values.Int (signed (negative, x))) (minus negative ++ (decimal n ++ codes "i"))) is
+    subst (λ (x : ℕ). SpellsValue (values.Int (with_sign (negative, x))) (minus negative ++ (decimal n ++ codes "i"))) is
     (integer_word negative (decimal n) (decimal_digits n lt) (ap (λ (x : ℕ). fits (negative, x)) is ∙ fit))
 
 pub value_spells : (v : Value) → is_value v ≡ true → SpellsValue v (value_text v)
@@ -115,7 +115,7 @@ value_spells (values.Int (pos n)) small = let lt : n < 2 ^ 63 = ltb-true _ _ sma
 value_spells (values.Int (negsuc n)) small = let lt : n < 2 ^ 63 = ltb-true _ _ small in int_spells true (suc n) (omega arith) (grind (arith, nat_tests))
 value_spells (values.Bool true) small = true_word (codes "true") refl
 value_spells (values.Bool false) small = false_word (codes "false") refl
-value_spells (values.Str text) small = quoted_text text (escaped parts.Quoted text) (escaped_spells parts.Quoted text refl)
+value_spells (values.Str text) small = quoted_text text (part_text parts.Quoted text) (escaped_spells parts.Quoted text refl)
 
 -- ---- tags and fields
 
@@ -126,8 +126,8 @@ tags_spell (t ∷ ts) named =
     let key : is_name t.0 ≡ true = first_of (is_name t.0) (is_name t.1) here in
     let value : is_name t.1 ≡ true = second_of (is_name t.0) (is_name t.1) here in
     let more = tags_spell ts (second_of (is_name t.0 && is_name t.1) _ named) in
-    subst (SpellsTags (t ∷ ts)) (sym (flat_map-cons tag_text t ts ∙ ap (λ (x : List ℕ). comma ∷ x) (append_assoc (escaped parts.Key t.0) (equals ∷ escaped parts.Key t.1) (flat_map tag_text ts))))
-    (more_tags t.0 t.1 (escaped parts.Key t.0) (escaped parts.Key t.1) ts (flat_map tag_text ts) (name_some t.0 key) (name_some t.1 value) (name_spells parts.Key t.0 refl key) (name_spells parts.Key t.1 refl value) more)
+    subst (SpellsTags (t ∷ ts)) (sym (flat_map-cons tag_text t ts ∙ ap (λ (x : List ℕ). comma ∷ x) (append_assoc (part_text parts.Key t.0) (equals ∷ part_text parts.Key t.1) (flat_map tag_text ts))))
+    (more_tags t.0 t.1 (part_text parts.Key t.0) (part_text parts.Key t.1) ts (flat_map tag_text ts) (name_some t.0 key) (name_some t.1 value) (name_spells parts.Key t.0 refl key) (name_spells parts.Key t.1 refl value) more)
 
 field_key : (f : Field) (fs : List Field) → list_all (λ f. is_name f.0 && is_value f.1) (f ∷ fs) ≡ true → is_name f.0 ≡ true
 field_key f fs each = first_of (is_name f.0) (is_value f.1) (first_of _ (list_all (λ f. is_name f.0 && is_value f.1) fs) each)
@@ -138,14 +138,14 @@ field_value f fs each = second_of (is_name f.0) (is_value f.1) (first_of _ (list
 fields_spell : (f : Field) (fs : List Field) → list_all (λ f. is_name f.0 && is_value f.1) (f ∷ fs) ≡ true → SpellsFields (f ∷ fs) (fields_text (f ∷ fs))
 fields_spell f [] each =
     subst (SpellsFields (f ∷ [])) (sym (append-nil (field_text f)))
-    (one_field f.0 f.1 (escaped parts.Key f.0) (value_text f.1) (name_some f.0 (field_key f [] each)) (name_spells parts.Key f.0 refl (field_key f [] each)) (value_spells f.1 (field_value f [] each)))
+    (one_field f.0 f.1 (part_text parts.Key f.0) (value_text f.1) (name_some f.0 (field_key f [] each)) (name_spells parts.Key f.0 refl (field_key f [] each)) (value_spells f.1 (field_value f [] each)))
 fields_spell f (g ∷ fs) each =
     let more = fields_spell g fs (second_of (is_name f.0 && is_value f.1) _ each) in
-    let grouped : fields_text (f ∷ g ∷ fs) ≡ escaped parts.Key f.0 ++ (equals ∷ (value_text f.1 ++ (comma ∷ fields_text (g ∷ fs)))) =
+    let grouped : fields_text (f ∷ g ∷ fs) ≡ part_text parts.Key f.0 ++ (equals ∷ (value_text f.1 ++ (comma ∷ fields_text (g ∷ fs)))) =
     ap (λ (x : List ℕ). field_text f ++ x) (flat_map-cons (λ g. comma ∷ field_text g) g fs)
-    ∙ append_assoc (escaped parts.Key f.0) (equals ∷ value_text f.1) (comma ∷ fields_text (g ∷ fs)) in
+    ∙ append_assoc (part_text parts.Key f.0) (equals ∷ value_text f.1) (comma ∷ fields_text (g ∷ fs)) in
     subst (SpellsFields (f ∷ g ∷ fs)) (sym grouped)
-    (more_fields f.0 f.1 (escaped parts.Key f.0) (value_text f.1) (g ∷ fs) (fields_text (g ∷ fs)) (name_some f.0 (field_key f (g ∷ fs) each)) (name_spells parts.Key f.0 refl (field_key f (g ∷ fs) each)) (value_spells f.1 (field_value f (g ∷ fs) each)) more)
+    (more_fields f.0 f.1 (part_text parts.Key f.0) (value_text f.1) (g ∷ fs) (fields_text (g ∷ fs)) (name_some f.0 (field_key f (g ∷ fs) each)) (name_spells parts.Key f.0 refl (field_key f (g ∷ fs) each)) (value_spells f.1 (field_value f (g ∷ fs) each)) more)
 
 pub all_fields_spell : (fs : List Field) → 0 < length fs → list_all (λ f. is_name f.0 && is_value f.1) fs ≡ true → SpellsFields fs (fields_text fs)
 all_fields_spell [] some each = absurd (omega arith)
@@ -153,10 +153,10 @@ all_fields_spell (f ∷ fs) some each = fields_spell f fs each
 
 -- ---- the time
 
-time_from : (negative : Bool) (n : ℕ) → n ≤ TIME_LIMIT → SpellsTime Recording (signed (negative, n)) (space ∷ (minus negative ++ decimal n))
+time_from : (negative : Bool) (n : ℕ) → n ≤ TIME_LIMIT → SpellsTime Recording (with_sign (negative, n)) (space ∷ (minus negative ++ decimal n))
 time_from negative n le =
     let is : digits_value 10 (decimal n) * 1 ≡ n = omega (arith, digits_value-decimal own n (omega arith)) in
-    subst (λ (x : ℕ). SpellsTime Recording (signed (negative, x)) (space ∷ (minus negative ++ decimal n))) is
+    subst (λ (x : ℕ). SpellsTime Recording (with_sign (negative, x)) (space ∷ (minus negative ++ decimal n))) is
     (some_time Recording 0 negative (decimal n) (decimal_digits n (omega arith)) (le-leb _ _ (omega (arith, is))))
 
 pub time_spells : (t : ℤ) → is_time t ≡ true → SpellsTime Recording t (space ∷ signed_decimal t)

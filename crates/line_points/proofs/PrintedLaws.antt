@@ -23,7 +23,7 @@ use Rattle.line_points.specs.Parts.{comma, equals, quote, space, escapes}
 use Rattle.line_points.specs.Numbers.{true_words, false_words}
 use Rattle.line_points.specs.Line.{Tag, Field, line_of, stored_of}
 use Rattle.line_points.specs.Grammar.{Spells, no_bytes, plain, behind_backslash, minus, spaces, SpellsValue, integer_word, true_word, false_word, quoted_text, SpellsTags, no_tags, more_tags, SpellsFields, one_field, more_fields, SpellsTime, no_time, some_time, Spelled, IsOf}
-use Rattle.line_points.specs.Print.{escaped, tag_text, fields_text, Print, ungrouped}
+use Rattle.line_points.specs.Print.{part_text, tag_text, fields_text, Print, without_grouping}
 use Rattle.line_points.proofs.TestLaws.{first_of, second_of, first_false, second_false, not_true}
 use Rattle.line_points.proofs.CleanLaws.{IsClean, clean_line}
 use Rattle.line_points.proofs.Utf8Laws.{around}
@@ -160,7 +160,7 @@ time_clean (some_time mode n negative digits all range) =
 
 pub record IsPrinted (p : PointValue) : Type 0 where
   pub clean : IsClean (Print p)
-  pub spelled : Spelled Recording (ungrouped p) (Print p)
+  pub spelled : Spelled Recording (without_grouping p) (Print p)
 
 pub printed : (p : PointValue) → IsPoint p → IsPrinted p
 unfolding is_sign
@@ -174,19 +174,19 @@ printed p is =
     let last = space ∷ signed_decimal p.time in
     record {
       clean =
-          together (escaped parts.Measurement p.name) _ (spelling_clean name (name_clean p.name name_is))
+          together (part_text parts.Measurement p.name) _ (spelling_clean name (name_clean p.name name_is))
           (together (flat_map tag_text (entries p.tags)) _ (tags_clean tags is.tags)
           (onto_clean space (fields_text (entries p.fields) ++ last) refl
           (together (fields_text (entries p.fields)) last (fields_clean fields is.fields) (time_clean time))));
       spelled = record {
         before = 0;
-        name = escaped parts.Measurement p.name;
+        name = part_text parts.Measurement p.name;
         tags = flat_map tag_text (entries p.tags);
         between = 0;
         fields = fields_text (entries p.fields);
         time = last;
         behind = 0;
-        line_is = ap (λ (x : List ℕ). escaped parts.Measurement p.name ++ (flat_map tag_text (entries p.tags) ++ (space ∷ (fields_text (entries p.fields) ++ x)))) (sym (append-nil last));
+        line_is = ap (λ (x : List ℕ). part_text parts.Measurement p.name ++ (flat_map tag_text (entries p.tags) ++ (space ∷ (fields_text (entries p.fields) ++ x)))) (sym (append-nil last));
         some_name = name_some p.name name_is;
         no_comment = not_true (begins_with number_sign p.name) (first_of _ (is_name p.name) is.name);
         name_spelled = name;
@@ -205,16 +205,16 @@ printed p is =
 
 pub record PrintsAgain (line : List ℕ) (p : PointValue) : Type 0 where
   pub one_line : is_line line ≡ true
-  pub again : length line ≤ LINE_LIMIT → line_of p.db p.rp Recording line ≡ Ok (Some (ungrouped p))
-  pub stored_again : stored_of p.db p.rp Recording line ≡ Ok (ungrouped p)
+  pub again : length line ≤ LINE_LIMIT → line_of p.db p.rp Recording line ≡ Ok (Some (without_grouping p))
+  pub stored_again : stored_of p.db p.rp Recording line ≡ Ok (without_grouping p)
 
 pub prints_again : (line : List ℕ) (p : PointValue) → IsPoint p → line ≡ Print p → PrintsAgain line p
 prints_again line p is line_is =
     let q = printed p is in
     let valid : is_utf8 (Print p) ≡ true = is_utf8-from_IsUtf8 (Print p) q.clean.valid in
-    let of_same : IsOf p.db p.rp (ungrouped p) = record { db = refl; rp = refl; dims = refl; by_name = refl } in
+    let of_same : IsOf p.db p.rp (without_grouping p) = record { db = refl; rp = refl; dims = refl; by_name = refl } in
     subst (λ (x : List ℕ). PrintsAgain x p) (sym line_is) (record {
       one_line = clean_line (Print p) q.clean;
-      again = λ short. spelled_line p.db p.rp Recording (Print p) (ungrouped p) of_same q.spelled valid short;
-      stored_again = spelled_stored p.db p.rp Recording (Print p) (ungrouped p) of_same q.spelled valid;
+      again = λ short. spelled_line p.db p.rp Recording (Print p) (without_grouping p) of_same q.spelled valid short;
+      stored_again = spelled_stored p.db p.rp Recording (Print p) (without_grouping p) of_same q.spelled valid;
     })

@@ -13,8 +13,8 @@ use Rattle.line_points.specs.declared.mode.Unit.{Unit as TimeUnit}
 use Rattle.line_points.specs.declared.mode.Mode.{Mode}
 use Rattle.line_points.specs.declared.mode.Mode.TheVariants.{Live, Recording}
 use Rattle.line_points.specs.Parts.{comma, space, is_space, without_spaces, is_at_separator}
-use Rattle.line_points.specs.Numbers.{is_digits, number_of, signed}
-use Rattle.line_points.specs.Line.{nanoseconds, unit_of, missing_time as time_missing, scaled, word_time, time_of}
+use Rattle.line_points.specs.Numbers.{is_digits, number_of, with_sign}
+use Rattle.line_points.specs.Line.{nanoseconds, unit_of, missing_time as time_missing, time_of_units, word_time, time_of}
 use Rattle.line_points.specs.Grammar.{minus, spaces, SpellsTime, no_time as none_spelled, some_time}
 use Rattle.line_points.specs.FaultRows.{TimeWord, TimeFault, missing_time, far_time, no_time}
 use Rattle.line_points.proofs.TestLaws.{err_is}
@@ -29,14 +29,14 @@ spaces_read : (mode : Mode) (bytes : List ℕ) (n : ℕ) → bytes ≡ spaces n 
 unfolding time_of
 spaces_read mode bytes n is = rw (is, only_spaces n) refl
 
-word_read : (mode : Mode) (negative : Bool) (digits : List ℕ) (behind : ℕ) → is_digits digits ≡ true → time_of mode ((minus negative ++ digits) ++ spaces behind) ≡ scaled (unit_of mode) (negative, digits_value 10 digits)
+word_read : (mode : Mode) (negative : Bool) (digits : List ℕ) (behind : ℕ) → is_digits digits ≡ true → time_of mode ((minus negative ++ digits) ++ spaces behind) ≡ time_of_units (unit_of mode) (negative, digits_value 10 digits)
 unfolding time_of
 word_read mode negative digits behind all =
     let word = minus negative ++ digits in
     let ends = word_ends is_space word (spaces behind) (number_whole negative digits all) (place_end behind) in
     rw (number_some negative digits (spaces behind) all, ends.behind, are_spaces behind, ends.before, number_again negative digits all) refl
 
-number_read : (mode : Mode) (bytes : List ℕ) → (t : TimeWord bytes) → time_of mode (without_spaces bytes) ≡ scaled (unit_of mode) (t.negative, digits_value 10 t.digits)
+number_read : (mode : Mode) (bytes : List ℕ) → (t : TimeWord bytes) → time_of mode (without_spaces bytes) ≡ time_of_units (unit_of mode) (t.negative, digits_value 10 t.digits)
 number_read mode bytes t =
     ap (λ (x : List ℕ). time_of mode (without_spaces x)) t.is
     ∙ ap (time_of mode) (spaces_skipped t.more ((minus t.negative ++ t.digits) ++ spaces t.behind) (number_first t.negative t.digits (spaces t.behind) t.all))
@@ -46,10 +46,10 @@ missing_else : (mode : Mode) → time_missing mode ≡ Err faults.Time → ⊥
 missing_else (Live unit now) e = cc
 missing_else Recording e = cc
 
-scaled_else : (unit : TimeUnit) (n : Bool × ℕ) → scaled unit n ≡ Err faults.Time → ⊥
+scaled_else : (unit : TimeUnit) (n : Bool × ℕ) → time_of_units unit n ≡ Err faults.Time → ⊥
 scaled_else unit n e = by_test (nat_le (n.1 * nanoseconds unit) TIME_LIMIT) e
   where
-    by_test : (b : Bool) → cond b (Ok (signed (n.0, n.1 * nanoseconds unit))) (Err faults.TimeRange) ≡ Err faults.Time → ⊥
+    by_test : (b : Bool) → cond b (Ok (with_sign (n.0, n.1 * nanoseconds unit))) (Err faults.TimeRange) ≡ Err faults.Time → ⊥
     by_test true e = cc
     by_test false e = cc
 
@@ -81,14 +81,14 @@ time_cut bytes next none some all =
     let cut : rest ≡ word ++ spaces (length tail) = sym (take-append-drop (position_or_len is_space rest) rest) ∙ ap (λ (x : List ℕ). word ++ x) (spaces_are tail all) in
     record { more = s.more; behind = length tail; is = s.is ∙ ap (λ (x : List ℕ). space ∷ (spaces s.more ++ x)) cut }
 
-far_fault : (mode : Mode) (bytes word : List ℕ) (number : Bool × ℕ) (f : LineFault) → TimeCut bytes word → number_of word ≡ Some number → scaled (unit_of mode) number ≡ Err f → TimeFault mode bytes f
+far_fault : (mode : Mode) (bytes word : List ℕ) (number : Bool × ℕ) (f : LineFault) → TimeCut bytes word → number_of word ≡ Some number → time_of_units (unit_of mode) number ≡ Err f → TimeFault mode bytes f
 far_fault mode bytes word number f c read e =
     let n = number_taken word number read in
     let size : digits_value 10 n.digits ≡ number.1 = ap (λ (x : Bool × ℕ). x.1) n.value in
     let t : TimeWord bytes = record { more = c.more; negative = number.0; digits = n.digits; behind = c.behind; is = c.is ∙ ap (λ (x : List ℕ). space ∷ (spaces c.more ++ (x ++ spaces c.behind))) n.is; all = n.all } in
     by_test (nat_le (number.1 * nanoseconds (unit_of mode)) TIME_LIMIT) refl e (λ far. far_time t (ap (λ (x : ℕ). nat_le (x * nanoseconds (unit_of mode)) TIME_LIMIT) size ∙ far))
   where
-    by_test : (b : Bool) → nat_le (number.1 * nanoseconds (unit_of mode)) TIME_LIMIT ≡ b → cond b (Ok (signed (number.0, number.1 * nanoseconds (unit_of mode)))) (Err faults.TimeRange) ≡ Err f → (nat_le (number.1 * nanoseconds (unit_of mode)) TIME_LIMIT ≡ false → TimeFault mode bytes faults.TimeRange) → TimeFault mode bytes f
+    by_test : (b : Bool) → nat_le (number.1 * nanoseconds (unit_of mode)) TIME_LIMIT ≡ b → cond b (Ok (with_sign (number.0, number.1 * nanoseconds (unit_of mode)))) (Err faults.TimeRange) ≡ Err f → (nat_le (number.1 * nanoseconds (unit_of mode)) TIME_LIMIT ≡ false → TimeFault mode bytes faults.TimeRange) → TimeFault mode bytes f
     by_test true range e made = absurd cc
     by_test false range e made = subst (TimeFault mode bytes) (err_is {A = ℤ} faults.TimeRange f e) (made range)
 
@@ -96,7 +96,7 @@ pub time_fault : (mode : Mode) (bytes : List ℕ) (f : LineFault) → is_at_sepa
 unfolding time_of
 time_fault mode bytes f next none read = by_empty (is_empty (without_spaces bytes)) refl read
   where
-    by_word : (o : Option (Bool × ℕ)) → is_empty (without_spaces bytes) ≡ false → list_all is_space (drop (position_or_len is_space (without_spaces bytes)) (without_spaces bytes)) ≡ true → number_of (before_first is_space (without_spaces bytes)) ≡ o → option_map_or (scaled (unit_of mode)) o (Err faults.Time) ≡ Err f → TimeFault mode bytes f
+    by_word : (o : Option (Bool × ℕ)) → is_empty (without_spaces bytes) ≡ false → list_all is_space (drop (position_or_len is_space (without_spaces bytes)) (without_spaces bytes)) ≡ true → number_of (before_first is_space (without_spaces bytes)) ≡ o → option_map_or (time_of_units (unit_of mode)) o (Err faults.Time) ≡ Err f → TimeFault mode bytes f
     by_word None some all is e = none_here mode bytes f read (err_is {A = ℤ} faults.Time f e)
     by_word (Some number) some all is e = far_fault mode bytes (before_first is_space (without_spaces bytes)) number f (time_cut bytes next none some all) is e
 
@@ -112,7 +112,7 @@ time_fault mode bytes f next none read = by_empty (is_empty (without_spaces byte
 
 -- ---- such a time is faulty
 
-far_read : (unit : TimeUnit) (n : Bool × ℕ) → nat_le (n.1 * nanoseconds unit) TIME_LIMIT ≡ false → scaled unit n ≡ Err faults.TimeRange
+far_read : (unit : TimeUnit) (n : Bool × ℕ) → nat_le (n.1 * nanoseconds unit) TIME_LIMIT ≡ false → time_of_units unit n ≡ Err faults.TimeRange
 far_read unit n far = rw far refl
 
 pub time_fault_read : (mode : Mode) (bytes : List ℕ) (f : LineFault) → is_at_separator bytes ≡ true → begins_with comma bytes ≡ false → TimeFault mode bytes f → time_of mode (without_spaces bytes) ≡ Err f

@@ -15,8 +15,8 @@ use Rattle.line_points.specs.declared.mode.Unit.{Unit as TimeUnit}
 use Rattle.line_points.specs.declared.mode.Mode.{Mode}
 use Rattle.line_points.specs.declared.mode.Mode.TheVariants.{Live, Recording}
 use Rattle.line_points.specs.Parts.{comma, space, begins, is_space, without_spaces, is_at_separator}
-use Rattle.line_points.specs.Numbers.{is_digits, number_of, signed}
-use Rattle.line_points.specs.Line.{nanoseconds, unit_of, missing_time, scaled, word_time, time_of}
+use Rattle.line_points.specs.Numbers.{is_digits, number_of, with_sign}
+use Rattle.line_points.specs.Line.{nanoseconds, unit_of, missing_time, time_of_units, word_time, time_of}
 use Rattle.line_points.specs.Grammar.{minus, spaces, SpellsTime, no_time, some_time}
 use Rattle.line_points.proofs.TestLaws.{second_of, ok_is, guard_ok, then_ok}
 use Rattle.line_points.proofs.ValueLaws.{number_taken, number_again}
@@ -40,20 +40,20 @@ missing_taken (Live unit now) t rest n is e =
     subst (λ (x : ℤ). TimeTaken (Live unit now) x rest) (ok_is {E = LineFault} now t e) made
 missing_taken Recording t rest n is e = absurd cc
 
-number_time : (mode : Mode) (t : ℤ) (word : List ℕ) (more : ℕ) (number : Bool × ℕ) → number_of word ≡ Some number → scaled (unit_of mode) number ≡ Ok t → SpellsTime mode t (space ∷ (spaces more ++ word))
+number_time : (mode : Mode) (t : ℤ) (word : List ℕ) (more : ℕ) (number : Bool × ℕ) → number_of word ≡ Some number → time_of_units (unit_of mode) number ≡ Ok t → SpellsTime mode t (space ∷ (spaces more ++ word))
 number_time mode t word more number read e =
     let n = number_taken word number read in
-    let g = guard_ok (nat_le (number.1 * nanoseconds (unit_of mode)) TIME_LIMIT) faults.TimeRange (signed (number.0, number.1 * nanoseconds (unit_of mode))) t e in
+    let g = guard_ok (nat_le (number.1 * nanoseconds (unit_of mode)) TIME_LIMIT) faults.TimeRange (with_sign (number.0, number.1 * nanoseconds (unit_of mode))) t e in
     let size : digits_value 10 n.digits ≡ number.1 = ap (λ (x : Bool × ℕ). x.1) n.value in
     let range : nat_le (digits_value 10 n.digits * nanoseconds (unit_of mode)) TIME_LIMIT ≡ true = ap (λ (x : ℕ). nat_le (x * nanoseconds (unit_of mode)) TIME_LIMIT) size ∙ g.0 in
-    let value : signed (number.0, digits_value 10 n.digits * nanoseconds (unit_of mode)) ≡ t = ap (λ (x : ℕ). signed (number.0, x * nanoseconds (unit_of mode))) size ∙ g.1 in
+    let value : with_sign (number.0, digits_value 10 n.digits * nanoseconds (unit_of mode)) ≡ t = ap (λ (x : ℕ). with_sign (number.0, x * nanoseconds (unit_of mode))) size ∙ g.1 in
     subst (λ (x : List ℕ). SpellsTime mode t (space ∷ (spaces more ++ x))) (sym n.is)
     (subst (λ (x : ℤ). SpellsTime mode x (space ∷ (spaces more ++ (minus number.0 ++ n.digits)))) value (some_time mode more number.0 n.digits n.all range))
 
 word_taken : (mode : Mode) (t : ℤ) (word : List ℕ) (more : ℕ) → word_time mode word ≡ Ok t → SpellsTime mode t (space ∷ (spaces more ++ word))
 word_taken mode t word more e = by_number mode t word more (number_of word) refl e
   where
-    by_number : (mode : Mode) (t : ℤ) (word : List ℕ) (more : ℕ) (o : Option (Bool × ℕ)) → number_of word ≡ o → option_map_or (scaled (unit_of mode)) o (Err faults.Time) ≡ Ok t → SpellsTime mode t (space ∷ (spaces more ++ word))
+    by_number : (mode : Mode) (t : ℤ) (word : List ℕ) (more : ℕ) (o : Option (Bool × ℕ)) → number_of word ≡ o → option_map_or (time_of_units (unit_of mode)) o (Err faults.Time) ≡ Ok t → SpellsTime mode t (space ∷ (spaces more ++ word))
     by_number mode t word more (Some number) read e = number_time mode t word more number read e
     by_number mode t word more None read e = absurd cc
 
@@ -106,7 +106,7 @@ number_some true digits rest all = refl
 number_some false [] rest all = absurd cc
 number_some false (d ∷ digits) rest all = refl
 
-given_again : (mode : Mode) (negative : Bool) (digits : List ℕ) (behind : ℕ) → is_digits digits ≡ true → nat_le (digits_value 10 digits * nanoseconds (unit_of mode)) TIME_LIMIT ≡ true → time_of mode ((minus negative ++ digits) ++ spaces behind) ≡ Ok (signed (negative, digits_value 10 digits * nanoseconds (unit_of mode)))
+given_again : (mode : Mode) (negative : Bool) (digits : List ℕ) (behind : ℕ) → is_digits digits ≡ true → nat_le (digits_value 10 digits * nanoseconds (unit_of mode)) TIME_LIMIT ≡ true → time_of mode ((minus negative ++ digits) ++ spaces behind) ≡ Ok (with_sign (negative, digits_value 10 digits * nanoseconds (unit_of mode)))
 unfolding time_of
 given_again mode negative digits behind all range =
     let word = minus negative ++ digits in

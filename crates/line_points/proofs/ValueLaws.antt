@@ -17,7 +17,7 @@ use Rattle.line_points.specs.declared.fault.LineFault.{LineFault}
 use Rattle.line_points.specs.declared.fault.LineFault.TheVariants as faults
 use Rattle.line_points.specs.declared.part.Part.TheVariants as parts
 use Rattle.line_points.specs.Parts.{quote, begins, is_separator, text_at, is_at_separator}
-use Rattle.line_points.specs.Numbers.{is_digits, is_minus, number_from, number_of, signed, fits, before_last_byte, true_words, false_words, is_true, is_false}
+use Rattle.line_points.specs.Numbers.{is_digits, is_minus, number_from, number_of, with_sign, fits, before_last_byte, true_words, false_words, is_true, is_false}
 use Rattle.line_points.specs.Words.{int_value, other_value, word_value, is_float, is_unsigned}
 use Rattle.line_points.specs.Line.{quoted_at, word_at, value_at}
 use Rattle.line_points.specs.Grammar.{Spells, minus, SpellsValue, integer_word, true_word, false_word, quoted_text}
@@ -77,10 +77,10 @@ last_byte b (x ∷ y ∷ word) front e = longer b x (y ∷ word) front (before_l
 int_taken : (word front : List ℕ) (number : Bool × ℕ) (v : Value) → word ≡ front ++ 105 ∷ [] → number_of front ≡ Some number → int_value number ≡ Ok v → SpellsValue v word
 int_taken word front number v word_is read e =
     let n = number_taken front number read in
-    let g = guard_ok (fits number) faults.Field (values.Int (signed number)) v e in
+    let g = guard_ok (fits number) faults.Field (values.Int (with_sign number)) v e in
     let fit : fits (number.0, digits_value 10 n.digits) ≡ true = ap fits n.value ∙ g.0 in
     let is : word ≡ minus number.0 ++ (n.digits ++ codes "i") = word_is ∙ ap (λ (x : List ℕ). x ++ 105 ∷ []) n.is ∙ append_assoc (minus number.0) n.digits (105 ∷ []) in
-    let value : values.Int (signed (number.0, digits_value 10 n.digits)) ≡ v = ap (λ (x : Bool × ℕ). values.Int (signed x)) n.value ∙ g.1 in
+    let value : values.Int (with_sign (number.0, digits_value 10 n.digits)) ≡ v = ap (λ (x : Bool × ℕ). values.Int (with_sign x)) n.value ∙ g.1 in
     subst (SpellsValue v) (sym is) (subst (λ (x : Value). SpellsValue x (minus number.0 ++ (n.digits ++ codes "i"))) value (integer_word number.0 n.digits n.all fit))
 
 other_taken : (word : List ℕ) (v : Value) → other_value word ≡ Ok v → SpellsValue v word
@@ -197,7 +197,7 @@ int_plain true digits rest all = refl
 int_plain false [] rest all = refl
 int_plain false (d ∷ digits) rest all = grind (arith, nat_tests)
 
-int_read : (negative : Bool) (digits : List ℕ) → is_digits digits ≡ true → fits (negative, digits_value 10 digits) ≡ true → word_value (minus negative ++ (digits ++ codes "i")) ≡ Ok (values.Int (signed (negative, digits_value 10 digits)))
+int_read : (negative : Bool) (digits : List ℕ) → is_digits digits ≡ true → fits (negative, digits_value 10 digits) ≡ true → word_value (minus negative ++ (digits ++ codes "i")) ≡ Ok (values.Int (with_sign (negative, digits_value 10 digits)))
 int_read negative digits all fit =
     ap word_value (sym (append_assoc (minus negative) digits (codes "i")))
     ∙ rw (before_last_byte-last 105 (minus negative ++ digits) 105, number_again negative digits all, fit) refl

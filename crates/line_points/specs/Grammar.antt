@@ -15,7 +15,7 @@ use Rattle.line_points.specs.declared.mode.Unit.{Unit}
 use Rattle.line_points.specs.declared.mode.Mode.{Mode}
 use Rattle.line_points.specs.declared.mode.Mode.TheVariants.{Live}
 use Rattle.line_points.specs.Parts.{begins, comma, equals, quote, space, escapes, stops}
-use Rattle.line_points.specs.Numbers.{is_digits, is_true, is_false, signed, fits}
+use Rattle.line_points.specs.Numbers.{is_digits, is_true, is_false, with_sign, fits}
 use Rattle.line_points.specs.Line.{Tag, Field, differ, nanoseconds, unit_of}
 
 -- A byte of a text may stand for itself before these bytes of its spelling: it doesn't end the part, and where it
@@ -35,7 +35,7 @@ minus negative = if negative then codes "-" else []
 
 -- A spelling of a value: digits, perhaps behind a minus, and 'i'; a word for true or for false; a text between quotes.
 pub data SpellsValue : Value → List ℕ → Type 0 where
-  integer_word : (negative : Bool) (digits : List ℕ) → is_digits digits ≡ true → fits (negative, digits_value 10 digits) ≡ true → SpellsValue (values.Int (signed (negative, digits_value 10 digits))) (minus negative ++ (digits ++ codes "i"))
+  integer_word : (negative : Bool) (digits : List ℕ) → is_digits digits ≡ true → fits (negative, digits_value 10 digits) ≡ true → SpellsValue (values.Int (with_sign (negative, digits_value 10 digits))) (minus negative ++ (digits ++ codes "i"))
   true_word : (word : List ℕ) → is_true word ≡ true → SpellsValue (values.Bool true) word
   false_word : (word : List ℕ) → is_false word ≡ true → SpellsValue (values.Bool false) word
   quoted_text : (text bytes : List ℕ) → Spells parts.Quoted text bytes → SpellsValue (values.Str text) (quote ∷ (bytes ++ quote ∷ []))
@@ -58,7 +58,7 @@ spaces n = replicate n space
 -- where the mode is Live, for its `now`.
 pub data SpellsTime : Mode → ℤ → List ℕ → Type 0 where
   no_time : (unit : Unit) (now : ℤ) → SpellsTime (Live unit now) now []
-  some_time : (mode : Mode) (n : ℕ) (negative : Bool) (digits : List ℕ) → is_digits digits ≡ true → nat_le (digits_value 10 digits * nanoseconds (unit_of mode)) TIME_LIMIT ≡ true → SpellsTime mode (signed (negative, digits_value 10 digits * nanoseconds (unit_of mode))) (space ∷ (spaces n ++ (minus negative ++ digits)))
+  some_time : (mode : Mode) (n : ℕ) (negative : Bool) (digits : List ℕ) → is_digits digits ≡ true → nat_le (digits_value 10 digits * nanoseconds (unit_of mode)) TIME_LIMIT ≡ true → SpellsTime mode (with_sign (negative, digits_value 10 digits * nanoseconds (unit_of mode))) (space ∷ (spaces n ++ (minus negative ++ digits)))
 
 -- A line spells a point: spaces, the measurement, the tags, one space or more, the fields, the time, spaces. Each part is
 -- a spelling of the point's part.

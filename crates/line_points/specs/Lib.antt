@@ -1,6 +1,6 @@
 pub mod Parts
 pub mod Numbers
-pub mod Capped
+pub mod Cap
 pub mod Words
 pub mod Line
 pub mod Grammar

@@ -20,7 +20,7 @@ use Rattle.line_points.specs.declared.mode.Unit.TheVariants as units
 use Rattle.line_points.specs.declared.mode.Mode.{Mode}
 use Rattle.line_points.specs.declared.mode.Mode.TheVariants.{Live, Recording}
 use Rattle.line_points.specs.Parts.{begins, comma, equals, quote, is_space, is_separator, without_spaces, text_at}
-use Rattle.line_points.specs.Numbers.{number_of, signed}
+use Rattle.line_points.specs.Numbers.{number_of, with_sign}
 use Rattle.line_points.specs.Words.{word_value}
 
 -- a tag: a key and a value
@@ -135,12 +135,12 @@ missing_time (Live unit now) = Ok now
 missing_time Recording = Err faults.NoTime
 
 -- a number of units, within the range of times
-abbrev pub scaled : Unit → Bool × ℕ → Result ℤ LineFault
-scaled unit n = if nat_le (n.1 * nanoseconds unit) TIME_LIMIT then Ok (signed (n.0, n.1 * nanoseconds unit)) else Err faults.TimeRange
+abbrev pub time_of_units : Unit → Bool × ℕ → Result ℤ LineFault
+time_of_units unit n = if nat_le (n.1 * nanoseconds unit) TIME_LIMIT then Ok (with_sign (n.0, n.1 * nanoseconds unit)) else Err faults.TimeRange
 
 -- the time that a word spells
 abbrev pub word_time : Mode → List ℕ → Result ℤ LineFault
-word_time mode word = option_map_or (scaled (unit_of mode)) (number_of word) (Err faults.Time)
+word_time mode word = option_map_or (time_of_units (unit_of mode)) (number_of word) (Err faults.Time)
 
 -- the time, and behind it nothing but spaces
 unfoldable pub time_of : Mode → List ℕ → Result ℤ LineFault

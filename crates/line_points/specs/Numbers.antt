@@ -11,9 +11,13 @@ use Rattle.line_points.specs.Parts.{begins}
 abbrev pub is_digits : List ℕ → Bool
 is_digits bytes = not (is_empty bytes) && list_all is_ascii_digit bytes
 
+-- the byte of a minus
+abbrev pub minus_sign : ℕ
+minus_sign = 45
+
 -- a minus
 abbrev pub is_minus : ℕ → Bool
-is_minus b = b == 45
+is_minus b = b == minus_sign
 
 -- the number of digits: whether it is negative, and how large it is
 abbrev pub number_from : Bool → List ℕ → Option (Bool × ℕ)
@@ -24,9 +28,9 @@ abbrev pub number_of : List ℕ → Option (Bool × ℕ)
 number_of bytes = if begins is_minus bytes then number_from true (drop 1 bytes) else number_from false bytes
 
 -- the number with its sign
-abbrev pub signed : Bool × ℕ → ℤ
-signed (true, n) = neg_ℤ (pos n)
-signed (false, n) = pos n
+abbrev pub with_sign : Bool × ℕ → ℤ
+with_sign (true, n) = neg_ℤ (pos n)
+with_sign (false, n) = pos n
 
 -- within 64 bits signed
 abbrev pub fits : Bool × ℕ → Bool

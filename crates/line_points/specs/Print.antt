@@ -13,27 +13,27 @@ use Rattle.line_points.specs.Parts.{escapes, space, quote, comma, equals}
 use Rattle.line_points.specs.Line.{Tag, Field}
 
 -- a byte, behind a backslash where the part escapes it
-abbrev pub escaped_byte : Part → ℕ → List ℕ
-escaped_byte part b = if escapes part b then backslash ∷ b ∷ [] else b ∷ []
+abbrev pub byte_text : Part → ℕ → List ℕ
+byte_text part b = if escapes part b then backslash ∷ b ∷ [] else b ∷ []
 
 -- a text with each such byte behind a backslash
-abbrev pub escaped : Part → List ℕ → List ℕ
-escaped part text = flat_map (escaped_byte part) text
+abbrev pub part_text : Part → List ℕ → List ℕ
+part_text part text = flat_map (byte_text part) text
 
 -- an integer in decimal with 'i', a truth value as its word, a text between quotes
 unfoldable pub value_text : Value → List ℕ
 value_text (values.Int n) = signed_decimal n ++ codes "i"
 value_text (values.Bool true) = codes "true"
 value_text (values.Bool false) = codes "false"
-value_text (values.Str text) = quote ∷ (escaped parts.Quoted text ++ quote ∷ [])
+value_text (values.Str text) = quote ∷ (part_text parts.Quoted text ++ quote ∷ [])
 
 -- a tag behind its comma
 abbrev pub tag_text : Tag → List ℕ
-tag_text tag = comma ∷ (escaped parts.Key tag.0 ++ equals ∷ escaped parts.Key tag.1)
+tag_text tag = comma ∷ (part_text parts.Key tag.0 ++ equals ∷ part_text parts.Key tag.1)
 
 -- a field: its key, an equals sign and its value
 abbrev pub field_text : Field → List ℕ
-field_text field = escaped parts.Key field.0 ++ equals ∷ value_text field.1
+field_text field = part_text parts.Key field.0 ++ equals ∷ value_text field.1
 
 -- the fields, with commas between them
 abbrev pub fields_text : List Field → List ℕ
@@ -42,8 +42,8 @@ fields_text (f ∷ fs) = field_text f ++ flat_map (λ g. comma ∷ field_text g)
 
 -- the measurement, the tags and the fields in byte order of their keys, one space before the fields and one before the time
 abbrev pub Print : PointValue → List ℕ
-Print p = escaped parts.Measurement p.name ++ (flat_map tag_text (entries p.tags) ++ (space ∷ (fields_text (entries p.fields) ++ (space ∷ signed_decimal p.time))))
+Print p = part_text parts.Measurement p.name ++ (flat_map tag_text (entries p.tags) ++ (space ∷ (fields_text (entries p.fields) ++ (space ∷ signed_decimal p.time))))
 
 -- the point without what it is grouped by
-abbrev pub ungrouped : PointValue → PointValue
-ungrouped p = record p { dims = []; by_name = false }
+abbrev pub without_grouping : PointValue → PointValue
+without_grouping p = record p { dims = []; by_name = false }

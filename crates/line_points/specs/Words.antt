@@ -7,19 +7,42 @@ use Rattle.kap_base.specs.declared.value.Value.TheVariants as values
 use Rattle.line_points.specs.declared.fault.LineFault.{LineFault}
 use Rattle.line_points.specs.declared.fault.LineFault.TheVariants.{Field, FloatField, UnsignedField}
 use Rattle.line_points.specs.Parts.{begins}
-use Rattle.line_points.specs.Numbers.{is_digits, is_minus, number_of, signed, fits, before_last_byte, is_true, is_false}
+use Rattle.line_points.specs.Numbers.{is_digits, minus_sign, is_minus, number_of, with_sign, fits, before_last_byte, is_true, is_false}
+
+-- the byte of a plus
+abbrev pub plus_sign : ℕ
+plus_sign = 43
+
+-- the byte of a decimal point
+abbrev pub decimal_point : ℕ
+decimal_point = 46
+
+-- the bytes of e and of E
+abbrev pub small_e : ℕ
+small_e = 101
+
+abbrev pub capital_e : ℕ
+capital_e = 69
+
+-- the byte of i, behind an integer
+abbrev pub integer_mark : ℕ
+integer_mark = 105
+
+-- the byte of u, behind an unsigned integer
+abbrev pub unsigned_mark : ℕ
+unsigned_mark = 117
 
 -- a minus or a plus
 abbrev pub is_sign : ℕ → Bool
-is_sign b = b == 45 || b == 43
+is_sign b = b == minus_sign || b == plus_sign
 
 -- a decimal point
 abbrev pub is_point : ℕ → Bool
-is_point b = b == 46
+is_point b = b == decimal_point
 
 -- e or E
 abbrev pub is_exponent_mark : ℕ → Bool
-is_exponent_mark b = b == 101 || b == 69
+is_exponent_mark b = b == small_e || b == capital_e
 
 -- the bytes without a first one that passes p
 abbrev pub without : (ℕ → Bool) → List ℕ → List ℕ
@@ -41,15 +64,15 @@ is_float word =
 
 -- the number of a word that ends in 'i'
 abbrev pub integer_of : List ℕ → Option (Bool × ℕ)
-integer_of word = option_and_then number_of (before_last_byte 105 word)
+integer_of word = option_and_then number_of (before_last_byte integer_mark word)
 
 -- digits and 'u'
 abbrev pub is_unsigned : List ℕ → Bool
-is_unsigned word = option_map_or is_digits (before_last_byte 117 word) false
+is_unsigned word = option_map_or is_digits (before_last_byte unsigned_mark word) false
 
 -- an integer stands for a value within 64 bits signed
 abbrev pub int_value : Bool × ℕ → Result Value LineFault
-int_value n = if fits n then Ok (values.Int (signed n)) else Err Field
+int_value n = if fits n then Ok (values.Int (with_sign n)) else Err Field
 
 -- what a word that is no integer stands for
 abbrev pub other_value : List ℕ → Result Value LineFault

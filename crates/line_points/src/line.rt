@@ -45,7 +45,7 @@ fn point(alloc: Global, line: &str, db: &Text, rp: &Text, mode: &Mode) -> Result
 }
 
 #[tactic(auto, unfolding(crate::specs::Line::stored_of))]
-fn stored(alloc: Global, line: &[u8], db: &Text, rp: &Text, mode: &Mode) -> Result<Point, LineFault>
+fn stored_point(alloc: Global, line: &[u8], db: &Text, rp: &Text, mode: &Mode) -> Result<Point, LineFault>
     requires line { IsTrue (not (has_line_feed line.now)) }
     requires db { IsTrue (not (has_line_feed db.now)) }
     requires rp { IsTrue (not (has_line_feed rp.now)) }
@@ -76,7 +76,7 @@ fn read(
     if line.len() > LINE_LIMIT {
         return Err(LineFault::Long);
     }
-    let point = stored(alloc, line, db, rp, mode)?;
+    let point = stored_point(alloc, line, db, rp, mode)?;
     Ok(Some(point))
 }
 
@@ -116,5 +116,5 @@ pub fn read_stored(alloc: Global, line: &[u8], db: &Text, rp: &Text) -> Result<P
     // So it is in the words of the grammar.
     ensures meaning { result ≢ Err LineFault.NoMemory → StoredMeans db.now rp.now line.now result }
 {
-    stored(alloc, line, db, rp, &Mode::Recording)
+    stored_point(alloc, line, db, rp, &Mode::Recording)
 }

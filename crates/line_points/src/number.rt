@@ -4,7 +4,7 @@ ghost use Rattle.std.specs.Char.{is_ascii_digit};
 ghost use Rattle.std.specs.Option.{option_map};
 ghost use Rattle.std.specs.Str.Parse.{digits_value};
 ghost use Rattle.line_points.specs.Numbers.{is_digits, number_from, number_of, before_last_byte, is_true, is_false};
-ghost use Rattle.line_points.specs.Capped.{capped, parts};
+ghost use Rattle.line_points.specs.Cap.{cap, parts};
 
 use crate::bytes::is_empty;
 
@@ -42,7 +42,7 @@ fn magnitude(digits: &[u8]) -> u64
 }
 
 fn number_from(negative: bool, bytes: &[u8]) -> Option<Number>
-    ensures { option_map parts result ≡ option_map capped (number_from negative bytes.now) }
+    ensures { option_map parts result ≡ option_map cap (number_from negative bytes.now) }
 {
     if !is_digits(bytes) {
         return None;
@@ -55,7 +55,7 @@ fn number_from(negative: bool, bytes: &[u8]) -> Option<Number>
 
 /// The number of an optional minus and digits.
 pub fn read_number(bytes: &[u8]) -> Option<Number>
-    ensures { option_map parts result ≡ option_map capped (number_of bytes.now) }
+    ensures { option_map parts result ≡ option_map cap (number_of bytes.now) }
 {
     match bytes.split_first() {
         Some((b'-', digits)) => number_from(true, digits),

@@ -82,7 +82,7 @@ impl Part {
     }
 
     /// The part at the front, and what stands behind it, where no backslash stands in the part.
-    pub fn plain(self, rest: &str) -> Option<(&str, &str)>
+    pub fn plain_text(self, rest: &str) -> Option<(&str, &str)>
         ensures { IfSome result (λ r. text_at self rest.now ≡ (r.0.now, r.1.now)) }
     {
         let at = self.plain_len(rest.as_bytes());

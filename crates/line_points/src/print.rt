@@ -4,9 +4,9 @@ ghost use Rattle.std.specs.Fmt.{signed_decimal};
 ghost use Rattle.kap_base.specs.Texts.{is_line};
 ghost use Rattle.kap_base.specs.Points.{IsPoint};
 ghost use Rattle.line_points.specs.declared.line.TheConstants.{LINE_LIMIT};
-ghost use Rattle.line_points.specs.Parts.{escapes};
+ghost use Rattle.line_points.specs.Parts.{comma, escapes};
 ghost use Rattle.line_points.specs.Line.{Reads, stored_of};
-ghost use Rattle.line_points.specs.Print.{escaped, value_text, tag_text, field_text, fields_text, Print, ungrouped};
+ghost use Rattle.line_points.specs.Print.{part_text, value_text, tag_text, field_text, fields_text, Print, without_grouping};
 
 use crate::mode::Mode;
 use crate::part::Part;
@@ -21,8 +21,8 @@ fn needs_escapes(part: Part, bytes: &[u8]) -> bool
     bytes.iter().any(|byte| part.escapes(*byte))
 }
 
-fn put_bytes_escaped(part: Part, bytes: &[u8], out: &mut Bytes) -> Result<(), NoMemory>
-    ensures ok { OnOk result (out.new ≡ out.old ++ escaped part bytes.now) }
+fn put_with_escapes(part: Part, bytes: &[u8], out: &mut Bytes) -> Result<(), NoMemory>
+    ensures ok { OnOk result (out.new ≡ out.old ++ part_text part bytes.now) }
     ensures before { take (length out.old) out.new ≡ out.old }
 {
     'bytes: for byte in bytes {
@@ -34,13 +34,13 @@ fn put_bytes_escaped(part: Part, bytes: &[u8], out: &mut Bytes) -> Result<(), No
     Ok(())
 }
 
-fn put_escaped(part: Part, text: &Text, out: &mut Bytes) -> Result<(), NoMemory>
-    ensures ok { OnOk result (out.new ≡ out.old ++ escaped part text.now) }
+fn put_part(part: Part, text: &Text, out: &mut Bytes) -> Result<(), NoMemory>
+    ensures ok { OnOk result (out.new ≡ out.old ++ part_text part text.now) }
     ensures before { take (length out.old) out.new ≡ out.old }
 {
     let bytes = text.bytes();
     if needs_escapes(part, bytes) {
-        return put_bytes_escaped(part, bytes, out);
+        return put_with_escapes(part, bytes, out);
     }
     out.append(bytes)
 }
@@ -67,7 +67,7 @@ fn put_value(value: &Value, out: &mut Bytes) -> Result<(), NoMemory>
         Value::Bool(false) => out.append(b"false")?,
         Value::Str(text) => {
             out.push(b'"')?;
-            put_escaped(Part::Quoted, text, out)?;
+            put_part(Part::Quoted, text, out)?;
             out.push(b'"')?;
         }
     }
@@ -78,7 +78,7 @@ fn put_field(field: &(Text, Value), out: &mut Bytes) -> Result<(), NoMemory>
     ensures ok { OnOk result (out.new ≡ out.old ++ field_text field.now) }
     ensures before { take (length out.old) out.new ≡ out.old }
 {
-    put_escaped(Part::Key, &field.0, out)?;
+    put_part(Part::Key, &field.0, out)?;
     out.push(b'=')?;
     put_value(&field.1, out)
 }
@@ -89,15 +89,15 @@ fn put_tags(tags: &[(Text, Text)], out: &mut Bytes) -> Result<(), NoMemory>
 {
     'tags: for tag in tags {
         out.push(b',')?;
-        put_escaped(Part::Key, &tag.0, out)?;
+        put_part(Part::Key, &tag.0, out)?;
         out.push(b'=')?;
-        put_escaped(Part::Key, &tag.1, out)?;
+        put_part(Part::Key, &tag.1, out)?;
     }
     Ok(())
 }
 
 fn put_more_fields(fields: &[(Text, Value)], out: &mut Bytes) -> Result<(), NoMemory>
-    ensures ok { OnOk result (out.new ≡ out.old ++ flat_map (λ g. 44 ∷ field_text g) fields.now) }
+    ensures ok { OnOk result (out.new ≡ out.old ++ flat_map (λ g. comma ∷ field_text g) fields.now) }
     ensures before { take (length out.old) out.new ≡ out.old }
 {
     'fields: for field in fields {
@@ -123,7 +123,7 @@ fn put_parts(point: &Point, out: &mut Bytes) -> Result<(), NoMemory>
     ensures point { OnOk result (IsPoint point.now) }
     ensures before { take (length out.old) out.new ≡ out.old }
 {
-    put_escaped(Part::Measurement, &point.name, out)?;
+    put_part(Part::Measurement, &point.name, out)?;
     put_tags(point.tags.entries(), out)?;
     out.push(b' ')?;
     put_fields(point.fields.entries(), out)?;
@@ -154,9 +154,9 @@ pub fn print_line(alloc: Global, point: &Point) -> Result<Bytes, NoMemory>
     ensures one_line { IfOk result (λ line. IsTrue (is_line line)) }
     // Read again it gives the point, ungrouped: by `read_line` in Recording mode up to `LINE_LIMIT` bytes, by `read_stored` always.
     ensures again { IfOk result (λ line. length line ≤ LINE_LIMIT →
-        Reads point.now.db point.now.rp Mode.Recording line (ungrouped point.now)) }
+        Reads point.now.db point.now.rp Mode.Recording line (without_grouping point.now)) }
     ensures stored_again { IfOk result (λ line.
-        stored_of point.now.db point.now.rp Mode.Recording line ≡ Ok (ungrouped point.now)) }
+        stored_of point.now.db point.now.rp Mode.Recording line ≡ Ok (without_grouping point.now)) }
 {
     let mut line = Bytes::new(alloc);
     put_line(point, &mut line)?;

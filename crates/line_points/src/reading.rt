@@ -77,7 +77,7 @@ pub fn tags(alloc: Global, scanner: &mut Scanner) -> Result<Tags, LineFault>
 }
 
 #[tactic(auto, unfolding(crate::specs::Line::quoted_at))]
-fn quoted(alloc: Global, scanner: &mut Scanner) -> Result<Value, LineFault>
+fn quoted_value(alloc: Global, scanner: &mut Scanner) -> Result<Value, LineFault>
     ensures shorter { length scanner.new.rest.now ≤ length scanner.old.rest.now }
     ensures value { Gives result scanner.new.rest.now (quoted_at scanner.old.rest.now) }
 {
@@ -101,7 +101,7 @@ fn value(alloc: Global, scanner: &mut Scanner) -> Result<Value, LineFault>
     ensures value { Gives result scanner.new.rest.now (value_at scanner.old.rest.now) }
 {
     if scanner.take(b'"') {
-        quoted(alloc, scanner)
+        quoted_value(alloc, scanner)
     } else {
         word(scanner)
     }

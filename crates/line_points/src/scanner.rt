@@ -73,7 +73,7 @@ impl<'a> Scanner<'a> {
         ensures shorter { length self.new.rest.now ≤ length self.old.rest.now }
         ensures value { IfOk result (λ t. text_at part self.old.rest.now ≡ (t, self.new.rest.now)) }
     {
-        match part.plain(self.rest) {
+        match part.plain_text(self.rest) {
             Some((text, rest)) => {
                 self.rest = rest;
                 Text::from_str(alloc, text)

@@ -1,8 +1,8 @@
 ghost use Rattle.std.specs.Prelude.{◌≡◌, ◌≤◌, ℕ, Bool, length, drop, position};
 ghost use Rattle.std.specs.List.{list_all, before_first, position_or_len};
 ghost use Rattle.line_points.specs.Parts.{is_space};
-ghost use Rattle.line_points.specs.Capped.{capped, parts};
-ghost use Rattle.line_points.specs.Line.{scaled, word_time, time_of};
+ghost use Rattle.line_points.specs.Cap.{cap, parts};
+ghost use Rattle.line_points.specs.Line.{time_of_units, word_time, time_of};
 
 use crate::bytes::is_empty;
 use crate::fault::LineFault;
@@ -10,8 +10,8 @@ use crate::mode::{Mode, Unit};
 use crate::number::{Number, read_number};
 use kap_base::TIME_LIMIT;
 
-fn scaled(unit: Unit, number: Number) -> Result<i64, LineFault>
-    ensures { (n : Bool × ℕ) → parts number ≡ capped n → result ≡ scaled unit n }
+fn time_of_units(unit: Unit, number: Number) -> Result<i64, LineFault>
+    ensures { (n : Bool × ℕ) → parts number ≡ cap n → result ≡ time_of_units unit n }
 {
     let distance = u128::from(number.magnitude) * u128::from(unit.nanoseconds());
     if distance > u128::from(TIME_LIMIT) {
@@ -48,7 +48,7 @@ fn word_time(mode: &Mode, word: &[u8]) -> Result<i64, LineFault>
     ensures { result ≡ word_time mode.now word.now }
 {
     match read_number(word) {
-        Some(number) => scaled(mode.unit(), number),
+        Some(number) => time_of_units(mode.unit(), number),
         None => Err(LineFault::Time),
     }
 }

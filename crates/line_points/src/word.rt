@@ -2,7 +2,7 @@ ghost use Rattle.std.specs.Prelude.{◌≡◌, ◌+◌, ◌<◌, length, take, d
 ghost use Rattle.std.specs.Option.{option_map};
 ghost use Rattle.line_points.specs.Words.{is_point, is_exponent_mark, cut, without, is_sign, is_mantissa, is_float, is_unsigned, integer_of, int_value, other_value, word_value};
 ghost use Rattle.line_points.specs.Numbers.{is_minus};
-ghost use Rattle.line_points.specs.Capped.{capped, parts};
+ghost use Rattle.line_points.specs.Cap.{cap, parts};
 
 use crate::bytes::is_empty;
 use crate::fault::LineFault;
@@ -96,7 +96,7 @@ fn is_unsigned(word: &[u8]) -> bool
 
 /// What an integer's number stands for.
 fn int_value(number: Number) -> Result<Value, LineFault>
-    ensures { (n : Bool × ℕ) → parts number ≡ capped n → result ≡ int_value n }
+    ensures { (n : Bool × ℕ) → parts number ≡ cap n → result ≡ int_value n }
 {
     let magnitude = i128::from(number.magnitude);
     let value = if number.negative {
@@ -126,7 +126,7 @@ fn other_value(word: &[u8]) -> Result<Value, LineFault>
 }
 
 fn integer(word: &[u8]) -> Option<Number>
-    ensures { option_map parts result ≡ option_map capped (integer_of word.now) }
+    ensures { option_map parts result ≡ option_map cap (integer_of word.now) }
 {
     read_number(before_last(b'i', word)?)
 }

@@ -8,6 +8,8 @@ mod lexer;
 #[cfg(test)]
 mod parser;
 #[cfg(test)]
+mod points;
+#[cfg(test)]
 mod print;
 #[cfg(test)]
 mod recordings;

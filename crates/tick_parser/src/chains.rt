@@ -82,8 +82,9 @@ impl Nesting {
         chain: Chain,
         token: &Token,
     ) -> Result<State, ParseFault>
-        ensures { Moves result (leave 4096 (script_tree self.done.items) [] (chain_of chain)
-            token.now.start token.now.kind) }
+        ensures { Moves result
+            (leave 4096 (script_tree self.done.items) [] (chain_of chain) token.now.start
+            token.now.kind) }
     {
         self.done.push(Stmt::Chain(whole_of(chain)))?;
         read_start(alloc, self.done, token)
@@ -98,8 +99,9 @@ impl Nesting {
         token: &Token,
     ) -> Result<State, ParseFault>
         requires { IsCounted self }
-        ensures { Moves result (leave 4096 (script_tree self.done.items) (contexts_of self)
-            (chain_of chain) token.now.start token.now.kind) }
+        ensures { Moves result
+            (leave 4096 (script_tree self.done.items) (contexts_of self) (chain_of chain)
+            token.now.start token.now.kind) }
     {
         match self.stack.pop() {
             None => self.end_statement(alloc, chain, token),
@@ -123,8 +125,9 @@ impl Nesting {
     ) -> Result<State, ParseFault>
         requires counted { IsCounted self }
         requires reference { token.now.kind ≡ Reference db.now }
-        ensures { Moves result (follow 4096 (script_tree self.done.items) (contexts_of self)
-            (chain_of chain) token.now.start token.now.kind) }
+        ensures { Moves result
+            (follow 4096 (script_tree self.done.items) (contexts_of self) (chain_of chain)
+            token.now.start token.now.kind) }
     {
         match self.stack.pop() {
             None => {
@@ -150,8 +153,9 @@ impl Nesting {
         token: &Token,
     ) -> Result<State, ParseFault>
         requires { IsCounted self }
-        ensures { Moves result (follow 4096 (script_tree self.done.items) (contexts_of self)
-            (chain_of chain) token.now.start token.now.kind) }
+        ensures { Moves result
+            (follow 4096 (script_tree self.done.items) (contexts_of self) (chain_of chain)
+            token.now.start token.now.kind) }
     {
         match &token.kind {
             Kind::Pipe => Ok(State::LinkRead(self, chain, true)),
@@ -170,8 +174,9 @@ impl Nesting {
         token: &Token,
     ) -> Result<State, ParseFault>
         requires { IsCounted self }
-        ensures { Moves result (link (script_tree self.done.items) (contexts_of self)
-            (chain_of chain) node token.now.start token.now.kind) }
+        ensures { Moves result
+            (link (script_tree self.done.items) (contexts_of self) (chain_of chain) node
+            token.now.start token.now.kind) }
     {
         match &token.kind {
             Kind::Ident(name) => {
@@ -194,8 +199,9 @@ impl Nesting {
         token: &Token,
     ) -> Result<State, ParseFault>
         requires { IsCounted self }
-        ensures { Moves result (opening 64 (script_tree self.done.items) (contexts_of self)
-            (chain_of chain) (call_of call) token.now.start token.now.kind) }
+        ensures { Moves result
+            (opening 64 (script_tree self.done.items) (contexts_of self) (chain_of chain)
+            (call_of call) token.now.start token.now.kind) }
     {
         match &token.kind {
             Kind::OpenParen => {
@@ -218,8 +224,9 @@ impl Nesting {
         token: &Token,
     ) -> Result<State, ParseFault>
         requires { self.count ≡ opens (contexts_of self) + 1 }
-        ensures { Moves result (opened (script_tree self.done.items) (contexts_of self)
-            (chain_of chain) (call_of call) token.now.start token.now.kind) }
+        ensures { Moves result
+            (opened (script_tree self.done.items) (contexts_of self) (chain_of chain) (call_of call)
+            token.now.start token.now.kind) }
     {
         match &token.kind {
             Kind::CloseParen => {
@@ -234,8 +241,8 @@ impl Nesting {
     /// The script, where the tokens end behind a chain.
     #[tactic(auto, using(crate::proofs::Stacks::contexts_push, crate::proofs::Stacks::script_push))]
     pub(crate) fn finish_chain(mut self, chain: Chain, end: u32) -> Result<Tree, ParseFault>
-        ensures { Finishes result (left end (script_tree self.done.items) (contexts_of self)
-            (chain_of chain)) }
+        ensures { Finishes result
+            (left end (script_tree self.done.items) (contexts_of self) (chain_of chain)) }
     {
         match self.stack.pop() {
             None => {

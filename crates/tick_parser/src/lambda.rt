@@ -52,8 +52,8 @@ impl Stack {
     /// Reads a token where an operand comes.
     fn read_operand(self, alloc: Global, room: u32, token: &Token) -> Result<LambdaStep, ParseFault>
         requires { IsCounted self }
-        ensures { LambdaMoves result (operand room (frames_of self) self.count token.now.start
-            token.now.kind) }
+        ensures { LambdaMoves result
+            (operand room (frames_of self) self.count token.now.start token.now.kind) }
     {
         let at = token.start;
         match &token.kind {
@@ -128,8 +128,8 @@ impl Stack {
         token: &Token,
     ) -> Result<LambdaStep, ParseFault>
         requires { IsCounted self }
-        ensures { LambdaMoves result (opened room (frames_of self) self.count token.now.start
-            token.now.kind) }
+        ensures { LambdaMoves result
+            (opened room (frames_of self) self.count token.now.start token.now.kind) }
     {
         match &token.kind {
             Kind::CloseParen => self.close_call(token.start),
@@ -146,8 +146,9 @@ impl Stack {
         token: &Token,
     ) -> Result<LambdaStep, ParseFault>
         requires { IsCounted self }
-        ensures { LambdaMoves result (after room 512 (frames_of self) (tree_of tree) self.count
-            token.now.start token.now.kind) }
+        ensures { LambdaMoves result
+            (after room 512 (frames_of self) (tree_of tree) self.count token.now.start
+            token.now.kind) }
     {
         match &token.kind {
             Kind::OpenParen => self.open_call(alloc, room, tree, token.start),
@@ -204,8 +205,8 @@ impl HeldOperand {
     #[tactic(auto, using(crate::proofs::Stacks::frames_push))]
     fn close(self, alloc: Global, at: u32) -> Result<LambdaStep, ParseFault>
         requires { IsCounted self.stack }
-        ensures { LambdaMoves result (close_top (frames_of self.stack) (tree_of self.tree)
-            self.stack.count at) }
+        ensures { LambdaMoves result
+            (close_top (frames_of self.stack) (tree_of self.tree) self.stack.count at) }
     {
         let HeldOperand { mut stack, tree } = self;
         match stack.frames.pop() {
@@ -229,8 +230,8 @@ impl HeldOperand {
     #[tactic(auto, using(crate::proofs::Stacks::frames_push))]
     fn end_argument(self, alloc: Global, at: u32) -> Result<LambdaStep, ParseFault>
         requires { IsCounted self.stack }
-        ensures { LambdaMoves result (next_top (frames_of self.stack) (tree_of self.tree)
-            self.stack.count at) }
+        ensures { LambdaMoves result
+            (next_top (frames_of self.stack) (tree_of self.tree) self.stack.count at) }
     {
         let HeldOperand { mut stack, tree } = self;
         match stack.frames.pop() {

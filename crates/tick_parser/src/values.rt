@@ -42,8 +42,9 @@ impl Nesting {
         token: &Token,
     ) -> Result<State, ParseFault>
         requires { self.count ≡ opens (contexts_of self) + 1 }
-        ensures { Moves result (argue (script_tree self.done.items) (contexts_of self)
-            (chain_of chain) (call_of call) (vals_tree args) token.now.start token.now.kind) }
+        ensures { Moves result
+            (argue (script_tree self.done.items) (contexts_of self) (chain_of chain) (call_of call)
+            (vals_tree args) token.now.start token.now.kind) }
     {
         match &token.kind {
             Kind::CloseParen => {
@@ -65,8 +66,9 @@ impl Nesting {
         token: &Token,
     ) -> Result<State, ParseFault>
         requires { IsCountedAt self context }
-        ensures { Moves result (settle 4096 (script_tree self.done.items) (contexts_of self)
-            (context_of context) (val_tree value) token.now.start token.now.kind) }
+        ensures { Moves result
+            (settle 4096 (script_tree self.done.items) (contexts_of self) (context_of context)
+            (val_tree value) token.now.start token.now.kind) }
     {
         match context {
             Context::Variable(name, at) => {
@@ -83,8 +85,8 @@ impl Nesting {
     /// Reads a star where a value comes.
     fn read_star(self, context: Context, at: u32) -> Result<State, ParseFault>
         requires { IsCountedAt self context }
-        ensures { Moves result (star (script_tree self.done.items) (contexts_of self)
-            (context_of context) at) }
+        ensures { Moves result
+            (star (script_tree self.done.items) (contexts_of self) (context_of context) at) }
     {
         match context {
             Context::Variable(..) => Err(ParseFault::Expected(Want::Value, at)),
@@ -101,8 +103,9 @@ impl Nesting {
         token: &Token,
     ) -> Result<State, ParseFault>
         requires { IsCountedAt self context }
-        ensures { Moves result (value (script_tree self.done.items) (contexts_of self)
-            (context_of context) token.now.start token.now.kind) }
+        ensures { Moves result
+            (value (script_tree self.done.items) (contexts_of self) (context_of context)
+            token.now.start token.now.kind) }
     {
         let at = token.start;
         match &token.kind {
@@ -137,8 +140,9 @@ impl Nesting {
         token: &Token,
     ) -> Result<State, ParseFault>
         requires { IsCountedAt self context }
-        ensures { Moves result (number (script_tree self.done.items) (contexts_of self)
-            (context_of context) at token.now.start token.now.kind) }
+        ensures { Moves result
+            (number (script_tree self.done.items) (contexts_of self) (context_of context) at
+            token.now.start token.now.kind) }
     {
         let Kind::Literal(plain) = &token.kind else {
             return Err(ParseFault::Expected(Want::Value, token.start));
@@ -161,7 +165,8 @@ impl Nesting {
     ) -> Result<State, ParseFault>
         requires counted { IsCountedAt self context }
         requires inside { IsCountedLambda lambda }
-        ensures { Moves result (step 64 512 4096
+        ensures { Moves result
+            (step 64 512 4096
             (MachineState.InLambda (script_tree self.done.items) (contexts_of self)
             (context_of context) at (lambda_of lambda)) token.now) }
     {
@@ -184,8 +189,8 @@ impl Nesting {
         value: Val,
         end: u32,
     ) -> Result<Tree, ParseFault>
-        ensures { Finishes result (settled end (script_tree self.done.items) (context_of context)
-            (val_tree value)) }
+        ensures { Finishes result
+            (settled end (script_tree self.done.items) (context_of context) (val_tree value)) }
     {
         match context {
             Context::Variable(name, at) => {
@@ -206,7 +211,8 @@ impl Nesting {
         end: u32,
     ) -> Result<Tree, ParseFault>
         requires { IsCountedLambda lambda }
-        ensures { Finishes result (closed end (script_tree self.done.items) (context_of context) at
+        ensures { Finishes result
+            (closed end (script_tree self.done.items) (context_of context) at
             (lambda_answer end (lambda_of lambda))) }
     {
         match lambda.finish(alloc, end) {

@@ -10,7 +10,7 @@ use Rattle.tick_vars.specs.declared.fault.VarFault.TheVariants.{Unknown, Twice, 
 use Rattle.tick_vars.specs.Nodes.{ArgTree, LitArg, StarArg, LambdaArg, NodeArg, NodeTree}
 use Rattle.tick_vars.specs.Names.{Scope, as_node, as_value, bound_lambda, bound_lambdas, handed_on, is_batch, is_taken, known, looked_up, with_name}
 use Rattle.tick_vars.specs.Binding.{WithNodes, Progress, and_arg, bound_links, bound_stmt, bound_val, bound_vals, linked}
-use Rattle.tick_vars.specs.FirstFault.{Need, New, Known, ForNode, ForValue, Use, Meets, Misses, Holds, AllHold, Breaks, place_of, uses_along, uses_among, uses_by, uses_in, uses_in_lambda, uses_in_lambdas}
+use Rattle.tick_vars.specs.FirstFault.{Need, New, Known, ForNode, ForValue, Use, Meets, Misses, AllHold, Breaks, place_of, uses_along, uses_among, uses_by, uses_in, uses_in_lambda, uses_in_lambdas}
 use Rattle.tick_vars.proofs.Steps.{NoBatch}
 
 -- the fault of an answer

@@ -1,18 +1,18 @@
 -- A script is refused at its first fault of names, and for it.
-use Rattle.std.proofs.Common.{◌≡◌, ℕ, List, [], ◌∷◌, ◌++◌, length, Option, Some, None, Result, Ok, Err, refl, sym, ap, subst, ◌∙◌}
+use Rattle.std.proofs.Common.{◌≡◌, List, [], ◌∷◌, ◌++◌, Some, None, Result, Ok, Err, refl, sym, ap, subst, ◌∙◌}
 use Rattle.kap_base.specs.Words.{◌>>=◌}
 use Rattle.tick_parser.specs.Trees.{StmtTree}
 use Rattle.tick_vars.specs.declared.fault.VarFault.{VarFault}
 use Rattle.tick_vars.specs.Nodes.{BoundTree}
 use Rattle.tick_vars.specs.Names.{first_scope}
 use Rattle.tick_vars.specs.Binding.{Progress, at_first, bound_of, bound_stmt, bound_stmts}
-use Rattle.tick_vars.specs.Law.{IsWellNamed, events_of, in_the_end}
+use Rattle.tick_vars.specs.Law.{events_of, in_the_end}
 use Rattle.tick_vars.specs.FirstFault.{AllHold, Breaks, HasFirstFault, uses_by}
 use Rattle.tick_vars.proofs.Steps.{NoBatch}
-use Rattle.tick_vars.proofs.Statements.{pipes_in_all, stmts_done}
+use Rattle.tick_vars.proofs.Statements.{stmts_done}
 use Rattle.tick_vars.proofs.Written.{first_in_scope}
 use Rattle.tick_vars.proofs.Naming.{batch_kept, first_no_batch, stmts_named, stmts_ok}
-use Rattle.tick_vars.proofs.Finding.{Found, fault_in, first_found, first_of, found_first, stmt_fault}
+use Rattle.tick_vars.proofs.Finding.{fault_in, first_found, first_of, found_first, stmt_fault}
 
 same_fault : {A : Type 0} (a b : VarFault) → ◌≡◌ {A = Result A VarFault} (Err a) (Err b) → a ≡ b
 same_fault a b is = cc

@@ -7,7 +7,7 @@ use Rattle.std.specs.Prelude.{bytes_eq, codes}
 use Rattle.std.proofs.lemmas.Map.Text.{hash_map_updates_str}
 use Rattle.tick_vars.specs.declared.nodes.Arg.{Arg}
 use Rattle.tick_vars.specs.declared.nodes.RawNode.{RawNode}
-use Rattle.tick_vars.specs.declared.nodes.Dbrp.{Dbrp}
+use Rattle.kap_base.specs.declared.dbrp.Dbrp.{Dbrp}
 use Rattle.tick_vars.specs.declared.fault.VarFault.{VarFault}
 use Rattle.tick_vars.specs.Nodes.{NodeArg, NodeTree, arg_tree, node_tree, node_trees}
 use Rattle.tick_vars.specs.Names.{Scope, first_scope, scope_of, with_name}

@@ -4,7 +4,7 @@ use Rattle.kap_base.specs.Words.{◌>>=◌}
 use Rattle.tick_parser.specs.Trees.{ValTree, LitVal, StarVal, LambdaVal, ChainVal, ValTrees, NoVals, MoreVals, JointTrees, NoJoints, MoreJoints, StmtTree, VarStmt, DbrpStmt, ChainStmt}
 use Rattle.tick_vars.specs.declared.fault.VarFault.{VarFault}
 use Rattle.tick_vars.specs.declared.fault.VarFault.TheVariants.{Twice}
-use Rattle.tick_vars.specs.declared.nodes.Dbrp.{Dbrp}
+use Rattle.kap_base.specs.declared.dbrp.Dbrp.{Dbrp}
 use Rattle.tick_vars.specs.Nodes.{ArgTree, LitArg, StarArg, LambdaArg, NodeArg, PropTree, NodeTree, BoundTree}
 use Rattle.tick_vars.specs.Names.{Scope, first_scope, with_name, is_taken, looked_up, handed_on, as_node, bound_lambda}
 

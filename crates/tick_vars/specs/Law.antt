@@ -4,7 +4,7 @@ use Rattle.kap_base.specs.declared.expr.Lit.{Lit}
 use Rattle.kap_base.specs.declared.expr.Lit.TheVariants as lits
 use Rattle.kap_base.specs.Tree.{Tree, LitTree, RefTree, NameTree, CallTree, GroupTree, NegTree, NotTree, BinTree, Trees, NoTrees, MoreTrees}
 use Rattle.tick_parser.specs.Trees.{ValTree, LitVal, StarVal, LambdaVal, ChainVal, ValTrees, NoVals, MoreVals, JointTrees, NoJoints, MoreJoints, StmtTree, VarStmt, DbrpStmt, ChainStmt}
-use Rattle.tick_vars.specs.declared.nodes.Dbrp.{Dbrp}
+use Rattle.kap_base.specs.declared.dbrp.Dbrp.{Dbrp}
 use Rattle.tick_vars.specs.Nodes.{ArgTree, LitArg, StarArg, LambdaArg, NodeArg, PropTree, NodeTree, BoundTree}
 use Rattle.tick_vars.specs.Names.{Scope, first_scope, is_taken, with_name, handed_on}
 use Rattle.tick_vars.specs.Binding.{stream_node}

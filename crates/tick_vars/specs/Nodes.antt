@@ -6,7 +6,7 @@ use Rattle.tick_vars.specs.declared.nodes.Arg.{Arg}
 use Rattle.tick_vars.specs.declared.nodes.Arg.TheVariants.{Lit as Literal, Star, Lambda, Node}
 use Rattle.tick_vars.specs.declared.nodes.Prop.{Prop}
 use Rattle.tick_vars.specs.declared.nodes.RawNode.{RawNode}
-use Rattle.tick_vars.specs.declared.nodes.Dbrp.{Dbrp}
+use Rattle.kap_base.specs.declared.dbrp.Dbrp.{Dbrp}
 use Rattle.tick_vars.specs.declared.nodes.Bound.{Bound}
 
 -- an argument: a literal, the star, a lambda or a node by its number, each with its place

@@ -9,9 +9,9 @@ ghost use Rattle.tick_vars.specs.Nodes.{arg_tree, bound_tree, node_tree};
 
 use crate::fault::VarFault;
 use crate::names::{Names, is_taken};
-use crate::nodes::{Arg, Args, Bound, Dbrp, Dbrps, Props, RawNode, RawNodes};
+use crate::nodes::{Arg, Args, Bound, Props, RawNode, RawNodes};
 use crate::values::{bind_chain, bind_val};
-use kap_base::{Duplicate, Text};
+use kap_base::{Dbrp, Dbrps, Duplicate, Text};
 use std::alloc::Global;
 use tick_parser::{Stmt, Tree};
 
@@ -114,8 +114,8 @@ fn bind_all(alloc: Global, stmts: &[Stmt]) -> Result<Binder<'_>, VarFault>
 /// number 2^32.
 pub fn bind(alloc: Global, tree: &Tree) -> Result<Bound, VarFault>
     ensures bound { IfOk result (λ bound. bound_of (script_tree tree.now) ≡ Ok (bound_tree bound)) }
-    ensures fault { IfErr result (λ fault. fault ≢ VarFault.NoMemory → bound_of
-        (script_tree tree.now) ≡ Err fault) }
+    ensures fault { IfErr result (λ fault. fault ≢ VarFault.NoMemory →
+        bound_of (script_tree tree.now) ≡ Err fault) }
 {
     let binder = bind_all(alloc, tree.as_slice())?;
     Ok(Bound {

@@ -12,4 +12,4 @@ mod values;
 pub use binder::bind;
 pub use fault::VarFault;
 pub use law::{bound_as_written, bound_where_well_named, first_fault_of_names};
-pub use nodes::{Arg, Args, Bound, Dbrp, Dbrps, Prop, Props, RawNode, RawNodes};
+pub use nodes::{Arg, Args, Bound, Prop, Props, RawNode, RawNodes};

@@ -31,8 +31,8 @@ pub(crate) fn is_taken(names: &Names, name: &Text) -> bool
 
 /// What the name at this place stands for.
 pub(crate) fn look_up<'a>(names: &'a Names, name: &Text, at: u32) -> Result<&'a Arg, VarFault>
-    ensures arg { IfOk result (λ arg. looked_up (scope_of names.now) name.now at ≡ Ok
-        (arg_tree arg.now)) }
+    ensures arg { IfOk result
+        (λ arg. looked_up (scope_of names.now) name.now at ≡ Ok (arg_tree arg.now)) }
     ensures fault { IfErr result (λ fault. looked_up (scope_of names.now) name.now at ≡ Err fault) }
 {
     if is_batch(name) {

@@ -1,6 +1,6 @@
 //! What a script is once its names are bound: nodes with their arguments and properties.
 
-use kap_base::{ItemList, Lit, SharedExpr, Text};
+use kap_base::{Dbrps, ItemList, Lit, SharedExpr, Text};
 
 /// An argument of a node or a property. The number last in each variant is a place, a byte offset in the script. What stands
 /// for a name has the place of that name, but for a lambda, which keeps its own.
@@ -52,16 +52,6 @@ pub struct RawNode {
 
 /// The nodes of a script by their numbers, in the order in which they are made.
 pub type RawNodes = ItemList<RawNode>;
-
-/// A database and a retention policy that a task sees.
-#[derive(Drop)]
-pub struct Dbrp {
-    pub db: Text,
-    pub rp: Text,
-}
-
-/// The databases and retention policies that a task sees, in the order of the script.
-pub type Dbrps = ItemList<Dbrp>;
 
 /// A script with its names bound.
 #[derive(Drop)]

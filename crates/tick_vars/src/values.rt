@@ -29,8 +29,8 @@ fn add_node(nodes: &mut Vec<RawNode>, node: RawNode) -> Result<u32, NoMemory>
 
 /// Adds a property to the node with this number.
 fn add_prop(nodes: &mut [RawNode], number: u32, prop: Prop) -> Result<(), NoMemory>
-    ensures { OnOk result (node_trees nodes.new ≡ with_prop number (prop_tree prop)
-        (node_trees nodes.old)) }
+    ensures { OnOk result
+        (node_trees nodes.new ≡ with_prop number (prop_tree prop) (node_trees nodes.old)) }
 {
     let index = number as usize;
     if index < nodes.len() {

@@ -2,7 +2,7 @@ use Rattle.std.proofs.Common.{sym}
 use Rattle.line_points.specs.Parts.{marks}
 use Rattle.line_points.proofs.PlaceLaws.{place_boundary}
 use Rattle.line_points.proofs.PartLaws.{marks-ascii, plain_parts}
-use Rattle.line_points.proofs.part.Part.plain.Goals as goal
+use Rattle.line_points.proofs.part.Part.plain_text.Goals as goal
 
 pub split_at-requires : goal.split_at-requires
 split_at-requires c = rw (c.plain_len-at.ensures, c.as_bytes.ensures.value) (place_boundary (marks c.args.self) c.args.rest.now (marks-ascii c.args.self))

@@ -1,6 +1,6 @@
 use Rattle.std.proofs.Common.{sym}
 use Rattle.line_points.proofs.PrintLaws.{escaped-none}
-use Rattle.line_points.proofs.print.put_escaped.Goals as goal
+use Rattle.line_points.proofs.print.put_part.Goals as goal
 
 pub returns-clause-ok : goal.returns-clause-ok
 returns-clause-ok c =

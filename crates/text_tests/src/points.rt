@@ -1,0 +1,123 @@
+//! Lines, bodies of lines and printed points: that their calls find memory, and what is printed.
+
+ghost use Rattle.std.specs.Prelude.{◌≡◌};
+ghost use Rattle.kap_base.specs.Texts.{has_line_feed};
+
+use kap_base::{Bytes, Text};
+use line_points::{
+    BodyFault, LINE_LIMIT, LineFault, Mode, Unit, body_text, print_line, put_line, read_body,
+    read_line, read_stored,
+};
+use std::alloc::Global;
+use std::test::Fail;
+
+/// A point in its canonical line, with each sort of value and of escape.
+const LINE: &str = r#"m\ a\,b,k\=1=v\,2 f=false,i=-7i,s="q\"z\\",t=true 7"#;
+
+/// Seconds, where a missing time is at 77 nanoseconds.
+const SECONDS: Mode = Mode::Live {
+    unit: Unit::S,
+    now: 77,
+};
+
+fn has_feed(bytes: &[u8]) -> bool
+    ensures { result ≡ has_line_feed bytes.now }
+{
+    bytes.iter().any(|b| *b == b'\n')
+}
+
+#[test]
+fn a_line_is_read_and_printed(rt: HostRuntime) -> Result<(), Fail> {
+    let alloc = rt.alloc();
+    let name = Text::from_str(alloc, "d")?;
+    let line = LINE.as_bytes();
+    assert!(rt; !has_feed(line) && !has_feed(name.bytes()));
+    let point = read_line(alloc, line, &name, &name, &Mode::Recording)?.ok_or("blank")?;
+    assert_eq!(rt; print_line(alloc, &point)?.as_slice(), line);
+    let stored = read_stored(alloc, line, &name, &name)?;
+    assert!(rt; stored == point);
+    let mut out = Bytes::new(alloc);
+    put_line(&point, &mut out)?;
+    assert_eq!(rt; out.as_slice(), line);
+    Ok(())
+}
+
+#[test]
+fn a_live_line_may_be_blank(rt: HostRuntime) -> Result<(), Fail> {
+    let name = Text::from_str(rt.alloc(), "d")?;
+    let line = b"  # c".as_slice();
+    assert!(rt; !has_feed(line) && !has_feed(name.bytes()));
+    assert!(rt; read_line(rt.alloc(), line, &name, &name, &SECONDS)?.is_none());
+    Ok(())
+}
+
+#[test]
+fn a_body_is_its_lines(rt: HostRuntime) -> Result<(), Fail> {
+    let alloc = rt.alloc();
+    let name = Text::from_str(alloc, "d")?;
+    assert!(rt; !has_feed(name.bytes()));
+    let body = b"# c\r\n\nm x=1i 1\r\nm x=2i".as_slice();
+    let points = read_body(alloc, body, &name, &name, &SECONDS)?;
+    let mut out = Bytes::new(alloc);
+    for point in points.as_slice() {
+        put_line(point, &mut out)?;
+        out.push(b';')?;
+    }
+    assert_eq!(rt; out.as_slice(), b"m x=1i 1000000000;m x=2i 77;".as_slice());
+    let faulty = read_body(alloc, b"m x=1i 1\n\nm 5\n", &name, &name, &SECONDS);
+    assert_eq!(rt; faulty.err(), Some(BodyFault { line: 3, fault: LineFault::Field }));
+    Ok(())
+}
+
+#[test]
+fn each_fault_has_its_name(rt: HostRuntime) -> Result<(), Fail> {
+    let named = [
+        (LineFault::Measurement, "line 1: Measurement"),
+        (LineFault::Tag, "line 1: Tag"),
+        (LineFault::NoField, "line 1: NoField"),
+        (LineFault::Field, "line 1: Field"),
+        (LineFault::FloatField, "line 1: FloatField"),
+        (LineFault::UnsignedField, "line 1: UnsignedField"),
+        (LineFault::Time, "line 1: Time"),
+        (LineFault::TimeRange, "line 1: TimeRange"),
+        (LineFault::NoTime, "line 1: NoTime"),
+        (LineFault::Long, "line 1: Long"),
+        (LineFault::NotUtf8, "line 1: NotUtf8"),
+        (LineFault::NoMemory, "line 1: NoMemory"),
+    ];
+    for (fault, text) in named {
+        let printed = body_text(rt.alloc(), &BodyFault { line: 1, fault })?;
+        assert_eq!(rt; printed.as_slice(), text.as_bytes());
+    }
+    Ok(())
+}
+
+/// A line of 9,361 fields, whose keys fall in byte order.
+fn falling_line(alloc: Global) -> Result<Vec<u8>, Fail> {
+    let mut line = Vec::from_slice(alloc, b"m ")?;
+    for i in 0..9_361u32 {
+        let n = 9_360 - i;
+        if i > 0 {
+            line.push(b',')?;
+        }
+        for place in [676, 26, 1] {
+            line.push(b'a' + (n / place % 26) as u8)?;
+        }
+        line.extend_from_slice(b"=1i")?;
+    }
+    line.extend_from_slice(b" 5")?;
+    Ok(line)
+}
+
+#[test]
+fn as_many_fields_as_fit_are_sorted(rt: HostRuntime) -> Result<(), Fail> {
+    let alloc = rt.alloc();
+    let name = Text::from_str(alloc, "d")?;
+    let line = falling_line(alloc)?;
+    assert!(rt; line.len() <= LINE_LIMIT && line.len() + 7 > LINE_LIMIT);
+    assert!(rt; !has_feed(&line) && !has_feed(name.bytes()));
+    let point = read_line(alloc, &line, &name, &name, &Mode::Recording)?.ok_or("blank")?;
+    assert_eq!(rt; point.fields.len(), 9_361);
+    assert!(rt; print_line(alloc, &point)?.as_slice().starts_with(b"m aaa=1i,aab=1i,"));
+    Ok(())
+}
