@@ -1,5 +1,5 @@
 -- Recordings: groups of three lines, a database, a policy and a line of the line protocol, each of which gives a point.
-use Rattle.std.specs.Prelude.{ℕ, ◌+◌, ◌^◌, ◌≤◌, Bool, true, false, IsTrue, Option, None, Some, List, [], ◌∷◌, ◌++◌, length, take, Result, Ok, Err, nat_le, if◌then◌else◌}
+use Rattle.std.specs.Prelude.{◌≡◌, ℕ, ◌+◌, ◌^◌, ◌≤◌, Bool, true, false, IsTrue, Option, None, Some, List, [], ◌∷◌, ◌++◌, length, take, Result, Ok, Err, nat_le, if◌then◌else◌}
 use Rattle.std.specs.Str.{is_utf8}
 use Rattle.kap_base.specs.Words.{◌>>=◌}
 use Rattle.kap_base.specs.Points.{PointValue}
@@ -133,3 +133,9 @@ reading_of bytes = read 1 (of_input (2 ^ 30) bytes)
 -- what bytes give that others may follow
 abbrev pub reading_so_far : List ℕ → Reading
 reading_so_far bytes = read 1 (of_input_so_far bytes)
+
+-- what bytes give, against what they give with others behind them: its points come first there, and its fault stays
+pub record GoesOn (part whole : Reading) : Type 0 where
+  pub others : List PointValue
+  pub points : whole.points ≡ part.points ++ others
+  pub same : (fault : RecFault) → part.stop ≡ Faulty fault → whole ≡ part
