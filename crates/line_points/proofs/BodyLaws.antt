@@ -15,7 +15,7 @@ use Rattle.line_points.specs.declared.mode.Mode.{Mode}
 use Rattle.line_points.specs.Line.{line_of}
 use Rattle.line_points.specs.Body.{ReachesLine, carriage_return, without_return, without_last_empty, body_lines, at_line, before_more, with_line, points_of}
 use Rattle.line_points.proofs.PlaceLaws.{take_more}
-use Rattle.line_points.proofs.TestLaws.{first_false, second_false, ok_is, bind_ok}
+use Rattle.kap_base.proofs.TestLaws.{first_false, second_false, ok_is, bind_ok}
 
 -- ---- a carriage return
 

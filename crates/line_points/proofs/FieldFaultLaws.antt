@@ -20,7 +20,7 @@ use Rattle.line_points.specs.Words.{int_value, integer_of, other_value, word_val
 use Rattle.line_points.specs.Line.{Field, quoted_at, word_at, value_at, field_at, fields_from, fields_at}
 use Rattle.line_points.specs.Grammar.{Spells, SpellsFields, one_field, more_fields, spaces}
 use Rattle.line_points.specs.FaultRows.{SpellsFloat, SpellsUnsigned, unsigned_word, SpellsSome, FieldOf, FieldPlace, first_place, later_place, FieldFault, float_value, unsigned_value, no_field}
-use Rattle.line_points.proofs.TestLaws.{first_of, second_of, not_true, err_is, made_err}
+use Rattle.kap_base.proofs.TestLaws.{first_of, second_of, not_true, err_is, made_err}
 use Rattle.line_points.proofs.NumberLaws.{before_last_byte-last}
 use Rattle.line_points.proofs.PlaceLaws.{word_ends}
 use Rattle.line_points.proofs.SpellLaws.{text_taken, spelling_again}

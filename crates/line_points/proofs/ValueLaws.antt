@@ -21,7 +21,7 @@ use Rattle.line_points.specs.Numbers.{is_digits, is_minus, number_from, number_o
 use Rattle.line_points.specs.Words.{int_value, other_value, word_value, is_float, is_unsigned}
 use Rattle.line_points.specs.Line.{quoted_at, word_at, value_at}
 use Rattle.line_points.specs.Grammar.{Spells, minus, SpellsValue, integer_word, true_word, false_word, quoted_text}
-use Rattle.line_points.proofs.TestLaws.{first_of, second_of, ok_is, bind_ok, guard_ok}
+use Rattle.kap_base.proofs.TestLaws.{first_of, second_of, ok_is, bind_ok, guard_ok}
 use Rattle.line_points.proofs.NumberLaws.{before_last_byte-last}
 use Rattle.line_points.proofs.PlaceLaws.{drop_more, word_ends}
 use Rattle.line_points.proofs.SpellLaws.{text_taken, spelling_again}
