@@ -10,6 +10,10 @@ next_count n = min (n + 1) (2 ^ 64 - 1)
 abbrev pub is_listed : List ℕ → ℕ → Bool
 is_listed fails call = list_any (λ n. n == call) fails
 
+-- the call behind so many calls is one of those that fail
+abbrev pub is_call_listed : List ℕ → ℕ → Bool
+is_call_listed fails calls = is_listed fails (next_count calls)
+
 -- a source in memory: the bytes still to come, how many it gives a call at most, the numbers of the calls that fail, how many
 -- calls there were, and how many of them failed
 pub record SourceState : Type 0 where
@@ -43,6 +47,10 @@ pub record SinkCounts (old new : SinkState) (failed : Bool) : Type 0 where
   pub calls : new.calls ≡ next_count old.calls
   pub faults : new.faults ≡ (if failed then next_count old.faults else old.faults)
 
+-- how many bytes a source gives into a buffer of this length
+abbrev pub given_of : SourceState → ℕ → ℕ
+given_of source size = min source.step (min (length source.left) size)
+
 -- how many bytes of a piece of this length a sink takes
 abbrev pub taken_of : SinkState → ℕ → ℕ
 taken_of sink size = min sink.step size
@@ -50,4 +58,5 @@ taken_of sink size = min sink.step size
 -- the call of a sink is one that fails, or memory is wanted for what it takes of a piece of this length
 abbrev pub MayRefuse : SinkState → ℕ → Type 0
 MayRefuse sink size =
-    IsTrue (is_listed sink.fails (next_count sink.calls)) ⊎ (sink.room < length sink.bytes + taken_of sink size)
+    IsTrue (is_call_listed sink.fails sink.calls)
+    ⊎ (sink.room < length sink.bytes + taken_of sink size)

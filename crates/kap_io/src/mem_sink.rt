@@ -2,7 +2,7 @@ ghost use Rattle.std.specs.Prelude.{◌≡◌, ◌≤◌, ◌<◌, [], Some, IsT
 ghost use Rattle.std.specs.Io.KnownBytes.{WriteAppends};
 ghost use Rattle.kap_io.specs.Causes.{HasCause};
 ghost use Rattle.kap_io.specs.Pieces.{TakesSome};
-ghost use Rattle.kap_io.specs.Fakes.{next_count, is_listed, taken_of, MayRefuse, SinkCounts};
+ghost use Rattle.kap_io.specs.Fakes.{is_call_listed, is_listed, taken_of, MayRefuse, SinkCounts};
 
 use crate::failed::Failed;
 use crate::mem_source::is_listed;
@@ -27,7 +27,14 @@ impl Model for MemSink {
 
     ghost Value = { SinkState };
 
-    ghost view = { λ s. record { bytes = s.bytes.items; step = s.step; fails = s.fails.items; calls = s.calls; faults = s.faults; room = vec_capacity s.bytes } };
+    ghost view = { λ s. record {
+      bytes = s.bytes.items;
+      step = s.step;
+      fails = s.fails.items;
+      calls = s.calls;
+      faults = s.faults;
+      room = vec_capacity s.bytes;
+    } };
 
     ghost invariant = { λ s. 0 < s.step };
 }
@@ -71,7 +78,7 @@ impl Sink for MemSink {
         ensures bound { TakesSome result piece.now }
         ensures bytes { WriteAppends (Some self.old.bytes) (Some self.new.bytes) result piece.now }
         ensures cause { HasCause self.old.faults self.new.faults result }
-        ensures fails { IsTrue (is_listed self.old.fails (next_count self.old.calls)) → IsErr result }
+        ensures fails { IsTrue (is_call_listed self.old.fails self.old.calls) → IsErr result }
         ensures only { OnErr result (MayRefuse self.old (length piece.now)) }
         ensures count { IfOk result (λ n. n ≡ taken_of self.old (length piece.now)) }
         ensures counts { SinkCounts self.old self.new (is_err result) }

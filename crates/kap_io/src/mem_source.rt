@@ -2,7 +2,7 @@ ghost use Rattle.std.specs.Prelude.{◌≡◌, ◌≤◌, ◌<◌, ◌↔◌, �
 ghost use Rattle.std.specs.Io.{ReadsAtMost};
 ghost use Rattle.std.specs.Io.KnownBytes.{ReadConsumes};
 ghost use Rattle.kap_io.specs.Causes.{HasCause};
-ghost use Rattle.kap_io.specs.Fakes.{next_count, is_listed, SourceCounts};
+ghost use Rattle.kap_io.specs.Fakes.{is_call_listed, is_listed, given_of, SourceCounts};
 
 use crate::failed::Failed;
 use crate::source::Source;
@@ -26,7 +26,13 @@ impl Model for MemSource {
 
     ghost Value = { SourceState };
 
-    ghost view = { λ s. record { left = drop s.at s.bytes.items; step = s.step; fails = s.fails.items; calls = s.calls; faults = s.faults } };
+    ghost view = { λ s. record {
+      left = drop s.at s.bytes.items;
+      step = s.step;
+      fails = s.fails.items;
+      calls = s.calls;
+      faults = s.faults;
+    } };
 
     ghost invariant = { λ s. (s.at ≤ length s.bytes.items) × (0 < s.step) };
 }
@@ -36,7 +42,13 @@ impl MemSource {
     /// first call being number 1.
     pub fn new(_alloc: Global, bytes: Vec<u8>, step: usize, fails: Vec<u64>) -> Self
         requires { 0 < step }
-        ensures state { result ≡ record { left = bytes.items; step = step; fails = fails.items; calls = 0; faults = 0 } }
+        ensures state { result ≡ record {
+          left = bytes.items;
+          step = step;
+          fails = fails.items;
+          calls = 0;
+          faults = 0;
+        } }
         ensures left { ⟦<MemSource as Source>⟧.left result ≡ Some bytes.items }
         ensures faults { ⟦<MemSource as Source>⟧.faults result ≡ 0 }
     {
@@ -63,8 +75,8 @@ impl Source for MemSource {
         ensures bound { ReadsAtMost result buf.new }
         ensures bytes { ReadConsumes (Some self.old.left) (Some self.new.left) result buf.new }
         ensures cause { HasCause self.old.faults self.new.faults result }
-        ensures fails { IsErr result ↔ IsTrue (is_listed self.old.fails (next_count self.old.calls)) }
-        ensures count { IfOk result (λ n. n ≡ min self.old.step (min (length self.old.left) (length buf.old))) }
+        ensures fails { IsErr result ↔ IsTrue (is_call_listed self.old.fails self.old.calls) }
+        ensures count { IfOk result (λ n. n ≡ given_of self.old (length buf.old)) }
         ensures counts { SourceCounts self.old self.new (is_err result) }
     {
         self.calls = self.calls.saturating_add(1);

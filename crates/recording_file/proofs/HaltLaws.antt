@@ -80,7 +80,7 @@ long_further n k bytes le within long =
       | false ↦ λ e. let same : n ≡ k = grind (arith, nat_tests) in subst (λ m. is_long (without_return (take m bytes)) ≡ true) same long
     ] refl
 
-pos_within : (bytes : List ℕ) → position_or_len is_feed bytes ≤ length bytes
+pub pos_within : (bytes : List ℕ) → position_or_len is_feed bytes ≤ length bytes
 pos_within [] = omega arith
 pos_within (x ∷ xs) = let rest = pos_within xs in elim (is_feed x) as (λ f. cond (not f) (1 + position_or_len is_feed xs) 0 ≤ suc (length xs)) [ true ↦ omega arith | false ↦ omega arith ]
 
@@ -132,7 +132,7 @@ module _ (n limit : ℕ) (bytes : List ℕ) (size : ℕ) (no_feed : size ≤ pos
     ] refl
 
   -- a line that is too long within the limit
-  of_input_long : size ≤ limit → Halts n (Faulty (rec_faults.Line n faults.Long)) (of_input limit bytes)
+  pub of_input_long : size ≤ limit → Halts n (Faulty (rec_faults.Line n faults.Long)) (of_input limit bytes)
   of_input_long fits = elim (nat_le (length bytes) limit) as (λ t. nat_le (length bytes) limit ≡ t → Halts n (Faulty (rec_faults.Line n faults.Long)) (cond t (of_whole_input bytes) (of_input_past_limit (take limit bytes)))) [
     | true ↦ λ e. whole_long
     | false ↦ λ e. cut_long fits (grind (arith, nat_tests))

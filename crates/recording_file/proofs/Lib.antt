@@ -7,3 +7,5 @@ pub mod PointLaws
 pub mod RecordLaws
 pub mod StandLaws
 pub mod ReadLaws
+pub mod PrintLaws
+pub mod PrefixLaws

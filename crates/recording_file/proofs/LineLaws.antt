@@ -14,22 +14,22 @@ use Rattle.recording_file.specs.Steps.{before}
 -- ---- the raw lines
 
 -- there is one at least
-some_raw : (bytes : List ℕ) → 0 < length (raw_lines bytes)
+pub some_raw : (bytes : List ℕ) → 0 < length (raw_lines bytes)
 some_raw bytes = rw (length-slice_split is_feed bytes) (omega arith)
 
-closed_more : (x : List ℕ) (r : List (List ℕ)) → 0 < length r → closed_lines (x ∷ r) ≡ without_return x ∷ closed_lines r
+pub closed_more : (x : List ℕ) (r : List (List ℕ)) → 0 < length r → closed_lines (x ∷ r) ≡ without_return x ∷ closed_lines r
 closed_more x [] some = absurd (omega arith)
 closed_more x (y ∷ r) some = refl
 
-all_more : (x : List ℕ) (r : List (List ℕ)) → 0 < length r → all_lines (x ∷ r) ≡ without_return x ∷ all_lines r
+pub all_more : (x : List ℕ) (r : List (List ℕ)) → 0 < length r → all_lines (x ∷ r) ≡ without_return x ∷ all_lines r
 all_more x [] some = absurd (omega arith)
 all_more x (y ∷ r) some = refl
 
-last_more : (x : List ℕ) (r : List (List ℕ)) → 0 < length r → last_part (x ∷ r) ≡ last_part r
+pub last_more : (x : List ℕ) (r : List (List ℕ)) → 0 < length r → last_part (x ∷ r) ≡ last_part r
 last_more x [] some = absurd (omega arith)
 last_more x (y ∷ r) some = refl
 
-raw_line : (bytes : List ℕ) (k : ℕ) → k ≡ position_or_len is_feed bytes → k < length bytes → raw_lines bytes ≡ take k bytes ∷ raw_lines (drop (k + 1) bytes)
+pub raw_line : (bytes : List ℕ) (k : ℕ) → k ≡ position_or_len is_feed bytes → k < length bytes → raw_lines bytes ≡ take k bytes ∷ raw_lines (drop (k + 1) bytes)
 raw_line bytes k is lt = slice_split_first is_feed bytes 0 (subst (λ n. n < length bytes) is lt) ∙ ap (λ n. take n bytes ∷ raw_lines (drop (n + 1) bytes)) (sym is)
 
 -- without a line feed the bytes are one line

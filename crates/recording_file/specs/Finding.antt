@@ -1,10 +1,11 @@
 -- How the next line of a recording is found among the bytes that were read.
-use Rattle.std.specs.Prelude.{◌≡◌, ℕ, ◌+◌, ◌-◌, ◌^◌, ◌<◌, ◌≤◌, Bool, true, false, Option, IsTrue, min, List, [], ◌++◌, length, drop, take}
+use Rattle.std.specs.Prelude.{◌≡◌, ℕ, ◌+◌, ◌-◌, ◌<◌, ◌≤◌, Bool, true, false, Option, IsTrue, min, List, [], ◌++◌, length, drop, take}
 use Rattle.std.specs.List.{position_or_len}
 use Rattle.line_points.specs.declared.fault.LineFault.TheVariants as faults
 use Rattle.line_points.specs.Body.{without_return}
 use Rattle.recording_file.specs.declared.fault.RecFault.{RecFault}
 use Rattle.recording_file.specs.declared.fault.RecFault.TheVariants as rec_faults
+use Rattle.recording_file.specs.declared.lines.TheConstants.{RECORDING_LIMIT}
 use Rattle.recording_file.specs.Lines.{is_feed, is_long}
 use Rattle.recording_file.specs.Reading.{ReadsOn}
 
@@ -36,7 +37,7 @@ pub record FindsEnd (old new : ReadPlace) (before after : Option (List ℕ)) : T
 
 -- how many bytes may still be passed
 abbrev pub room : ReadPlace → ℕ
-room at = 2 ^ 30 - at.passed
+room at = RECORDING_LIMIT - at.passed
 
 -- how many bytes a line of this size takes, with its line feed where it has one
 abbrev pub size_with_feed : ℕ → List ℕ → ℕ
@@ -61,7 +62,7 @@ pub record Passes (old new : ReadPlace) (size : ℕ) : Type 0 where
 -- more bytes were passed, and not more than a recording has
 pub record CountRises (old new : ReadPlace) : Type 0 where
   pub more : old.passed < new.passed
-  pub within : new.passed ≤ 2 ^ 30
+  pub within : new.passed ≤ RECORDING_LIMIT
 
 -- the first bytes of the next line, which may be passed and have no line feed, are too many for a line
 pub record IsTooLong (at : ReadPlace) : Type 0 where

@@ -5,3 +5,4 @@ pub mod Reading
 pub mod Finding
 pub mod Steps
 pub mod Got
+pub mod Printed

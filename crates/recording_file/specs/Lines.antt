@@ -3,15 +3,16 @@ use Rattle.std.specs.Prelude.{ℕ, Bool, ◌==◌, nat_lt, length, List, [], ◌
 use Rattle.std.specs.List.{slice_split}
 use Rattle.kap_base.specs.Texts.{line_feed, is_empty}
 use Rattle.kap_base.specs.Points.{PointValue}
+use Rattle.line_points.specs.declared.line.TheConstants.{LINE_LIMIT}
 use Rattle.line_points.specs.Body.{without_return}
 use Rattle.line_points.specs.Print.{Print}
 
 abbrev pub is_feed : ℕ → Bool
 is_feed b = b == line_feed
 
--- a line that has more than 65,536 bytes
+-- a line that has too many bytes
 abbrev pub is_long : List ℕ → Bool
-is_long line = nat_lt 65536 (length line)
+is_long line = nat_lt LINE_LIMIT (length line)
 
 -- what stands before each line feed, and last what stands behind the last one
 abbrev pub raw_lines : List ℕ → List (List ℕ)

@@ -1,9 +1,10 @@
 -- What a reader says of the points that it has given and of the bytes that it has read.
-use Rattle.std.specs.Prelude.{◌≡◌, ◌⊎◌, ◌++◌, ◌∷◌, ◌≤◌, ◌^◌, Bool, false, ℕ, Option, None, Some, List, [], IsTrue, Result, Ok, Err, length}
+use Rattle.std.specs.Prelude.{◌≡◌, ◌⊎◌, ◌++◌, ◌∷◌, ◌≤◌, Bool, false, ℕ, Option, None, Some, List, [], IsTrue, Result, Ok, Err, length}
 use Rattle.std.specs.Io.KnownBytes.{Consumes}
 use Rattle.kap_base.specs.Points.{PointValue}
 use Rattle.recording_file.specs.declared.fault.RecFault.{RecFault}
 use Rattle.recording_file.specs.declared.fault.RecFault.TheVariants.{Line, Truncated, Long, ReadFault, NoMemory}
+use Rattle.recording_file.specs.declared.lines.TheConstants.{RECORDING_LIMIT}
 use Rattle.recording_file.specs.Recording.{Recording, Reading, Stop, Ended, Faulty, Undecided, reading_of, reading_so_far}
 
 -- a reader: the points given so far, the bytes read so far, whether these are all, and whether a call has failed
@@ -20,7 +21,9 @@ HasEnded (Some before) None = ⊥
 HasEnded (Some before) (Some after) = after ≡ []
 
 -- a call reads the next bytes of a source, behind those that were read; a source that has ended isn't asked again
-pub record ReadsOn (old_got new_got : List ℕ) (was_ended is_ended : Bool) (before after : Option (List ℕ)) : Type 0 where
+pub record ReadsOn
+    (old_got new_got : List ℕ) (was_ended is_ended : Bool)
+    (before after : Option (List ℕ)) : Type 0 where
   pub piece : List ℕ
   pub got : new_got ≡ old_got ++ piece
   pub took : Consumes before after piece
@@ -33,14 +36,15 @@ abbrev pub ReaderReads : ReaderState → ReaderState → Option (List ℕ) → O
 ReaderReads old new before after = ReadsOn old.got new.got old.ended new.ended before after
 
 -- whatever may follow the bytes that were read, reading them all gives these points first
-pub record BeginsWith (reader : ReaderState) (points : List PointValue) (more : List ℕ) : Type 0 where
+pub record BeginsWith
+    (reader : ReaderState) (points : List PointValue) (more : List ℕ) : Type 0 where
   pub others : List PointValue
   pub all : (reading_of (reader.got ++ more)).points ≡ points ++ others
 
 -- a point was given: it is the next one, whatever may follow the bytes that were read
 pub record Gives (old new : ReaderState) (p : PointValue) : Type 0 where
   pub given : new.given ≡ old.given ++ p ∷ []
-  pub few : length new.given ≤ 2 ^ 30
+  pub few : length new.given ≤ RECORDING_LIMIT
   pub next : (more : List ℕ) → (IsTrue new.ended → more ≡ []) → BeginsWith new new.given more
 
 -- the source has ended, what it gave is a recording, and its points were given
@@ -52,7 +56,8 @@ pub record GaveAll (old new : ReaderState) : Type 0 where
 -- whatever may follow the bytes that were read, reading them all stops so behind the points that were given
 abbrev pub StopsAt : ReaderState → Stop → Type 0
 StopsAt reader stop =
-    (more : List ℕ) → (IsTrue reader.ended → more ≡ []) → reading_of (reader.got ++ more) ≡ record { points = reader.given; stop = stop }
+    (more : List ℕ) → (IsTrue reader.ended → more ≡ [])
+    → reading_of (reader.got ++ more) ≡ record { points = reader.given; stop = stop }
 
 -- the source failed, and the bytes that were read don't decide how reading goes on behind the points that were given
 pub record StaysOpen (reader : ReaderState) : Type 0 where

@@ -8,10 +8,10 @@ ghost use Rattle.recording_file.specs.Finding.{Reads, CountRises, FindsEnd};
 ghost use Rattle.recording_file.specs.Steps.{read_policy, read_database, GivesPoint, FailsBy, FaultAt, PassesName, RefusesName};
 
 use crate::fault::RecFault;
-use crate::lines::{LONGEST, Lines};
+use crate::lines::Lines;
 use kap_base::{Point, Text, TextFault};
 use kap_io::Source;
-use line_points::{LineFault, Mode, read_line};
+use line_points::{LINE_LIMIT, LineFault, Mode, read_line};
 use std::alloc::Global;
 
 /// Whether the text has these bytes.
@@ -27,7 +27,7 @@ fn set_name(alloc: Global, line: &[u8], name: &mut Text) -> Result<(), LineFault
     ensures set { OnOk result ((name_of_line line.now ≡ Ok name.new) × (name.new ≡ line.now)) }
     ensures fault { IfErr result (λ f. f ≢ LineFault.NoMemory → name_of_line line.now ≡ Err f) }
 {
-    if line.len() > LONGEST {
+    if line.len() > LINE_LIMIT {
         return Err(LineFault::Long);
     }
     if is_text(name, line) {
@@ -49,7 +49,8 @@ fn point(alloc: Global, line: &[u8], db: &Text, rp: &Text) -> Result<Point, Line
     requires db { IsTrue (not (has_line_feed db.now)) }
     requires rp { IsTrue (not (has_line_feed rp.now)) }
     ensures read { IfOk result (λ p. line_of db.now rp.now Mode.Recording line.now ≡ Ok (Some p)) }
-    ensures fault { IfErr result (λ f. f ≢ LineFault.NoMemory → line_of db.now rp.now Mode.Recording line.now ≡ Err f) }
+    ensures fault { IfErr result (λ f. f ≢ LineFault.NoMemory →
+        line_of db.now rp.now Mode.Recording line.now ≡ Err f) }
 {
     match read_line(alloc, line, db, rp, &Mode::Recording) {
         Ok(Some(point)) => Ok(point),
@@ -105,7 +106,8 @@ fn pass_name<S: Source>(
     ensures name { IfOk result (λ more. OnTrue more (PassesName name.new lines.old lines.new)) }
     ensures one_line { IfOk result (λ more. OnTrue more (IsTrue (not (has_line_feed name.new)))) }
     ensures count_rises { IfOk result (λ more. OnTrue more (CountRises lines.old lines.new)) }
-    ensures end { IfOk result (λ more. OnFalse more (FindsEnd lines.old lines.new (S.left source.old) (S.left source.new))) }
+    ensures end { IfOk result (λ more. OnFalse more
+        (FindsEnd lines.old lines.new (S.left source.old) (S.left source.new))) }
     ensures fault { IfErr result (RefusesName lines.old lines.new) }
     ensures cause { HasReadCause (S.faults source.old) (S.faults source.new) result }
 {
@@ -149,7 +151,8 @@ pub fn next_point<S: Source>(
     ensures reads { Reads lines.old lines.new (S.left source.old) (S.left source.new) }
     ensures point { IfOk result (λ o. IfSome o (GivesPoint read lines.old lines.new)) }
     ensures count_rises { IfOk result (λ o. OnSome o (CountRises lines.old lines.new)) }
-    ensures end { IfOk result (λ o. IfNone o (FindsEnd lines.old lines.new (S.left source.old) (S.left source.new))) }
+    ensures end { IfOk result (λ o. IfNone o
+        (FindsEnd lines.old lines.new (S.left source.old) (S.left source.new))) }
     ensures fault { IfErr result (FailsBy read lines.old lines.new) }
     ensures cause { HasReadCause (S.faults source.old) (S.faults source.new) result }
 {

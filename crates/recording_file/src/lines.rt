@@ -12,16 +12,13 @@ use crate::feeds::{last_feeds, line_end};
 use crate::got::GotBytes;
 use crate::window::Window;
 use kap_io::Source;
-use line_points::{LineFault, without_return};
+use line_points::{LINE_LIMIT, LineFault, without_return};
 use std::alloc::Global;
 use std::marker::Model;
 use std::snapshot::Snapshot;
 
 /// The most bytes of a recording: 1 GiB.
 pub const RECORDING_LIMIT: u64 = 1 << 30;
-
-/// The most bytes of a line, and of a database or a policy.
-pub(crate) const LONGEST: usize = 65_536;
 
 /// The lines of a recording, one after the other.
 #[derive(Drop)]
@@ -36,15 +33,23 @@ pub struct Lines {
 }
 
 impl Model for Lines {
-    ghost use Rattle.std.specs.Prelude.{◌+◌, ◌^◌, ◌≤◌};
+    ghost use Rattle.std.specs.Prelude.{◌+◌, ◌≤◌};
+    ghost use Rattle.recording_file.specs.declared.lines.TheConstants.{RECORDING_LIMIT};
     ghost use Rattle.recording_file.specs.Finding.{ReadPlace};
     ghost use Rattle.recording_file.specs.Got.{bytes_of};
 
     ghost Value = { ReadPlace };
 
-    ghost view = { λ l. record { bytes = l.window; got = bytes_of l.got; line = l.line; passed = l.passed; ended = l.ended } };
+    ghost view = { λ l. record {
+      bytes = l.window;
+      got = bytes_of l.got;
+      line = l.line;
+      passed = l.passed;
+      ended = l.ended;
+    } };
 
-    ghost invariant = { λ l. (l.passed ≤ 2 ^ 30) × (1 ≤ l.line) × (l.line ≤ l.passed + 1) };
+    ghost invariant = { λ l.
+        (l.passed ≤ RECORDING_LIMIT) × (1 ≤ l.line) × (l.line ≤ l.passed + 1) };
 }
 
 impl Lines {
@@ -87,7 +92,7 @@ impl Lines {
         ensures { result ≡ is_long (without_return (take size self.now.bytes)) }
     {
         let (line, _) = self.window.held().split_at(size);
-        LONGEST < without_return(line).len()
+        LINE_LIMIT < without_return(line).len()
     }
 
     /// Why a line that isn't ended within the limit can't go on.
@@ -146,7 +151,8 @@ impl Lines {
         requires not_ended { self.old.ended ≡ false }
         ensures stays { Stays self.old self.new (S.left source.old) (S.left source.new) }
         ensures more { IfOk result (λ more. OnTrue more (size < length self.new.bytes)) }
-        ensures at_end { IfOk result (λ more. OnFalse more ((self.new.bytes ≡ self.old.bytes) × IsTrue self.new.ended)) }
+        ensures at_end { IfOk result (λ more. OnFalse more
+            ((self.new.bytes ≡ self.old.bytes) × IsTrue self.new.ended)) }
         ensures fault { IfErr result (λ f. (f ≡ RecFault.ReadFault) ⊎ (f ≡ RecFault.NoMemory)) }
         ensures kept { OnErr result (self.new ≡ self.old) }
         ensures cause { HasReadCause (S.faults source.old) (S.faults source.new) result }
@@ -166,9 +172,11 @@ impl Lines {
         requires all { size ≡ length self.old.bytes }
         ensures stays { Stays self.old self.new (S.left source.old) (S.left source.new) }
         ensures more { IfOk result (λ more. OnTrue more (size < length self.new.bytes)) }
-        ensures searched { IfOk result (λ more. OnTrue more (size ≤ position_or_len is_feed self.new.bytes)) }
+        ensures searched { IfOk result (λ more. OnTrue more
+            (size ≤ position_or_len is_feed self.new.bytes)) }
         ensures undecided { OnOk result (IsUndecided self.old) }
-        ensures at_end { IfOk result (λ more. OnFalse more ((self.new.bytes ≡ self.old.bytes) × IsTrue self.new.ended)) }
+        ensures at_end { IfOk result (λ more. OnFalse more
+            ((self.new.bytes ≡ self.old.bytes) × IsTrue self.new.ended)) }
         ensures fault { IfErr result (FindsNone self.new) }
         ensures cause { HasReadCause (S.faults source.old) (S.faults source.new) result }
     {

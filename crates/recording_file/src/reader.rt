@@ -36,7 +36,12 @@ impl Model for Reader {
 
     ghost coded = { Prim.hlevel (codes, key_map_code) };
 
-    ghost view = { λ r. record { given = points_of r.given; got = r.lines.got; ended = r.lines.ended; spent = r.spent } };
+    ghost view = { λ r. record {
+      given = points_of r.given;
+      got = r.lines.got;
+      ended = r.lines.ended;
+      spent = r.spent;
+    } };
 
     ghost invariant = { λ r. r.spent ≡ false → StandsAt (points_of r.given) r.lines };
 }
@@ -71,9 +76,9 @@ impl Reader {
     /// The next point, or `None` where the source ended between two groups, and again whenever it is asked behind that; a source
     /// that has ended isn't asked again.
     ///
-    /// `Line` comes where that line, numbered from 1, is no database or policy (UTF-8 of at most 65,536 bytes) or no line of the
-    /// line protocol; `Truncated` where the source ended inside a group and that line is missing; `Long` where the group isn't
-    /// complete within the recording's first 1,073,741,824 bytes, and more follow. Whichever comes first in the bytes is given.
+    /// `Line` comes where that line, numbered from 1, is no database or policy (UTF-8 of at most `LINE_LIMIT` bytes) or no line of
+    /// the line protocol; `Truncated` where the source ended inside a group and that line is missing; `Long` where the group isn't
+    /// complete within the recording's first `RECORDING_LIMIT` bytes, and more follow. Whichever comes first in the bytes is given.
     /// `ReadFault` comes only where the source's count of faults rose in this call, and the bytes read before leave open how the
     /// recording goes on. After any `Err` the reader is spent.
     pub fn next<S: Source>(

@@ -56,9 +56,11 @@ impl Window {
     pub fn fill<S: Source>(&mut self, source: &mut S) -> Result<usize, RecFault>
         ensures front { take (length self.old) self.new ≡ self.old }
         ensures len { IfOk result (λ n. length self.new ≡ length self.old + n) }
-        ensures bytes { OnOk result (Consumes (S.left source.old) (S.left source.new) (drop (length self.old) self.new)) }
+        ensures bytes { OnOk result
+            (Consumes (S.left source.old) (S.left source.new) (drop (length self.old) self.new)) }
         ensures end { IfOk result (λ n. n ≡ 0 → IsAtEnd (S.left source.new)) }
-        ensures err { OnErr result ((self.new ≡ self.old) × Keeps (S.left source.old) (S.left source.new)) }
+        ensures err { OnErr result
+            ((self.new ≡ self.old) × Keeps (S.left source.old) (S.left source.new)) }
         ensures only { IfErr result (λ f. (f ≡ RecFault.ReadFault) ⊎ (f ≡ RecFault.NoMemory)) }
         ensures cause { HasReadCause (S.faults source.old) (S.faults source.new) result }
     {
@@ -108,7 +110,8 @@ fn read_behind<S: Source>(source: &mut S, buffer: &mut [u8], end: usize) -> Resu
     requires { end < length buffer.old }
     ensures front { take end buffer.new ≡ take end buffer.old }
     ensures bound { IfOk result (λ n. n + end ≤ length buffer.new) }
-    ensures bytes { IfOk result (λ n. Consumes (S.left source.old) (S.left source.new) (take n (drop end buffer.new))) }
+    ensures bytes { IfOk result (λ n.
+        Consumes (S.left source.old) (S.left source.new) (take n (drop end buffer.new))) }
     ensures end { IfOk result (λ n. n ≡ 0 → IsAtEnd (S.left source.new)) }
     ensures err { OnErr result (Keeps (S.left source.old) (S.left source.new)) }
     ensures cause { HasCause (S.faults source.old) (S.faults source.new) result }
@@ -123,7 +126,8 @@ fn append<S: Source>(source: &mut S, buffer: &mut Vec<u8>, end: usize) -> Result
     ensures front { take end buffer.new.items ≡ take end buffer.old.items }
     ensures bound { IfOk result (λ n. n + end ≤ length buffer.new.items) }
     ensures long { end ≤ length buffer.new.items }
-    ensures bytes { IfOk result (λ n. Consumes (S.left source.old) (S.left source.new) (take n (drop end buffer.new.items))) }
+    ensures bytes { IfOk result (λ n.
+        Consumes (S.left source.old) (S.left source.new) (take n (drop end buffer.new.items))) }
     ensures end { IfOk result (λ n. n ≡ 0 → IsAtEnd (S.left source.new)) }
     ensures err { OnErr result (Keeps (S.left source.old) (S.left source.new)) }
     ensures only { IfErr result (λ f. (f ≡ RecFault.ReadFault) ⊎ (f ≡ RecFault.NoMemory)) }

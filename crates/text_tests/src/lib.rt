@@ -12,6 +12,8 @@ mod points;
 #[cfg(test)]
 mod print;
 #[cfg(test)]
+mod recordings;
+#[cfg(test)]
 mod program;
 #[cfg(test)]
 mod scripts;

@@ -1,0 +1,145 @@
+//! Sources, sinks and recordings: that their calls find memory, what a real file gives and takes, and what stands where a device
+//! fails in mid-stream.
+
+ghost use Rattle.std.specs.Prelude.{◌≡◌, ◌<◌, false};
+
+use kap_base::{Bytes, Point};
+use kap_io::{Failed, MemSink, MemSource, ReadSource, Sink, Source, WriteSink, write_all};
+use line_points::LineFault;
+use recording_file::{Reader, RecFault, print_record};
+use std::alloc::{AllocError, Global};
+use std::fs::{self, File};
+use std::test::Fail;
+
+fn source(alloc: Global, bytes: &[u8], step: usize, fails: &[u64]) -> Result<MemSource, AllocError>
+    requires { 0 < step }
+{
+    let bytes = bytes.to_vec(alloc)?;
+    Ok(MemSource::new(alloc, bytes, step, fails.to_vec(alloc)?))
+}
+
+/// Reads on until the source ends, and past each failure; at most so many calls.
+fn read_all<S: Source>(alloc: Global, source: &mut S, calls: u32) -> Result<Vec<u8>, AllocError> {
+    let mut all = Vec::new(alloc);
+    let mut buf = [0; 4];
+    'reading: for _ in 0..calls {
+        match source.read(&mut buf) {
+            Ok(0) => break,
+            Ok(count) => all.extend_from_slice(&buf[..count])?,
+            Err(Failed) => all.push(b'!')?,
+        }
+    }
+    Ok(all)
+}
+
+#[test]
+fn fakes_fail_at_the_calls_that_are_listed(rt: HostRuntime) -> Result<(), Fail> {
+    let alloc = rt.alloc();
+    let mut source = source(alloc, b"abcdefg", 3, &[2])?;
+    assert_eq!(rt;
+        read_all(alloc, &mut source, 9)?.as_slice(),
+        b"abc!defg".as_slice()
+    );
+    let mut sink = MemSink::new(alloc, 2, [3].to_vec(alloc)?);
+    assert!(rt; write_all(&mut sink, b"abcdef").is_err());
+    assert_eq!(rt; sink.bytes(), b"abcd".as_slice());
+    assert!(rt; write_all(&mut sink, b"xyz").is_ok());
+    assert_eq!(rt; sink.bytes(), b"abcdxyz".as_slice());
+    assert_eq!(rt; Failed.to_string(alloc)?.as_str(), "a device failed");
+    Ok(())
+}
+
+#[test]
+fn adapters_reach_a_real_file(rt: HostRuntime) -> Result<(), Fail> {
+    let alloc = rt.alloc();
+    let mut path = std::env::temp_dir(&rt)?;
+    path.push(format!(in alloc; "text_tests_adapters_{}", std::process::id(rt.process()))?)?;
+    {
+        let mut sink = WriteSink::new(File::create(&rt, path.as_path())?);
+        assert!(rt; write_all(&mut sink, b"written").is_ok());
+    }
+    let mut source = ReadSource::new(File::open(&rt, path.as_path())?);
+    assert_eq!(rt;
+        read_all(alloc, &mut source, 9)?.as_slice(),
+        b"written".as_slice()
+    );
+    let mut closed = WriteSink::new(File::open(&rt, path.as_path())?);
+    assert!(rt; write_all(&mut closed, b"x").is_err());
+    fs::remove_file(&rt, path.as_path())?;
+    Ok(())
+}
+
+/// Two points, the first with carriage returns, the last without its line feed.
+const TWO: &[u8] = b"d\r\nr\nm,b=2,a=1 y=t,x=-7i 5\r\ndb\nr\nm x=1i 6";
+
+/// The records of these points.
+const RECORDS: &[u8] = b"d\nr\nm,a=1,b=2 x=-7i,y=true 5\ndb\nr\nm x=1i 6\n";
+
+fn put_record(alloc: Global, point: &Point, text: &mut Bytes) -> Result<(), Fail> {
+    let record = print_record(alloc, point)?;
+    text.append(record.as_slice())?;
+    Ok(())
+}
+
+#[test]
+fn points_come_in_any_pieces_and_none_behind_them(rt: HostRuntime) -> Result<(), Fail> {
+    let alloc = rt.alloc();
+    for step in [1, 2, 7, 100_000] {
+        let mut reader = Reader::new(alloc);
+        let mut source = source(alloc, TWO, step, &[])?;
+        let mut text = Bytes::new(alloc);
+        let mut ends = 0;
+        'asking: for _ in 0..5 {
+            if reader.is_spent() {
+                break;
+            }
+            match reader.next(alloc, &mut source)? {
+                Some(point) => put_record(alloc, &point, &mut text)?,
+                None => ends += 1,
+            }
+        }
+        assert_eq!(rt; text.as_slice(), RECORDS, "in steps of {step}");
+        assert_eq!(rt; ends, 3);
+    }
+    Ok(())
+}
+
+/// What the first call of a reader answers that reads these bytes in one piece, and then fails.
+fn first_fault(alloc: Global, bytes: &[u8]) -> Result<Option<RecFault>, Fail> {
+    let mut reader = Reader::new(alloc);
+    let mut source = source(alloc, bytes, 100_000, &[2])?;
+    Ok(reader.next(alloc, &mut source).err())
+}
+
+#[test]
+fn a_line_is_too_long_as_soon_as_its_bytes_say_so(rt: HostRuntime) -> Result<(), Fail> {
+    let alloc = rt.alloc();
+    let mut name = vec![in alloc; b'd'; 65_536]?;
+    assert_eq!(rt; first_fault(alloc, &name)?, Some(RecFault::ReadFault));
+    name.push(b'\r')?;
+    assert_eq!(rt; first_fault(alloc, &name)?, Some(RecFault::ReadFault));
+    let long = Some(RecFault::Line {
+        line: 1,
+        fault: LineFault::Long,
+    });
+    name[65_536] = b'd';
+    assert_eq!(rt; first_fault(alloc, &name)?, long);
+    Ok(())
+}
+
+#[test]
+fn a_reader_whose_source_failed_is_spent(rt: HostRuntime) -> Result<(), Fail> {
+    let alloc = rt.alloc();
+    let mut reader = Reader::new(alloc);
+    let mut source = source(alloc, b"d\nr\nm x=1i 5\nd\nr\nm x=1i 6\n", 15, &[2])?;
+    assert!(rt; !reader.holds_point() && !reader.is_spent());
+    let first = reader.next(alloc, &mut source);
+    assert!(rt; matches!(first, Ok(Some(point)) if point.time == 5));
+    assert!(rt; !reader.holds_point());
+    if !reader.is_spent() {
+        let second = reader.next(alloc, &mut source);
+        assert_eq!(rt; second.err(), Some(RecFault::ReadFault));
+    }
+    assert!(rt; reader.is_spent());
+    Ok(())
+}
