@@ -10,14 +10,6 @@ use Rattle.tick_vars.specs.Names.{Scope, as_node, is_batch, known, looked_up}
 abbrev pub Extends : Scope → Scope → Type 0
 Extends s f = (name : List ℕ) (arg : ArgTree) → s name ≡ Some arg → f name ≡ Some arg
 
-pub same_value : {A E : Type 0} (x y : A) → ◌≡◌ {A = Result A E} (Ok x) (Ok y) → x ≡ y
-same_value x y is = ap (λ r. result_unwrap_or r x) is
-
--- both steps succeeded
-pub both_ok : {A B E : Type 0} (r : Result A E) (f : A → Result B E) (b : B) → (r >>= f) ≡ Ok b → (a : A) × (r ≡ Ok a) × (f a ≡ Ok b)
-both_ok (Ok a) f b is = (a, refl, is)
-both_ok (Err fault) f b is = absurd cc
-
 -- a name that was found stands for something
 pub found : (scope : Scope) (name : List ℕ) (at : ℕ) (arg : ArgTree) → looked_up scope name at ≡ Ok arg → scope name ≡ Some arg
 found scope name at arg is =
