@@ -1,6 +1,5 @@
 -- What a step that succeeded says of its parts.
 use Rattle.std.proofs.Common.{◌≡◌, ℕ, Bool, true, false, cond, List, Option, Some, None, Result, Ok, Err, refl, ap, ◌∙◌}
-use Rattle.std.specs.Result.{result_unwrap_or}
 use Rattle.kap_base.specs.Words.{◌>>=◌}
 use Rattle.tick_vars.specs.declared.fault.VarFault.TheVariants.{Batch}
 use Rattle.tick_vars.specs.Nodes.{ArgTree, LitArg, StarArg, LambdaArg, NodeArg}
