@@ -1,5 +1,6 @@
 -- A script is refused at its first fault of names, and for it.
 use Rattle.std.proofs.Common.{◌≡◌, List, [], ◌∷◌, ◌++◌, Some, None, Result, Ok, Err, refl, sym, ap, subst, ◌∙◌}
+use Rattle.kap_base.proofs.TestLaws.{err_is}
 use Rattle.kap_base.specs.Words.{◌>>=◌}
 use Rattle.tick_parser.specs.Trees.{StmtTree}
 use Rattle.tick_vars.specs.declared.fault.VarFault.{VarFault}
@@ -13,9 +14,6 @@ use Rattle.tick_vars.proofs.Statements.{stmts_done}
 use Rattle.tick_vars.proofs.Written.{first_in_scope}
 use Rattle.tick_vars.proofs.Naming.{batch_kept, first_no_batch, stmts_named, stmts_ok}
 use Rattle.tick_vars.proofs.Finding.{fault_in, first_found, first_of, found_first, stmt_fault}
-
-same_fault : {A : Type 0} (a b : VarFault) → ◌≡◌ {A = Result A VarFault} (Err a) (Err b) → a ≡ b
-same_fault a b is = cc
 
 err_of : {A : Type 0} (r : Result A VarFault) (fault : VarFault) → fault_in r ≡ Some fault → r ≡ Err fault
 err_of (Ok x) fault is = absurd cc
@@ -51,7 +49,7 @@ refused_step s stmt script fault (Err f) here is behind = record {
   joined = refl;
   mid = s;
   bound = refl;
-  fault_is = ap fault_in here ∙ ap (λ e. Some e) (same_fault {A = Progress} f fault is);
+  fault_is = ap fault_in here ∙ ap (λ e. Some e) (err_is {A = Progress} f fault is);
 }
 
 refused_at : (script : List StmtTree) (s : Progress) (fault : VarFault) → bound_stmts s script ≡ Err fault → Refused s script fault

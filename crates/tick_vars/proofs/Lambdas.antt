@@ -1,19 +1,20 @@
 -- Lambdas, bound by the names at their place, are those in which names are replaced by what they stand for in the end.
 use Rattle.std.proofs.Common.{◌≡◌, ℕ, List, Option, Some, None, Ok, refl, sym, ap, subst, ◌∙◌}
+use Rattle.kap_base.proofs.TestLaws.{bind_ok, ok_is}
 use Rattle.kap_base.specs.declared.expr.Lit.TheVariants as lits
 use Rattle.kap_base.specs.Tree.{Tree, LitTree, RefTree, NameTree, CallTree, GroupTree, NegTree, NotTree, BinTree, Trees, NoTrees, MoreTrees}
 use Rattle.kap_base.specs.Words.{◌>>=◌}
 use Rattle.tick_vars.specs.Nodes.{ArgTree, LitArg, StarArg, LambdaArg, NodeArg}
 use Rattle.tick_vars.specs.Names.{Scope, as_value, bound_lambda, bound_lambdas, looked_up}
 use Rattle.tick_vars.specs.Law.{AllHaveValues, AllNameless, HasValues, IsValue, Nameless, all_replaced, literal_for, replaced}
-use Rattle.tick_vars.proofs.Steps.{Extends, NoBatch, both_ok, found, same_value, then_ok, told}
+use Rattle.tick_vars.proofs.Steps.{Extends, NoBatch, found, then_ok, told}
 
 value_replaced : (name : List ℕ) (at : ℕ) (arg : ArgTree) (u : Tree) → as_value at arg ≡ Ok u → (u ≡ literal_for name at (Some arg)) × IsValue (Some arg)
-value_replaced name at (LitArg (lits.Int number) place) u is = (sym (same_value _ u is), tt)
+value_replaced name at (LitArg (lits.Int number) place) u is = (sym (ok_is _ u is), tt)
 value_replaced name at (LitArg (lits.Dur span) place) u is = absurd cc
-value_replaced name at (LitArg (lits.Str text) place) u is = (sym (same_value _ u is), tt)
-value_replaced name at (LitArg (lits.Bool truth) place) u is = (sym (same_value _ u is), tt)
-value_replaced name at (LitArg (lits.Regex pattern) place) u is = (sym (same_value _ u is), tt)
+value_replaced name at (LitArg (lits.Str text) place) u is = (sym (ok_is _ u is), tt)
+value_replaced name at (LitArg (lits.Bool truth) place) u is = (sym (ok_is _ u is), tt)
+value_replaced name at (LitArg (lits.Regex pattern) place) u is = (sym (ok_is _ u is), tt)
 value_replaced name at (StarArg place) u is = absurd cc
 value_replaced name at (LambdaArg body place) u is = absurd cc
 value_replaced name at (NodeArg number place) u is = absurd cc
@@ -21,44 +22,44 @@ value_replaced name at (NodeArg number place) u is = absurd cc
 module _ (s f : Scope) (extends : Extends s f) where
   mutual
     pub lambda_replaced : (t u : Tree) → bound_lambda s t ≡ Ok u → (u ≡ replaced f t) × HasValues f t
-    lambda_replaced (LitTree lit at) u is = (sym (same_value _ u is), tt)
-    lambda_replaced (RefTree name at) u is = (sym (same_value _ u is), tt)
+    lambda_replaced (LitTree lit at) u is = (sym (ok_is _ u is), tt)
+    lambda_replaced (RefTree name at) u is = (sym (ok_is _ u is), tt)
     lambda_replaced (NameTree name at) u is =
-        let a = both_ok (looked_up s name at) (as_value at) u is in
+        let a = bind_ok (looked_up s name at) (as_value at) u is in
         let v = value_replaced name at a.0 u a.2 in
         let told = extends name a.0 (found s name at a.0 a.1) in
         (v.0 ∙ ap (literal_for name at) (sym told), subst IsValue (sym told) v.1)
     lambda_replaced (CallTree name args at) u is =
-        let a = both_ok (bound_lambdas s args) (λ args. Ok (CallTree name args at)) u is in
+        let a = bind_ok (bound_lambdas s args) (λ args. Ok (CallTree name args at)) u is in
         let r = lambdas_replaced args a.0 a.1 in
-        (sym (same_value _ u a.2) ∙ ap (λ x. CallTree name x at) r.0, r.1)
+        (sym (ok_is _ u a.2) ∙ ap (λ x. CallTree name x at) r.0, r.1)
     lambda_replaced (GroupTree inner at) u is =
-        let a = both_ok (bound_lambda s inner) (λ inner. Ok (GroupTree inner at)) u is in
+        let a = bind_ok (bound_lambda s inner) (λ inner. Ok (GroupTree inner at)) u is in
         let r = lambda_replaced inner a.0 a.1 in
-        (sym (same_value _ u a.2) ∙ ap (λ x. GroupTree x at) r.0, r.1)
+        (sym (ok_is _ u a.2) ∙ ap (λ x. GroupTree x at) r.0, r.1)
     lambda_replaced (NegTree operand at) u is =
-        let a = both_ok (bound_lambda s operand) (λ operand. Ok (NegTree operand at)) u is in
+        let a = bind_ok (bound_lambda s operand) (λ operand. Ok (NegTree operand at)) u is in
         let r = lambda_replaced operand a.0 a.1 in
-        (sym (same_value _ u a.2) ∙ ap (λ x. NegTree x at) r.0, r.1)
+        (sym (ok_is _ u a.2) ∙ ap (λ x. NegTree x at) r.0, r.1)
     lambda_replaced (NotTree operand at) u is =
-        let a = both_ok (bound_lambda s operand) (λ operand. Ok (NotTree operand at)) u is in
+        let a = bind_ok (bound_lambda s operand) (λ operand. Ok (NotTree operand at)) u is in
         let r = lambda_replaced operand a.0 a.1 in
-        (sym (same_value _ u a.2) ∙ ap (λ x. NotTree x at) r.0, r.1)
+        (sym (ok_is _ u a.2) ∙ ap (λ x. NotTree x at) r.0, r.1)
     lambda_replaced (BinTree op left right at) u is =
-        let a = both_ok (bound_lambda s left) (λ left. bound_lambda s right >>= λ right. Ok (BinTree op left right at)) u is in
-        let b = both_ok (bound_lambda s right) (λ right. Ok (BinTree op a.0 right at)) u a.2 in
+        let a = bind_ok (bound_lambda s left) (λ left. bound_lambda s right >>= λ right. Ok (BinTree op left right at)) u is in
+        let b = bind_ok (bound_lambda s right) (λ right. Ok (BinTree op a.0 right at)) u a.2 in
         let l = lambda_replaced left a.0 a.1 in
         let r = lambda_replaced right b.0 b.1 in
-        (sym (same_value _ u b.2) ∙ ap (λ x. BinTree op x b.0 at) l.0 ∙ ap (λ x. BinTree op (replaced f left) x at) r.0, (l.1, r.1))
+        (sym (ok_is _ u b.2) ∙ ap (λ x. BinTree op x b.0 at) l.0 ∙ ap (λ x. BinTree op (replaced f left) x at) r.0, (l.1, r.1))
 
     pub lambdas_replaced : (ts us : Trees) → bound_lambdas s ts ≡ Ok us → (us ≡ all_replaced f ts) × AllHaveValues f ts
-    lambdas_replaced NoTrees us is = (sym (same_value _ us is), tt)
+    lambdas_replaced NoTrees us is = (sym (ok_is _ us is), tt)
     lambdas_replaced (MoreTrees first rest) us is =
-        let a = both_ok (bound_lambda s first) (λ first. bound_lambdas s rest >>= λ rest. Ok (MoreTrees first rest)) us is in
-        let b = both_ok (bound_lambdas s rest) (λ rest. Ok (MoreTrees a.0 rest)) us a.2 in
+        let a = bind_ok (bound_lambda s first) (λ first. bound_lambdas s rest >>= λ rest. Ok (MoreTrees first rest)) us is in
+        let b = bind_ok (bound_lambdas s rest) (λ rest. Ok (MoreTrees a.0 rest)) us a.2 in
         let l = lambda_replaced first a.0 a.1 in
         let r = lambdas_replaced rest b.0 b.1 in
-        (sym (same_value _ us b.2) ∙ ap (λ x. MoreTrees x b.0) l.0 ∙ ap (λ x. MoreTrees (replaced f first) x) r.0, (l.1, r.1))
+        (sym (ok_is _ us b.2) ∙ ap (λ x. MoreTrees x b.0) l.0 ∙ ap (λ x. MoreTrees (replaced f first) x) r.0, (l.1, r.1))
 
 -- a value in the place of a name is no name
 nameless_value : (name : List ℕ) (at : ℕ) (there : Option ArgTree) → IsValue there → Nameless (literal_for name at there)

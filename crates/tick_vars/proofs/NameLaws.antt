@@ -5,6 +5,7 @@ use Rattle.std.specs.HashMap.{HashMap, UpdatesBy, get_by}
 use Rattle.std.specs.Map.{lookup}
 use Rattle.std.specs.Prelude.{bytes_eq, codes}
 use Rattle.std.proofs.lemmas.Map.Text.{hash_map_updates_str}
+use Rattle.kap_base.proofs.TestLaws.{ok_is}
 use Rattle.tick_vars.specs.declared.nodes.Arg.{Arg}
 use Rattle.tick_vars.specs.declared.nodes.RawNode.{RawNode}
 use Rattle.kap_base.specs.declared.dbrp.Dbrp.{Dbrp}
@@ -12,7 +13,6 @@ use Rattle.tick_vars.specs.declared.fault.VarFault.{VarFault}
 use Rattle.tick_vars.specs.Nodes.{NodeArg, NodeTree, arg_tree, node_tree, node_trees}
 use Rattle.tick_vars.specs.Names.{Scope, first_scope, scope_of, with_name}
 use Rattle.tick_vars.specs.Binding.{Progress, at_first, stream_node}
-use Rattle.tick_vars.proofs.Steps.{same_value}
 
 chosen : {A B : Type 0} (f : A → B) (test : Bool) (x : A) (other : Option A) → option_map f (cond test (Some x) other) ≡ cond test (Some (f x)) (option_map f other)
 chosen f true x other = refl
@@ -37,5 +37,5 @@ pub begun : (scope : Scope) (node : RawNode) (before nodes : List RawNode) (dbrp
     → ◌≡◌ {A = Result NodeTree VarFault} (Ok stream_node) (Ok (node_tree node)) → before ≡ [] → nodes ≡ before ++ node ∷ [] → dbrps ≡ []
     → ◌≡◌ {A = Result Progress VarFault} (Ok at_first) (Ok (record { scope = scope; nodes = node_trees nodes; dbrps = dbrps }))
 begun scope node before nodes dbrps names is first one none =
-    let stream : stream_node ∷ [] ≡ node_trees nodes = ap (λ n. n ∷ []) (same_value stream_node (node_tree node) is) ∙ sym (ap node_trees (one ∙ ap (λ l. l ++ node ∷ []) first)) in
-    λ i. Ok (record { scope = same_value first_scope scope names i; nodes = stream i; dbrps = sym none i })
+    let stream : stream_node ∷ [] ≡ node_trees nodes = ap (λ n. n ∷ []) (ok_is stream_node (node_tree node) is) ∙ sym (ap node_trees (one ∙ ap (λ l. l ++ node ∷ []) first)) in
+    λ i. Ok (record { scope = ok_is first_scope scope names i; nodes = stream i; dbrps = sym none i })

@@ -2,6 +2,7 @@
 use Rattle.std.proofs.Common.{◌≡◌, ℕ, ◌+◌, Bool, true, false, cond, ◌||◌, List, [], ◌∷◌, ◌++◌, length, Some, None, Result, Ok, Err, refl, sym, ap, subst, ◌∙◌}
 use Rattle.std.specs.Prelude.{is_some, codes, bytes_eq}
 use Rattle.std.proofs.lemmas.Slice.Eq.{bytes_eq-Decides}
+use Rattle.kap_base.proofs.TestLaws.{bind_ok}
 use Rattle.kap_base.specs.Words.{◌>>=◌}
 use Rattle.tick_parser.specs.Trees.{ValTree, LitVal, StarVal, LambdaVal, ChainVal, ValTrees, NoVals, MoreVals, JointTrees, NoJoints, MoreJoints, StmtTree, VarStmt, DbrpStmt, ChainStmt}
 use Rattle.tick_vars.specs.declared.fault.VarFault.{VarFault}
@@ -10,7 +11,7 @@ use Rattle.tick_vars.specs.Nodes.{ArgTree, LitArg, StarArg, LambdaArg, NodeArg, 
 use Rattle.tick_vars.specs.Names.{Scope, as_node, bound_lambda, first_scope, handed_on, is_batch, looked_up, with_name}
 use Rattle.tick_vars.specs.Binding.{WithNodes, Progress, and_arg, at_first, bound_links, bound_of, bound_stmt, bound_stmts, bound_val, bound_vals, linked}
 use Rattle.tick_vars.specs.Law.{Upstream, OnName, OnNode, Written, FromLit, FromStar, FromLambda, FromChain, Event, MakesNode, SetsProp, DeclaresName, UsesValue, NamesDbrp, AreArgs, AreNamed, IsArg, IsNode, IsWellNamed, all_done, arg_of, done_along, done_among, done_by, done_in, chain_end, in_the_end, pipes_among, pipes_in, pipes_of, written_val, written_vals}
-use Rattle.tick_vars.proofs.Steps.{NoBatch, both_ok, then_ok, told}
+use Rattle.tick_vars.proofs.Steps.{NoBatch, then_ok, told}
 use Rattle.tick_vars.proofs.Playing.{AllBelow, ArgBelow, ArgsBelow, NodeBelow}
 use Rattle.tick_vars.proofs.Lambdas.{lambda_ok}
 use Rattle.tick_vars.proofs.Simulation.{InScope, length_done, val_done}
@@ -98,7 +99,7 @@ stmt_named s s' (VarStmt name value at) next ins len is =
 stmt_named s s' (DbrpStmt db rp at) next ins len is = tt
 stmt_named s s' (ChainStmt head links at) next ins len is =
     let chain = ChainVal head links at in
-    let a = both_ok (bound_val s.scope s.nodes chain) (λ made. Ok (record s { nodes = made.nodes })) s' is in
+    let a = bind_ok (bound_val s.scope s.nodes chain) (λ made. Ok (record s { nodes = made.nodes })) s' is in
     let v = val_done s.scope s.scope (λ n a h. h) chain next s.nodes a.0 ins len a.1 in
     let es = done_along next (OnName head) links in
     let src = written_val next chain in
@@ -109,7 +110,7 @@ stmt_named s s' (ChainStmt head links at) next ins len is =
 pub stmts_named : (script : List StmtTree) (s s' : Progress) (next : ℕ) → InScope next s.scope → length s.nodes ≡ next → bound_stmts s script ≡ Ok s' → AreNamed s.scope (all_done next script)
 stmts_named [] s s' next ins len is = tt
 stmts_named (stmt ∷ script) s s' next ins len is =
-    let a = both_ok (bound_stmt s stmt) (λ x. bound_stmts x script) s' is in
+    let a = bind_ok (bound_stmt s stmt) (λ x. bound_stmts x script) s' is in
     let mid = a.0 in
     let then = next + pipes_of stmt in
     let es = done_by next stmt in
@@ -119,7 +120,7 @@ stmts_named (stmt ∷ script) s s' next ins len is =
 
 pub named : (script : List StmtTree) (bound : BoundTree) → bound_of script ≡ Ok bound → IsWellNamed script
 named script bound is =
-    let a = both_ok (bound_stmts at_first script) (λ s. Ok (record { dbrps = s.dbrps; nodes = s.nodes })) bound is in
+    let a = bind_ok (bound_stmts at_first script) (λ s. Ok (record { dbrps = s.dbrps; nodes = s.nodes })) bound is in
     stmts_named script at_first a.0 1 first_in_scope refl a.1
 
 -- ---- what is in order is bound

@@ -1,6 +1,7 @@
 -- What binding does is what the events do, where names stand for what they do in the end.
 use Rattle.std.proofs.Common.{◌≡◌, ℕ, ◌+◌, ◌<◌, ◌≤◌, true, false, List, [], ◌∷◌, ◌++◌, map, length, Some, unwrap_or, Result, Ok, refl, sym, ap, subst, ◌∙◌, arith}
 use Rattle.std.proofs.lemmas.List.{append-nil, append_assoc, length_push}
+use Rattle.kap_base.proofs.TestLaws.{bind_ok, ok_is}
 use Rattle.kap_base.specs.Words.{◌>>=◌}
 use Rattle.tick_parser.specs.Trees.{ValTree, LitVal, StarVal, LambdaVal, ChainVal, ValTrees, NoVals, MoreVals, JointTrees, NoJoints, MoreJoints}
 use Rattle.tick_vars.specs.declared.fault.VarFault.{VarFault}
@@ -8,7 +9,7 @@ use Rattle.tick_vars.specs.Nodes.{ArgTree, LitArg, StarArg, LambdaArg, NodeArg, 
 use Rattle.tick_vars.specs.Names.{Scope, as_node, bound_lambda, handed_on, looked_up}
 use Rattle.tick_vars.specs.Binding.{WithNodes, and_arg, bound_links, bound_val, bound_vals, linked, with_prop}
 use Rattle.tick_vars.specs.Law.{Upstream, OnNode, OnName, Written, FromLit, FromStar, FromLambda, FromChain, Event, MakesNode, SetsProp, Settled, arg_of, done_along, done_among, done_in, chain_end, node_at, number_of, pipes_along, pipes_among, pipes_in, written_val, written_vals}
-use Rattle.tick_vars.proofs.Steps.{Extends, both_ok, found, linked_node, same_value}
+use Rattle.tick_vars.proofs.Steps.{Extends, found, linked_node}
 use Rattle.tick_vars.proofs.Playing.{AllBelow, ArgBelow, ArgsBelow, NodeBelow, below_append, length_play, length_with_prop, makes, makes_append, play, play_append}
 use Rattle.tick_vars.proofs.Lambdas.{lambda_replaced, nameless}
 
@@ -129,9 +130,9 @@ chain_done : (s f : Scope) → Extends s f → (head : List ℕ) (links : JointT
     → ((made last : WithNodes ℕ) → length made.nodes ≡ next → NodeBelow f next (OnName head) → made.value ≡ node_at f (OnName head) → bound_links s made links ≡ Ok last → LinksDone f next (OnName head) links made last)
     → length nodes ≡ next → bound_val s nodes (ChainVal head links at) ≡ Ok m → ValDone f next (ChainVal head links at) nodes m
 chain_done s f extends head NoJoints at next nodes m ins along len is =
-    let a = both_ok (looked_up s head at) (λ arg. Ok (record { value = handed_on at arg; nodes = nodes })) m is in
+    let a = bind_ok (looked_up s head at) (λ arg. Ok (record { value = handed_on at arg; nodes = nodes })) m is in
     let there = found s head at a.0 a.1 in
-    let e = same_value (record { value = handed_on at a.0; nodes = nodes }) m a.2 in (
+    let e = ok_is (record { value = handed_on at a.0; nodes = nodes }) m a.2 in (
       sym (ap (λ x. x.value) e) ∙ sym (ap (λ o. handed_on at (unwrap_or o (StarArg at))) (extends head a.0 there)),
       (a.0, extends head a.0 there, settled_more next (next + 0) a.0 (omega arith) (ins head a.0 there)),
       done_nothing f next nodes m.nodes (ap (λ x. x.nodes) e),
@@ -139,15 +140,15 @@ chain_done s f extends head NoJoints at next nodes m ins along len is =
 chain_done s f extends head (MoreJoints node name args place rest) at next nodes m ins along len is =
     let links = MoreJoints node name args place rest in
     let go : ℕ → Result (WithNodes ℕ) VarFault = λ number. bound_links s (record { value = number; nodes = nodes }) links in
-    let a = both_ok (looked_up s head at >>= as_node at >>= go) (λ made. Ok (record { value = NodeArg made.value at; nodes = made.nodes })) m is in
-    let b = both_ok (looked_up s head at >>= as_node at) go a.0 a.1 in
-    let d = both_ok (looked_up s head at) (as_node at) b.0 b.1 in
+    let a = bind_ok (looked_up s head at >>= as_node at >>= go) (λ made. Ok (record { value = NodeArg made.value at; nodes = made.nodes })) m is in
+    let b = bind_ok (looked_up s head at >>= as_node at) go a.0 a.1 in
+    let d = bind_ok (looked_up s head at) (as_node at) b.0 b.1 in
     let there = found s head at d.0 d.1 in
     let n = linked_node at b.0 d.0 d.2 in
     let told : f head ≡ Some (NodeArg b.0 n.0) = extends head d.0 there ∙ ap (λ x. Some x) n.1 in
     let below : b.0 < next = subst (Settled next) n.1 (ins head d.0 there) in
     let r = along (record { value = b.0; nodes = nodes }) a.0 len (b.0, n.0, told, below) (sym (ap number_of told)) b.2 in
-    let e = same_value (record { value = NodeArg (a.0).value at; nodes = (a.0).nodes }) m a.2 in
+    let e = ok_is (record { value = NodeArg (a.0).value at; nodes = (a.0).nodes }) m a.2 in
     let last = chain_end next (OnName head) links in (
       sym (ap (λ x. x.value) e) ∙ ap (λ k. NodeArg k at) r.0 ∙ chain_arg f (next + pipes_along links) at last r.1,
       chain_is_arg f (next + pipes_along links) at last r.1,
@@ -158,25 +159,25 @@ module _ (s f : Scope) (extends : Extends s f) where
   mutual
     pub val_done : (v : ValTree) (next : ℕ) (nodes : List NodeTree) (m : WithNodes ArgTree) → InScope next s → length nodes ≡ next → bound_val s nodes v ≡ Ok m → ValDone f next v nodes m
     val_done (LitVal lit at) next nodes m ins len is =
-        let e = same_value (record { value = LitArg lit at; nodes = nodes }) m is in
+        let e = ok_is (record { value = LitArg lit at; nodes = nodes }) m is in
         (sym (ap (λ x. x.value) e), tt, done_nothing f next nodes m.nodes (ap (λ x. x.nodes) e))
     val_done (StarVal at) next nodes m ins len is =
-        let e = same_value (record { value = StarArg at; nodes = nodes }) m is in
+        let e = ok_is (record { value = StarArg at; nodes = nodes }) m is in
         (sym (ap (λ x. x.value) e), tt, done_nothing f next nodes m.nodes (ap (λ x. x.nodes) e))
     val_done (LambdaVal body at) next nodes m ins len is =
-        let a = both_ok (bound_lambda s body) (λ body. Ok (record { value = LambdaArg body at; nodes = nodes })) m is in
+        let a = bind_ok (bound_lambda s body) (λ body. Ok (record { value = LambdaArg body at; nodes = nodes })) m is in
         let r = lambda_replaced s f extends body a.0 a.1 in
-        let e = same_value (record { value = LambdaArg a.0 at; nodes = nodes }) m a.2 in
+        let e = ok_is (record { value = LambdaArg a.0 at; nodes = nodes }) m a.2 in
         (sym (ap (λ x. x.value) e) ∙ ap (λ b. LambdaArg b at) r.0, r.1, done_nothing f next nodes m.nodes (ap (λ x. x.nodes) e))
     val_done (ChainVal head links at) next nodes m ins len is =
         chain_done s f extends head links at next nodes m ins (λ made last long is_on on_is h. links_done links next (OnName head) made last ins long is_on on_is h) len is
 
     pub vals_done : (vs : ValTrees) (next : ℕ) (made m : WithNodes (List ArgTree)) → InScope next s → length made.nodes ≡ next → bound_vals s made vs ≡ Ok m → ValsDone f next vs made m
     vals_done NoVals next made m ins len is =
-        let e = same_value made m is in
+        let e = ok_is made m is in
         (sym (ap (λ x. x.value) e) ∙ sym (append-nil made.value), tt, done_nothing f next made.nodes m.nodes (ap (λ x. x.nodes) e))
     vals_done (MoreVals first rest) next made m ins len is =
-        let a = both_ok (bound_val s made.nodes first) (λ n. bound_vals s (and_arg made.value n) rest) m is in
+        let a = bind_ok (bound_val s made.nodes first) (λ n. bound_vals s (and_arg made.value n) rest) m is in
         let v = val_done first next made.nodes a.0 ins len a.1 in
         let then = next + pipes_in first in
         let r = vals_done rest then (and_arg made.value a.0) m (scope_more next then s (omega arith) ins) (length_done f next (pipes_in first) (done_in next first) made.nodes (a.0).nodes v.2 len) a.2 in
@@ -189,10 +190,10 @@ module _ (s f : Scope) (extends : Extends s f) where
     pub links_done : (links : JointTrees) (next : ℕ) (on : Upstream) (made m : WithNodes ℕ) → InScope next s → length made.nodes ≡ next → NodeBelow f next on → made.value ≡ node_at f on
         → bound_links s made links ≡ Ok m → LinksDone f next on links made m
     links_done NoJoints next on made m ins len is_on on_is is =
-        let e = same_value made m is in
+        let e = ok_is made m is in
         (sym (ap (λ x. x.value) e) ∙ on_is, node_more f next (next + 0) on (omega arith) is_on, done_nothing f next made.nodes m.nodes (ap (λ x. x.nodes) e))
     links_done (MoreJoints true name args at rest) next on made m ins len is_on on_is is =
-        let a = both_ok (bound_vals s (record { value = []; nodes = made.nodes }) args) (λ w. bound_links s (linked true name at made.value w) rest) m is in
+        let a = bind_ok (bound_vals s (record { value = []; nodes = made.nodes }) args) (λ w. bound_links s (linked true name at made.value w) rest) m is in
         let w = a.0 in
         let v = vals_done args next (record { value = []; nodes = made.nodes }) w ins len a.1 in
         let then = next + pipes_among args in
@@ -209,7 +210,7 @@ module _ (s f : Scope) (extends : Extends s f) where
               (node_more f next then on (omega arith) is_on) on_is v.1 v.0 r.2),
         )
     links_done (MoreJoints false name args at rest) next on made m ins len is_on on_is is =
-        let a = both_ok (bound_vals s (record { value = []; nodes = made.nodes }) args) (λ w. bound_links s (linked false name at made.value w) rest) m is in
+        let a = bind_ok (bound_vals s (record { value = []; nodes = made.nodes }) args) (λ w. bound_links s (linked false name at made.value w) rest) m is in
         let w = a.0 in
         let v = vals_done args next (record { value = []; nodes = made.nodes }) w ins len a.1 in
         let then = next + pipes_among args in

@@ -1,6 +1,7 @@
 -- What statements do is what their events do.
 use Rattle.std.proofs.Common.{◌≡◌, ℕ, ◌+◌, Bool, true, false, cond, ◌||◌, List, [], ◌∷◌, ◌++◌, length, Option, Some, None, Result, Ok, Err, refl, sym, ap, subst, ◌∙◌, arith}
 use Rattle.std.specs.Prelude.{is_some, bytes_eq}
+use Rattle.kap_base.proofs.TestLaws.{bind_ok, ok_is}
 use Rattle.kap_base.specs.Words.{◌>>=◌}
 use Rattle.std.proofs.lemmas.List.{append-nil, append_assoc}
 use Rattle.std.proofs.lemmas.Slice.Eq.{bytes_eq-Decides}
@@ -11,7 +12,7 @@ use Rattle.tick_vars.specs.Nodes.{ArgTree}
 use Rattle.tick_vars.specs.Names.{Scope, is_batch, is_taken, with_name}
 use Rattle.tick_vars.specs.Binding.{WithNodes, Progress, bound_stmt, bound_stmts, bound_val}
 use Rattle.tick_vars.specs.Law.{OnName, Event, DeclaresName, UsesValue, NamesDbrp, Settled, all_done, dbrps_seen, done_along, done_by, done_in, in_the_end, pipes_along, pipes_in, pipes_of, written_val}
-use Rattle.tick_vars.proofs.Steps.{Extends, both_ok, same_value}
+use Rattle.tick_vars.proofs.Steps.{Extends}
 use Rattle.tick_vars.proofs.Quiet.{dbrps_append, quiet_along, quiet_dbrps, quiet_in, quiet_scope, scope_append}
 use Rattle.tick_vars.proofs.Simulation.{Done, InScope, done_both, done_nothing, length_done, scope_more, arg_settled, val_done}
 
@@ -42,22 +43,22 @@ declared_ok s s' name value at is =
     let rest : Result Progress VarFault = bound_val s.scope s.nodes value >>= λ made. Ok (record { scope = with_name name made.value s.scope; nodes = made.nodes; dbrps = s.dbrps }) in
     let free : (is_taken s.scope name ≡ false) × (rest ≡ Ok s') =
     elim (is_taken s.scope name) as (λ b. cond b (Err (Twice at)) rest ≡ Ok s' → (b ≡ false) × (rest ≡ Ok s')) [ true ↦ λ e. absurd cc | false ↦ λ e. (refl, e) ] is in
-    let a = both_ok (bound_val s.scope s.nodes value) (λ made. Ok (record { scope = with_name name made.value s.scope; nodes = made.nodes; dbrps = s.dbrps })) s' free.1 in
-    (a.0, a.1, fresh (is_batch name) (s.scope name) free.0, same_value _ s' a.2, free.0)
+    let a = bind_ok (bound_val s.scope s.nodes value) (λ made. Ok (record { scope = with_name name made.value s.scope; nodes = made.nodes; dbrps = s.dbrps })) s' free.1 in
+    (a.0, a.1, fresh (is_batch name) (s.scope name) free.0, ok_is _ s' a.2, free.0)
 
 pub stmt_extends : (s s' : Progress) (stmt : StmtTree) → bound_stmt s stmt ≡ Ok s' → Extends s.scope s'.scope
 stmt_extends s s' (VarStmt name value at) is =
     let d = declared_ok s s' name value at is in
     subst (λ (x : Progress). Extends s.scope x.scope) d.3 (with_name_extends s.scope name (d.0).value d.2)
-stmt_extends s s' (DbrpStmt db rp at) is = subst (λ (x : Progress). Extends s.scope x.scope) (same_value _ s' is) (λ name arg told. told)
+stmt_extends s s' (DbrpStmt db rp at) is = subst (λ (x : Progress). Extends s.scope x.scope) (ok_is _ s' is) (λ name arg told. told)
 stmt_extends s s' (ChainStmt head links at) is =
-    let a = both_ok (bound_val s.scope s.nodes (ChainVal head links at)) (λ made. Ok (record s { nodes = made.nodes })) s' is in
-    subst (λ (x : Progress). Extends s.scope x.scope) (same_value _ s' a.2) (λ name arg told. told)
+    let a = bind_ok (bound_val s.scope s.nodes (ChainVal head links at)) (λ made. Ok (record s { nodes = made.nodes })) s' is in
+    subst (λ (x : Progress). Extends s.scope x.scope) (ok_is _ s' a.2) (λ name arg told. told)
 
 pub stmts_extend : (script : List StmtTree) (s s' : Progress) → bound_stmts s script ≡ Ok s' → Extends s.scope s'.scope
-stmts_extend [] s s' is = subst (λ (x : Progress). Extends s.scope x.scope) (same_value s s' is) (λ name arg told. told)
+stmts_extend [] s s' is = subst (λ (x : Progress). Extends s.scope x.scope) (ok_is s s' is) (λ name arg told. told)
 stmts_extend (stmt ∷ script) s s' is =
-    let a = both_ok (bound_stmt s stmt) (λ x. bound_stmts x script) s' is in
+    let a = bind_ok (bound_stmt s stmt) (λ x. bound_stmts x script) s' is in
     λ name arg told. stmts_extend script a.0 s' a.2 name arg (stmt_extends s a.0 stmt a.1 name arg told)
 
 pub record StmtsDone (f : Scope) (next count : ℕ) (events : List Event) (s s' : Progress) : Type 0 where
@@ -88,7 +89,7 @@ stmt_done f s s' (VarStmt name value at) next ext ins len is =
       done = done_both f next count 0 count (done_in next value) last s.nodes (d.0).nodes (d.0).nodes (omega arith) v.2 tail;
     })
 stmt_done f s s' (DbrpStmt db rp at) next ext ins len is =
-    subst (λ x. StmtsDone f next 0 (NamesDbrp (record { db = db; rp = rp }) ∷ []) s x) (same_value (record s { dbrps = s.dbrps ++ record { db = db; rp = rp } ∷ [] }) s' is) (record {
+    subst (λ x. StmtsDone f next 0 (NamesDbrp (record { db = db; rp = rp }) ∷ []) s x) (ok_is (record s { dbrps = s.dbrps ++ record { db = db; rp = rp } ∷ [] }) s' is) (record {
       scope_is = refl;
       dbrps_are = refl;
       in_scope = scope_more next (next + 0) s.scope (omega arith) ins;
@@ -96,7 +97,7 @@ stmt_done f s s' (DbrpStmt db rp at) next ext ins len is =
     })
 stmt_done f s s' (ChainStmt head links at) next ext ins len is =
     let chain = ChainVal head links at in
-    let a = both_ok (bound_val s.scope s.nodes chain) (λ made. Ok (record s { nodes = made.nodes })) s' is in
+    let a = bind_ok (bound_val s.scope s.nodes chain) (λ made. Ok (record s { nodes = made.nodes })) s' is in
     let v = val_done s.scope f ext chain next s.nodes a.0 ins len a.1 in
     let events = done_along next (OnName head) links in
     let last : List Event = UsesValue (written_val next chain) ∷ [] in
@@ -104,7 +105,7 @@ stmt_done f s s' (ChainStmt head links at) next ext ins len is =
     let count = pipes_along links in
     let dbrps : dbrps_seen (events ++ last) ≡ [] = dbrps_append events last ∙ ap (λ l. l ++ []) (quiet_dbrps events quiet) in
     let tail : Done f (next + count) 0 last (a.0).nodes (a.0).nodes = record { after_is = refl; counted = refl; stands = (v.1, tt) } in
-    subst (λ x. StmtsDone f next count (events ++ last) s x) (same_value (record s { nodes = (a.0).nodes }) s' a.2) (record {
+    subst (λ x. StmtsDone f next count (events ++ last) s x) (ok_is (record s { nodes = (a.0).nodes }) s' a.2) (record {
       scope_is = sym (scope_append s.scope events last ∙ quiet_scope s.scope events quiet);
       dbrps_are = sym (ap (λ l. s.dbrps ++ l) dbrps ∙ append-nil s.dbrps);
       in_scope = scope_more next (next + count) s.scope (omega arith) ins;
@@ -118,14 +119,14 @@ pipes_in_all (stmt ∷ script) = pipes_of stmt + pipes_in_all script
 pub stmts_done : (f : Scope) (script : List StmtTree) (s s' : Progress) (next : ℕ) → Extends s'.scope f → InScope next s.scope → length s.nodes ≡ next → bound_stmts s script ≡ Ok s'
     → StmtsDone f next (pipes_in_all script) (all_done next script) s s'
 unfolding pipes_in_all
-stmts_done f [] s s' next ext ins len is = subst (λ x. StmtsDone f next 0 [] s x) (same_value s s' is) (record {
+stmts_done f [] s s' next ext ins len is = subst (λ x. StmtsDone f next 0 [] s x) (ok_is s s' is) (record {
   scope_is = refl;
   dbrps_are = sym (append-nil s.dbrps);
   in_scope = scope_more next (next + 0) s.scope (omega arith) ins;
   done = done_nothing f next s.nodes s.nodes refl;
 })
 stmts_done f (stmt ∷ script) s s' next ext ins len is =
-    let a = both_ok (bound_stmt s stmt) (λ x. bound_stmts x script) s' is in
+    let a = bind_ok (bound_stmt s stmt) (λ x. bound_stmts x script) s' is in
     let mid = a.0 in
     let then = next + pipes_of stmt in
     let es = done_by next stmt in

@@ -1,6 +1,5 @@
 -- What a step that succeeded says of its parts.
 use Rattle.std.proofs.Common.{◌≡◌, ℕ, Bool, true, false, cond, List, Option, Some, None, Result, Ok, Err, refl, ap, ◌∙◌}
-use Rattle.std.specs.Result.{result_unwrap_or}
 use Rattle.kap_base.specs.Words.{◌>>=◌}
 use Rattle.tick_vars.specs.declared.fault.VarFault.TheVariants.{Batch}
 use Rattle.tick_vars.specs.Nodes.{ArgTree, LitArg, StarArg, LambdaArg, NodeArg}
@@ -9,14 +8,6 @@ use Rattle.tick_vars.specs.Names.{Scope, as_node, is_batch, known, looked_up}
 -- what a scope tells, another tells too
 abbrev pub Extends : Scope → Scope → Type 0
 Extends s f = (name : List ℕ) (arg : ArgTree) → s name ≡ Some arg → f name ≡ Some arg
-
-pub same_value : {A E : Type 0} (x y : A) → ◌≡◌ {A = Result A E} (Ok x) (Ok y) → x ≡ y
-same_value x y is = ap (λ r. result_unwrap_or r x) is
-
--- both steps succeeded
-pub both_ok : {A B E : Type 0} (r : Result A E) (f : A → Result B E) (b : B) → (r >>= f) ≡ Ok b → (a : A) × (r ≡ Ok a) × (f a ≡ Ok b)
-both_ok (Ok a) f b is = (a, refl, is)
-both_ok (Err fault) f b is = absurd cc
 
 -- a name that was found stands for something
 pub found : (scope : Scope) (name : List ℕ) (at : ℕ) (arg : ArgTree) → looked_up scope name at ≡ Ok arg → scope name ≡ Some arg

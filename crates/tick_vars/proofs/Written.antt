@@ -1,12 +1,12 @@
 -- A script without faults is bound as it is written.
 use Rattle.std.proofs.Common.{◌≡◌, ℕ, List, [], ◌∷◌, length, None, Ok, refl, sym, ap, ◌∙◌, arith}
 use Rattle.std.specs.Prelude.{codes}
+use Rattle.kap_base.proofs.TestLaws.{bind_ok, ok_is}
 use Rattle.tick_parser.specs.Trees.{StmtTree}
 use Rattle.tick_vars.specs.Nodes.{NodeArg, PropTree, NodeTree, BoundTree}
 use Rattle.tick_vars.specs.Names.{Scope, first_scope}
 use Rattle.tick_vars.specs.Binding.{Progress, at_first, bound_of, bound_stmts, stream_node}
 use Rattle.tick_vars.specs.Law.{Event, IsSettled, as_written, dbrps_seen, events_of, in_the_end, nodes_made, props_on}
-use Rattle.tick_vars.proofs.Steps.{both_ok, same_value}
 use Rattle.tick_vars.proofs.Statements.{StmtsDone, pipes_in_all, stmts_done, with_name_scope}
 use Rattle.tick_vars.proofs.Simulation.{InScope}
 use Rattle.tick_vars.proofs.Gathering.{gathered}
@@ -23,10 +23,10 @@ record Ended (script : List StmtTree) (bound : BoundTree) : Type 0 where
 
 ended : (script : List StmtTree) (bound : BoundTree) → bound_of script ≡ Ok bound → Ended script bound
 ended script bound is =
-    let a = both_ok (bound_stmts at_first script) (λ s. Ok (record { dbrps = s.dbrps; nodes = s.nodes })) bound is in
+    let a = bind_ok (bound_stmts at_first script) (λ s. Ok (record { dbrps = s.dbrps; nodes = s.nodes })) bound is in
     record {
       progress = a.0;
-      bound_is = same_value (record { dbrps = (a.0).dbrps; nodes = (a.0).nodes }) bound a.2;
+      bound_is = ok_is (record { dbrps = (a.0).dbrps; nodes = (a.0).nodes }) bound a.2;
       done = stmts_done (a.0).scope script at_first a.0 1 (λ name arg told. told) first_in_scope refl a.1;
     }
 
