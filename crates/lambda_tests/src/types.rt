@@ -3,10 +3,12 @@
 use crate::scripts::{expression, lambda};
 use kap_base::{Duplicate, NoMemory, Text};
 use lambda_types::{
-    Lambda, PatternFault, Patterns, RegexPatterns, Ty, TypeFault, infer, send_lambda, send_pattern,
+    Lambda, Pattern, PatternFault, Patterns, RegexPatterns, Ty, TypeFault, infer, send_lambda,
+    send_pattern,
 };
-use regex::Regex;
+use regex::{Matcher, Regex};
 use std::alloc::Global;
+use std::process::Abort;
 use std::test::Fail;
 
 /// The types that a lambda can have, or its fault.
@@ -44,6 +46,7 @@ foo(1) ; NoFunction(16)\n\
 \"time\" > 0 ; TimeUse(16)\n\
 hour((\"time\")) ; TimeUse(22)\n\
 strLength(/x/) ; RegexUse(26)\n\
+\"a\" =~ (/x/) ; RegexUse(24)\n\
 \"a\" =~ /x/ AND \"a\" =~ /[/ ; Pattern(38)";
 
 #[test]
@@ -134,32 +137,32 @@ const TEXTS: [&str; 8] = [
     "\u{3b1}b ab",
 ];
 
+/// A pattern finds what a matcher of `regex` finds in these texts.
+fn check_texts(rt: &impl Abort, own: &mut Pattern, matcher: &mut Matcher<'_>) -> Result<(), Fail> {
+    for text in TEXTS {
+        let found = matcher.is_match(text);
+        assert_eq!(rt; own.is_match(text), found, "{text}");
+    }
+    Ok(())
+}
+
+/// A pattern and its copy find what `regex` finds, the pattern sent to another thread or not.
+fn check_pattern(rt: &impl Abort, alloc: Global, own: Pattern, regex: &Regex) -> Result<(), Fail> {
+    let mut matcher = regex.matcher(alloc)?;
+    let mut copy = own.copy(alloc)?;
+    check_texts(rt, &mut send_pattern(own), &mut matcher)?;
+    check_texts(rt, &mut copy, &mut matcher)
+}
+
 #[test]
 fn patterns_are_read_and_found_as_by_regex(rt: HostRuntime) -> Result<(), Fail> {
     let alloc = rt.alloc();
     let mut pats = RegexPatterns::new(alloc, Vec::new(alloc));
-    for pattern in PATTERNS {
-        let own = pats.build(alloc, &Text::from_str(alloc, pattern)?);
-        let Ok(regex) = Regex::new(alloc, pattern) else {
-            assert!(rt;
-                matches!(own, Err(PatternFault::Refused)),
-                "reading {pattern}"
-            );
-            continue;
-        };
-        let first = own.map_err(|_| "a pattern is refused")?;
-        assert_eq!(rt; first.text(), pattern);
-        let mut copy = first.copy(alloc)?;
-        let mut first = send_pattern(first);
-        let mut matcher = regex.matcher(alloc)?;
-        for text in TEXTS {
-            let found = matcher.is_match(text);
-            assert_eq!(rt; first.is_match(text), found, "{pattern} in {text}");
-            assert_eq!(rt;
-                copy.is_match(text),
-                found,
-                "the copy of {pattern} in {text}"
-            );
+    for text in PATTERNS {
+        let own = pats.build(alloc, &Text::from_str(alloc, text)?);
+        match Regex::new(alloc, text) {
+            Ok(regex) => check_pattern(&rt, alloc, own.map_err(|_| "refused")?, &regex)?,
+            Err(_) => assert!(rt; matches!(own, Err(PatternFault::Refused)), "reading {text}"),
         }
     }
     Ok(())

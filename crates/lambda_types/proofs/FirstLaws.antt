@@ -14,11 +14,11 @@ use Rattle.lambda_types.specs.declared.types.Ty.TheVariants.{Time, Regex}
 use Rattle.lambda_types.specs.declared.types.Types.{Types}
 use Rattle.lambda_types.specs.declared.walk.Position.{Position}
 use Rattle.lambda_types.specs.declared.walk.Position.TheVariants.{Anywhere, TimeArgument, RightOfMatch}
-use Rattle.lambda_types.specs.Faults.{Refusal, argument_position, call_fault, fault, faults, first, first_fault, is_refused, lit_fault, mismatch, pattern_fault, reference_fault, regex_use, right_position, time_use}
+use Rattle.lambda_types.specs.Faults.{Refusal, argument_position, call_fault, fault, faults, first, first_fault, is_refused, lit_fault, mismatch, pattern_fault, reference_fault, right_position, time_use}
 use Rattle.lambda_types.specs.FirstFault.{Breaks, CallsNothing, HasNoType, HasOtherCount, HoldsLineFeed, IsPatternAt, IsRefusedAt, IsTimeAt, IsUntyped, IsFirstFault, NoneBreaks, PartAt, all_parts_of, argument_count, part_at, parts_of}
 use Rattle.lambda_types.specs.Functions.{function_named, arity}
 use Rattle.lambda_types.specs.Sets.{all_types, has, has_value, types_of}
-use Rattle.lambda_types.specs.Typed.{HasSomeType, Need, Has, is_time_name}
+use Rattle.lambda_types.specs.Typed.{HasSomeType, is_time_name}
 use Rattle.lambda_types.proofs.CleanLaws.{no_mismatch, time_on_one_line, typed_if_clean}
 use Rattle.lambda_types.proofs.TypeLaws.{has_it, is_in, value_of}
 
@@ -102,8 +102,8 @@ counts NoTrees = refl
 counts (MoreTrees one rest) = ap (λ (n : ℕ). suc n) (counts rest)
 
 -- a set of types that isn't empty has one
-some_in : (s : Types) (at : ℕ) (f : TypeFault) → ((ty : Ty) → has s ty ≡ true → ⊥) → mismatch at s ≡ Some (Mismatch at)
-some_in s at f none = go (has_value s) s.time s.pattern refl refl refl
+some_in : (s : Types) (at : ℕ) → ((ty : Ty) → has s ty ≡ true → ⊥) → mismatch at s ≡ Some (Mismatch at)
+some_in s at none = go (has_value s) s.time s.pattern refl refl refl
   where
     go : (a b c : Bool) → has_value s ≡ a → s.time ≡ b → s.pattern ≡ c → mismatch at s ≡ Some (Mismatch at)
     go true b c ea eb ec = let v = value_of s ea in absurd (none v.0 v.2)
@@ -122,7 +122,7 @@ mismatched_at at s f e = go _ e
     go false e = absurd cc
 
 has_none_untyped : (tree : Tree) (at : ℕ) → HasNoType tree → mismatch at (types_of tree) ≡ Some (Mismatch at)
-has_none_untyped tree at none = some_in (types_of tree) at NoMemory (λ ty h. let t = has_it tree ty h in none ty t.0 t.1)
+has_none_untyped tree at none = some_in (types_of tree) at (λ ty h. let t = has_it tree ty h in none ty t.0 t.1)
 
 line_fed : (refused : Option Refusal) (position : Position) (text : List ℕ) (at : ℕ) (f : TypeFault) (part : PartAt)
     → ((here : ℕ) → (has_line_feed text ≡ true) × (at ≡ here) → Breaks refused part (NewLine here))
