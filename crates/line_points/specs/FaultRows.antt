@@ -31,13 +31,19 @@ stands_before part b bytes = not (stops part b) && not (b == backslash && begins
 -- A spelling of a text that stands before `rest`.
 pub data SpellsBefore (part : Part) (rest : List ℕ) : List ℕ → List ℕ → Type 0 where
   none_before : SpellsBefore part rest [] []
-  byte_before : (b : ℕ) (text bytes : List ℕ) → stands_before part b (bytes ++ rest) ≡ true → SpellsBefore part rest text bytes → SpellsBefore part rest (b ∷ text) (b ∷ bytes)
-  escape_before : (b : ℕ) (text bytes : List ℕ) → escapes part b ≡ true → SpellsBefore part rest text bytes → SpellsBefore part rest (b ∷ text) (backslash ∷ b ∷ bytes)
+  byte_before : (b : ℕ) (text bytes : List ℕ) → stands_before part b (bytes ++ rest) ≡ true →
+      SpellsBefore part rest text bytes → SpellsBefore part rest (b ∷ text) (b ∷ bytes)
+  escape_before : (b : ℕ) (text bytes : List ℕ) → escapes part b ≡ true →
+      SpellsBefore part rest text bytes →
+      SpellsBefore part rest (b ∷ text) (backslash ∷ b ∷ bytes)
 
 -- A spelling of tags that stands before `rest`: each a comma, its key, '=' and its value, neither of them empty.
 pub data TagsBefore (rest : List ℕ) : List Tag → List ℕ → Type 0 where
   no_tag_before : TagsBefore rest [] []
-  tag_before : (k v key value : List ℕ) (ts : List Tag) (more : List ℕ) → is_empty k ≡ false → is_empty v ≡ false → Spells parts.Key k key → SpellsBefore parts.Key (more ++ rest) v value → TagsBefore rest ts more → TagsBefore rest ((k, v) ∷ ts) (comma ∷ (key ++ (equals ∷ (value ++ more))))
+  tag_before : (k v key value : List ℕ) (ts : List Tag) (more : List ℕ) → is_empty k ≡ false →
+      is_empty v ≡ false → Spells parts.Key k key → SpellsBefore parts.Key (more ++ rest) v value →
+      TagsBefore rest ts more →
+      TagsBefore rest ((k, v) ∷ ts) (comma ∷ (key ++ (equals ∷ (value ++ more))))
 
 -- The line is spelled up to `rest`: spaces, the measurement, and these tags under different keys. There a comma, a space
 -- or nothing follows.
@@ -82,17 +88,22 @@ pub record NewTag (ts : List Tag) (bytes : List ℕ) : Type 0 where
 -- digits; or digits or nothing, a point and digits
 pub data SpellsMantissa : List ℕ → Type 0 where
   whole_mantissa : (digits : List ℕ) → is_digits digits ≡ true → SpellsMantissa digits
-  pointed_mantissa : (whole fraction : List ℕ) → list_all is_ascii_digit whole ≡ true → is_digits fraction ≡ true → SpellsMantissa (whole ++ (codes "." ++ fraction))
+  pointed_mantissa : (whole fraction : List ℕ) → list_all is_ascii_digit whole ≡ true →
+      is_digits fraction ≡ true → SpellsMantissa (whole ++ (codes "." ++ fraction))
 
 -- e or E, a minus or a plus or none, and digits
 pub data SpellsExponent : List ℕ → Type 0 where
-  bare_exponent : (mark : ℕ) (digits : List ℕ) → is_exponent_mark mark ≡ true → is_digits digits ≡ true → SpellsExponent (mark ∷ digits)
-  signed_exponent : (mark sign : ℕ) (digits : List ℕ) → is_exponent_mark mark ≡ true → is_sign sign ≡ true → is_digits digits ≡ true → SpellsExponent (mark ∷ sign ∷ digits)
+  bare_exponent : (mark : ℕ) (digits : List ℕ) → is_exponent_mark mark ≡ true →
+      is_digits digits ≡ true → SpellsExponent (mark ∷ digits)
+  signed_exponent : (mark sign : ℕ) (digits : List ℕ) → is_exponent_mark mark ≡ true →
+      is_sign sign ≡ true → is_digits digits ≡ true → SpellsExponent (mark ∷ sign ∷ digits)
 
 -- A spelling of a floating-point number: a minus or none, a mantissa, and an exponent or none.
 pub data SpellsFloat : List ℕ → Type 0 where
-  without_exponent : (negative : Bool) (mantissa : List ℕ) → SpellsMantissa mantissa → SpellsFloat (minus negative ++ mantissa)
-  with_exponent : (negative : Bool) (mantissa exponent : List ℕ) → SpellsMantissa mantissa → SpellsExponent exponent → SpellsFloat (minus negative ++ (mantissa ++ exponent))
+  without_exponent : (negative : Bool) (mantissa : List ℕ) → SpellsMantissa mantissa →
+      SpellsFloat (minus negative ++ mantissa)
+  with_exponent : (negative : Bool) (mantissa exponent : List ℕ) → SpellsMantissa mantissa →
+      SpellsExponent exponent → SpellsFloat (minus negative ++ (mantissa ++ exponent))
 
 -- A spelling of an unsigned integer: digits and 'u'.
 pub data SpellsUnsigned : List ℕ → Type 0 where
@@ -116,8 +127,10 @@ pub record FieldOf (Form : List ℕ → Type 0) (bytes : List ℕ) : Type 0 wher
 
 -- Where a field must begin: at the first byte behind the spaces, or behind some fields and a comma.
 pub data FieldPlace : List ℕ → List ℕ → Type 0 where
-  first_place : (rest : List ℕ) → is_empty rest ≡ false → begins_with space rest ≡ false → FieldPlace rest rest
-  later_place : (fs : List Field) (fields rest : List ℕ) → SpellsFields fs fields → FieldPlace (fields ++ (comma ∷ rest)) rest
+  first_place : (rest : List ℕ) → is_empty rest ≡ false → begins_with space rest ≡ false →
+      FieldPlace rest rest
+  later_place : (fs : List Field) (fields rest : List ℕ) → SpellsFields fs fields →
+      FieldPlace (fields ++ (comma ∷ rest)) rest
 
 -- What stands there: a floating-point number, an unsigned integer, or no field of any form.
 pub data FieldFault (bytes : List ℕ) : LineFault → Type 0 where
@@ -137,25 +150,37 @@ pub record TimeWord (bytes : List ℕ) : Type 0 where
 -- What stands behind the fields: no time, in Recording mode; a time out of range; or something else.
 pub data TimeFault (mode : Mode) (bytes : List ℕ) : LineFault → Type 0 where
   missing_time : (n : ℕ) → mode ≡ Recording → bytes ≡ spaces n → TimeFault mode bytes faults.NoTime
-  far_time : (t : TimeWord bytes) → nat_le (digits_value 10 t.digits * nanoseconds (unit_of mode)) TIME_LIMIT ≡ false → TimeFault mode bytes faults.TimeRange
-  no_time : ((n : ℕ) → bytes ≡ spaces n → ⊥) → (TimeWord bytes → ⊥) → TimeFault mode bytes faults.Time
+  far_time : (t : TimeWord bytes) →
+      nat_le (digits_value 10 t.digits * nanoseconds (unit_of mode)) TIME_LIMIT ≡ false →
+      TimeFault mode bytes faults.TimeRange
+  no_time : ((n : ℕ) → bytes ≡ spaces n → ⊥) → (TimeWord bytes → ⊥) →
+      TimeFault mode bytes faults.Time
 
 -- ---- the rows
 
 -- The rows of a line that is a text: the line is spelled up to a place, and there stands what the row says.
 pub data FaultOfText (mode : Mode) (line : List ℕ) : LineFault → Type 0 where
   measurement_row : NoMeasurement line → FaultOfText mode line faults.Measurement
-  tag_row : (ts : List Tag) (rest : List ℕ) → SpelledUpTo line ts (comma ∷ rest) → (NewTag ts rest → ⊥) → FaultOfText mode line faults.Tag
-  no_field_row : (ts : List Tag) (n : ℕ) → SpelledUpTo line ts (spaces n) → FaultOfText mode line faults.NoField
-  field_row : (f : LineFault) (ts : List Tag) (more : ℕ) (fields rest : List ℕ) → SpelledUpTo line ts (space ∷ (spaces more ++ fields)) → FieldPlace fields rest → FieldFault rest f → FaultOfText mode line f
-  time_row : (f : LineFault) (ts : List Tag) (more : ℕ) (fs : List Field) (fields rest : List ℕ) → SpelledUpTo line ts (space ∷ (spaces more ++ (fields ++ rest))) → SpellsFields fs fields → is_at_separator rest ≡ true → begins_with comma rest ≡ false → TimeFault mode rest f → FaultOfText mode line f
+  tag_row : (ts : List Tag) (rest : List ℕ) → SpelledUpTo line ts (comma ∷ rest) → (NewTag ts rest →
+      ⊥) → FaultOfText mode line faults.Tag
+  no_field_row : (ts : List Tag) (n : ℕ) → SpelledUpTo line ts (spaces n) →
+      FaultOfText mode line faults.NoField
+  field_row : (f : LineFault) (ts : List Tag) (more : ℕ) (fields rest : List ℕ) →
+      SpelledUpTo line ts (space ∷ (spaces more ++ fields)) → FieldPlace fields rest →
+      FieldFault rest f → FaultOfText mode line f
+  time_row : (f : LineFault) (ts : List Tag) (more : ℕ) (fs : List Field) (fields rest : List ℕ) →
+      SpelledUpTo line ts (space ∷ (spaces more ++ (fields ++ rest))) → SpellsFields fs fields →
+      is_at_separator rest ≡ true → begins_with comma rest ≡ false → TimeFault mode rest f →
+      FaultOfText mode line f
 
 -- The rows of a line of any length: first whether it is a text.
 pub data FaultOfStored (mode : Mode) (line : List ℕ) : LineFault → Type 0 where
   utf8_row : is_utf8 line ≡ false → FaultOfStored mode line faults.NotUtf8
-  text_row : (f : LineFault) → is_utf8 line ≡ true → FaultOfText mode line f → FaultOfStored mode line f
+  text_row : (f : LineFault) → is_utf8 line ≡ true → FaultOfText mode line f →
+      FaultOfStored mode line f
 
 -- The rows of a line: first whether it is too long. A blank line of Live mode has no fault.
 pub data FaultOfLine (mode : Mode) (line : List ℕ) : LineFault → Type 0 where
   long_row : (IsBlank mode line → ⊥) → LINE_LIMIT < length line → FaultOfLine mode line faults.Long
-  short_row : (f : LineFault) → (IsBlank mode line → ⊥) → length line ≤ LINE_LIMIT → FaultOfStored mode line f → FaultOfLine mode line f
+  short_row : (f : LineFault) → (IsBlank mode line → ⊥) → length line ≤ LINE_LIMIT →
+      FaultOfStored mode line f → FaultOfLine mode line f

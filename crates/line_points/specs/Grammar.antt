@@ -26,8 +26,10 @@ stands_alone part b bytes = not (stops part b) && (not (b == backslash) || begin
 -- A spelling of a text: its bytes in order, each as itself or, where the part escapes it, behind a backslash.
 pub data Spells (part : Part) : List ℕ → List ℕ → Type 0 where
   no_bytes : Spells part [] []
-  plain : (b : ℕ) (text bytes : List ℕ) → stands_alone part b bytes ≡ true → Spells part text bytes → Spells part (b ∷ text) (b ∷ bytes)
-  behind_backslash : (b : ℕ) (text bytes : List ℕ) → escapes part b ≡ true → Spells part text bytes → Spells part (b ∷ text) (backslash ∷ b ∷ bytes)
+  plain : (b : ℕ) (text bytes : List ℕ) → stands_alone part b bytes ≡ true →
+      Spells part text bytes → Spells part (b ∷ text) (b ∷ bytes)
+  behind_backslash : (b : ℕ) (text bytes : List ℕ) → escapes part b ≡ true →
+      Spells part text bytes → Spells part (b ∷ text) (backslash ∷ b ∷ bytes)
 
 -- a minus, or nothing
 abbrev pub minus : Bool → List ℕ
@@ -35,20 +37,29 @@ minus negative = if negative then codes "-" else []
 
 -- A spelling of a value: digits, perhaps behind a minus, and 'i'; a word for true or for false; a text between quotes.
 pub data SpellsValue : Value → List ℕ → Type 0 where
-  integer_word : (negative : Bool) (digits : List ℕ) → is_digits digits ≡ true → fits (negative, digits_value 10 digits) ≡ true → SpellsValue (values.Int (with_sign (negative, digits_value 10 digits))) (minus negative ++ (digits ++ codes "i"))
+  integer_word : (negative : Bool) (digits : List ℕ) → is_digits digits ≡ true →
+      fits (negative, digits_value 10 digits) ≡ true →
+      SpellsValue (values.Int (with_sign (negative, digits_value 10 digits))) (minus negative ++ (digits ++ codes "i"))
   true_word : (word : List ℕ) → is_true word ≡ true → SpellsValue (values.Bool true) word
   false_word : (word : List ℕ) → is_false word ≡ true → SpellsValue (values.Bool false) word
-  quoted_text : (text bytes : List ℕ) → Spells parts.Quoted text bytes → SpellsValue (values.Str text) (quote ∷ (bytes ++ quote ∷ []))
+  quoted_text : (text bytes : List ℕ) → Spells parts.Quoted text bytes →
+      SpellsValue (values.Str text) (quote ∷ (bytes ++ quote ∷ []))
 
 -- A spelling of tags: each a comma, its key, '=' and its value, neither of them empty.
 pub data SpellsTags : List Tag → List ℕ → Type 0 where
   no_tags : SpellsTags [] []
-  more_tags : (k v key value : List ℕ) (ts : List Tag) (rest : List ℕ) → is_empty k ≡ false → is_empty v ≡ false → Spells parts.Key k key → Spells parts.Key v value → SpellsTags ts rest → SpellsTags ((k, v) ∷ ts) (comma ∷ (key ++ (equals ∷ (value ++ rest))))
+  more_tags : (k v key value : List ℕ) (ts : List Tag) (rest : List ℕ) → is_empty k ≡ false →
+      is_empty v ≡ false → Spells parts.Key k key → Spells parts.Key v value → SpellsTags ts rest →
+      SpellsTags ((k, v) ∷ ts) (comma ∷ (key ++ (equals ∷ (value ++ rest))))
 
 -- A spelling of fields: each its key, which isn't empty, '=' and its value, with commas between them.
 pub data SpellsFields : List Field → List ℕ → Type 0 where
-  one_field : (k : List ℕ) (v : Value) (key value : List ℕ) → is_empty k ≡ false → Spells parts.Key k key → SpellsValue v value → SpellsFields ((k, v) ∷ []) (key ++ (equals ∷ value))
-  more_fields : (k : List ℕ) (v : Value) (key value : List ℕ) (fs : List Field) (rest : List ℕ) → is_empty k ≡ false → Spells parts.Key k key → SpellsValue v value → SpellsFields fs rest → SpellsFields ((k, v) ∷ fs) (key ++ (equals ∷ (value ++ (comma ∷ rest))))
+  one_field : (k : List ℕ) (v : Value) (key value : List ℕ) → is_empty k ≡ false →
+      Spells parts.Key k key → SpellsValue v value →
+      SpellsFields ((k, v) ∷ []) (key ++ (equals ∷ value))
+  more_fields : (k : List ℕ) (v : Value) (key value : List ℕ) (fs : List Field) (rest : List ℕ) →
+      is_empty k ≡ false → Spells parts.Key k key → SpellsValue v value → SpellsFields fs rest →
+      SpellsFields ((k, v) ∷ fs) (key ++ (equals ∷ (value ++ (comma ∷ rest))))
 
 -- n spaces
 abbrev pub spaces : ℕ → List ℕ
@@ -58,7 +69,9 @@ spaces n = replicate n space
 -- where the mode is Live, for its `now`.
 pub data SpellsTime : Mode → ℤ → List ℕ → Type 0 where
   no_time : (unit : Unit) (now : ℤ) → SpellsTime (Live unit now) now []
-  some_time : (mode : Mode) (n : ℕ) (negative : Bool) (digits : List ℕ) → is_digits digits ≡ true → nat_le (digits_value 10 digits * nanoseconds (unit_of mode)) TIME_LIMIT ≡ true → SpellsTime mode (with_sign (negative, digits_value 10 digits * nanoseconds (unit_of mode))) (space ∷ (spaces n ++ (minus negative ++ digits)))
+  some_time : (mode : Mode) (n : ℕ) (negative : Bool) (digits : List ℕ) → is_digits digits ≡ true →
+      nat_le (digits_value 10 digits * nanoseconds (unit_of mode)) TIME_LIMIT ≡ true →
+      SpellsTime mode (with_sign (negative, digits_value 10 digits * nanoseconds (unit_of mode))) (space ∷ (spaces n ++ (minus negative ++ digits)))
 
 -- A line spells a point: spaces, the measurement, the tags, one space or more, the fields, the time, spaces. Each part is
 -- a spelling of the point's part.
@@ -96,4 +109,5 @@ pub record IsOf (database policy : List ℕ) (p : PointValue) : Type 0 where
 -- the mode is Live, and the line is spaces, or spaces and behind them a number sign and what may follow it
 pub data IsBlank : Mode → List ℕ → Type 0 where
   only_spaces : (unit : Unit) (now : ℤ) (n : ℕ) → IsBlank (Live unit now) (spaces n)
-  comment : (unit : Unit) (now : ℤ) (n : ℕ) (rest : List ℕ) → IsBlank (Live unit now) (spaces n ++ number_sign ∷ rest)
+  comment : (unit : Unit) (now : ℤ) (n : ℕ) (rest : List ℕ) →
+      IsBlank (Live unit now) (spaces n ++ number_sign ∷ rest)

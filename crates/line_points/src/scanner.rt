@@ -85,9 +85,11 @@ impl<'a> Scanner<'a> {
     /// Reads the byte, if it stands at the front.
     pub fn take(&mut self, byte: u8) -> bool
         requires { byte < 128 }
-        ensures shorter { length self.new.rest.now + (if result then 1 else 0) ≤ length self.old.rest.now }
+        ensures shorter { length self.new.rest.now + (if result then 1 else 0)
+            ≤ length self.old.rest.now }
         ensures found { result ≡ begins_with byte self.old.rest.now }
-        ensures rest { self.new.rest.now ≡ (if result then drop 1 self.old.rest.now else self.old.rest.now) }
+        ensures rest { self.new.rest.now ≡
+            (if result then drop 1 self.old.rest.now else self.old.rest.now) }
     {
         if !begins_with(self.rest.as_bytes(), byte) {
             return false;
