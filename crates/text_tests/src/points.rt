@@ -70,17 +70,8 @@ fn a_body_is_its_lines(rt: HostRuntime) -> Result<(), Fail> {
 }
 
 #[test]
-fn each_fault_has_its_name(rt: HostRuntime) -> Result<(), Fail> {
+fn faults_that_no_case_shows_have_their_names(rt: HostRuntime) -> Result<(), Fail> {
     let named = [
-        (LineFault::Measurement, "line 1: Measurement"),
-        (LineFault::Tag, "line 1: Tag"),
-        (LineFault::NoField, "line 1: NoField"),
-        (LineFault::Field, "line 1: Field"),
-        (LineFault::FloatField, "line 1: FloatField"),
-        (LineFault::UnsignedField, "line 1: UnsignedField"),
-        (LineFault::Time, "line 1: Time"),
-        (LineFault::TimeRange, "line 1: TimeRange"),
-        (LineFault::NoTime, "line 1: NoTime"),
         (LineFault::Long, "line 1: Long"),
         (LineFault::NotUtf8, "line 1: NotUtf8"),
         (LineFault::NoMemory, "line 1: NoMemory"),
@@ -89,35 +80,5 @@ fn each_fault_has_its_name(rt: HostRuntime) -> Result<(), Fail> {
         let printed = body_text(rt.alloc(), &BodyFault { line: 1, fault })?;
         assert_eq!(rt; printed.as_slice(), text.as_bytes());
     }
-    Ok(())
-}
-
-/// A line of 9,361 fields, whose keys fall in byte order.
-fn falling_line(alloc: Global) -> Result<Vec<u8>, Fail> {
-    let mut line = Vec::from_slice(alloc, b"m ")?;
-    for i in 0..9_361u32 {
-        let n = 9_360 - i;
-        if i > 0 {
-            line.push(b',')?;
-        }
-        for place in [676, 26, 1] {
-            line.push(b'a' + (n / place % 26) as u8)?;
-        }
-        line.extend_from_slice(b"=1i")?;
-    }
-    line.extend_from_slice(b" 5")?;
-    Ok(line)
-}
-
-#[test]
-fn as_many_fields_as_fit_are_sorted(rt: HostRuntime) -> Result<(), Fail> {
-    let alloc = rt.alloc();
-    let name = Text::from_str(alloc, "d")?;
-    let line = falling_line(alloc)?;
-    assert!(rt; line.len() <= LINE_LIMIT && line.len() + 7 > LINE_LIMIT);
-    assert!(rt; !has_feed(&line) && !has_feed(name.bytes()));
-    let point = read_line(alloc, &line, &name, &name, &Mode::Recording)?.ok_or("blank")?;
-    assert_eq!(rt; point.fields.len(), 9_361);
-    assert!(rt; print_line(alloc, &point)?.as_slice().starts_with(b"m aaa=1i,aab=1i,"));
     Ok(())
 }
