@@ -5,8 +5,8 @@ ghost use Rattle.kap_base.specs.Texts.{has_line_feed};
 
 use kap_base::{Bytes, Text};
 use line_points::{
-    BodyFault, LINE_LIMIT, LineFault, Mode, Unit, body_text, print_line, put_line, read_body,
-    read_line, read_stored,
+    BodyFault, LineFault, Mode, Unit, body_text, print_line, put_line, read_body, read_line,
+    read_stored,
 };
 use std::alloc::Global;
 use std::test::Fail;
