@@ -6,3 +6,5 @@ pub mod TimeLaws
 pub mod GroupLaws
 pub mod TextLaws
 pub mod PointLaws
+pub mod TestLaws
+pub mod EntryLaws

@@ -16,7 +16,7 @@ use Rattle.line_points.specs.Parts.{comma, equals, stops, opens_escape, text_at,
 use Rattle.line_points.specs.Line.{Tag, differ, tag_at, tags_from, tags_at}
 use Rattle.line_points.specs.Grammar.{Spells}
 use Rattle.line_points.specs.FaultRows.{stands_before, SpellsBefore, none_before, byte_before, escape_before, TagsBefore, no_tag_before, tag_before, NewTag}
-use Rattle.line_points.proofs.TestLaws.{first_of, second_of, first_false, both, not_true, not_false, ok_is, bind_ok, guard_ok}
+use Rattle.kap_base.proofs.TestLaws.{first_of, second_of, first_false, both, not_true, not_false, ok_is, bind_ok, guard_ok}
 use Rattle.line_points.proofs.SpellLaws.{ends_here, keep, Reading, at_end, at_stop, over_escape, over_plain, reading, text_taken, spelling_again, step_plain, step_escape, no_text}
 use Rattle.line_points.proofs.TagLaws.{no_equals, next_here, here_next, begins_some, behind_first, one_tag}
 use Rattle.line_points.proofs.LineLaws.{onto, with_first, comma-shorter}

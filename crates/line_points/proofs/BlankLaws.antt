@@ -14,7 +14,7 @@ use Rattle.line_points.specs.declared.mode.Mode.TheVariants.{Live, Recording}
 use Rattle.line_points.specs.Parts.{without_spaces}
 use Rattle.line_points.specs.Line.{Blank, stored_of, line_of, is_live, is_blank}
 use Rattle.line_points.specs.Grammar.{spaces, IsBlank, only_spaces, comment}
-use Rattle.line_points.proofs.TestLaws.{first_of, second_of}
+use Rattle.kap_base.proofs.TestLaws.{first_of, second_of}
 use Rattle.line_points.proofs.SpaceLaws.{after_spaces, spaces_skipped, only_spaces as none_behind}
 
 -- ---- blank lines

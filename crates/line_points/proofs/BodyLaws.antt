@@ -1,5 +1,5 @@
 -- The lines of a body one after the other, as the loop reads them.
-use Rattle.std.proofs.Common.{◌≡◌, ℕ, suc, ◌+◌, ◌<◌, ◌≤◌, true, false, not, cond, Option, Some, None, List, [], ◌∷◌, ◌++◌, length, take, drop, map, Ok, Err, refl, sym, ap, subst, ◌∙◌, append_assoc, eqb, ltb, arith}
+use Rattle.std.proofs.Common.{◌≡◌, ℕ, suc, ◌+◌, ◌<◌, ◌≤◌, Bool, true, false, not, cond, Option, Some, None, List, [], ◌∷◌, ◌++◌, length, take, drop, map, Ok, Err, refl, sym, ap, subst, ◌∙◌, append_assoc, eqb, ltb, arith}
 use Rattle.std.specs.Prelude.{Result}
 use Rattle.std.specs.List.{slice_split, onto_first, before_first, after_first, position_or_len}
 use Rattle.std.proofs.lemmas.Bool.{ltb-false}
@@ -15,7 +15,7 @@ use Rattle.line_points.specs.declared.mode.Mode.{Mode}
 use Rattle.line_points.specs.Line.{line_of}
 use Rattle.line_points.specs.Body.{ReachesLine, carriage_return, without_return, without_last_empty, body_lines, at_line, before_more, with_line, points_of}
 use Rattle.line_points.proofs.PlaceLaws.{take_more}
-use Rattle.line_points.proofs.TestLaws.{first_false, second_false, ok_is, bind_ok}
+use Rattle.kap_base.proofs.TestLaws.{first_false, second_false, ok_is, bind_ok}
 
 -- ---- a carriage return
 
@@ -25,6 +25,11 @@ without_return-last (x ∷ []) b = elim (eqb b carriage_return) as (λ t. x ∷ 
 without_return-last (x ∷ y ∷ front) b =
     ap (λ (w : List ℕ). x ∷ w) (without_return-last (y ∷ front) b)
     ∙ elim (eqb b carriage_return) as (λ t. x ∷ cond t (y ∷ front) (y ∷ (front ++ b ∷ [])) ≡ cond t (x ∷ y ∷ front) (x ∷ y ∷ (front ++ b ∷ []))) [ true ↦ refl | false ↦ refl ]
+
+-- bytes without a length are none
+pub by_length : (bytes : List ℕ) (b : Bool) → eqb (length bytes) 0 ≡ b → is_empty bytes ≡ b
+by_length [] b h = h
+by_length (x ∷ bytes) b h = let some : eqb (suc (length bytes)) 0 ≡ false = grind (arith, nat_tests) in sym some ∙ h
 
 -- ---- the first line
 

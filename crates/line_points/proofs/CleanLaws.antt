@@ -11,7 +11,7 @@ use Rattle.line_points.specs.declared.part.Part.{Part}
 use Rattle.line_points.specs.declared.part.Part.TheVariants as parts
 use Rattle.line_points.specs.Parts.{space, escapes, begins}
 use Rattle.line_points.specs.Grammar.{Spells, no_bytes, plain, behind_backslash, spaces}
-use Rattle.line_points.proofs.TestLaws.{second_of, first_false, second_false, both, not_false}
+use Rattle.kap_base.proofs.TestLaws.{second_of, first_false, second_false, both, not_false}
 use Rattle.line_points.proofs.Utf8Laws.{around}
 
 pub record IsClean (bytes : List ℕ) : Type 0 where

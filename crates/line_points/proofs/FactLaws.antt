@@ -18,12 +18,12 @@ use Rattle.line_points.specs.Numbers.{with_sign, fits}
 use Rattle.line_points.specs.Line.{Tag, Field, measurement_at, tags_at, fields_at, time_of, has_time}
 use Rattle.line_points.specs.Grammar.{spaces, SpellsValue, integer_word, true_word, false_word, quoted_text, SpellsTags, no_tags, more_tags, SpellsFields, one_field, more_fields, SpellsTime, no_time, some_time, Spelled, IsOf}
 use Rattle.std.proofs.lemmas.Int.{to_z-of_z}
-use Rattle.line_points.proofs.TestLaws.{both, not_true, not_false}
+use Rattle.kap_base.proofs.TestLaws.{both, not_true, not_false}
 use Rattle.line_points.proofs.WholeLaws.{parts_spelled}
 use mir.Val.{SFits, to_z, of_z}
 use mir.Syntax.{w64}
 use Rattle.line_points.proofs.CleanLaws.{IsClean, clean_line, starts_ascii, cut, behind_ascii, cut_at, behind_clean_spaces, spelled_clean, spelled_name}
-use Rattle.line_points.proofs.EntryLaws.{all-entries, some_entry}
+use Rattle.kap_base.proofs.EntryLaws.{all-entries, some_entry}
 
 -- ---- values
 

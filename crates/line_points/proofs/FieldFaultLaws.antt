@@ -1,5 +1,5 @@
 -- Where a field is faulty: which fault is read, and what stands there.
-use Rattle.std.proofs.Common.{◌≡◌, ℕ, zero, suc, ◌<◌, ◌≤◌, Bool, true, false, not, cond, ◌&&◌, ◌||◌, Option, Some, None, List, [], ◌∷◌, ◌++◌, length, drop, Ok, Err, refl, sym, ap, subst, ◌∙◌, append_assoc, arith, inl, inr}
+use Rattle.std.proofs.Common.{◌≡◌, ℕ, zero, suc, ◌<◌, ◌≤◌, Bool, true, false, not, cond, ◌&&◌, Option, Some, None, List, [], ◌∷◌, ◌++◌, length, drop, Ok, Err, refl, sym, ap, subst, ◌∙◌, append_assoc, arith, inl, inr}
 use Rattle.std.specs.Prelude.{Result, codes}
 use Rattle.std.specs.List.{before_first, position_or_len}
 use Rattle.std.specs.Option.{option_map_or}
@@ -20,7 +20,7 @@ use Rattle.line_points.specs.Words.{int_value, integer_of, other_value, word_val
 use Rattle.line_points.specs.Line.{Field, quoted_at, word_at, value_at, field_at, fields_from, fields_at}
 use Rattle.line_points.specs.Grammar.{Spells, SpellsFields, one_field, more_fields, spaces}
 use Rattle.line_points.specs.FaultRows.{SpellsFloat, SpellsUnsigned, unsigned_word, SpellsSome, FieldOf, FieldPlace, first_place, later_place, FieldFault, float_value, unsigned_value, no_field}
-use Rattle.line_points.proofs.TestLaws.{first_of, second_of, not_true, err_is, made_err}
+use Rattle.kap_base.proofs.TestLaws.{first_of, second_of, not_true, err_is, made_err}
 use Rattle.line_points.proofs.NumberLaws.{before_last_byte-last}
 use Rattle.line_points.proofs.PlaceLaws.{word_ends}
 use Rattle.line_points.proofs.SpellLaws.{text_taken, spelling_again}
@@ -146,7 +146,7 @@ quoted_fault : (bytes : List ℕ) (f : LineFault) → quoted_at bytes ≡ Err f 
 unfolding quoted_at
 quoted_fault bytes f e =
     let text = text_at parts.Quoted bytes in
-    chosen (begins_with quote text.1 && (is_empty (drop 1 text.1) || begins is_separator (drop 1 text.1))) (values.Str text.0, drop 1 text.1) f e
+    chosen (begins_with quote text.1 && is_at_separator (drop 1 text.1)) (values.Str text.0, drop 1 text.1) f e
   where
     chosen : (b : Bool) (x : Value × List ℕ) (f : LineFault) → cond b (Ok x) (Err faults.Field) ≡ Err f → faults.Field ≡ f
     chosen true x f e = absurd cc

@@ -10,7 +10,7 @@ use Rattle.line_points.specs.declared.part.Part.TheVariants as parts
 use Rattle.line_points.specs.Parts.{comma, equals, text_at, is_at_separator}
 use Rattle.line_points.specs.Line.{Field, value_at, field_at, fields_from}
 use Rattle.line_points.specs.Grammar.{Spells, SpellsValue, SpellsFields, one_field, more_fields}
-use Rattle.line_points.proofs.TestLaws.{first_of, second_of, not_true, ok_is, bind_ok, then_ok}
+use Rattle.kap_base.proofs.TestLaws.{first_of, second_of, not_true, ok_is, bind_ok, then_ok}
 use Rattle.line_points.proofs.SpellLaws.{text_taken, spelling_again}
 use Rattle.line_points.proofs.TagLaws.{begins_some, behind_first}
 use Rattle.line_points.proofs.ValueLaws.{value_taken, value_again}

@@ -13,7 +13,7 @@ use Rattle.line_points.specs.Numbers.{is_digits, is_minus, before_last_byte, tru
 use Rattle.line_points.specs.Words.{is_sign, is_point, is_exponent_mark, without, cut, is_mantissa, is_float, is_unsigned}
 use Rattle.line_points.specs.Grammar.{minus}
 use Rattle.line_points.specs.FaultRows.{SpellsMantissa, whole_mantissa, pointed_mantissa, SpellsExponent, bare_exponent, signed_exponent, SpellsFloat, without_exponent, with_exponent, SpellsUnsigned, unsigned_word}
-use Rattle.line_points.proofs.TestLaws.{first_of, second_of, both, not_true}
+use Rattle.kap_base.proofs.TestLaws.{first_of, second_of, both, not_true}
 use Rattle.line_points.proofs.NumberLaws.{before_last_byte-last}
 use Rattle.line_points.proofs.PlaceLaws.{take_more}
 use Rattle.line_points.proofs.ValueLaws.{last_byte, one_of}

@@ -1,4 +1,3 @@
-pub mod TestLaws
 pub mod PlaceLaws
 pub mod PartLaws
 pub mod Utf8Laws
@@ -14,9 +13,7 @@ pub mod SpaceLaws
 pub mod TimeLaws
 pub mod WholeLaws
 pub mod CleanLaws
-pub mod EntryLaws
 pub mod FactLaws
-pub mod GrownLaws
 pub mod PrintedLaws
 pub mod BodyLaws
 pub mod BlankLaws

@@ -6,7 +6,7 @@ use Rattle.kap_base.specs.Texts.{backslash, begins_with}
 use Rattle.line_points.specs.declared.part.Part.TheVariants.{Measurement, Key, Quoted}
 use Rattle.std.proofs.lemmas.List.{append-nil}
 use Rattle.line_points.proofs.PlaceLaws.{drop_more, take_more}
-use Rattle.line_points.proofs.TestLaws.{first_false, second_false}
+use Rattle.kap_base.proofs.TestLaws.{first_false, second_false}
 use Rattle.line_points.specs.declared.part.Part.{Part}
 use Rattle.line_points.specs.Parts.{stops, marks, ends, opens_escape, text_from, text_at}
 

@@ -9,7 +9,7 @@ use Rattle.std.proofs.lemmas.List.Sums.{passes_at_first}
 use Rattle.std.proofs.lemmas.Str.{IsCharBoundary-end, IsCharBoundary-before_ascii, IsCharBoundary-after_ascii}
 use Rattle.kap_base.specs.Texts.{begins_with}
 use Rattle.line_points.specs.Parts.{is_separator}
-use Rattle.line_points.proofs.TestLaws.{first_of, second_of}
+use Rattle.kap_base.proofs.TestLaws.{first_of, second_of}
 
 pub place_le : (p : ℕ → Bool) (xs : List ℕ) → position_or_len p xs ≤ length xs
 place_le p [] = omega arith

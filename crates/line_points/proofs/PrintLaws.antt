@@ -25,7 +25,7 @@ use Rattle.line_points.specs.Numbers.{is_digits, with_sign, fits}
 use Rattle.line_points.specs.Line.{Tag, Field}
 use Rattle.line_points.specs.Grammar.{Spells, no_bytes, plain, behind_backslash, minus, SpellsValue, integer_word, true_word, false_word, quoted_text, SpellsTags, no_tags, more_tags, SpellsFields, one_field, more_fields, SpellsTime, some_time}
 use Rattle.line_points.specs.Print.{byte_text, part_text, value_text, tag_text, field_text, fields_text}
-use Rattle.line_points.proofs.TestLaws.{first_of, second_of, first_false, second_false, both, not_true, not_false}
+use Rattle.kap_base.proofs.TestLaws.{first_of, second_of, first_false, second_false, both, not_true, not_false}
 use Rattle.line_points.proofs.SpellLaws.{stops-escape}
 
 -- a text without a byte that the part escapes

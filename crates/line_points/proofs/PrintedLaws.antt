@@ -24,11 +24,11 @@ use Rattle.line_points.specs.Numbers.{true_words, false_words}
 use Rattle.line_points.specs.Line.{Tag, Field, line_of, stored_of}
 use Rattle.line_points.specs.Grammar.{Spells, no_bytes, plain, behind_backslash, minus, spaces, SpellsValue, integer_word, true_word, false_word, quoted_text, SpellsTags, no_tags, more_tags, SpellsFields, one_field, more_fields, SpellsTime, no_time, some_time, Spelled, IsOf}
 use Rattle.line_points.specs.Print.{part_text, tag_text, fields_text, Print, without_grouping}
-use Rattle.line_points.proofs.TestLaws.{first_of, second_of, first_false, second_false, not_true}
+use Rattle.kap_base.proofs.TestLaws.{first_of, second_of, first_false, second_false, not_true}
 use Rattle.line_points.proofs.CleanLaws.{IsClean, clean_line}
 use Rattle.line_points.proofs.Utf8Laws.{around}
 use Rattle.line_points.proofs.ValueLaws.{one_of}
-use Rattle.line_points.proofs.GrownLaws.{with_own_entries}
+use Rattle.kap_base.proofs.EntryLaws.{with_own_entries}
 use Rattle.line_points.proofs.DifferLaws.{keys_once}
 use Rattle.line_points.proofs.PrintLaws.{name_some, name_spells, tags_spell, all_fields_spell, time_spells}
 use Rattle.line_points.proofs.WholeLaws.{spelled_line, spelled_stored}

@@ -20,7 +20,7 @@ use Rattle.line_points.specs.Parts.{comma, space, begins, is_space, stops, witho
 use Rattle.line_points.specs.Line.{Tag, differ, measurement_at, tags_from, tags_at, fields_at, time_of, point_of, stored_of, line_of, is_live, is_blank, Faulty}
 use Rattle.line_points.specs.Grammar.{IsBlank, spaces}
 use Rattle.line_points.specs.FaultRows.{SpellsBefore, none_before, byte_before, escape_before, TagsBefore, SpelledUpTo, NoMeasurement, FieldPlace, first_place, later_place, FaultOfText, measurement_row, tag_row, no_field_row, field_row, time_row, FaultOfStored, utf8_row, text_row, FaultOfLine, long_row, short_row}
-use Rattle.line_points.proofs.TestLaws.{first_of, first_false, second_false, not_true, ok_is, err_is, bind_ok, bind_err, made_err, else_ok, then_ok}
+use Rattle.kap_base.proofs.TestLaws.{first_of, first_false, second_false, not_true, ok_is, err_is, bind_ok, bind_err, made_err, else_ok, then_ok}
 use Rattle.line_points.proofs.SpellLaws.{Reading, at_end, at_stop, over_escape, over_plain, reading, step_stop}
 use Rattle.line_points.proofs.SpaceLaws.{after_spaces, spaces_skipped, behind_spaces, some_before}
 use Rattle.line_points.proofs.BeforeLaws.{text_read, text_again, TagsRead, tags_read, tags_are_bad, bad_tags_again, next-before, over_tags}

@@ -6,7 +6,7 @@ use Rattle.std.proofs.lemmas.Bool.Decides.{nat_tests}
 use Rattle.kap_base.specs.Texts.{is_empty, begins_with}
 use Rattle.line_points.specs.Parts.{comma, space, begins, is_space, without_spaces, is_at_separator}
 use Rattle.line_points.specs.Grammar.{spaces}
-use Rattle.line_points.proofs.TestLaws.{first_of, second_of}
+use Rattle.kap_base.proofs.TestLaws.{first_of, second_of}
 
 pub record AfterSpaces (bytes : List ℕ) : Type 0 where
   pub count : ℕ

@@ -7,7 +7,7 @@ use Rattle.line_points.specs.declared.part.Part.{Part}
 use Rattle.line_points.specs.declared.part.Part.TheVariants as parts
 use Rattle.line_points.specs.Parts.{escapes, stops, ends, opens_escape, begins, text_from, text_at}
 use Rattle.line_points.specs.Grammar.{stands_alone, Spells, no_bytes, plain, behind_backslash}
-use Rattle.line_points.proofs.TestLaws.{first_of, second_of, both, not_true, not_false}
+use Rattle.kap_base.proofs.TestLaws.{first_of, second_of, both, not_true, not_false}
 
 -- the part ends here
 abbrev pub ends_here : Part → List ℕ → Bool

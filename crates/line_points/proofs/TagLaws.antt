@@ -10,7 +10,7 @@ use Rattle.line_points.specs.declared.part.Part.TheVariants as parts
 use Rattle.line_points.specs.Parts.{comma, equals, text_at, is_at_separator}
 use Rattle.line_points.specs.Line.{Tag, tag_at, tags_from}
 use Rattle.line_points.specs.Grammar.{Spells, SpellsTags, no_tags, more_tags}
-use Rattle.line_points.proofs.TestLaws.{first_of, second_of, not_true, ok_is, bind_ok, guard_ok}
+use Rattle.kap_base.proofs.TestLaws.{first_of, second_of, not_true, ok_is, bind_ok, guard_ok}
 use Rattle.line_points.proofs.SpellLaws.{ends_here, text_taken, spelling_again}
 use Rattle.line_points.proofs.LineLaws.{with_first, ended, comma-shorter}
 

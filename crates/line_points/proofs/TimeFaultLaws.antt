@@ -17,7 +17,7 @@ use Rattle.line_points.specs.Numbers.{is_digits, number_of, with_sign}
 use Rattle.line_points.specs.Line.{nanoseconds, unit_of, missing_time as time_missing, time_of_units, word_time, time_of}
 use Rattle.line_points.specs.Grammar.{minus, spaces, SpellsTime, no_time as none_spelled, some_time}
 use Rattle.line_points.specs.FaultRows.{TimeWord, TimeFault, missing_time, far_time, no_time}
-use Rattle.line_points.proofs.TestLaws.{err_is}
+use Rattle.kap_base.proofs.TestLaws.{err_is}
 use Rattle.line_points.proofs.ValueLaws.{number_taken, number_again}
 use Rattle.line_points.proofs.PlaceLaws.{word_ends}
 use Rattle.line_points.proofs.SpaceLaws.{after_spaces, spaces_skipped, only_spaces, are_spaces, spaces_are, some_before, behind_spaces, place_end}

@@ -18,7 +18,7 @@ use Rattle.line_points.specs.Parts.{comma, space, begins, is_space, without_spac
 use Rattle.line_points.specs.Numbers.{is_digits, number_of, with_sign}
 use Rattle.line_points.specs.Line.{nanoseconds, unit_of, missing_time, time_of_units, word_time, time_of}
 use Rattle.line_points.specs.Grammar.{minus, spaces, SpellsTime, no_time, some_time}
-use Rattle.line_points.proofs.TestLaws.{second_of, ok_is, guard_ok, then_ok}
+use Rattle.kap_base.proofs.TestLaws.{second_of, ok_is, guard_ok, then_ok}
 use Rattle.line_points.proofs.ValueLaws.{number_taken, number_again}
 use Rattle.line_points.proofs.PlaceLaws.{word_ends}
 use Rattle.line_points.proofs.SpaceLaws.{after_spaces, spaces_skipped, only_spaces, are_spaces, spaces_are, some_before, behind_spaces, place_end}

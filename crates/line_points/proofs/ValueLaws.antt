@@ -10,7 +10,7 @@ use Rattle.std.proofs.lemmas.Bool.Decides.{nat_tests}
 use Rattle.std.proofs.lemmas.List.{take-append-drop}
 use Rattle.std.proofs.lemmas.Option.{cond_some}
 use Rattle.std.proofs.lemmas.Slice.Eq.{bytes_eq-Decides}
-use Rattle.kap_base.specs.Texts.{is_empty, begins_with}
+use Rattle.kap_base.specs.Texts.{begins_with}
 use Rattle.kap_base.specs.declared.value.Value.{Value}
 use Rattle.kap_base.specs.declared.value.Value.TheVariants as values
 use Rattle.line_points.specs.declared.fault.LineFault.{LineFault}
@@ -21,7 +21,7 @@ use Rattle.line_points.specs.Numbers.{is_digits, is_minus, number_from, number_o
 use Rattle.line_points.specs.Words.{int_value, other_value, word_value, is_float, is_unsigned}
 use Rattle.line_points.specs.Line.{quoted_at, word_at, value_at}
 use Rattle.line_points.specs.Grammar.{Spells, minus, SpellsValue, integer_word, true_word, false_word, quoted_text}
-use Rattle.line_points.proofs.TestLaws.{first_of, second_of, ok_is, bind_ok, guard_ok}
+use Rattle.kap_base.proofs.TestLaws.{first_of, second_of, ok_is, bind_ok, guard_ok}
 use Rattle.line_points.proofs.NumberLaws.{before_last_byte-last}
 use Rattle.line_points.proofs.PlaceLaws.{drop_more, word_ends}
 use Rattle.line_points.proofs.SpellLaws.{text_taken, spelling_again}
@@ -130,22 +130,18 @@ pub record ValueTaken (bytes : List ℕ) (v : Value) (rest : List ℕ) : Type 0 
   pub spells : SpellsValue v front
   pub next : is_at_separator rest ≡ true
 
-behind_quote : (rest : List ℕ) → (is_empty rest || begins is_separator rest) ≡ true → is_at_separator rest ≡ true
-behind_quote [] h = refl
-behind_quote (b ∷ bs) h = h
-
 quoted_taken : (bytes : List ℕ) (v : Value) (rest : List ℕ) → quoted_at bytes ≡ Ok (v, rest) → ValueTaken (quote ∷ bytes) v rest
 unfolding quoted_at
 quoted_taken bytes v rest e =
     let text = text_at parts.Quoted bytes in
-    let g = guard_ok (begins_with quote text.1 && (is_empty (drop 1 text.1) || begins is_separator (drop 1 text.1))) faults.Field (values.Str text.0, drop 1 text.1) (v, rest) e in
-    let found : begins_with quote text.1 ≡ true = first_of _ (is_empty (drop 1 text.1) || begins is_separator (drop 1 text.1)) g.0 in
+    let g = guard_ok (begins_with quote text.1 && is_at_separator (drop 1 text.1)) faults.Field (values.Str text.0, drop 1 text.1) (v, rest) e in
+    let found : begins_with quote text.1 ≡ true = first_of _ (is_at_separator (drop 1 text.1)) g.0 in
     let t = text_taken parts.Quoted bytes (begins_some quote text.1 found) in
     let made : ValueTaken (quote ∷ bytes) (values.Str text.0) (drop 1 text.1) = record {
       front = quote ∷ (t.spelling ++ quote ∷ []);
       is = ap (λ (x : List ℕ). quote ∷ x) (t.is ∙ ap (λ (x : List ℕ). t.spelling ++ x) (behind_first quote text.1 found) ∙ sym (append_assoc t.spelling (quote ∷ []) (drop 1 text.1)));
       spells = quoted_text text.0 t.spelling t.spells;
-      next = behind_quote (drop 1 text.1) (second_of (begins_with quote text.1) _ g.0);
+      next = second_of (begins_with quote text.1) _ g.0;
     } in
     subst (λ (x : Value × List ℕ). ValueTaken (quote ∷ bytes) x.0 x.1) g.1 made
 
@@ -224,11 +220,7 @@ false_read word h = one_of (IsWord (values.Bool false)) word false_words h
 
 quoted_again : (text bytes rest : List ℕ) → Spells parts.Quoted text bytes → is_at_separator rest ≡ true → quoted_at (bytes ++ (quote ∷ rest)) ≡ Ok (values.Str text, rest)
 unfolding quoted_at
-quoted_again text bytes rest spells next = rw (spelling_again spells (quote ∷ rest) refl, next_behind rest next) refl
-  where
-    next_behind : (rest : List ℕ) → is_at_separator rest ≡ true → (is_empty rest || begins is_separator rest) ≡ true
-    next_behind [] next = refl
-    next_behind (b ∷ bs) next = next
+quoted_again text bytes rest spells next = rw (spelling_again spells (quote ∷ rest) refl, next) refl
 
 pub value_again : {v : Value} {front : List ℕ} → SpellsValue v front → (rest : List ℕ) → is_at_separator rest ≡ true → value_at (front ++ rest) ≡ Ok (v, rest)
 value_again (integer_word negative digits all fit) rest next =

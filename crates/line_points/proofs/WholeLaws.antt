@@ -18,7 +18,7 @@ use Rattle.line_points.specs.declared.mode.Mode.{Mode}
 use Rattle.line_points.specs.Parts.{comma, equals, space, begins, is_space, without_spaces, text_at, is_at_separator}
 use Rattle.line_points.specs.Line.{Tag, Field, differ, measurement_at, tags_from, tags_at, fields_from, fields_at, time_of, point_of, stored_of, line_of, is_live, is_blank}
 use Rattle.line_points.specs.Grammar.{Spells, no_bytes, plain, behind_backslash, spaces, SpellsTags, SpellsFields, one_field, more_fields, SpellsTime, Spelled, IsOf}
-use Rattle.line_points.proofs.TestLaws.{first_false, second_false, ok_is, bind_ok, else_ok, then_ok, unless_ok}
+use Rattle.kap_base.proofs.TestLaws.{first_false, second_false, ok_is, bind_ok, else_ok, then_ok, unless_ok}
 use Rattle.line_points.proofs.SpellLaws.{ends_here, Reading, at_end, at_stop, over_escape, over_plain, reading, text_taken, spelling_again}
 use Rattle.line_points.proofs.TagLaws.{some_behind, TagsTaken, tags_taken, next-tags, tags_again}
 use Rattle.line_points.proofs.FieldLaws.{FieldsTaken, fields_taken, fields_again}

@@ -1,5 +1,5 @@
 -- What a line of the line protocol means: a point, nothing, or a fault, the first from left to right.
-use Rattle.std.specs.Prelude.{◌≡◌, ℕ, zero, suc, ℤ, ◌*◌, Bool, true, false, not, ◌&&◌, ◌||◌, List, [], ◌∷◌, length, drop, Option, Some, None, Result, Ok, Err, bytes_eq, nat_lt, nat_le, if◌then◌else◌}
+use Rattle.std.specs.Prelude.{◌≡◌, ℕ, zero, suc, ℤ, ◌*◌, Bool, true, false, not, ◌&&◌, ◌||◌, List, [], ◌∷◌, length, drop, Option, Some, None, Result, Ok, Err, bytes_eq, nat_lt, nat_le, if◌then◌else◌, IsTrue}
 use Rattle.std.specs.List.{list_all, list_any, before_first, position_or_len}
 use Rattle.std.specs.Option.{option_map_or}
 use Rattle.std.specs.Str.{is_utf8}
@@ -7,7 +7,7 @@ use Rattle.std.specs.FinMap.{empty}
 use Rattle.kap_base.specs.declared.value.Value.{Value}
 use Rattle.kap_base.specs.declared.value.Value.TheVariants as values
 use Rattle.kap_base.specs.Words.{◌>>=◌}
-use Rattle.kap_base.specs.Texts.{is_empty, begins_with, number_sign}
+use Rattle.kap_base.specs.Texts.{is_empty, begins_with, number_sign, has_line_feed}
 use Rattle.kap_base.specs.Maps.{KeyMap, with_entries}
 use Rattle.kap_base.specs.Points.{PointValue, is_time}
 use Rattle.kap_base.specs.declared.limits.TheConstants.{TIME_LIMIT}
@@ -19,7 +19,7 @@ use Rattle.line_points.specs.declared.mode.Unit.{Unit}
 use Rattle.line_points.specs.declared.mode.Unit.TheVariants as units
 use Rattle.line_points.specs.declared.mode.Mode.{Mode}
 use Rattle.line_points.specs.declared.mode.Mode.TheVariants.{Live, Recording}
-use Rattle.line_points.specs.Parts.{begins, comma, equals, quote, is_space, is_separator, without_spaces, text_at}
+use Rattle.line_points.specs.Parts.{comma, equals, quote, is_space, is_separator, is_at_separator, without_spaces, text_at}
 use Rattle.line_points.specs.Numbers.{number_of, with_sign}
 use Rattle.line_points.specs.Words.{word_value}
 
@@ -74,7 +74,7 @@ unfoldable pub quoted_at : List ℕ → Result (Value × List ℕ) LineFault
 quoted_at bytes =
     let text = text_at parts.Quoted bytes in
     let rest = drop 1 text.1 in
-    if begins_with quote text.1 && (is_empty rest || begins is_separator rest) then Ok (values.Str text.0, rest) else Err faults.Field
+    if begins_with quote text.1 && is_at_separator rest then Ok (values.Str text.0, rest) else Err faults.Field
 
 -- a value without quotes runs to the next comma or space
 unfoldable pub word_at : List ℕ → Result (Value × List ℕ) LineFault
@@ -201,3 +201,10 @@ Faulty db rp mode line fault = line_of db rp mode line ≡ Err fault
 abbrev pub has_time : Mode → Bool
 has_time (Live unit now) = is_time now
 has_time Recording = true
+
+-- The line, the database and the policy hold no line feed, and the moment of a Live mode lies in the range of times.
+pub record IsReadable (database policy : List ℕ) (mode : Mode) (bytes : List ℕ) : Type 0 where
+  pub line : IsTrue (not (has_line_feed bytes))
+  pub db : IsTrue (not (has_line_feed database))
+  pub rp : IsTrue (not (has_line_feed policy))
+  pub time : IsTrue (has_time mode)

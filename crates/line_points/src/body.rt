@@ -4,25 +4,19 @@ ghost use Rattle.kap_base.specs.Texts.{has_line_feed, line_feed};
 ghost use Rattle.line_points.specs.Line.{has_time, line_of};
 ghost use Rattle.line_points.specs.Body.{ReachesLine, with_line, body_of, without_return};
 
-use crate::bytes::is_empty;
+use crate::bytes::byte_place;
 use crate::fault::{BodyFault, LineFault};
 use crate::line::read_line;
 use crate::mode::Mode;
 use kap_base::{Points, Text};
 use std::alloc::Global;
 
-fn feed_place(body: &[u8]) -> Option<usize>
-    ensures { result ≡ position (λ b. b == line_feed) body.now }
-{
-    body.iter().position(|b| *b == b'\n')
-}
-
 /// The bytes before the first line feed, and those behind it.
 fn first_line(body: &[u8]) -> (&[u8], &[u8])
     ensures line { result.0.now ≡ before_first (λ b. b == line_feed) body.now }
     ensures behind { result.1.now ≡ after_first (λ b. b == line_feed) body.now }
 {
-    match feed_place(body) {
+    match byte_place(body, b'\n') {
         Some(at) => (&body[..at], &body[at + 1..]),
         None => (body, &[]),
     }
@@ -82,7 +76,7 @@ pub fn read_body(
     let mut points = Points::new(alloc);
     let mut before = 0u64;
     let mut rest = body;
-    'lines: while !is_empty(rest) {
+    'lines: while !rest.is_empty() {
         let (first, behind) = first_line(rest);
         let line = without_return(first);
         if let Err(fault) = add_line(alloc, line, db, rp, mode, &mut points) {

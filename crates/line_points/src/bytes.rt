@@ -1,21 +1,11 @@
-ghost use Rattle.std.specs.Prelude.{◌≡◌, ◌≤◌, ◌<◌, length, drop, take, position, is_ok, IfOk, IfErr};
+ghost use Rattle.std.specs.Prelude.{◌≡◌, ◌==◌, ◌||◌, ◌≤◌, ◌<◌, length, drop, take, position, is_ok, IfOk, IfErr};
 ghost use Rattle.std.specs.Str.{is_utf8};
 ghost use Rattle.std.specs.List.{before_first, position_or_len};
-ghost use Rattle.kap_base.specs.Texts.{is_empty, begins_with};
+ghost use Rattle.kap_base.specs.Texts.{begins_with};
 ghost use Rattle.line_points.specs.Parts.{is_separator, is_space, without_spaces};
 ghost use Rattle.line_points.specs.Line.{is_blank};
 
 use crate::fault::LineFault;
-
-/// Whether there are no bytes.
-pub fn is_empty(bytes: &[u8]) -> bool
-    ensures { result ≡ is_empty bytes.now }
-{
-    match bytes.first() {
-        Some(_) => false,
-        None => true,
-    }
-}
 
 /// Whether the byte stands at the front.
 pub fn begins_with(bytes: &[u8], byte: u8) -> bool
@@ -60,17 +50,25 @@ pub fn text(line: &[u8]) -> Result<&str, LineFault>
     }
 }
 
-fn separator_place(bytes: &[u8]) -> Option<usize>
-    ensures { result ≡ position is_separator bytes.now }
+/// Where the byte stands first.
+pub fn byte_place(bytes: &[u8], byte: u8) -> Option<usize>
+    ensures { result ≡ position (λ b. b == byte) bytes.now }
 {
-    bytes.iter().position(|b| *b == b',' || *b == b' ')
+    bytes.iter().position(|b| *b == byte)
+}
+
+/// Where one of the two bytes stands first.
+pub fn either_place(bytes: &[u8], one: u8, other: u8) -> Option<usize>
+    ensures { result ≡ position (λ b. b == one || b == other) bytes.now }
+{
+    bytes.iter().position(|b| *b == one || *b == other)
 }
 
 /// How many bytes stand before the first comma or space.
 pub fn word_len(bytes: &[u8]) -> usize
     ensures { result ≡ position_or_len is_separator bytes.now }
 {
-    match separator_place(bytes) {
+    match either_place(bytes, b',', b' ') {
         Some(at) => at,
         None => bytes.len(),
     }

@@ -2,7 +2,7 @@ ghost use Rattle.std.specs.Prelude.{◌≡◌, ◌≢◌, Err, not, IsTrue, IfEr
 ghost use Rattle.kap_base.specs.Words.{Answers};
 ghost use Rattle.kap_base.specs.Texts.{has_line_feed};
 ghost use Rattle.line_points.specs.Parts.{without_spaces};
-ghost use Rattle.line_points.specs.Line.{has_time, point_of, line_of, stored_of};
+ghost use Rattle.line_points.specs.Line.{IsReadable, has_time, point_of, line_of, stored_of};
 ghost use Rattle.line_points.specs.Answered.{LineMeans, StoredMeans};
 
 use crate::bytes::{is_blank, text};
@@ -18,11 +18,9 @@ pub const LINE_LIMIT: usize = 65_536;
 
 #[tactic(auto, unfolding(crate::specs::Line::point_of))]
 fn point(alloc: Global, line: &str, db: &Text, rp: &Text, mode: &Mode) -> Result<Point, LineFault>
-    requires line { IsTrue (not (has_line_feed line.now)) }
-    requires db { IsTrue (not (has_line_feed db.now)) }
-    requires rp { IsTrue (not (has_line_feed rp.now)) }
-    requires time { IsTrue (has_time mode.now) }
-    ensures { Answers LineFault.NoMemory result (point_of db.now rp.now mode.now (without_spaces line.now)) }
+    requires { IsReadable db.now rp.now mode.now line.now }
+    ensures { Answers LineFault.NoMemory result (
+        point_of db.now rp.now mode.now (without_spaces line.now)) }
 {
     let mut scanner = Scanner::new(line);
     scanner.skip_spaces();
@@ -45,11 +43,14 @@ fn point(alloc: Global, line: &str, db: &Text, rp: &Text, mode: &Mode) -> Result
 }
 
 #[tactic(auto, unfolding(crate::specs::Line::stored_of))]
-fn stored_point(alloc: Global, line: &[u8], db: &Text, rp: &Text, mode: &Mode) -> Result<Point, LineFault>
-    requires line { IsTrue (not (has_line_feed line.now)) }
-    requires db { IsTrue (not (has_line_feed db.now)) }
-    requires rp { IsTrue (not (has_line_feed rp.now)) }
-    requires time { IsTrue (has_time mode.now) }
+fn stored_point(
+    alloc: Global,
+    line: &[u8],
+    db: &Text,
+    rp: &Text,
+    mode: &Mode,
+) -> Result<Point, LineFault>
+    requires { IsReadable db.now rp.now mode.now line.now }
     ensures { Answers LineFault.NoMemory result (stored_of db.now rp.now mode.now line.now) }
 {
     let text = text(line)?;
@@ -64,10 +65,7 @@ fn read(
     rp: &Text,
     mode: &Mode,
 ) -> Result<Option<Point>, LineFault>
-    requires line { IsTrue (not (has_line_feed line.now)) }
-    requires db { IsTrue (not (has_line_feed db.now)) }
-    requires rp { IsTrue (not (has_line_feed rp.now)) }
-    requires time { IsTrue (has_time mode.now) }
+    requires { IsReadable db.now rp.now mode.now line.now }
     ensures { Answers LineFault.NoMemory result (line_of db.now rp.now mode.now line.now) }
 {
     if mode.is_live() && is_blank(line) {
@@ -99,7 +97,8 @@ pub fn read_line(
     ensures read { Answers LineFault.NoMemory result (line_of db.now rp.now mode.now line.now) }
 
     // So it is in the words of the grammar.
-    ensures meaning { result ≢ Err LineFault.NoMemory → LineMeans db.now rp.now mode.now line.now result }
+    ensures meaning { result ≢ Err LineFault.NoMemory →
+        LineMeans db.now rp.now mode.now line.now result }
 {
     read(alloc, line, db, rp, mode)
 }
@@ -110,11 +109,13 @@ pub fn read_stored(alloc: Global, line: &[u8], db: &Text, rp: &Text) -> Result<P
     requires line { IsTrue (not (has_line_feed line.now)) }
     requires db { IsTrue (not (has_line_feed db.now)) }
     requires rp { IsTrue (not (has_line_feed rp.now)) }
-    ensures read { Answers LineFault.NoMemory result (stored_of db.now rp.now Mode.Recording line.now) }
+    ensures read { Answers LineFault.NoMemory result (
+        stored_of db.now rp.now Mode.Recording line.now) }
     ensures no_limit { IfErr result (λ f. f ≢ LineFault.Long) }
 
     // So it is in the words of the grammar.
-    ensures meaning { result ≢ Err LineFault.NoMemory → StoredMeans db.now rp.now line.now result }
+    ensures meaning { result ≢ Err LineFault.NoMemory →
+        StoredMeans db.now rp.now line.now result }
 {
     stored_point(alloc, line, db, rp, &Mode::Recording)
 }

@@ -6,8 +6,6 @@ ghost use Rattle.std.specs.Str.Parse.{digits_value};
 ghost use Rattle.line_points.specs.Numbers.{is_digits, number_from, number_of, before_last_byte, is_true, is_false};
 ghost use Rattle.line_points.specs.Cap.{cap, parts};
 
-use crate::bytes::is_empty;
-
 /// A number of a line. One above `u64::MAX` has that magnitude.
 #[derive(Clone, Copy)]
 pub struct Number {
@@ -25,7 +23,7 @@ fn all_digits(bytes: &[u8]) -> bool
 pub fn is_digits(bytes: &[u8]) -> bool
     ensures { result ≡ is_digits bytes.now }
 {
-    !is_empty(bytes) && all_digits(bytes)
+    !bytes.is_empty() && all_digits(bytes)
 }
 
 fn magnitude(digits: &[u8]) -> u64

@@ -97,7 +97,8 @@ fn put_tags(tags: &[(Text, Text)], out: &mut Bytes) -> Result<(), NoMemory>
 }
 
 fn put_more_fields(fields: &[(Text, Value)], out: &mut Bytes) -> Result<(), NoMemory>
-    ensures ok { OnOk result (out.new ≡ out.old ++ flat_map (λ g. comma ∷ field_text g) fields.now) }
+    ensures ok { OnOk result (
+        out.new ≡ out.old ++ flat_map (λ g. comma ∷ field_text g) fields.now) }
     ensures before { take (length out.old) out.new ≡ out.old }
 {
     'fields: for field in fields {

@@ -46,7 +46,8 @@ fn tag(alloc: Global, scanner: &mut Scanner) -> Result<(Text, Text), LineFault>
 }
 
 fn all_tags(alloc: Global, scanner: &mut Scanner) -> Result<ItemList<(Text, Text)>, LineFault>
-    ensures { Gives result scanner.new.rest.now (tags_from (length scanner.old.rest.now) scanner.old.rest.now) }
+    ensures { Gives result scanner.new.rest.now
+        (tags_from (length scanner.old.rest.now) scanner.old.rest.now) }
 {
     let mut tags = ItemList::new(alloc);
     'tags: while scanner.take(b',') {
@@ -58,7 +59,8 @@ fn all_tags(alloc: Global, scanner: &mut Scanner) -> Result<ItemList<(Text, Text
 
 /// The map of these tags, where no key stands twice.
 fn tag_map(alloc: Global, tags: ItemList<(Text, Text)>) -> Result<Tags, LineFault>
-    ensures { Answers LineFault.NoMemory result (if differ tags then Ok (with_entries map.empty tags) else Err LineFault.Tag) }
+    ensures { Answers LineFault.NoMemory result (
+        if differ tags then Ok (with_entries map.empty tags) else Err LineFault.Tag) }
 {
     let given = tags.len();
     let map = Tags::from_entries(alloc, tags.into_items())?;
@@ -121,7 +123,8 @@ fn field(alloc: Global, scanner: &mut Scanner) -> Result<(Text, Value), LineFaul
 }
 
 fn all_fields(alloc: Global, scanner: &mut Scanner) -> Result<ItemList<(Text, Value)>, LineFault>
-    ensures { Gives result scanner.new.rest.now (fields_from (length scanner.old.rest.now) scanner.old.rest.now) }
+    ensures { Gives result scanner.new.rest.now
+        (fields_from (length scanner.old.rest.now) scanner.old.rest.now) }
 {
     let mut fields = ItemList::new(alloc);
     'fields: loop {

@@ -1,10 +1,10 @@
-ghost use Rattle.std.specs.Prelude.{◌≡◌, ◌+◌, ◌≤◌, ◌<◌, ◌||◌, length, drop, if◌then◌else◌, IfOk};
+ghost use Rattle.std.specs.Prelude.{◌≡◌, ◌+◌, ◌≤◌, ◌<◌, length, drop, if◌then◌else◌, IfOk};
 ghost use Rattle.std.specs.List.{before_first, position_or_len};
 ghost use Rattle.std.specs.Str.{IsCharBoundary};
 ghost use Rattle.kap_base.specs.Texts.{is_empty, begins_with};
-ghost use Rattle.line_points.specs.Parts.{begins, is_separator, text_at, without_spaces};
+ghost use Rattle.line_points.specs.Parts.{is_separator, is_at_separator, text_at, without_spaces};
 
-use crate::bytes::{begins_with, is_empty, word_len};
+use crate::bytes::{begins_with, word_len};
 use crate::part::Part;
 use kap_base::{NoMemory, Text};
 use std::alloc::Global;
@@ -32,7 +32,7 @@ impl<'a> Scanner<'a> {
     pub fn is_empty(&self) -> bool
         ensures { result ≡ is_empty self.now.rest.now }
     {
-        is_empty(self.rest())
+        self.rest().is_empty()
     }
 
     pub fn begins_with(&self, byte: u8) -> bool
@@ -43,7 +43,7 @@ impl<'a> Scanner<'a> {
 
     /// Whether a comma, a space or nothing comes next.
     pub fn is_at_separator(&self) -> bool
-        ensures { result ≡ (is_empty self.now.rest.now || begins is_separator self.now.rest.now) }
+        ensures { result ≡ is_at_separator self.now.rest.now }
     {
         match self.rest().first() {
             Some(first) => *first == b',' || *first == b' ',
@@ -107,7 +107,8 @@ impl<'a> Scanner<'a> {
     pub fn word(&mut self) -> &'a [u8]
         ensures shorter { length self.new.rest.now ≤ length self.old.rest.now }
         ensures value { result.now ≡ before_first is_separator self.old.rest.now }
-        ensures rest { self.new.rest.now ≡ drop (position_or_len is_separator self.old.rest.now) self.old.rest.now }
+        ensures rest { self.new.rest.now ≡
+            drop (position_or_len is_separator self.old.rest.now) self.old.rest.now }
     {
         let (word, rest) = self.rest.split_at(word_len(self.rest.as_bytes()));
         self.rest = rest;

@@ -4,7 +4,7 @@ ghost use Rattle.line_points.specs.Parts.{is_space};
 ghost use Rattle.line_points.specs.Cap.{cap, parts};
 ghost use Rattle.line_points.specs.Line.{time_of_units, word_time, time_of};
 
-use crate::bytes::is_empty;
+use crate::bytes::byte_place;
 use crate::fault::LineFault;
 use crate::mode::{Mode, Unit};
 use crate::number::{Number, read_number};
@@ -21,18 +21,12 @@ fn time_of_units(unit: Unit, number: Number) -> Result<i64, LineFault>
     Ok(if number.negative { -time } else { time })
 }
 
-fn space_place(bytes: &[u8]) -> Option<usize>
-    ensures { result ≡ position is_space bytes.now }
-{
-    bytes.iter().position(|b| *b == b' ')
-}
-
 /// The bytes before the first space, and those from it on.
 fn split_at_space(bytes: &[u8]) -> (&[u8], &[u8])
     ensures word { result.0.now ≡ before_first is_space bytes.now }
     ensures rest { result.1.now ≡ drop (position_or_len is_space bytes.now) bytes.now }
 {
-    match space_place(bytes) {
+    match byte_place(bytes, b' ') {
         Some(at) => bytes.split_at(at),
         None => (bytes, &[]),
     }
@@ -58,7 +52,7 @@ fn word_time(mode: &Mode, word: &[u8]) -> Result<i64, LineFault>
 pub fn time(mode: &Mode, bytes: &[u8]) -> Result<i64, LineFault>
     ensures { result ≡ time_of mode.now bytes.now }
 {
-    if is_empty(bytes) {
+    if bytes.is_empty() {
         return mode.missing_time();
     }
     let (word, behind) = split_at_space(bytes);

@@ -4,22 +4,10 @@ ghost use Rattle.line_points.specs.Words.{is_point, is_exponent_mark, cut, witho
 ghost use Rattle.line_points.specs.Numbers.{is_minus};
 ghost use Rattle.line_points.specs.Cap.{cap, parts};
 
-use crate::bytes::is_empty;
+use crate::bytes::{byte_place, either_place};
 use crate::fault::LineFault;
 use crate::number::{Number, before_last, is_digits, is_false, is_true, read_number};
 use kap_base::Value;
-
-fn point_place(bytes: &[u8]) -> Option<usize>
-    ensures { result ≡ position is_point bytes.now }
-{
-    bytes.iter().position(|b| *b == b'.')
-}
-
-fn exponent_place(bytes: &[u8]) -> Option<usize>
-    ensures { result ≡ position is_exponent_mark bytes.now }
-{
-    bytes.iter().position(|b| *b == b'e' || *b == b'E')
-}
 
 /// The bytes before and behind a place.
 fn around(bytes: &[u8], at: usize) -> (&[u8], &[u8])
@@ -33,7 +21,7 @@ fn around(bytes: &[u8], at: usize) -> (&[u8], &[u8])
 fn cut_at_point(bytes: &[u8]) -> Option<(&[u8], &[u8])>
     ensures { option_map (λ p. (p.0.now, p.1.now)) result ≡ cut is_point bytes.now }
 {
-    match point_place(bytes) {
+    match byte_place(bytes, b'.') {
         Some(at) => Some(around(bytes, at)),
         None => None,
     }
@@ -42,7 +30,7 @@ fn cut_at_point(bytes: &[u8]) -> Option<(&[u8], &[u8])>
 fn cut_at_exponent(bytes: &[u8]) -> Option<(&[u8], &[u8])>
     ensures { option_map (λ p. (p.0.now, p.1.now)) result ≡ cut is_exponent_mark bytes.now }
 {
-    match exponent_place(bytes) {
+    match either_place(bytes, b'e', b'E') {
         Some(at) => Some(around(bytes, at)),
         None => None,
     }
@@ -71,7 +59,7 @@ fn is_mantissa(bytes: &[u8]) -> bool
 {
     match cut_at_point(bytes) {
         None => is_digits(bytes),
-        Some((whole, fraction)) => (is_empty(whole) || is_digits(whole)) && is_digits(fraction),
+        Some((whole, fraction)) => (whole.is_empty() || is_digits(whole)) && is_digits(fraction),
     }
 }
 

@@ -8,7 +8,7 @@ ghost use Rattle.tick_parser.specs.Machine.{chain_value, follow, is_bare, leave,
 ghost use Rattle.tick_parser.specs.States.{Finishes, IsCounted, Moves, call_of, chain_of, contexts_of};
 
 use crate::fault::{ParseFault, Want};
-use crate::limits::DEPTH_LIMIT;
+use crate::limits::{DEPTH_LIMIT, STATEMENT_LIMIT};
 use crate::script::{Chain, Joint, Links, Stmt, Tree, Val, Vals};
 use crate::state::{Call, Context, Nesting, State};
 use crate::statements::read_start;
@@ -83,7 +83,7 @@ impl Nesting {
         token: &Token,
     ) -> Result<State, ParseFault>
         ensures { Moves result
-            (leave 4096 (script_tree self.done.items) [] (chain_of chain) token.now.start
+            (leave STATEMENT_LIMIT (script_tree self.done.items) [] (chain_of chain) token.now.start
             token.now.kind) }
     {
         self.done.push(Stmt::Chain(whole_of(chain)))?;
@@ -100,7 +100,7 @@ impl Nesting {
     ) -> Result<State, ParseFault>
         requires { IsCounted self }
         ensures { Moves result
-            (leave 4096 (script_tree self.done.items) (contexts_of self) (chain_of chain)
+            (leave STATEMENT_LIMIT (script_tree self.done.items) (contexts_of self) (chain_of chain)
             token.now.start token.now.kind) }
     {
         match self.stack.pop() {
@@ -126,8 +126,8 @@ impl Nesting {
         requires counted { IsCounted self }
         requires reference { token.now.kind ≡ Reference db.now }
         ensures { Moves result
-            (follow 4096 (script_tree self.done.items) (contexts_of self) (chain_of chain)
-            token.now.start token.now.kind) }
+            (follow STATEMENT_LIMIT (script_tree self.done.items) (contexts_of self)
+            (chain_of chain) token.now.start token.now.kind) }
     {
         match self.stack.pop() {
             None => {
@@ -154,8 +154,8 @@ impl Nesting {
     ) -> Result<State, ParseFault>
         requires { IsCounted self }
         ensures { Moves result
-            (follow 4096 (script_tree self.done.items) (contexts_of self) (chain_of chain)
-            token.now.start token.now.kind) }
+            (follow STATEMENT_LIMIT (script_tree self.done.items) (contexts_of self)
+            (chain_of chain) token.now.start token.now.kind) }
     {
         match &token.kind {
             Kind::Pipe => Ok(State::LinkRead(self, chain, true)),
@@ -200,7 +200,7 @@ impl Nesting {
     ) -> Result<State, ParseFault>
         requires { IsCounted self }
         ensures { Moves result
-            (opening 64 (script_tree self.done.items) (contexts_of self) (chain_of chain)
+            (opening DEPTH_LIMIT (script_tree self.done.items) (contexts_of self) (chain_of chain)
             (call_of call) token.now.start token.now.kind) }
     {
         match &token.kind {

@@ -147,7 +147,7 @@ impl Stack {
     ) -> Result<LambdaStep, ParseFault>
         requires { IsCounted self }
         ensures { LambdaMoves result
-            (after room 512 (frames_of self) (tree_of tree) self.count token.now.start
+            (after room OPERATOR_LIMIT (frames_of self) (tree_of tree) self.count token.now.start
             token.now.kind) }
     {
         match &token.kind {
@@ -190,7 +190,8 @@ impl HeldOperand {
     #[tactic(auto, using(crate::proofs::Stacks::frames_push))]
     fn join(self, op: Op, at: u32) -> Result<LambdaStep, ParseFault>
         requires { IsCounted self.stack }
-        ensures { LambdaMoves result (joining 512 op self.stack.count at (held_of self)) }
+        ensures { LambdaMoves result
+            (joining OPERATOR_LIMIT op self.stack.count at (held_of self)) }
     {
         let HeldOperand { mut stack, tree } = self;
         if stack.count >= OPERATOR_LIMIT {
@@ -255,7 +256,7 @@ impl OpenLambda {
         token: &Token,
     ) -> Result<LambdaStep, ParseFault>
         requires { IsCountedLambda self }
-        ensures { LambdaMoves result (step room 512 (lambda_of self) token.now) }
+        ensures { LambdaMoves result (step room OPERATOR_LIMIT (lambda_of self) token.now) }
     {
         match self {
             OpenLambda::OperandNext(stack) => stack.read_operand(alloc, room, token),

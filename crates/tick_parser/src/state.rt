@@ -7,6 +7,7 @@ ghost use Rattle.tick_parser.specs.States.{Finishes, IsCountedState, Moves, cont
 
 use crate::fault::{ParseFault, Want};
 use crate::lambda::OpenLambda;
+use crate::limits::{DEPTH_LIMIT, OPERATOR_LIMIT, STATEMENT_LIMIT};
 use crate::script::{Chain, Stmt, Tree, Val, Vals};
 use crate::statements;
 use kap_base::{ItemList, Text};
@@ -91,7 +92,8 @@ impl State {
     /// Reads a token.
     pub(crate) fn step(self, alloc: Global, token: &Token) -> Result<State, ParseFault>
         requires { IsCountedState self }
-        ensures { Moves result (step 64 512 4096 (state_of self) token.now) }
+        ensures { Moves result
+            (step DEPTH_LIMIT OPERATOR_LIMIT STATEMENT_LIMIT (state_of self) token.now) }
     {
         match self {
             State::Between(done) => statements::read_start(alloc, done, token),

@@ -32,7 +32,8 @@ pub(crate) fn push_variable(
 /// Reads a token where a statement may begin.
 #[tactic(auto, using(crate::proofs::Stacks::script_length))]
 pub(crate) fn read_start(alloc: Global, done: Vec<Stmt>, token: &Token) -> Result<State, ParseFault>
-    ensures { Moves result (begin 4096 (script_tree done.items) token.now.start token.now.kind) }
+    ensures { Moves result
+        (begin STATEMENT_LIMIT (script_tree done.items) token.now.start token.now.kind) }
 {
     let at = token.start;
     match &token.kind {

@@ -11,7 +11,7 @@ ghost use Rattle.tick_parser.specs.States.{Finishes, IsCountedAt, Moves, call_of
 use crate::chains::{lengthen, new_chain};
 use crate::fault::{ParseFault, Want};
 use crate::lambda::{LambdaStep, OpenLambda};
-use crate::limits::DEPTH_LIMIT;
+use crate::limits::{DEPTH_LIMIT, OPERATOR_LIMIT, STATEMENT_LIMIT};
 use crate::script::{Chain, Tree, Val, Vals};
 use crate::stack::Stack;
 use crate::state::{Call, Context, Nesting, State};
@@ -67,8 +67,8 @@ impl Nesting {
     ) -> Result<State, ParseFault>
         requires { IsCountedAt self context }
         ensures { Moves result
-            (settle 4096 (script_tree self.done.items) (contexts_of self) (context_of context)
-            (val_tree value) token.now.start token.now.kind) }
+            (settle STATEMENT_LIMIT (script_tree self.done.items) (contexts_of self)
+            (context_of context) (val_tree value) token.now.start token.now.kind) }
     {
         match context {
             Context::Variable(name, at) => {
@@ -166,7 +166,7 @@ impl Nesting {
         requires counted { IsCountedAt self context }
         requires inside { IsCountedLambda lambda }
         ensures { Moves result
-            (step 64 512 4096
+            (step DEPTH_LIMIT OPERATOR_LIMIT STATEMENT_LIMIT
             (MachineState.InLambda (script_tree self.done.items) (contexts_of self)
             (context_of context) at (lambda_of lambda)) token.now) }
     {

@@ -10,7 +10,7 @@ use Rattle.tick_vars.specs.declared.fault.VarFault.TheVariants.{Unknown, Twice, 
 use Rattle.tick_vars.specs.Nodes.{ArgTree, LitArg, StarArg, LambdaArg, NodeArg, NodeTree}
 use Rattle.tick_vars.specs.Names.{Scope, as_node, as_value, bound_lambda, bound_lambdas, handed_on, is_batch, is_taken, known, looked_up, with_name}
 use Rattle.tick_vars.specs.Binding.{WithNodes, Progress, and_arg, bound_links, bound_stmt, bound_val, bound_vals, linked}
-use Rattle.tick_vars.specs.FirstFault.{Need, New, Known, ForNode, ForValue, Use, Meets, Misses, AllHold, Breaks, place_of, uses_along, uses_among, uses_by, uses_in, uses_in_lambda, uses_in_lambdas}
+use Rattle.tick_vars.specs.FirstFault.{Need, New, Known, ForNode, ForValue, Use, Meets, Misses, AllHold, Breaks, fault_place, uses_along, uses_among, uses_by, uses_in, uses_in_lambda, uses_in_lambdas}
 use Rattle.tick_vars.proofs.Steps.{NoBatch}
 
 -- the fault of an answer
@@ -194,7 +194,7 @@ meets_none false (Some (LambdaArg body place)) at ForValue apart h = absurd h
 meets_none false (Some (NodeArg number place)) at ForValue apart h = absurd h
 
 abbrev Broken : Bool → Option ArgTree → ℕ → Need → VarFault → Type 0
-Broken batch there at need fault = Misses batch there need fault × (place_of fault ≡ at)
+Broken batch there at need fault = Misses batch there need fault × (fault_place fault ≡ at)
 
 -- this is the fault that was found
 this : (batch : Bool) (there : Option ArgTree) (at : ℕ) (need : Need) (fault f : VarFault) → Broken batch there at need fault → ◌≡◌ {A = Option VarFault} (Some fault) (Some f) → Broken batch there at need f
@@ -225,7 +225,7 @@ some_misses false (Some (LambdaArg body place)) at ForValue f is = this false (S
 some_misses false (Some (NodeArg number place)) at ForValue f is = this false (Some (NodeArg number place)) at ForValue (NotValue at) f ((NodeArg number place, refl, λ h. h), refl) is
 
 -- a name without a fault is as it is needed, and one that is as it is needed has none: so one that has this fault has it alone
-misses_some : (batch : Bool) (there : Option ArgTree) (at : ℕ) (need : Need) (f : VarFault) → Apart batch there → Misses batch there need f → place_of f ≡ at → need_fault batch there at need ≡ Some f
+misses_some : (batch : Bool) (there : Option ArgTree) (at : ℕ) (need : Need) (f : VarFault) → Apart batch there → Misses batch there need f → fault_place f ≡ at → need_fault batch there at need ≡ Some f
 misses_some batch there at New (Twice place) apart h is = ap (λ t. cond t (Some (Twice at)) None) h ∙ ap (λ p. Some (Twice p)) (sym is)
 misses_some batch there at New (Unknown place) apart h is = absurd h
 misses_some batch there at New (NotValue place) apart h is = absurd h

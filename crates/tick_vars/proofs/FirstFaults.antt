@@ -7,7 +7,7 @@ use Rattle.tick_vars.specs.Nodes.{BoundTree}
 use Rattle.tick_vars.specs.Names.{first_scope}
 use Rattle.tick_vars.specs.Binding.{Progress, at_first, bound_of, bound_stmt, bound_stmts}
 use Rattle.tick_vars.specs.Law.{events_of, in_the_end}
-use Rattle.tick_vars.specs.FirstFault.{AllHold, Breaks, HasFirstFault, uses_by}
+use Rattle.tick_vars.specs.FirstFault.{AllHold, Breaks, HasFirstNameFault, uses_by}
 use Rattle.tick_vars.proofs.Steps.{NoBatch}
 use Rattle.tick_vars.proofs.Statements.{stmts_done}
 use Rattle.tick_vars.proofs.Written.{first_in_scope}
@@ -67,7 +67,7 @@ last_fault (Err e) f fault none is = cc
 scope_is : (before : List StmtTree) (mid : Progress) → bound_stmts at_first before ≡ Ok mid → mid.scope ≡ in_the_end first_scope (events_of before)
 scope_is before mid is = (stmts_done mid.scope before at_first mid 1 (λ name arg told. told) first_in_scope refl is).scope_is
 
-pub first : (script : List StmtTree) (fault : VarFault) → bound_of script ≡ Err fault → HasFirstFault script fault
+pub first : (script : List StmtTree) (fault : VarFault) → bound_of script ≡ Err fault → HasFirstNameFault script fault
 first script fault is =
     let e = last_fault (bound_stmts at_first script) (λ s. Ok (record { dbrps = s.dbrps; nodes = s.nodes })) fault (λ x. refl) is in
     let r = refused_at script at_first fault e in
@@ -97,7 +97,7 @@ bound_behind : (before rest : List StmtTree) (s mid : Progress) → bound_stmts 
 bound_behind [] rest s mid is = let same : s ≡ mid = cc in ap (λ x. bound_stmts x rest) same
 bound_behind (stmt ∷ before) rest s mid is = bound_step stmt before rest s mid (bound_stmt s stmt) refl is (λ x. bound_behind before rest x mid)
 
-pub only : (script : List StmtTree) (fault : VarFault) → HasFirstFault script fault → bound_of script ≡ Err fault
+pub only : (script : List StmtTree) (fault : VarFault) → HasFirstNameFault script fault → bound_of script ≡ Err fault
 only script fault h =
     let a = stmts_ok h.before at_first 1 first_no_batch first_in_scope refl h.named in
     let mid = a.0 in

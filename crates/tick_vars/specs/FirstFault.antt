@@ -83,13 +83,13 @@ Misses batch there ForValue (NotValue at) = (arg : ArgTree) × (there ≡ Some a
 Misses batch there need other = ⊥
 
 -- the place that a fault names
-abbrev pub place_of : VarFault → ℕ
-place_of (Unknown at) = at
-place_of (Twice at) = at
-place_of (NotValue at) = at
-place_of (NotNode at) = at
-place_of (Batch at) = at
-place_of NoMemory = 0
+abbrev pub fault_place : VarFault → ℕ
+fault_place (Unknown at) = at
+fault_place (Twice at) = at
+fault_place (NotValue at) = at
+fault_place (NotNode at) = at
+fault_place (Batch at) = at
+fault_place NoMemory = 0
 
 -- the name is as it is needed, where names stand for this
 abbrev pub Holds : Scope → Use → Type 0
@@ -102,11 +102,11 @@ AllHold scope (it ∷ others) = Holds scope it × AllHold scope others
 
 -- the name has this fault, at its place
 abbrev pub Breaks : Scope → Use → VarFault → Type 0
-Breaks scope it fault = Misses (is_batch it.name) (scope it.name) it.need fault × (place_of fault ≡ it.at)
+Breaks scope it fault = Misses (is_batch it.name) (scope it.name) it.need fault × (fault_place fault ≡ it.at)
 
 -- the script's first fault of names, from left to right: the statements before are in order, and so are the names before it in its
 -- own statement
-pub record HasFirstFault (script : List StmtTree) (fault : VarFault) : Type 0 where
+pub record HasFirstNameFault (script : List StmtTree) (fault : VarFault) : Type 0 where
   pub before : List StmtTree
   pub stmt : StmtTree
   pub after : List StmtTree

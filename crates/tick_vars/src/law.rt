@@ -3,7 +3,7 @@
 ghost use Rattle.std.specs.Prelude.{◌≡◌, List, Ok, Err};
 ghost use Rattle.tick_parser.specs.Trees.{StmtTree};
 ghost use Rattle.tick_vars.specs.Binding.{bound_of};
-ghost use Rattle.tick_vars.specs.FirstFault.{HasFirstFault};
+ghost use Rattle.tick_vars.specs.FirstFault.{HasFirstNameFault};
 ghost use Rattle.tick_vars.specs.Law.{IsSettled, IsWellNamed, as_written};
 ghost use Rattle.tick_vars.specs.Nodes.{BoundTree};
 ghost use Rattle.tick_vars.specs.declared.fault.VarFault.{VarFault};
@@ -34,7 +34,7 @@ pub fn bound_where_well_named()
 /// in a lambda that it stands for a value.
 pub fn first_fault_of_names()
     ensures first { (script : List StmtTree) (fault : VarFault) →
-        bound_of script ≡ Err fault → HasFirstFault script fault }
+        bound_of script ≡ Err fault → HasFirstNameFault script fault }
     ensures only { (script : List StmtTree) (fault : VarFault) →
-        HasFirstFault script fault → bound_of script ≡ Err fault }
+        HasFirstNameFault script fault → bound_of script ≡ Err fault }
 {}

@@ -1,17 +1,18 @@
--- What holds of each entry of a list holds of each entry of the map that is made of it.
+-- A map that is made of a list: what holds of each entry of the list holds of each of its entries, and a map is made of its own.
 use Rattle.std.proofs.Common.{◌≡◌, ℕ, ◌+◌, ◌<◌, ◌≤◌, Bool, true, false, cond, ◌&&◌, List, [], ◌∷◌, length, refl, sym, ap, ◌∙◌, arith}
 use Rattle.std.specs.Prelude.{nat_lt}
 use Rattle.std.specs.List.{list_all}
 use Rattle.std.specs.declared.cmp.Ordering.TheVariants.{Less, Equal, Greater}
 use Rattle.std.specs.Ordering.{nat_cmp}
 use Rattle.std.specs.Cmp.Lexicographic.{slice_cmp}
-use Rattle.std.specs.FinMap.{put, entries, empty, insert, len, contains_key, entries-insert, len-entries, len-empty, len-insert}
+use Rattle.std.specs.FinMap.{put, entries, empty, insert, len, contains_key, entries-insert, entries_sorted, from_sorted, entries-from_sorted, same_entries_map, len-entries, len-empty, len-insert}
 use Rattle.std.specs.FinMap.Entries.{by_order}
 use Rattle.std.proofs.lemmas.Bool.Decides.{nat_tests}
 use Rattle.std.proofs.lemmas.Cmp.{nat_list_cmp_total}
 use Rattle.std.proofs.lemmas.List.{nil_from_length}
 use Rattle.kap_base.specs.Maps.{KeyMap, with_entries, byte_order}
-use Rattle.line_points.proofs.TestLaws.{first_of, second_of, both}
+use Rattle.kap_base.proofs.ManyLaws.{rising}
+use Rattle.kap_base.proofs.TestLaws.{first_of, second_of, both}
 
 pub no_entries : {V : Type 0} → entries (empty {K = List ℕ} {X = V} {R = byte_order}) ≡ []
 no_entries {V} = nil_from_length _ (sym (len-entries empty) ∙ len-empty byte_order V)
@@ -60,3 +61,7 @@ module _ {V : Type 0} where
   some_entry e es =
       let more : 0 < len (with_entries empty (e ∷ es)) = omega (arith, insert_some empty e.0 e.1, with_ge es (insert empty e.0 e.1)) in
       grind (arith, nat_tests)
+
+  -- a map is made of its entries
+  pub with_own_entries : (m : KeyMap V) → with_entries empty (entries m) ≡ m
+  with_own_entries m = sym (rising (entries m) (entries_sorted m)) ∙ same_entries_map (from_sorted (entries m)) m (entries-from_sorted byte_order (entries m) (entries_sorted m))
