@@ -1,7 +1,7 @@
 -- The numbers and texts of the statuses.
 use Rattle.std.specs.Prelude.{ℕ, List, [], ◌++◌, codes}
 use Rattle.std.specs.Fmt.{decimal}
-use Rattle.line_points.specs.Body.{fault_line}
+use Rattle.line_points.specs.FaultText.{fault_line}
 use Rattle.recording_file.specs.Recording.{Stop, Ended, Faulty, Undecided}
 use Rattle.recording_file.specs.declared.fault.RecFault.{RecFault}
 use Rattle.recording_file.specs.declared.fault.RecFault.TheVariants as faults

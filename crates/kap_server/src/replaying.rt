@@ -73,16 +73,18 @@ pub fn replay<S: Source, K: Sink>(
     let mut reader = Reader::new(alloc);
     let mut text = Bytes::new(alloc);
     'replaying: loop {
-        if write_piece(out, &mut text, !reader.holds_point()).is_err() {
-            return Status::WriteFault;
+        match write_piece(out, &mut text, !reader.holds_point()) {
+            Ok(()) => {}
+            Err(_) => return Status::WriteFault,
         }
         let point = match reader.next(alloc, input) {
             Ok(Some(point)) => point,
             Ok(None) => return write_rest(out, &text, Status::Ok),
             Err(fault) => return write_rest(out, &text, Status::from(fault)),
         };
-        if put_point(id, name, &point, &mut text).is_err() {
-            return Status::NoMemory;
+        match put_point(id, name, &point, &mut text) {
+            Ok(()) => {}
+            Err(_) => return Status::NoMemory,
         }
     }
 }
