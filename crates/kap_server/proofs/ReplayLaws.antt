@@ -88,7 +88,7 @@ module _ (id name : List ℕ) where
           let begins = on.first known.left known.none in
           let text_is : text_of id name (reading_of input).points ≡ on.done ++ (due ++ text_of id name begins.others) =
           ap (λ (l : List ℕ). text_of id name (reading_of l).points) known.is ∙ ap (text_of id name) begins.all ∙ text-append id name a.given begins.others
-              ∙ ap (λ (l : List ℕ). l ++ text_of id name begins.others) on.is ∙ append_assoc on.done due (text_of id name begins.others) in
+          ∙ ap (λ (l : List ℕ). l ++ text_of id name begins.others) on.is ∙ append_assoc on.done due (text_of id name begins.others) in
           subst (AppendsPrefix w x) (sym text_is) (prefix_of w v x on.done due (text_of id name begins.others) on.written p)
 
     pub nothing_more : WritesPrefix (text_of id name) s w v

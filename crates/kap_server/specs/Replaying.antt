@@ -11,12 +11,15 @@ use Rattle.kap_server.specs.declared.status.Status.{Status}
 use Rattle.kap_server.specs.declared.status.Status.TheVariants.{Ok, Usage, Script, Line, Truncated, TooLong, ScriptForm, NoMemory, ReadFault, WriteFault}
 
 -- reading the whole input stops so, and the text of all its points was appended
-abbrev pub Writes : (List PointValue → List ℕ) → Option (List ℕ) → Option (List ℕ) → Option (List ℕ) → Stop → Type 0
+abbrev pub Writes :
+    (List PointValue → List ℕ) → Option (List ℕ) → Option (List ℕ) → Option (List ℕ) → Stop → Type 0
 Writes text None w v stop = Unit {0}
-Writes text (Some input) w v stop = ((reading_of input).stop ≡ stop) × Appends w v (text (reading_of input).points)
+Writes text (Some input) w v stop =
+    ((reading_of input).stop ≡ stop) × Appends w v (text (reading_of input).points)
 
 -- a prefix of the text of the whole input's points was appended
-abbrev pub WritesPrefix : (List PointValue → List ℕ) → Option (List ℕ) → Option (List ℕ) → Option (List ℕ) → Type 0
+abbrev pub WritesPrefix :
+    (List PointValue → List ℕ) → Option (List ℕ) → Option (List ℕ) → Option (List ℕ) → Type 0
 WritesPrefix text None w v = Unit {0}
 WritesPrefix text (Some input) w v = AppendsPrefix w v (text (reading_of input).points)
 
@@ -31,7 +34,9 @@ pub record WritesSoFar (text : List PointValue → List ℕ) (s t w v : Option (
 -- ends between two groups, and the text of its points was appended; at a fault of the input that is its first fault, and the
 -- text of the points before it was appended; after a read fault that of the points that were read; after a write fault, and
 -- after want of memory, a prefix of the text of all points.
-abbrev pub Replayed : (List PointValue → List ℕ) → Status → Option (List ℕ) → Option (List ℕ) → Option (List ℕ) → Option (List ℕ) → Type 0
+abbrev pub Replayed :
+    (List PointValue → List ℕ) → Status → Option (List ℕ) → Option (List ℕ)
+    → Option (List ℕ) → Option (List ℕ) → Type 0
 Replayed text Ok s t w v = Writes text s w v Ended
 Replayed text Usage s t w v = ⊥
 Replayed text (Script fault) s t w v = ⊥
@@ -50,9 +55,12 @@ pub record WritesSome (due left : List ℕ) (w v : Option (List ℕ)) : Type 0 w
   pub rest : due ≡ piece ++ left
 
 -- the points so far are the first of the input, and the text of them was appended, but for what is due
-pub record HasWritten (text : List PointValue → List ℕ) (due : List ℕ) (reader : ReaderState) (s t w v : Option (List ℕ)) : Type 0 where
+pub record HasWritten
+    (text : List PointValue → List ℕ) (due : List ℕ) (reader : ReaderState)
+    (s t w v : Option (List ℕ)) : Type 0 where
   pub read : HasRead reader s t
-  pub first : (more : List ℕ) → (IsTrue reader.ended → more ≡ []) → BeginsWith reader reader.given more
+  pub first : (more : List ℕ) → (IsTrue reader.ended → more ≡ [])
+      → BeginsWith reader reader.given more
   pub done : List ℕ
   pub written : Appends w v done
   pub is : text reader.given ≡ done ++ due
@@ -60,4 +68,5 @@ pub record HasWritten (text : List PointValue → List ℕ) (due : List ℕ) (re
 -- the rest of the text was written, or the output failed
 abbrev pub IsWritten : Status → Status → Option (List ℕ) → Option (List ℕ) → List ℕ → ℕ → ℕ → Type 0
 IsWritten status result w v due before after =
-    ((result ≡ status) × Appends w v due) ⊎ ((result ≡ WriteFault) × AppendsPrefix w v due × HasRisen before after)
+    ((result ≡ status) × Appends w v due)
+    ⊎ ((result ≡ WriteFault) × AppendsPrefix w v due × HasRisen before after)

@@ -18,7 +18,8 @@ const PIECE: usize = 65_536;
 
 /// Writes the text that is due.
 fn write_due<K: Sink>(out: &mut K, text: &mut Bytes) -> Result<(), Failed>
-    ensures ok { OnOk result (WritesSome text.old text.new (K.written out.old) (K.written out.new)) }
+    ensures ok { OnOk result
+        (WritesSome text.old text.new (K.written out.old) (K.written out.new)) }
     ensures err { OnErr result (AppendsPrefix (K.written out.old) (K.written out.new) text.old) }
     ensures cause { HasCause (K.faults out.old) (K.faults out.new) result }
 {
@@ -29,7 +30,8 @@ fn write_due<K: Sink>(out: &mut K, text: &mut Bytes) -> Result<(), Failed>
 
 /// Writes the text that is due, where it is a whole piece, or where `all` of it is wanted.
 fn write_piece<K: Sink>(out: &mut K, text: &mut Bytes, all: bool) -> Result<(), Failed>
-    ensures ok { OnOk result (WritesSome text.old text.new (K.written out.old) (K.written out.new)) }
+    ensures ok { OnOk result
+        (WritesSome text.old text.new (K.written out.old) (K.written out.new)) }
     ensures err { OnErr result (AppendsPrefix (K.written out.old) (K.written out.new) text.old) }
     ensures cause { HasCause (K.faults out.old) (K.faults out.new) result }
 {
@@ -41,7 +43,8 @@ fn write_piece<K: Sink>(out: &mut K, text: &mut Bytes, all: bool) -> Result<(), 
 
 /// Writes the rest of the text that is due, and answers the status, or `WriteFault` where the output failed.
 fn write_rest<K: Sink>(out: &mut K, text: &Bytes, status: Status) -> Status
-    ensures written { IsWritten status result (K.written out.old) (K.written out.new) text.now (K.faults out.old) (K.faults out.new) }
+    ensures written { IsWritten status result
+        (K.written out.old) (K.written out.new) text.now (K.faults out.old) (K.faults out.new) }
     ensures later { K.faults out.old ≤ K.faults out.new }
 {
     match write_all(out, text.as_slice()) {
@@ -59,24 +62,29 @@ pub fn replay<S: Source, K: Sink>(
     input: &mut S,
     out: &mut K,
 ) -> Status
-    ensures replayed { Replayed (text_of id.now name.now) result (S.left input.old) (S.left input.new) (K.written out.old) (K.written out.new) }
+    ensures replayed { Replayed (text_of id.now name.now) result
+        (S.left input.old) (S.left input.new) (K.written out.old) (K.written out.new) }
     ensures read { result ≡ Status.Ok → HasEnded (S.left input.old) (S.left input.new) }
-    ensures read_fault { result ≡ Status.ReadFault → HasRisen (S.faults input.old) (S.faults input.new) }
-    ensures write_fault { result ≡ Status.WriteFault → HasRisen (K.faults out.old) (K.faults out.new) }
+    ensures read_fault { result ≡ Status.ReadFault
+        → HasRisen (S.faults input.old) (S.faults input.new) }
+    ensures write_fault { result ≡ Status.WriteFault
+        → HasRisen (K.faults out.old) (K.faults out.new) }
 {
     let mut reader = Reader::new(alloc);
     let mut text = Bytes::new(alloc);
     'replaying: loop {
-        if write_piece(out, &mut text, !reader.holds_point()).is_err() {
-            return Status::WriteFault;
+        match write_piece(out, &mut text, !reader.holds_point()) {
+            Ok(()) => {}
+            Err(_) => return Status::WriteFault,
         }
         let point = match reader.next(alloc, input) {
             Ok(Some(point)) => point,
             Ok(None) => return write_rest(out, &text, Status::Ok),
             Err(fault) => return write_rest(out, &text, Status::from(fault)),
         };
-        if put_point(id, name, &point, &mut text).is_err() {
-            return Status::NoMemory;
+        match put_point(id, name, &point, &mut text) {
+            Ok(()) => {}
+            Err(_) => return Status::NoMemory,
         }
     }
 }

@@ -50,15 +50,15 @@ return_kept [] none = refl
 return_kept (b ∷ []) none = elim (b == 13) as (λ t. has_line_feed (cond t [] (b ∷ [])) ≡ false) [ true ↦ refl | false ↦ none ]
 return_kept (b ∷ c ∷ line) none = ap (λ t. t || has_line_feed (without_return (c ∷ line))) (any_first (is_feed b) _ none) ∙ return_kept (c ∷ line) (any_step (is_feed b) _ none)
 
-front_feedless : (bytes : List ℕ) → has_line_feed (take (position_or_len is_feed bytes) bytes) ≡ false
-front_feedless [] = refl
-front_feedless (b ∷ bytes) = elim (is_feed b) as (λ f. is_feed b ≡ f → has_line_feed (take (cond (not f) (1 + position_or_len is_feed bytes) 0) (b ∷ bytes)) ≡ false) [
+prefix_feedless : (bytes : List ℕ) → has_line_feed (take (position_or_len is_feed bytes) bytes) ≡ false
+prefix_feedless [] = refl
+prefix_feedless (b ∷ bytes) = elim (is_feed b) as (λ f. is_feed b ≡ f → has_line_feed (take (cond (not f) (1 + position_or_len is_feed bytes) 0) (b ∷ bytes)) ≡ false) [
   | true ↦ λ e. refl
   | false ↦ λ e. let one : 1 + position_or_len is_feed bytes ≡ suc (position_or_len is_feed bytes) = omega arith in
-      rw one (ap (λ t. t || has_line_feed (take (position_or_len is_feed bytes) bytes)) e ∙ front_feedless bytes)
+      rw one (ap (λ t. t || has_line_feed (take (position_or_len is_feed bytes) bytes)) e ∙ prefix_feedless bytes)
 ] refl
 
 -- a line has no line feed
 pub feedless : (bytes line : List ℕ) (k : ℕ) → k ≡ position_or_len is_feed bytes → line ≡ without_return (take k bytes) → not (has_line_feed line) ≡ true
 feedless bytes line k is line_is = ap (λ (l : List ℕ). not (has_line_feed l)) line_is
-    ∙ ap not (return_kept (take k bytes) (subst (λ n. has_line_feed (take n bytes) ≡ false) (sym is) (front_feedless bytes)))
+    ∙ ap not (return_kept (take k bytes) (subst (λ n. has_line_feed (take n bytes) ≡ false) (sym is) (prefix_feedless bytes)))

@@ -86,10 +86,6 @@ reads_passed a b c s t size on passes = record {
   ends = λ now. on.reads.ends (sym passes.ended ∙ now);
 }
 
-pub drop_prefix : (xs ys : List ℕ) → drop (length xs) (xs ++ ys) ≡ ys
-drop_prefix [] ys = refl
-drop_prefix (x ∷ xs) ys = drop_prefix xs ys
-
 -- the first line feed isn't nearer once other bytes stand behind
 pub pos_more : (bytes more : List ℕ) → position_or_len is_feed bytes ≤ position_or_len is_feed (bytes ++ more)
 pos_more [] more = omega arith

@@ -19,7 +19,7 @@ use Rattle.recording_file.specs.Recording.{Reading, LinesRead, Stop, Faulty, Und
 use Rattle.recording_file.specs.Finding.{ReadPlace, IsLine, IsTooLong, FindsNone, room, size_with_feed}
 use Rattle.recording_file.specs.Steps.{before, read_database, Halts, ReadsName, Ahead, StopsWith, Refuses, FaultAt}
 use Rattle.recording_file.proofs.FindLaws.{pos_more, return_short, not_long}
-use Rattle.recording_file.proofs.LineLaws.{raw_last, place_before, take_front, of_input_none, whole_line, cut_line, whole_last}
+use Rattle.recording_file.proofs.LineLaws.{raw_last, place_before, take_prefix, of_input_none, whole_line, cut_line, whole_last}
 use Rattle.recording_file.proofs.StepLaws.{whole_first, group_fault, database_fault, policy_fault}
 
 -- no line is there
@@ -88,8 +88,8 @@ pos_within (x ∷ xs) = let rest = pos_within xs in elim (is_feed x) as (λ f. c
 cut_none : (bytes : List ℕ) → position_or_len is_feed bytes ≡ length bytes → of_input_past_limit bytes ≡ record { lines = []; stop = at_limit bytes }
 cut_none bytes none = rw (raw_last bytes none) refl
 
-front_none : (bytes : List ℕ) → position_or_len is_feed bytes ≡ length bytes → of_input_so_far bytes ≡ record { lines = []; stop = at_open bytes }
-front_none bytes none = rw (raw_last bytes none) refl
+so_far_none : (bytes : List ℕ) → position_or_len is_feed bytes ≡ length bytes → of_input_so_far bytes ≡ record { lines = []; stop = at_open bytes }
+so_far_none bytes none = rw (raw_last bytes none) refl
 
 module _ (n limit : ℕ) (bytes : List ℕ) (size : ℕ) (no_feed : size ≤ position_or_len is_feed bytes) (long : is_long (without_return (take size bytes)) ≡ true) where
   -- of bytes that are all
@@ -122,7 +122,7 @@ module _ (n limit : ℕ) (bytes : List ℕ) (size : ℕ) (no_feed : size ≤ pos
         let k = position_or_len is_feed bytes in
         let place : position_or_len is_feed (take limit bytes) ≡ k = place_before limit bytes h (omega arith) in
         let within : length (take limit bytes) ≡ limit = omega (arith, length-take limit bytes) in
-        let first : is_long (without_return (take size (take limit bytes))) ≡ true = subst (λ l. is_long (without_return l) ≡ true) (sym (take_front size limit bytes fits)) long in
+        let first : is_long (without_return (take size (take limit bytes))) ≡ true = subst (λ l. is_long (without_return l) ≡ true) (sym (take_prefix size limit bytes fits)) long in
         subst (Halts n (Faulty (rec_faults.Line n faults.Long))) (sym (cut_line (take limit bytes) k (sym place) (omega arith))) (halt_long n _ _ (long_further size k (take limit bytes) no_feed (omega arith) first))
 
     cut_long : Halts n (Faulty (rec_faults.Line n faults.Long)) (of_input_past_limit (take limit bytes))
@@ -148,9 +148,9 @@ of_input_past n limit bytes beyond none short =
       le_not a b h = grind (arith, nat_tests)
 
 -- bytes that don't decide
-front_undecided : (n : ℕ) (bytes : List ℕ) → position_or_len is_feed bytes ≡ length bytes → is_long (without_return bytes) ≡ false → Halts n Undecided (of_input_so_far bytes)
-front_undecided n bytes none short =
-    subst (Halts n Undecided) (sym (front_none bytes none)) (halt_none n _ (at_open bytes) (λ f. ap (λ t. cond t (Faulty (rec_faults.Line n faults.Long)) Undecided) short))
+so_far_undecided : (n : ℕ) (bytes : List ℕ) → position_or_len is_feed bytes ≡ length bytes → is_long (without_return bytes) ≡ false → Halts n Undecided (of_input_so_far bytes)
+so_far_undecided n bytes none short =
+    subst (Halts n Undecided) (sym (so_far_none bytes none)) (halt_none n _ (at_open bytes) (λ f. ap (λ t. cond t (Faulty (rec_faults.Line n faults.Long)) Undecided) short))
 
 -- ---- refusals
 
@@ -184,7 +184,7 @@ module _ (R : ℕ → LinesRead → Reading) (ps : List PointValue) (b : ReadPla
     fails_find rec_faults.ReadFault none = record {
       not_ended = none.1;
       undecided = ap reading_so_far (sym (append-nil b.got)) ∙ h.prefix [] none.1 ∙ ap (λ l. with_points ps (R b.line (of_input_so_far l))) (append-nil b.bytes)
-          ∙ ap (with_points ps) (halts b.line _ _ (front_undecided b.line b.bytes none.0.no_feed none.0.short)) ∙ points_stopped ps Undecided;
+          ∙ ap (with_points ps) (halts b.line _ _ (so_far_undecided b.line b.bytes none.0.no_feed none.0.short)) ∙ points_stopped ps Undecided;
     }
     fails_find rec_faults.NoMemory none = tt
 

@@ -50,8 +50,8 @@ pub whole_line : (bytes : List ℕ) (k : ℕ) → k ≡ position_or_len is_feed 
 whole_line bytes k is lt =
     ap (λ (l : List (List ℕ)). record { lines = l; stop = at_end }) (ap all_lines (raw_line bytes k is lt) ∙ all_more (take k bytes) (raw_lines (drop (k + 1) bytes)) (some_raw (drop (k + 1) bytes)))
 
-pub front_line : (bytes : List ℕ) (k : ℕ) → k ≡ position_or_len is_feed bytes → k < length bytes → of_input_so_far bytes ≡ before (without_return (take k bytes)) (of_input_so_far (drop (k + 1) bytes))
-front_line bytes k is lt =
+pub so_far_line : (bytes : List ℕ) (k : ℕ) → k ≡ position_or_len is_feed bytes → k < length bytes → of_input_so_far bytes ≡ before (without_return (take k bytes)) (of_input_so_far (drop (k + 1) bytes))
+so_far_line bytes k is lt =
     let rest = raw_lines (drop (k + 1) bytes) in
     rw (raw_line bytes k is lt, closed_more (take k bytes) rest (some_raw (drop (k + 1) bytes)), last_more (take k bytes) rest (some_raw (drop (k + 1) bytes))) refl
 
@@ -82,11 +82,11 @@ place_before (suc limit) (b ∷ bytes) low lt =
           ap (λ n. 1 + n) (place_before limit bytes (omega arith) (omega arith))
     ] refl
 
-pub take_front : (k n : ℕ) (bytes : List ℕ) → k ≤ n → take k (take n bytes) ≡ take k bytes
-take_front zero n bytes h = refl
-take_front (suc k) zero bytes h = absurd (omega arith)
-take_front (suc k) (suc n) [] h = refl
-take_front (suc k) (suc n) (b ∷ bytes) h = ap (λ (l : List ℕ). b ∷ l) (take_front k n bytes (omega arith))
+pub take_prefix : (k n : ℕ) (bytes : List ℕ) → k ≤ n → take k (take n bytes) ≡ take k bytes
+take_prefix zero n bytes h = refl
+take_prefix (suc k) zero bytes h = absurd (omega arith)
+take_prefix (suc k) (suc n) [] h = refl
+take_prefix (suc k) (suc n) (b ∷ bytes) h = ap (λ (l : List ℕ). b ∷ l) (take_prefix k n bytes (omega arith))
 
 le_less : (a b c : ℕ) → c ≤ b → nat_le a b ≡ nat_le (a - c) (b - c)
 le_less a b c h = grind (arith, nat_tests)
@@ -108,7 +108,7 @@ of_input_line limit bytes k is lt fits =
     let some = take limit bytes in
     let place : position_or_len is_feed some ≡ position_or_len is_feed bytes = place_before limit bytes (omega arith) (omega arith) in
     let within : k < length some = omega (arith, length-take limit bytes) in
-    let first : take k some ≡ take k bytes = take_front k limit bytes (omega arith) in
+    let first : take k some ≡ take k bytes = take_prefix k limit bytes (omega arith) in
     let behind : drop (k + 1) some ≡ take left rest = ap (λ n. drop (k + 1) (take n bytes)) (omega arith) ∙ drop-take (k + 1) left bytes in
     elim (nat_le (length rest) left) as (λ t. nat_le (length bytes) limit ≡ t → cond (nat_le (length bytes) limit) (of_whole_input bytes) (of_input_past_limit (take limit bytes)) ≡ before (without_return (take k bytes)) (cond t (of_whole_input rest) (of_input_past_limit (take left rest)))) [
       | true ↦ λ e. ap (λ t. cond t (of_whole_input bytes) (of_input_past_limit (take limit bytes))) e ∙ whole_line bytes k is lt

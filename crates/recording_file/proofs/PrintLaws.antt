@@ -17,7 +17,7 @@ use Rattle.line_points.specs.Numbers.{is_digits}
 use Rattle.line_points.specs.Print.{Print}
 use Rattle.line_points.proofs.PrintLaws.{decimal_digits}
 use Rattle.line_points.proofs.PrintedLaws.{prints_again}
-use Rattle.line_points.proofs.TestLaws.{first_of, second_of}
+use Rattle.kap_base.proofs.TestLaws.{first_of, second_of, first_false, second_false, not_true}
 use Rattle.recording_file.specs.Lines.{is_feed, raw_lines, all_lines, record_text}
 use Rattle.recording_file.specs.Recording.{IsName, AreGroups, Recording}
 use Rattle.recording_file.specs.Printed.{IsRecordable, read_again}
@@ -27,20 +27,12 @@ use Rattle.recording_file.proofs.LineLaws.{some_raw, all_more}
 
 no_feeds : (line : List ℕ) → has_line_feed line ≡ false → All (λ b. is_feed b ≡ false) line
 no_feeds [] none = All-nil (λ b. is_feed b ≡ false)
-no_feeds (b ∷ line) none = All-cons (λ (x : ℕ). is_feed x ≡ false) b line (first_no (is_feed b) (has_line_feed line) none) (no_feeds line (second_no (is_feed b) (has_line_feed line) none)) where
-  first_no : (a b : Bool) → (a || b) ≡ false → a ≡ false
-  first_no true b e = cc
-  first_no false b e = refl
-
-  second_no : (a b : Bool) → (a || b) ≡ false → b ≡ false
-  second_no true b e = cc
-  second_no false b e = e
+no_feeds (b ∷ line) none =
+    All-cons (λ (x : ℕ). is_feed x ≡ false) b line (first_false (is_feed b) (has_line_feed line) none)
+    (no_feeds line (second_false (is_feed b) (has_line_feed line) none))
 
 no_feed : (line : List ℕ) → IsTrue (is_line line) → has_line_feed line ≡ false
-no_feed line is = by (has_line_feed line) (is_utf8 line) is where
-  by : (f u : Bool) → (not f && u) ≡ true → f ≡ false
-  by true u e = cc
-  by false u e = refl
+no_feed line is = not_true (has_line_feed line) (first_of (not (has_line_feed line)) (is_utf8 line) is)
 
 -- a line before others
 first_line : (line rest : List ℕ) → IsTrue (is_line line) → without_return line ≡ line → all_lines (raw_lines (line ++ line_feed ∷ rest)) ≡ line ∷ all_lines (raw_lines rest)
@@ -99,10 +91,7 @@ record_lines p rest h =
     ∙ ap (λ (l : List (List ℕ)). p.db ∷ p.rp ∷ l) (first_line (Print p) rest again.one_line (print_kept p h.point).kept)
 
 name_of : (line : List ℕ) → IsTrue (is_line line) → length line ≤ 65536 → IsName line
-name_of line is within = record { utf8 = by (has_line_feed line) (is_utf8 line) is; within = within } where
-  by : (f u : Bool) → (not f && u) ≡ true → u ≡ true
-  by true u e = absurd cc
-  by false u e = e
+name_of line is within = record { utf8 = second_of (not (has_line_feed line)) (is_utf8 line) is; within = within }
 
 are_groups : (ps : List PointValue) → All IsRecordable ps → AreGroups (all_lines (raw_lines (flat_map record_text ps))) (map read_again ps)
 are_groups [] each = tt

@@ -15,7 +15,7 @@ use Rattle.recording_file.specs.Recording.{Reading, LinesRead, Stop, Faulty, nam
 use Rattle.recording_file.specs.Finding.{ReadPlace, Stays, IsLine, Passes, room, size_with_feed}
 use Rattle.recording_file.specs.Steps.{before, behind_policy, behind_database, read_policy, read_database, Ahead}
 use Rattle.recording_file.proofs.FindLaws.{pos_there, nothing_more}
-use Rattle.recording_file.proofs.LineLaws.{of_input_first, front_line}
+use Rattle.recording_file.proofs.LineLaws.{of_input_first, so_far_line}
 
 pub not_yet : (b c : Bool) → (b ≡ true → c ≡ true) → c ≡ false → b ≡ false
 not_yet true c stays is = sym (stays refl) ∙ is
@@ -76,7 +76,7 @@ module _ (b : ReadPlace) (size : ℕ) (line : IsLine b size) where
       elim (nat_lt size (length b.bytes)) as (λ t. nat_lt size (length b.bytes) ≡ t → of_input_so_far (b.bytes ++ more) ≡ before (without_return (take size b.bytes)) (of_input_so_far (drop (size + 1) b.bytes ++ more))) [
         | true ↦ λ e.
             let lt : size < length b.bytes = grind (arith, nat_tests) in
-            front_line (b.bytes ++ more) size (inner more lt) (omega (arith, length-append b.bytes more))
+            so_far_line (b.bytes ++ more) size (inner more lt) (omega (arith, length-append b.bytes more))
             ∙ ap (λ l. before (without_return l) (of_input_so_far (drop (size + 1) (b.bytes ++ more)))) (take-append-le size b.bytes more (omega arith))
             ∙ ap (λ l. before (without_return (take size b.bytes)) (of_input_so_far l)) (drop-append-le (size + 1) b.bytes more (omega arith))
         | false ↦ λ e.

@@ -46,15 +46,15 @@ impl Window {
     pub fn held(&self) -> &[u8]
         ensures { result.now ≡ self.now }
     {
-        let (front, _) = self.buffer.split_at(self.end);
-        let (_, held) = front.split_at(self.start);
+        let (filled, _) = self.buffer.split_at(self.end);
+        let (_, held) = filled.split_at(self.start);
         held
     }
 
     /// Reads a piece of the source behind the bytes that it holds, and answers how many bytes came: 0 only at the source's end.
     /// `ReadFault` comes only where the source's count of faults rose in this call.
     pub fn fill<S: Source>(&mut self, source: &mut S) -> Result<usize, RecFault>
-        ensures front { take (length self.old) self.new ≡ self.old }
+        ensures kept { take (length self.old) self.new ≡ self.old }
         ensures len { IfOk result (λ n. length self.new ≡ length self.old + n) }
         ensures bytes { OnOk result
             (Consumes (S.left source.old) (S.left source.new) (drop (length self.old) self.new)) }
@@ -108,7 +108,7 @@ fn make_room(buffer: &mut Vec<u8>, end: usize) -> Result<(), NoMemory>
 /// Reads behind the first `end` bytes.
 fn read_behind<S: Source>(source: &mut S, buffer: &mut [u8], end: usize) -> Result<usize, Failed>
     requires { end < length buffer.old }
-    ensures front { take end buffer.new ≡ take end buffer.old }
+    ensures kept { take end buffer.new ≡ take end buffer.old }
     ensures bound { IfOk result (λ n. n + end ≤ length buffer.new) }
     ensures bytes { IfOk result (λ n.
         Consumes (S.left source.old) (S.left source.new) (take n (drop end buffer.new))) }
@@ -123,7 +123,7 @@ fn read_behind<S: Source>(source: &mut S, buffer: &mut [u8], end: usize) -> Resu
 /// Reads a piece of the source behind the first `end` bytes.
 fn append<S: Source>(source: &mut S, buffer: &mut Vec<u8>, end: usize) -> Result<usize, RecFault>
     requires { end ≤ length buffer.old.items }
-    ensures front { take end buffer.new.items ≡ take end buffer.old.items }
+    ensures kept { take end buffer.new.items ≡ take end buffer.old.items }
     ensures bound { IfOk result (λ n. n + end ≤ length buffer.new.items) }
     ensures long { end ≤ length buffer.new.items }
     ensures bytes { IfOk result (λ n.

@@ -21,7 +21,7 @@ returns-clause-stays g c =
     let held : old ≡ c.args.self.now.bytes = ap (λ (a : ReadPlace). a.bytes) c.self.view_is in
     let was : bytes_of c.self.inside.got ≡ c.args.self.now.got = ap (λ (a : ReadPlace). a.got) c.self.view_is in
     let size : c.args.size ≡ length old = c.requires.all ∙ ap length (sym held) in
-    let front : take (length old) new ≡ old = c.in_ok-count.ensures.front in
+    let kept : take (length old) new ≡ old = c.in_ok-count.ensures.kept in
     record {
       reads = record {
         piece = piece;
@@ -34,7 +34,7 @@ returns-clause-stays g c =
         none = λ e. let open_still = c.requires.not_ended in cc;
         ends = λ e. inr (at_end_over _ _ piece c.in_ok-count.ensures.bytes (c.in_ok-count.ensures.end (eqb-true _ _ e)));
       };
-      bytes = sym (take-append-drop (length old) new) ∙ ap (λ (l : List ℕ). l ++ piece) front ∙ ap (λ (l : List ℕ). l ++ piece) held;
+      bytes = sym (take-append-drop (length old) new) ∙ ap (λ (l : List ℕ). l ++ piece) kept ∙ ap (λ (l : List ℕ). l ++ piece) held;
       line = ap (λ (a : ReadPlace). a.line) c.self.view_is;
       passed = ap (λ (a : ReadPlace). a.passed) c.self.view_is;
     }
