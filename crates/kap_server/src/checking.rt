@@ -64,15 +64,11 @@ fn form_of(alloc: Global, bytes: &[u8]) -> Result<Text, ScriptFault>
 fn read_script<S: Source>(alloc: Global, input: &mut S) -> Result<Bytes, Status>
     ensures all { IfOk result (λ text. IsShort text × IsAll (S.left input.old) text) }
     ensures ended { IfOk result (λ text. HasEnded (S.left input.old) (S.left input.new)) }
-    ensures err {
-        IfErr result (λ s. (s ≡ Status.TooLong)
-            ⊎ ((s ≡ Status.ReadFault) ⊎ (s ≡ Status.NoMemory)))
-    }
+    ensures err { IfErr result (λ s. (s ≡ Status.TooLong)
+        ⊎ ((s ≡ Status.ReadFault) ⊎ (s ≡ Status.NoMemory))) }
     ensures long { result ≡ Err Status.TooLong → IsLong (S.left input.old) }
     ensures few { result ≡ Err Status.ReadFault → ReadsFew (S.left input.old) (S.left input.new) }
-    ensures rose {
-        result ≡ Err Status.ReadFault → HasRisen (S.faults input.old) (S.faults input.new)
-    }
+    ensures rose { result ≡ Err Status.ReadFault → HasRisen (S.faults input.old) (S.faults input.new) }
     ensures later { S.faults input.old ≤ S.faults input.new }
 {
     let mut piece = [0; PIECE];
@@ -99,9 +95,7 @@ fn read_script<S: Source>(alloc: Global, input: &mut S) -> Result<Bytes, Status>
 fn write_form<K: Sink>(alloc: Global, text: &[u8], out: &mut K) -> Status
     requires { length text.now ≤ SCRIPT_LIMIT }
     ensures checked { Checked result (Some text.now) None (K.written out.old) (K.written out.new) }
-    ensures write_fault {
-        result ≡ Status.WriteFault → HasRisen (K.faults out.old) (K.faults out.new)
-    }
+    ensures write_fault { result ≡ Status.WriteFault → HasRisen (K.faults out.old) (K.faults out.new) }
 {
     match form_of(alloc, text) {
         Ok(form) => match write_all(out, form.bytes()) {
@@ -114,17 +108,11 @@ fn write_form<K: Sink>(alloc: Global, text: &[u8], out: &mut K) -> Status
 
 /// Checks the script that the input gives, and writes its canonical form.
 pub(crate) fn check<S: Source, K: Sink>(alloc: Global, input: &mut S, out: &mut K) -> Status
-    ensures checked {
-        Checked result (S.left input.old) (S.left input.new) (K.written out.old)
-            (K.written out.new)
-    }
+    ensures checked { Checked result (S.left input.old) (S.left input.new) (K.written out.old)
+        (K.written out.new) }
     ensures read { result ≡ Status.Ok → HasEnded (S.left input.old) (S.left input.new) }
-    ensures read_fault {
-        result ≡ Status.ReadFault → HasRisen (S.faults input.old) (S.faults input.new)
-    }
-    ensures write_fault {
-        result ≡ Status.WriteFault → HasRisen (K.faults out.old) (K.faults out.new)
-    }
+    ensures read_fault { result ≡ Status.ReadFault → HasRisen (S.faults input.old) (S.faults input.new) }
+    ensures write_fault { result ≡ Status.WriteFault → HasRisen (K.faults out.old) (K.faults out.new) }
 {
     match read_script(alloc, input) {
         Ok(text) => write_form(alloc, text.as_slice(), out),

@@ -7,20 +7,16 @@ use crate::words::has_name_bytes;
 
 /// What follows this prefix.
 fn behind_prefix<'a>(text: &'a [u8], prefix: &[u8]) -> Option<&'a [u8]>
-    ensures {
-        MatchOption result ((rest : List ℕ) → text.now ≢ prefix.now ++ rest)
-            (λ rest. text.now ≡ prefix.now ++ rest.now)
-    }
+    ensures { MatchOption result ((rest : List ℕ) → text.now ≢ prefix.now ++ rest)
+        (λ rest. text.now ≡ prefix.now ++ rest.now) }
 {
     text.strip_prefix(prefix)
 }
 
 /// What stands before this suffix.
 fn before_suffix<'a>(text: &'a [u8], suffix: &[u8]) -> Option<&'a [u8]>
-    ensures {
-        MatchOption result ((rest : List ℕ) → text.now ≢ rest ++ suffix.now)
-            (λ rest. text.now ≡ rest.now ++ suffix.now)
-    }
+    ensures { MatchOption result ((rest : List ℕ) → text.now ≢ rest ++ suffix.now)
+        (λ rest. text.now ≡ rest.now ++ suffix.now) }
 {
     text.strip_suffix(suffix)
 }
@@ -41,5 +37,9 @@ pub(crate) fn measurement_of(script: &[u8]) -> Option<&[u8]>
 {
     let rest = behind_prefix(script, b"stream|from().measurement('")?;
     let name = before_suffix(rest, b"')|log()")?;
-    if is_plain_name(name) { Some(name) } else { None }
+    if is_plain_name(name) {
+        Some(name)
+    } else {
+        None
+    }
 }

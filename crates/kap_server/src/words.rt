@@ -65,10 +65,8 @@ fn is_id(word: &[u8]) -> bool
 }
 
 fn is_replay(command: &String, id: &String) -> bool
-    ensures {
-        result ≡ bytes_eq (string_bytes command.now) (codes "replay") && is_id
-            (string_bytes id.now) && not (is_option (string_bytes id.now))
-    }
+    ensures { result ≡ bytes_eq (string_bytes command.now) (codes "replay") && is_id
+        (string_bytes id.now) && not (is_option (string_bytes id.now)) }
 {
     command.as_str() == "replay" && is_id(id.as_bytes()) && !is_option(id.as_bytes())
 }

@@ -77,13 +77,15 @@ fn run<R: Input + Print + AllocGlobal>(rt: &R, words: &[String]) -> Status {
 
 /// The words behind the place `-`, where the words begin with it. No other place is known yet.
 fn words_behind_place(words: &[String]) -> Option<&[String]>
-    ensures {
-        option_map (λ rest. map string_bytes rest.now) result
-            ≡ behind_place (map string_bytes words.now)
-    }
+    ensures { option_map (λ rest. map string_bytes rest.now) result
+        ≡ behind_place (map string_bytes words.now) }
 {
     let (place, rest) = words.split_first()?;
-    if place.as_str() == "-" { Some(rest) } else { None }
+    if place.as_str() == "-" {
+        Some(rest)
+    } else {
+        None
+    }
 }
 
 /// Prints a text to standard output.

@@ -12,9 +12,9 @@ mod points;
 #[cfg(test)]
 mod print;
 #[cfg(test)]
-mod recordings;
-#[cfg(test)]
 mod program;
+#[cfg(test)]
+mod recordings;
 #[cfg(test)]
 mod scripts;
 #[cfg(test)]

@@ -8,15 +8,30 @@ use tick_parser::{ParseFault, Stmt, Val, Want};
 #[test]
 fn a_script_has_its_statements(rt: HostRuntime) -> Result<(), Fail> {
     let alloc = rt.alloc();
-    let script = "dbrp \"a\".\"b\" var x = lambda: -f(\"y\", 1) < (2) OR !z stream|w(x, *, -2s).as('c')";
+    let script =
+        "dbrp \"a\".\"b\" var x = lambda: -f(\"y\", 1) < (2) OR !z stream|w(x, *, -2s).as('c')";
     let tree = tree_of(alloc, script)?;
-    let [Stmt::Dbrp { db, rp, at: 0 }, Stmt::Var { name, value, at: 13 }, Stmt::Chain(chain)] = tree.as_slice() else {
+    let [
+        Stmt::Dbrp { db, rp, at: 0 },
+        Stmt::Var {
+            name,
+            value,
+            at: 13,
+        },
+        Stmt::Chain(chain),
+    ] = tree.as_slice()
+    else {
         return Err("other statements".into());
     };
     assert_eq!(rt; db.as_str(), "a");
     assert_eq!(rt; rp.as_str(), "b");
     assert_eq!(rt; name.as_str(), "x");
-    assert!(rt; matches!(value, Val::Lambda(kap_base::Expr::Bin(Op::Or, _, _, 46), 21)));
+    assert!(rt;
+        matches!(
+            value,
+            Val::Lambda(kap_base::Expr::Bin(Op::Or, _, _, 46), 21)
+        )
+    );
     assert_eq!(rt; chain.head.as_str(), "stream");
     assert_eq!(rt; chain.at, 52);
     Ok(())
@@ -33,7 +48,12 @@ fn a_script_is_refused_at_its_first_fault(rt: HostRuntime) -> Result<(), Fail> {
     let script = repeated(String::new(alloc), "a ", 4096)?;
     assert_eq!(rt; tree_of(alloc, script.as_str())?.len(), 4096);
     let script = repeated(script, "a ", 1)?;
-    assert!(rt; matches!(parsed(alloc, script.as_str())?, Err(ParseFault::TooMany(8192))));
+    assert!(rt;
+        matches!(
+            parsed(alloc, script.as_str())?,
+            Err(ParseFault::TooMany(8192))
+        )
+    );
     Ok(())
 }
 

@@ -65,7 +65,13 @@ fn a_body_is_its_lines(rt: HostRuntime) -> Result<(), Fail> {
     }
     assert_eq!(rt; out.as_slice(), b"m x=1i 1000000000;m x=2i 77;".as_slice());
     let faulty = read_body(alloc, b"m x=1i 1\n\nm 5\n", &name, &name, &SECONDS);
-    assert_eq!(rt; faulty.err(), Some(BodyFault { line: 3, fault: LineFault::Field }));
+    assert_eq!(rt;
+        faulty.err(),
+        Some(BodyFault {
+            line: 3,
+            fault: LineFault::Field
+        })
+    );
     Ok(())
 }
 

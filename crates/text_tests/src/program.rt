@@ -89,8 +89,14 @@ fn what_no_input_shows_has_its_text(rt: HostRuntime) -> Result<(), Fail> {
     }
     for (fault, text) in [
         (ScriptFault::Lex(LexFault::NoMemory), "script: Lex.NoMemory"),
-        (ScriptFault::Parse(ParseFault::NoMemory), "script: Parse.NoMemory"),
-        (ScriptFault::Name(VarFault::NoMemory), "script: Name.NoMemory"),
+        (
+            ScriptFault::Parse(ParseFault::NoMemory),
+            "script: Parse.NoMemory",
+        ),
+        (
+            ScriptFault::Name(VarFault::NoMemory),
+            "script: Name.NoMemory",
+        ),
         (ScriptFault::NoMemory, "script: NoMemory"),
     ] {
         assert_eq!(rt; script_text(alloc, &fault)?.as_slice(), text.as_bytes());

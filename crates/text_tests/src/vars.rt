@@ -14,8 +14,10 @@ fn bound(alloc: Global, script: &str) -> Result<Result<Bound, VarFault>, Fail> {
 #[test]
 fn names_are_what_they_stand_for(rt: HostRuntime) -> Result<(), Fail> {
     let alloc = rt.alloc();
-    let named = "dbrp \"a\".\"b\" var n = 5 var s = stream|x() var f = lambda: n + 1 s|w(f, s, n, *).p('c')";
-    let plain = "dbrp \"a\".\"b\" var n = 5 var s = stream|x() var f = lambda: 5 + 1 s|w(f, s, n, *).p('c')";
+    let named =
+        "dbrp \"a\".\"b\" var n = 5 var s = stream|x() var f = lambda: n + 1 s|w(f, s, n, *).p('c')";
+    let plain =
+        "dbrp \"a\".\"b\" var n = 5 var s = stream|x() var f = lambda: 5 + 1 s|w(f, s, n, *).p('c')";
     let named = bound(alloc, named)?.map_err(|_| "a fault")?;
     let plain = bound(alloc, plain)?.map_err(|_| "a fault")?;
     assert_eq!(rt; named.dbrps.len(), 1);
@@ -27,7 +29,13 @@ fn names_are_what_they_stand_for(rt: HostRuntime) -> Result<(), Fail> {
     assert_eq!(rt; w.kind.as_str(), "w");
     assert_eq!(rt; w.parent, 1);
     assert_eq!(rt; w.props.len(), 1);
-    let [Arg::Lambda(body, 50), Arg::Node(1, _), Arg::Lit(_, _), Arg::Star(_)] = w.args.as_slice() else {
+    let [
+        Arg::Lambda(body, 50),
+        Arg::Node(1, _),
+        Arg::Lit(_, _),
+        Arg::Star(_),
+    ] = w.args.as_slice()
+    else {
         return Err("other arguments".into());
     };
     let [_, _, other] = plain.nodes.as_slice() else {
@@ -43,7 +51,9 @@ fn names_are_what_they_stand_for(rt: HostRuntime) -> Result<(), Fail> {
 #[test]
 fn a_script_is_refused_for_its_first_name(rt: HostRuntime) -> Result<(), Fail> {
     let alloc = rt.alloc();
-    let fault = bound(alloc, "var a = 1 x|b(y|c())")?.err().ok_or("no fault")?;
+    let fault = bound(alloc, "var a = 1 x|b(y|c())")?
+        .err()
+        .ok_or("no fault")?;
     assert_eq!(rt; fault, VarFault::Unknown(10));
     let mut out = String::new(alloc);
     write!(out, "{fault:?}")?;
@@ -68,7 +78,11 @@ fn long_chains_and_lists_are_bound(rt: HostRuntime) -> Result<(), Fail> {
 #[test]
 fn a_long_lambda_is_handed_on_at_no_cost(rt: HostRuntime) -> Result<(), Fail> {
     let alloc = rt.alloc();
-    let script = repeated(String::from_str(alloc, "var l = lambda: f(1")?, ",1", 16_000)?;
+    let script = repeated(
+        String::from_str(alloc, "var l = lambda: f(1")?,
+        ",1",
+        16_000,
+    )?;
     let script = repeated(repeated(script, ") stream|w(l", 1)?, ",l", 16_000)?;
     let bound = bound(alloc, repeated(script, ")", 1)?.as_str())?.map_err(|_| "a fault")?;
     let last = bound.nodes.as_slice().last().ok_or("no node")?;
