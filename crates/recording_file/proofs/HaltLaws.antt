@@ -1,5 +1,5 @@
 -- Where a reader stops.
-use Rattle.std.proofs.Common.{◌≡◌, ◌≢◌, ℕ, zero, suc, ◌+◌, ◌-◌, ◌^◌, ◌<◌, ◌≤◌, Bool, true, false, cond, not, Option, Some, Ok, Err, List, [], ◌∷◌, ◌++◌, length, take, drop, min, refl, sym, ap, ◌∙◌, subst, append-nil, arith, length-append}
+use Rattle.std.proofs.Common.{◌≡◌, ◌≢◌, ℕ, zero, suc, ◌+◌, ◌<◌, ◌≤◌, Bool, true, false, cond, not, Some, Ok, Err, List, [], ◌∷◌, ◌++◌, length, take, refl, sym, ap, ◌∙◌, subst, append-nil, arith, length-append}
 use Rattle.std.specs.Prelude.{Result, IsTrue, nat_lt, nat_le, ◌==◌}
 use Rattle.std.specs.List.{position_or_len}
 use Rattle.std.proofs.lemmas.Bool.Decides.{nat_tests}
@@ -16,9 +16,9 @@ use Rattle.recording_file.specs.declared.fault.RecFault.{RecFault}
 use Rattle.recording_file.specs.declared.fault.RecFault.TheVariants as rec_faults
 use Rattle.recording_file.specs.Lines.{is_feed, is_long}
 use Rattle.recording_file.specs.Recording.{Reading, LinesRead, Stop, Faulty, Undecided, name_of_line, no_points, with_points, at_open, at_limit, of_whole_input, of_input_so_far, of_input_past_limit, of_input, read, reading_so_far}
-use Rattle.recording_file.specs.Finding.{ReadPlace, IsLine, IsTooLong, FindsNone, room, size_with_feed}
+use Rattle.recording_file.specs.Finding.{ReadPlace, IsLine, IsTooLong, FindsNone, room}
 use Rattle.recording_file.specs.Steps.{before, read_database, Halts, ReadsName, Ahead, StopsWith, Refuses, FaultAt}
-use Rattle.recording_file.proofs.FindLaws.{pos_more, return_short, not_long}
+use Rattle.recording_file.proofs.FindLaws.{pos_more, return_short}
 use Rattle.recording_file.proofs.LineLaws.{raw_last, place_before, take_prefix, of_input_none, whole_line, cut_line, whole_last}
 use Rattle.recording_file.proofs.StepLaws.{whole_first, group_fault, database_fault, policy_fault}
 

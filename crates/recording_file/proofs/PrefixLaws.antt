@@ -13,7 +13,7 @@ use Rattle.line_points.specs.Line.{line_of}
 use Rattle.recording_file.specs.declared.fault.RecFault.{RecFault}
 use Rattle.recording_file.specs.declared.fault.RecFault.TheVariants as rec_faults
 use Rattle.recording_file.specs.Lines.{is_feed, is_long, raw_lines, closed_lines, last_part}
-use Rattle.recording_file.specs.Recording.{Reading, LinesRead, Stop, Faulty, Undecided, GoesOn, name_of_line, at_line, unless_fault, no_points, with_first, with_line, groups, at_open, of_input, read, reading_of, reading_so_far}
+use Rattle.recording_file.specs.Recording.{Reading, LinesRead, Faulty, Undecided, GoesOn, name_of_line, at_line, unless_fault, no_points, with_first, with_line, groups, at_open, of_input, read, reading_of, reading_so_far}
 use Rattle.recording_file.specs.Steps.{before, behind_policy, behind_database, Halts}
 use Rattle.recording_file.proofs.FindLaws.{pos_more, pos_there}
 use Rattle.recording_file.proofs.LineLaws.{some_raw, raw_line, raw_last, closed_more, last_more, of_input_line}

@@ -1,16 +1,15 @@
 -- Records that are printed, read again.
-use Rattle.std.proofs.Common.{◌≡◌, ◌≢◌, ℕ, suc, ◌+◌, ◌^◌, ◌<◌, ◌≤◌, Bool, true, false, cond, not, ◌&&◌, ◌||◌, List, [], ◌∷◌, ◌++◌, length, map, Ok, Some, refl, sym, ap, ◌∙◌, subst, append_assoc, arith, length-append}
-use Rattle.std.specs.Prelude.{ℤ, pos, negsuc, IsTrue, ◌==◌, nat_lt, All}
+use Rattle.std.proofs.Common.{◌≡◌, ℕ, suc, ◌^◌, ◌<◌, ◌≤◌, true, false, cond, not, List, [], ◌∷◌, ◌++◌, length, map, refl, sym, ap, ◌∙◌, subst, append_assoc, arith, length-append}
+use Rattle.std.specs.Prelude.{ℤ, pos, negsuc, IsTrue, ◌==◌, All}
 use Rattle.std.specs.Char.{is_ascii_digit}
-use Rattle.std.specs.List.{flat_map, list_any, list_all}
+use Rattle.std.specs.List.{flat_map, list_all}
 use Rattle.std.specs.Str.{is_utf8}
 use Rattle.std.specs.Fmt.{decimal, signed_decimal}
-use Rattle.std.specs.FinMap.{entries}
 use Rattle.std.proofs.lemmas.Bool.{leb-true, ltb-true}
 use Rattle.std.proofs.lemmas.Bool.Decides.{nat_tests}
 use Rattle.std.proofs.lemmas.List.Elements.{All-nil, All-cons}
 use Rattle.std.proofs.lemmas.List.Splits.{slice_split_at}
-use Rattle.kap_base.specs.Texts.{line_feed, has_line_feed, is_line, is_empty}
+use Rattle.kap_base.specs.Texts.{line_feed, has_line_feed, is_line}
 use Rattle.kap_base.specs.Points.{PointValue, IsPoint, is_time}
 use Rattle.line_points.specs.Body.{without_return, carriage_return}
 use Rattle.line_points.specs.Numbers.{is_digits}

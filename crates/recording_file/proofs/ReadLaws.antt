@@ -1,9 +1,9 @@
 -- What a reader has read of a source, call after call.
-use Rattle.std.proofs.Common.{◌≡◌, ℕ, Bool, false, Option, None, Some, List, [], ◌++◌, inl, inr, refl, sym, ap, ◌∙◌, subst, append-nil}
+use Rattle.std.proofs.Common.{◌≡◌, ℕ, false, Option, None, Some, List, [], ◌++◌, inl, inr, sym, subst}
 use Rattle.std.specs.Prelude.{IsTrue}
 use Rattle.std.specs.Io.KnownBytes.{Consumes}
 use Rattle.std.proofs.KnownBytes.{Consumes-nil, Consumes-trans}
-use Rattle.recording_file.specs.Reading.{ReaderState, ReaderReads, HasRead, HasEnded}
+use Rattle.recording_file.specs.Reading.{ReaderState, ReaderReads, HasRead}
 use Rattle.recording_file.proofs.FindLaws.{ended_kept, ended_later}
 
 -- at the start nothing was read

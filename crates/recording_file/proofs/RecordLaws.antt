@@ -1,6 +1,6 @@
 -- What bytes give, against what a recording is.
-use Rattle.std.proofs.Common.{◌≡◌, ◌≢◌, ℕ, ◌+◌, ◌^◌, ◌<◌, ◌≤◌, Bool, true, false, cond, Option, None, Some, Ok, Err, List, [], ◌∷◌, length, take, refl, sym, ap, ◌∙◌, subst, arith}
-use Rattle.std.specs.Prelude.{Result, IsTrue, nat_le}
+use Rattle.std.proofs.Common.{◌≡◌, ◌≢◌, ℕ, ◌+◌, ◌^◌, ◌≤◌, Bool, true, false, cond, Option, None, Some, Ok, Err, List, [], ◌∷◌, length, take, refl, sym, ap, ◌∙◌, subst, arith}
+use Rattle.std.specs.Prelude.{Result, nat_le}
 use Rattle.std.specs.Str.{is_utf8}
 use Rattle.std.proofs.lemmas.Bool.Decides.{nat_tests}
 use Rattle.kap_base.specs.Points.{PointValue}
@@ -11,7 +11,7 @@ use Rattle.line_points.specs.Line.{line_of}
 use Rattle.recording_file.specs.declared.fault.RecFault.{RecFault}
 use Rattle.recording_file.specs.declared.fault.RecFault.TheVariants as rec_faults
 use Rattle.recording_file.specs.Lines.{is_long, raw_lines, closed_lines, all_lines, last_part}
-use Rattle.recording_file.specs.Recording.{IsName, AreGroups, Recording, Reading, Stop, Ended, Faulty, Undecided, name_of_line, at_line, unless_fault, no_points, with_first, with_line, groups, at_end, at_limit, of_input, of_whole_input, of_input_past_limit, read, reading_of}
+use Rattle.recording_file.specs.Recording.{IsName, AreGroups, Recording, Reading, Stop, Ended, Faulty, name_of_line, at_line, unless_fault, with_first, with_line, groups, at_end, at_limit, of_whole_input, of_input_past_limit, read, reading_of}
 use Rattle.recording_file.proofs.PointLaws.{not_blank}
 
 -- ---- names

@@ -1,6 +1,5 @@
 -- Where a reader stands, and what it says of that.
-use Rattle.std.proofs.Common.{◌≡◌, ℕ, ◌+◌, ◌^◌, ◌<◌, ◌≤◌, Bool, true, false, Option, List, [], ◌∷◌, ◌++◌, length, refl, sym, ap, ◌∙◌, subst, append-nil, arith, length-append}
-use Rattle.std.specs.Prelude.{IsTrue}
+use Rattle.std.proofs.Common.{◌≡◌, ℕ, ◌+◌, false, Option, List, [], ◌∷◌, ◌++◌, length, refl, sym, ap, ◌∙◌, append-nil, arith, length-append}
 use Rattle.kap_base.specs.Points.{PointValue}
 use Rattle.recording_file.specs.Recording.{Reading, Ended, of_input, read, reading_of}
 use Rattle.recording_file.specs.Reading.{ReaderState, Gives, GaveAll}

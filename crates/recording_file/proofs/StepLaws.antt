@@ -11,7 +11,7 @@ use Rattle.line_points.specs.Body.{without_return}
 use Rattle.line_points.specs.Line.{line_of}
 use Rattle.recording_file.specs.declared.fault.RecFault.TheVariants as rec_faults
 use Rattle.recording_file.specs.Lines.{is_feed}
-use Rattle.recording_file.specs.Recording.{Reading, LinesRead, Stop, Faulty, name_of_line, at_line, unless_fault, no_points, with_first, with_points, with_line, groups, of_input_so_far, of_input, read, reading_of, reading_so_far}
+use Rattle.recording_file.specs.Recording.{Reading, LinesRead, Stop, Faulty, name_of_line, at_line, unless_fault, no_points, with_points, with_line, groups, of_input_so_far, of_input, read, reading_of, reading_so_far}
 use Rattle.recording_file.specs.Finding.{ReadPlace, Stays, IsLine, Passes, room, size_with_feed}
 use Rattle.recording_file.specs.Steps.{before, behind_policy, behind_database, read_policy, read_database, Ahead}
 use Rattle.recording_file.proofs.FindLaws.{pos_there, nothing_more}

@@ -1,11 +1,11 @@
 -- What a reader says of the points that it has given and of the bytes that it has read.
-use Rattle.std.specs.Prelude.{◌≡◌, ◌⊎◌, ◌++◌, ◌∷◌, ◌≤◌, Bool, false, ℕ, Option, None, Some, List, [], IsTrue, Result, Ok, Err, length}
+use Rattle.std.specs.Prelude.{◌≡◌, ◌⊎◌, ◌++◌, ◌∷◌, ◌≤◌, Bool, false, ℕ, Option, None, Some, List, [], IsTrue, length}
 use Rattle.std.specs.Io.KnownBytes.{Consumes}
 use Rattle.kap_base.specs.Points.{PointValue}
 use Rattle.recording_file.specs.declared.fault.RecFault.{RecFault}
 use Rattle.recording_file.specs.declared.fault.RecFault.TheVariants.{Line, Truncated, Long, ReadFault, NoMemory}
 use Rattle.recording_file.specs.declared.lines.TheConstants.{RECORDING_LIMIT}
-use Rattle.recording_file.specs.Recording.{Recording, Reading, Stop, Ended, Faulty, Undecided, reading_of, reading_so_far}
+use Rattle.recording_file.specs.Recording.{Recording, Stop, Faulty, Undecided, reading_of, reading_so_far}
 
 -- a reader: the points given so far, the bytes read so far, whether these are all, and whether a call has failed
 pub record ReaderState : Type 0 where

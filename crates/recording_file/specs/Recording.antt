@@ -1,7 +1,6 @@
 -- Recordings: groups of three lines, a database, a policy and a line of the line protocol, each of which gives a point.
 use Rattle.std.specs.Prelude.{◌≡◌, ℕ, ◌+◌, ◌≤◌, Bool, true, false, IsTrue, Option, None, Some, List, [], ◌∷◌, ◌++◌, length, take, Result, Ok, Err, nat_le, if◌then◌else◌}
 use Rattle.std.specs.Str.{is_utf8}
-use Rattle.kap_base.specs.Words.{◌>>=◌}
 use Rattle.kap_base.specs.Points.{PointValue}
 use Rattle.line_points.specs.declared.fault.LineFault.{LineFault}
 use Rattle.line_points.specs.declared.fault.LineFault.TheVariants as faults

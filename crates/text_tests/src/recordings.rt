@@ -5,6 +5,7 @@ ghost use Rattle.std.specs.Prelude.{◌≡◌, ◌<◌, false};
 
 use kap_base::{Bytes, Point};
 use kap_io::{Failed, MemSink, MemSource, ReadSource, Sink, Source, WriteSink, write_all};
+use kap_server::{Status, command};
 use line_points::LineFault;
 use recording_file::{Reader, RecFault, print_record};
 use std::alloc::{AllocError, Global};
@@ -104,10 +105,10 @@ fn points_come_in_any_pieces_and_none_behind_them(rt: HostRuntime) -> Result<(),
     Ok(())
 }
 
-/// What the first call of a reader answers that reads these bytes in one piece, and then fails.
-fn first_fault(alloc: Global, bytes: &[u8]) -> Result<Option<RecFault>, Fail> {
+/// What the first call of a reader answers whose source gives these bytes and fails at that call.
+fn first_fault(alloc: Global, bytes: &[u8], call: u64) -> Result<Option<RecFault>, Fail> {
     let mut reader = Reader::new(alloc);
-    let mut source = source(alloc, bytes, 100_000, &[2])?;
+    let mut source = source(alloc, bytes, 100_000, &[call])?;
     Ok(reader.next(alloc, &mut source).err())
 }
 
@@ -115,15 +116,15 @@ fn first_fault(alloc: Global, bytes: &[u8]) -> Result<Option<RecFault>, Fail> {
 fn a_line_is_too_long_as_soon_as_its_bytes_say_so(rt: HostRuntime) -> Result<(), Fail> {
     let alloc = rt.alloc();
     let mut name = vec![in alloc; b'd'; 65_536]?;
-    assert_eq!(rt; first_fault(alloc, &name)?, Some(RecFault::ReadFault));
+    assert_eq!(rt; first_fault(alloc, &name, 2)?, Some(RecFault::ReadFault));
     name.push(b'\r')?;
-    assert_eq!(rt; first_fault(alloc, &name)?, Some(RecFault::ReadFault));
+    assert_eq!(rt; first_fault(alloc, &name, 3)?, Some(RecFault::ReadFault));
     let long = Some(RecFault::Line {
         line: 1,
         fault: LineFault::Long,
     });
     name[65_536] = b'd';
-    assert_eq!(rt; first_fault(alloc, &name)?, long);
+    assert_eq!(rt; first_fault(alloc, &name, 3)?, long);
     Ok(())
 }
 
@@ -141,5 +142,21 @@ fn a_reader_whose_source_failed_is_spent(rt: HostRuntime) -> Result<(), Fail> {
         assert_eq!(rt; second.err(), Some(RecFault::ReadFault));
     }
     assert!(rt; reader.is_spent());
+    Ok(())
+}
+
+/// The sink fails at its second write, so the first shows what was written before the second group was read.
+#[test]
+fn what_is_due_is_written_before_the_input_is_read_on(rt: HostRuntime) -> Result<(), Fail> {
+    let alloc = rt.alloc();
+    let mut words = Vec::new(alloc);
+    for word in ["replay", "t", "stream|from().measurement('m')|log()"] {
+        words.push(String::from_str(alloc, word)?)?;
+    }
+    let mut source = source(alloc, b"d\nr\nm x=1i 5\nd\nr\nm x=1i 6\n", 14, &[])?;
+    let mut sink = MemSink::new(alloc, 100, [2].to_vec(alloc)?);
+    let status = command(alloc, &words, &mut source, &mut sink);
+    assert_eq!(rt; status, Status::WriteFault);
+    assert_eq!(rt; sink.bytes(), b"out t log2 m x=1i 5\n".as_slice());
     Ok(())
 }

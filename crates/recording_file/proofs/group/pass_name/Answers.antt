@@ -1,4 +1,4 @@
-use Rattle.std.proofs.Common.{◌≡◌, ◌≢◌, Ok, Err, [], ◌∙◌, sym, ap, length, take}
+use Rattle.std.proofs.Common.{◌≡◌, ◌≢◌, Ok, Err, [], ◌∙◌, sym, ap, take}
 use Rattle.std.specs.Prelude.{IsTrue}
 use Rattle.std.proofs.lemmas.Result.{err_from_is_err_and}
 use Rattle.line_points.specs.declared.fault.LineFault.TheVariants as faults

@@ -1,4 +1,4 @@
-use Rattle.std.proofs.Common.{◌≡◌, ◌≤◌, Bool, List, ℕ, Ok, Err, ◌++◌, length, sym, ap, ◌∙◌, refl, subst}
+use Rattle.std.proofs.Common.{◌≤◌, Bool, List, ℕ, Ok, Err, sym, refl, subst}
 use Rattle.std.specs.Prelude.{Result, IfOk}
 use Rattle.std.specs.Bool.{OnTrue}
 use Rattle.std.specs.List.{position_or_len}
