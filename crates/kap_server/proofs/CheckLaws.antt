@@ -119,7 +119,11 @@ of_tokens text short utf8 tokens has (inl read) =
 of_tokens text short utf8 tokens has (inr refused) = (statuses.Script (Parse refused.0), (short, (utf8, (tokens, has, refused.1))))
 
 of_text : (text : List ℕ) → IsShort text → IsUtf8 text → ((tokens : List Token) × HasTokens text tokens) ⊎ ((fault : LexFault) × HasFirstFault text fault) → Outcome text
-of_text text short utf8 (inl lexed) = of_tokens text short utf8 lexed.0 lexed.1 (readings.either DEPTH_LIMIT OPERATOR_LIMIT STATEMENT_LIMIT lexed.0)
+of_text text short utf8 (inl lexed) =
+    of_tokens text short utf8 lexed.0 lexed.1 (elim (readings.either DEPTH_LIMIT OPERATOR_LIMIT STATEMENT_LIMIT lexed.0) [
+      | inl read ↦ inl (read.0, (read.1, read.2))
+      | inr refused ↦ inr refused
+    ])
 of_text text short utf8 (inr fault) = (statuses.Script (Lex fault.0), (short, (utf8, fault.1)))
 
 of_bytes : (text : List ℕ) → IsShort text → (b : Bool) → is_utf8 text ≡ b → Outcome text
