@@ -1,9 +1,9 @@
-use Rattle.std.proofs.Common.{◌≡◌, ◌<◌, ◌≤◌, ◌∙◌, ap, sym, arith, length, rules, drop, Ok}
+use Rattle.std.proofs.Common.{◌<◌, ◌≤◌, ◌∙◌, ap, sym, length, rules, drop, Ok}
 use Rattle.std.proofs.lemmas.List.{drop_all}
 use Rattle.std.proofs.lemmas.Result.{err_from_is_err_and}
 use Rattle.lambda_eval.proofs.JoinLaws.{conjunction, fault_ends, fault_stays, first_of_all}
 use Rattle.lambda_eval.proofs.Sound.{answer_typed}
-use Rattle.lambda_eval.specs.Values.{joined_by_and, val}
+use Rattle.lambda_eval.specs.Values.{joined_by_and}
 use Rattle.lambda_eval.proofs.values.value_of_all.Goals as goal
 
 pub returns-in_err-value-clause-answer : goal.returns-in_err-value-clause-answer
