@@ -1,12 +1,6 @@
-//! Tests of the crates that read and write texts and bytes: what no clause says.
+//! Tests of the crates that read and write texts: what no clause says and no case shows.
 #![tactic(auto)]
 
-#[cfg(test)]
-mod codes;
-#[cfg(test)]
-mod lexer;
-#[cfg(test)]
-mod parser;
 #[cfg(test)]
 mod points;
 #[cfg(test)]
@@ -15,9 +9,3 @@ mod print;
 mod program;
 #[cfg(test)]
 mod recordings;
-#[cfg(test)]
-mod scripts;
-#[cfg(test)]
-mod values;
-#[cfg(test)]
-mod vars;

@@ -5,10 +5,8 @@ ghost use Rattle.kap_base.specs.Texts.{has_line_feed};
 
 use kap_base::{Bytes, Text};
 use line_points::{
-    BodyFault, LineFault, Mode, Unit, body_text, print_line, put_line, read_body, read_line,
-    read_stored,
+    BodyFault, LineFault, Mode, Unit, print_line, put_line, read_body, read_line, read_stored,
 };
-use std::alloc::Global;
 use std::test::Fail;
 
 /// A point in its canonical line, with each sort of value and of escape.
@@ -43,15 +41,6 @@ fn a_line_is_read_and_printed(rt: HostRuntime) -> Result<(), Fail> {
 }
 
 #[test]
-fn a_live_line_may_be_blank(rt: HostRuntime) -> Result<(), Fail> {
-    let name = Text::from_str(rt.alloc(), "d")?;
-    let line = b"  # c".as_slice();
-    assert!(rt; !has_feed(line) && !has_feed(name.bytes()));
-    assert!(rt; read_line(rt.alloc(), line, &name, &name, &SECONDS)?.is_none());
-    Ok(())
-}
-
-#[test]
 fn a_body_is_its_lines(rt: HostRuntime) -> Result<(), Fail> {
     let alloc = rt.alloc();
     let name = Text::from_str(alloc, "d")?;
@@ -72,19 +61,5 @@ fn a_body_is_its_lines(rt: HostRuntime) -> Result<(), Fail> {
             fault: LineFault::Field
         })
     );
-    Ok(())
-}
-
-#[test]
-fn faults_that_no_case_shows_have_their_names(rt: HostRuntime) -> Result<(), Fail> {
-    let named = [
-        (LineFault::Long, "line 1: Long"),
-        (LineFault::NotUtf8, "line 1: NotUtf8"),
-        (LineFault::NoMemory, "line 1: NoMemory"),
-    ];
-    for (fault, text) in named {
-        let printed = body_text(rt.alloc(), &BodyFault { line: 1, fault })?;
-        assert_eq!(rt; printed.as_slice(), text.as_bytes());
-    }
     Ok(())
 }

@@ -1,6 +1,5 @@
 //! Scripts with their prints: that each construct finds memory, and that what is printed is read again.
 
-use crate::scripts::repeated;
 use kap_base::Text;
 use std::alloc::Global;
 use std::test::Fail;
@@ -55,16 +54,5 @@ fn scripts_have_these_prints_and_these_print_themselves(rt: HostRuntime) -> Resu
         let again = prints.again.ok_or("it is short")?;
         assert_eq!(rt; again.as_str(), *want, "again at {script}");
     }
-    Ok(())
-}
-
-#[test]
-fn a_long_print_is_not_read_again(rt: HostRuntime) -> Result<(), Fail> {
-    let alloc = rt.alloc();
-    let script = repeated(String::from_str(alloc, "a|b(1")?, ",1", 30_000)?;
-    let prints = print_twice(alloc, repeated(script, ")", 1)?.as_str())?;
-    // `a|b(1`, 30,000 times a comma, a space and a digit, `)` and a line feed
-    assert_eq!(rt; prints.once.as_str().len(), 5 + 90_000 + 2);
-    assert!(rt; prints.again.is_none());
     Ok(())
 }

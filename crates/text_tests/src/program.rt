@@ -65,19 +65,6 @@ fn a_replay_ends_where_a_device_fails(rt: HostRuntime) -> Result<(), Fail> {
 }
 
 #[test]
-fn a_check_ends_where_a_device_fails(rt: HostRuntime) -> Result<(), Fail> {
-    let alloc = rt.alloc();
-    let script = b"stream|from()|log()";
-    let done = run(alloc, &["check"], script, 5, &[3], 9, &[])?;
-    assert_eq!(rt; done.status, Status::ReadFault);
-    assert_eq!(rt; done.sink.bytes(), b"".as_slice());
-    let done = run(alloc, &["check"], script, 5, &[], 9, &[2])?;
-    assert_eq!(rt; done.status, Status::WriteFault);
-    assert_eq!(rt; done.sink.bytes(), b"stream|fr".as_slice());
-    Ok(())
-}
-
-#[test]
 fn what_no_input_shows_has_its_text(rt: HostRuntime) -> Result<(), Fail> {
     let alloc = rt.alloc();
     for (status, text) in [

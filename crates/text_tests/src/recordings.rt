@@ -4,10 +4,9 @@
 ghost use Rattle.std.specs.Prelude.{◌≡◌, ◌<◌, false};
 
 use kap_base::{Bytes, Point};
-use kap_io::{Failed, MemSink, MemSource, ReadSource, Sink, Source, WriteSink, write_all};
+use kap_io::{Failed, MemSink, MemSource, ReadSource, Source, WriteSink, write_all};
 use kap_server::{Status, command};
-use line_points::LineFault;
-use recording_file::{Reader, RecFault, print_record};
+use recording_file::{Reader, print_record};
 use std::alloc::{AllocError, Global};
 use std::fs::{self, File};
 use std::test::Fail;
@@ -31,23 +30,6 @@ fn read_all<S: Source>(alloc: Global, source: &mut S, calls: u32) -> Result<Vec<
         }
     }
     Ok(all)
-}
-
-#[test]
-fn fakes_fail_at_the_calls_that_are_listed(rt: HostRuntime) -> Result<(), Fail> {
-    let alloc = rt.alloc();
-    let mut source = source(alloc, b"abcdefg", 3, &[2])?;
-    assert_eq!(rt;
-        read_all(alloc, &mut source, 9)?.as_slice(),
-        b"abc!defg".as_slice()
-    );
-    let mut sink = MemSink::new(alloc, 2, [3].to_vec(alloc)?);
-    assert!(rt; write_all(&mut sink, b"abcdef").is_err());
-    assert_eq!(rt; sink.bytes(), b"abcd".as_slice());
-    assert!(rt; write_all(&mut sink, b"xyz").is_ok());
-    assert_eq!(rt; sink.bytes(), b"abcdxyz".as_slice());
-    assert_eq!(rt; Failed.to_string(alloc)?.as_str(), "a device failed");
-    Ok(())
 }
 
 #[test]
@@ -102,46 +84,6 @@ fn points_come_in_any_pieces_and_none_behind_them(rt: HostRuntime) -> Result<(),
         assert_eq!(rt; text.as_slice(), RECORDS, "in steps of {step}");
         assert_eq!(rt; ends, 3);
     }
-    Ok(())
-}
-
-/// What the first call of a reader answers whose source gives these bytes and fails at that call.
-fn first_fault(alloc: Global, bytes: &[u8], call: u64) -> Result<Option<RecFault>, Fail> {
-    let mut reader = Reader::new(alloc);
-    let mut source = source(alloc, bytes, 100_000, &[call])?;
-    Ok(reader.next(alloc, &mut source).err())
-}
-
-#[test]
-fn a_line_is_too_long_as_soon_as_its_bytes_say_so(rt: HostRuntime) -> Result<(), Fail> {
-    let alloc = rt.alloc();
-    let mut name = vec![in alloc; b'd'; 65_536]?;
-    assert_eq!(rt; first_fault(alloc, &name, 2)?, Some(RecFault::ReadFault));
-    name.push(b'\r')?;
-    assert_eq!(rt; first_fault(alloc, &name, 3)?, Some(RecFault::ReadFault));
-    let long = Some(RecFault::Line {
-        line: 1,
-        fault: LineFault::Long,
-    });
-    name[65_536] = b'd';
-    assert_eq!(rt; first_fault(alloc, &name, 3)?, long);
-    Ok(())
-}
-
-#[test]
-fn a_reader_whose_source_failed_is_spent(rt: HostRuntime) -> Result<(), Fail> {
-    let alloc = rt.alloc();
-    let mut reader = Reader::new(alloc);
-    let mut source = source(alloc, b"d\nr\nm x=1i 5\nd\nr\nm x=1i 6\n", 15, &[2])?;
-    assert!(rt; !reader.holds_point() && !reader.is_spent());
-    let first = reader.next(alloc, &mut source);
-    assert!(rt; matches!(first, Ok(Some(point)) if point.time == 5));
-    assert!(rt; !reader.holds_point());
-    if !reader.is_spent() {
-        let second = reader.next(alloc, &mut source);
-        assert_eq!(rt; second.err(), Some(RecFault::ReadFault));
-    }
-    assert!(rt; reader.is_spent());
     Ok(())
 }
 

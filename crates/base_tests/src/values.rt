@@ -4,8 +4,7 @@ ghost use Rattle.std.specs.Prelude.{◌≡◌};
 ghost use Rattle.kap_base.specs.Texts.{has_line_feed};
 
 use kap_base::{
-    Bytes, Duplicate, Expr, Exprs, Fields, ItemList, KeyMap, Lit, Names, NoMemory, Op, Point,
-    SharedExpr, SharedText, Text, TextFault, Value, utf8_text,
+    Expr, Exprs, Fields, ItemList, KeyMap, Lit, Op, Point, SharedExpr, SharedText, Text, Value,
 };
 use line_points::{Mode, read_line};
 use std::alloc::Global;
@@ -22,33 +21,6 @@ fn fields(alloc: Global, entries: &[(&str, i64)]) -> Result<Fields, Fail> {
         list.push((text(alloc, key)?, Value::Int(*number)))?;
     }
     Ok(Fields::from_entries(alloc, list)?)
-}
-
-#[test]
-fn bytes_are_texts_where_they_are_utf8(rt: HostRuntime) -> Result<(), Fail> {
-    let alloc = rt.alloc();
-    assert_eq!(rt; Text::from_bytes(alloc, "µ".as_bytes())?, text(alloc, "µ")?);
-    assert!(rt; matches!(Text::from_bytes(alloc, b"\xff"), Err(TextFault::NotUtf8)));
-    let copied = text(alloc, "cpu")?.copy(alloc)?;
-    assert_eq!(rt; Text::from_string(String::from_str(alloc, "cpu")?), copied);
-    assert_eq!(rt; copied.to_string(alloc)?.as_str(), "cpu");
-    assert_eq!(rt; NoMemory.to_string(alloc)?.as_str(), "no memory");
-    assert_eq!(rt; utf8_text(b"a\xe0\x80"), Err(2));
-    Ok(())
-}
-
-#[test]
-fn lists_take_items_at_their_end(rt: HostRuntime) -> Result<(), Fail> {
-    let alloc = rt.alloc();
-    let mut bytes = Bytes::new(alloc);
-    assert!(rt; bytes.is_empty());
-    bytes.push(1)?;
-    bytes.append(&[2, 3])?;
-    assert_eq!(rt; bytes.copy(alloc)?.as_slice(), [1, 2, 3].as_slice());
-    let mut names = Names::new(alloc);
-    names.push(text(alloc, "a")?)?;
-    assert!(rt; names.copy(alloc)? == names);
-    Ok(())
 }
 
 #[test]

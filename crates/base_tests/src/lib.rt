@@ -1,0 +1,7 @@
+//! Tests of the crates of values and of their bytes: what no clause says.
+#![tactic(auto)]
+
+#[cfg(test)]
+mod codes;
+#[cfg(test)]
+mod values;
