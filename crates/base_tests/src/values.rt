@@ -4,7 +4,8 @@ ghost use Rattle.std.specs.Prelude.{◌≡◌};
 ghost use Rattle.kap_base.specs.Texts.{has_line_feed};
 
 use kap_base::{
-    Expr, Exprs, Fields, ItemList, KeyMap, Lit, Op, Point, SharedExpr, SharedText, Text, Value,
+    Duplicate, Expr, Exprs, Fields, ItemList, KeyMap, Lit, Op, Point, SharedExpr, SharedText, Text,
+    Value,
 };
 use line_points::{Mode, read_line};
 use std::alloc::Global;
