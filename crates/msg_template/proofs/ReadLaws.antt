@@ -1,12 +1,10 @@
 -- A template is read from action to action.
-use Rattle.std.proofs.Common.{◌≡◌, ℕ, ◌+◌, Bool, List, [], ◌∷◌, ◌++◌, length, Ok, Err, refl, sym, ap, subst, ◌∙◌, arith, append_assoc}
+use Rattle.std.proofs.Common.{◌≡◌, ℕ, ◌+◌, List, [], ◌∷◌, ◌++◌, length, ap, ◌∙◌, arith, append_assoc}
 use Rattle.std.proofs.lemmas.List.{length-append}
 use Rattle.msg_template.specs.declared.action.Action.{Action}
 use Rattle.msg_template.specs.declared.template.Part.{Part}
 use Rattle.msg_template.specs.declared.template.Part.TheVariants as parts
-use Rattle.msg_template.specs.declared.fault.TemplateFault.{TemplateFault}
-use Rattle.msg_template.specs.Actions.{action_at}
-use Rattle.msg_template.specs.Reading.{Cut, OneAction, opening, closing, words, Reads, Refuses, next_action, later_action}
+use Rattle.msg_template.specs.Reading.{Cut, opening, closing, words}
 
 pub cut_length : (mark text before behind : List ℕ) → Cut mark text before behind → length text ≡ length before + (length mark + length behind)
 cut_length mark text before behind c =

@@ -1,9 +1,8 @@
 -- What stands between the braces of an action.
-use Rattle.std.specs.Prelude.{ℕ, Bool, true, false, not, ◌&&◌, ◌||◌, ◌==◌, nat_lt, if◌then◌else◌, bytes_eq, codes, List, [], ◌∷◌, length, take, drop, Option, Some, None, Result, Ok, Err}
+use Rattle.std.specs.Prelude.{ℕ, Bool, true, false, not, ◌&&◌, ◌||◌, ◌==◌, nat_lt, if◌then◌else◌, bytes_eq, codes, List, [], ◌∷◌, length, drop, Option, Some, None, Result, Ok, Err}
 use Rattle.std.specs.Char.{is_ascii_digit, is_ascii_alphanumeric}
 use Rattle.std.specs.List.{list_all, position_or_len, before_first, after_first}
 use Rattle.std.specs.Option.{option_map_or}
-use Rattle.kap_base.specs.Texts.{begins_with}
 use Rattle.msg_template.specs.declared.action.Action.{Action}
 use Rattle.msg_template.specs.declared.action.Action.TheVariants as actions
 use Rattle.msg_template.specs.declared.fault.TemplateFault.{TemplateFault}

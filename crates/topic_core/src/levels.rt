@@ -150,7 +150,13 @@ impl Levels {
         }
     }
 
-    pub(crate) fn put(&mut self, alloc: Global, topic: Text, id: Text, level: Level) -> Result<(), NoMemory>
+    pub(crate) fn put(
+        &mut self,
+        alloc: Global,
+        topic: Text,
+        id: Text,
+        level: Level,
+    ) -> Result<(), NoMemory>
         ensures ok { OnOk result (self.new ≡ put_level self.old topic id level) }
         ensures err { OnErr result (self.new ≡ self.old) }
     {

@@ -34,7 +34,12 @@ impl Model for Topics {
 }
 
 /// The transition of this event.
-fn transition_of(alloc: Global, number: u64, old_level: Level, event: &Event) -> Result<Transition, NoMemory>
+fn transition_of(
+    alloc: Global,
+    number: u64,
+    old_level: Level,
+    event: &Event,
+) -> Result<Transition, NoMemory>
     ensures { IfOk result (λ t. t ≡ transition number old_level event.now) }
 {
     Ok(Transition {

@@ -1,4 +1,4 @@
-use Rattle.std.proofs.Common.{◌≡◌, ℕ, List, length, string_bytes, ap, ◌∙◌, subst, IfOk}
+use Rattle.std.proofs.Common.{ℕ, List, length, ap, ◌∙◌, subst, IfOk}
 use Rattle.std.proofs.lemmas.Result.{IfOk-weaker}
 use Rattle.msg_template.specs.Filling.{IsCutTo}
 use Rattle.msg_template.proofs.FillLaws.{cut_at_border}

@@ -1,8 +1,8 @@
-use Rattle.std.proofs.Common.{rules, ◌≡◌, ◌+◌, ◌++◌, ◌∷◌, [], List, length, ap, sym, ◌∙◌, arith, subst}
+use Rattle.std.proofs.Common.{rules, ◌≡◌, ◌++◌, ◌∷◌, [], List, ap, sym, ◌∙◌, arith, subst}
 use Rattle.std.proofs.lemmas.Result.{err_from_is_err_and}
 use Rattle.msg_template.specs.declared.template.Part.{Part}
 use Rattle.msg_template.specs.declared.template.Part.TheVariants as parts
-use Rattle.msg_template.specs.Reading.{Cut, OneAction, opening, closing, words, Reads, Refuses, last_words, next_action, no_end, this_action, later_action}
+use Rattle.msg_template.specs.Reading.{OneAction, words, Reads, last_words, next_action, no_end, this_action, later_action}
 use Rattle.msg_template.proofs.ReadLaws.{one_action_length, more_parts}
 use Rattle.msg_template.proofs.reading.read_parts.Goals as goal
 
