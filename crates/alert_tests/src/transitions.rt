@@ -6,13 +6,7 @@ use std::process::Abort;
 use std::test::Fail;
 use topic_core::{Topics, print_transition};
 
-fn event(
-    alloc: Global,
-    topic: &str,
-    id: &str,
-    level: Level,
-    time: i64,
-) -> Result<Event, NoMemory> {
+fn event(alloc: Global, topic: &str, id: &str, level: Level, time: i64) -> Result<Event, NoMemory> {
     Ok(Event {
         topic: Text::from_str(alloc, topic)?,
         id: Text::from_str(alloc, id)?,
