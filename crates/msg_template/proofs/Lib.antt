@@ -1,0 +1,4 @@
+mod ActionLaws
+mod ReadLaws
+mod FillLaws
+mod UniqueLaws
