@@ -1,5 +1,5 @@
 -- Lists that are kept as their first item and the others.
-use Rattle.std.proofs.Common.{◌≡◌, ℕ, ◌+◌, List, [], ◌∷◌, ◌++◌, Option, Some, None, length, arith, refl, sym, ap, add_assoc, add-zero}
+use Rattle.std.proofs.Common.{◌≡◌, ℕ, ◌+◌, List, [], ◌∷◌, ◌++◌, Option, Some, None, length, arith, refl, ap, add-zero}
 use Rattle.kap_base.specs.declared.items.Stamp.{Stamp}
 use Rattle.kap_base.specs.declared.items.Body.{Body}
 use Rattle.kap_base.specs.declared.items.What.{What}

@@ -1,10 +1,9 @@
 -- Steps of loops.
-use Rattle.std.proofs.Common.{◌≡◌, ℕ, ◌+◌, List, [], ◌∷◌, ◌++◌, length, map, refl, sym, ap, ◌∙◌, append_assoc, append-nil, add-zero, arith, true, false, cond, ◌==◌}
+use Rattle.std.proofs.Common.{◌≡◌, ℕ, ◌+◌, List, [], ◌∷◌, ◌++◌, length, refl, sym, ap, ◌∙◌, add-zero, arith, true, false, cond, ◌==◌}
 use Rattle.std.specs.Prelude.{Result, Ok, Err, OnOk}
 use Rattle.kap_base.specs.declared.items.Stamp.{Stamp}
 use Rattle.kap_base.specs.declared.items.Body.{Body}
 use Rattle.kap_base.specs.declared.items.What.{What}
-use Rattle.kap_base.specs.declared.items.Effect.{Effect}
 use Rattle.std.proofs.lemmas.Bool.Decides.{nat_tests}
 use Rattle.node_core.specs.declared.running.Tally.{Tally}
 use Rattle.node_core.specs.Numbering.{items_at, item_at, effects_from, effect_at, number_at, counted}

@@ -1,9 +1,9 @@
 -- A node of one kind or of another.
-use Rattle.std.proofs.Common.{◌≡◌, ℕ, List, [], ◌∷◌, ◌++◌, Option, Some, None, refl, sym, ap, subst, ◌∙◌}
+use Rattle.std.proofs.Common.{◌≡◌, ℕ, List, [], ◌∷◌, ◌++◌, Option, Some, None, refl, ap, subst, ◌∙◌}
 use Rattle.state_code.specs.Spelling.{IsBytes, Reading, Stands, IsSpelling, value_then, read_then, read_as}
 use Rattle.node_core.specs.declared.both.Both.{Both}
 use Rattle.node_core.specs.declared.both.Both.TheVariants.{One, Other}
-use Rattle.node_core.specs.Meaning.{Input, Answer, Given, Move, nothing, stay, also, given, fold}
+use Rattle.node_core.specs.Meaning.{Input, Answer, Move, stay, also, given, fold}
 use Rattle.std.specs.Prelude.{Bool, false}
 use Rattle.kap_base.specs.declared.items.Body.{Body}
 use Rattle.node_core.specs.Cut.{IsStamped}

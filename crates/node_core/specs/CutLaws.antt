@@ -4,7 +4,7 @@ use Rattle.std.specs.Prelude.{nat_le}
 use Rattle.std.proofs.lemmas.Bool.Decides.{nat_tests}
 use Rattle.kap_base.specs.declared.items.Item.{Item}
 use Rattle.kap_base.specs.declared.items.Effect.{Effect}
-use Rattle.node_core.specs.Meaning.{Given, Input, Answer, nothing, given_after}
+use Rattle.node_core.specs.Meaning.{Input, Answer, nothing, given_after}
 use Rattle.node_core.specs.Cut.{inputs_up_to, items_up_to, effects_up_to, UpTo, AreStamped, AreEffectsOf, IsStamped, AllFrom, InOrder}
 use Rattle.node_core.specs.Laws.{filter-append}
 

@@ -1,15 +1,13 @@
 -- Points are of one group exactly where they have one key.
-use Rattle.std.proofs.Common.{◌≡◌, ℕ, ◌+◌, ◌*◌, ◌/◌, ◌%◌, ◌<◌, ◌≤◌, Bool, true, false, cond, ltb, not, ◌==◌, List, [], ◌∷◌, ◌++◌, map, Option, Some, None, refl, sym, ap, subst, ◌∙◌, append_assoc, arith, inl, inr, unwrap_or}
-use Rattle.std.specs.Prelude.{◌&&◌, IsTrue, IsUtf8}
-use Rattle.std.specs.FinMap.{FinMap, get, entries, get-entries}
+use Rattle.std.proofs.Common.{◌≡◌, ℕ, ◌<◌, Bool, true, false, cond, ltb, not, List, [], ◌∷◌, ◌++◌, map, Option, Some, None, refl, sym, ap, subst, ◌∙◌, append_assoc, arith, inl, inr, unwrap_or}
+use Rattle.std.specs.Prelude.{◌&&◌, IsTrue}
+use Rattle.std.specs.FinMap.{entries, get-entries}
 use Rattle.std.specs.FinMap.Entries.{find}
 use Rattle.std.specs.List.{flat_map, list_all}
-use Rattle.std.specs.Ordering.{eq_by_cmp, is_eq}
+use Rattle.std.specs.Ordering.{eq_by_cmp}
 use Rattle.std.specs.Str.{is_utf8}
 use lib.Utf8.{scalar, scalars, scalar_cases, encode, encodes}
 use Rattle.std.proofs.lemmas.Bool.Decides.{nat_tests}
-use Rattle.std.proofs.lemmas.Map.Text.{is_eq-slice_cmp}
-use Rattle.std.proofs.lemmas.Slice.Eq.{bytes_eq-Decides}
 use Rattle.std.proofs.lemmas.Str.{IsUtf8-from_is_utf8}
 use Rattle.kap_base.specs.Maps.{KeyMap, byte_order}
 use Rattle.kap_base.specs.Points.{PointValue, IsPoint, rises}

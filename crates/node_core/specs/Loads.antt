@@ -1,5 +1,5 @@
 -- What a node answers that loads a state.
-use Rattle.std.specs.Prelude.{◌≡◌, Result, Ok, Err, ⊤}
+use Rattle.std.specs.Prelude.{◌≡◌, Result, Ok, Err}
 use Rattle.state_code.specs.declared.fault.CodeFault.{CodeFault}
 use Rattle.state_code.specs.declared.fault.CodeFault.TheVariants.{At, NoMemory}
 use Rattle.state_code.specs.Spelling.{Reading}

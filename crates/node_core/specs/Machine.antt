@@ -1,12 +1,12 @@
 -- The machine of all groups, from the machine of one.
-use Rattle.std.specs.Prelude.{◌≡◌, ℕ, List, [], ◌∷◌, ◌++◌, Option, Some, None}
+use Rattle.std.specs.Prelude.{◌≡◌, ℕ, List, [], ◌∷◌, Option, Some, None}
 use Rattle.std.specs.FinMap.{get, insert, empty}
 use Rattle.kap_base.specs.Maps.{KeyMap}
 use Rattle.kap_base.specs.Points.{PointValue}
 use Rattle.kap_base.specs.declared.items.Body.{Body}
 use Rattle.kap_base.specs.declared.items.Body.TheVariants as bodies
 use Rattle.node_core.specs.Meaning.{Arrival, Turn, silence}
-use Rattle.node_core.specs.Groups.{Came, GroupAnswer, points_of, turn_of}
+use Rattle.node_core.specs.Groups.{Came, points_of, turn_of}
 use Rattle.node_core.specs.Keys.{group_key}
 
 -- a batch changes nothing

@@ -1,16 +1,14 @@
 -- A node follows what it says.
 use Rattle.std.proofs.Common.{◌≡◌, ℕ, ◌+◌, List, [], ◌∷◌, ◌++◌, map, length, refl, sym, ap, ◌∙◌, append_assoc, append-nil, add-zero}
 use Rattle.std.proofs.lemmas.List.{map-append}
-use Rattle.std.specs.Prelude.{⊤}
 use Rattle.kap_base.specs.declared.items.Body.{Body}
 use Rattle.kap_base.specs.declared.items.Stamp.{Stamp}
 use Rattle.kap_base.specs.declared.items.What.{What}
-use Rattle.node_core.specs.declared.said.Said.{Said}
 use Rattle.node_core.specs.declared.running.Tally.{Tally}
 use Rattle.node_core.specs.declared.running.Running.{Running}
-use Rattle.node_core.specs.Meaning.{Arrival, Saying, Turn, Input, Answer, Given, Move, Follows, silence, stay, given, given_after, fold}
+use Rattle.node_core.specs.Meaning.{Arrival, Saying, Turn, Input, Answer, Follows, silence, stay, given, fold}
 use Rattle.node_core.specs.Laws.{given-append, fold-given, fold-state}
-use Rattle.node_core.specs.Numbering.{arrival, items_at, effects_from, given_at, number_at, counted, no_tally, tally_after, tally, stamped, running_step, running_first, KeptRunning}
+use Rattle.node_core.specs.Numbering.{arrival, items_at, effects_from, counted, no_tally, tally_after, stamped, running_step, running_first, KeptRunning}
 use Rattle.node_core.specs.Cut.{IsStamped, AreStamped, AreEffectsOf}
 
 tally-more : (saying : Saying) (t : Tally) (before xs : List Input) (x : Input)

@@ -1,6 +1,6 @@
 -- How the state of a node is spelled: the last stamp with which effects were given, their number, the number of inputs dropped, and what
 -- its kind keeps.
-use Rattle.std.specs.Prelude.{◌≡◌, ℕ, ◌<◌, ◌^◌, List, refl}
+use Rattle.std.specs.Prelude.{ℕ, ◌<◌, ◌^◌, List, refl}
 use Rattle.std.specs.Int.{w32, w64}
 use Rattle.state_code.specs.Spelling.{Reading, IsSpelling, FitsPair, spell_pair, read_pair, spell_number, read_number, read_as}
 use Rattle.state_code.specs.Laws.{u32_spelled, u64_spelled, pair_spelled, as_parts}

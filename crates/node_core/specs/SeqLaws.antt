@@ -1,6 +1,5 @@
 -- The number of an effect counts all effects that were given before with its stamp, where stamps don't fall.
 use Rattle.std.proofs.Common.{◌≡◌, ℕ, ◌+◌, ◌≤◌, ◌==◌, true, false, cond, List, [], ◌∷◌, ◌++◌, map, length, refl, sym, ap, ◌∙◌, arith, add-zero, add_assoc}
-use Rattle.std.specs.Prelude.{⊤, if◌then◌else◌}
 use Rattle.std.proofs.lemmas.Bool.Decides.{nat_tests}
 use Rattle.node_core.specs.declared.running.Tally.{Tally}
 use Rattle.node_core.specs.Meaning.{Saying, Input}

@@ -1,6 +1,5 @@
-use Rattle.std.proofs.Common.{◌≡◌, ◌++◌, ap, ◌∙◌, append_assoc, length, length-append, arith}
+use Rattle.std.proofs.Common.{append_assoc, length-append, arith}
 use Rattle.kap_base.specs.declared.items.What.{What}
-use Rattle.node_core.specs.Numbering.{effects_from}
 use Rattle.node_core.proofs.Loops.{effects_from-more}
 use Rattle.node_core.proofs.numbered.give_more_effects.Goals as goal
 
