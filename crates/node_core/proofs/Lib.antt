@@ -1,0 +1,4 @@
+pub mod FewLaws
+pub mod CellLaws
+pub mod RunLaws
+pub mod Loops

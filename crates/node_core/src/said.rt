@@ -1,0 +1,59 @@
+ghost use Rattle.std.specs.Prelude.{◌≡◌, [], ◌∷◌};
+ghost use Rattle.node_core.specs.Meaning.{silence, a_drop};
+
+use crate::few::Few;
+use kap_base::{Body, What};
+use std::alloc::Global;
+
+/// What a node says of one arrival: what it gives out, what it does, and how many inputs it drops and counts.
+#[derive(Debug, Drop)]
+pub struct Said {
+    /// What it gives out, in order.
+    pub bodies: Few<Body>,
+    /// What it does beside, in order.
+    pub deeds: Few<What>,
+    /// How many inputs it drops and counts.
+    pub drops: u64,
+}
+
+impl Said {
+    /// Nothing.
+    pub fn nothing(alloc: Global) -> Said
+        ensures { result ≡ silence }
+    {
+        Said {
+            bodies: Few::new(alloc),
+            deeds: Few::new(alloc),
+            drops: 0,
+        }
+    }
+
+    /// An input that is dropped and counted.
+    pub fn dropped(alloc: Global) -> Said
+        ensures { result ≡ a_drop }
+    {
+        Said {
+            bodies: Few::new(alloc),
+            deeds: Few::new(alloc),
+            drops: 1,
+        }
+    }
+
+    /// Bodies alone.
+    pub fn given(alloc: Global, bodies: Few<Body>) -> Said
+        ensures { result ≡ record { bodies = bodies; deeds = []; drops = 0 } }
+    {
+        Said {
+            bodies,
+            deeds: Few::new(alloc),
+            drops: 0,
+        }
+    }
+
+    /// One body alone.
+    pub fn of_body(alloc: Global, body: Body) -> Said
+        ensures { result ≡ record { bodies = body ∷ []; deeds = []; drops = 0 } }
+    {
+        Said::given(alloc, Few::one(alloc, body))
+    }
+}
