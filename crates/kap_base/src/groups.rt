@@ -61,7 +61,8 @@ impl Model for Batch {
 
     ghost inverse = { λ b. record { name = b.name; group = b.group; tmax = b.tmax; points = b.points } };
 
-    ghost invariant = { λ b. IsBatch (record { name = b.name; group = b.group; tmax = b.tmax; points = b.points }) };
+    ghost invariant = { λ b.
+        IsBatch (record { name = b.name; group = b.group; tmax = b.tmax; points = b.points }) };
 }
 
 /// The value of a tag, empty where it is missing.
@@ -105,4 +106,35 @@ pub fn group_of(alloc: Global, point: &Point) -> Result<Group, NoMemory>
         dims: point.dims.copy(alloc)?,
         values: tag_values(alloc, &point.tags, point.dims.as_slice())?,
     })
+}
+
+/// The measurement of a group, where it has one.
+fn name_copy(alloc: Global, name: &Option<Text>) -> Result<Option<Text>, NoMemory>
+    ensures { IfOk result (λ copy. copy ≡ name.now) }
+{
+    match name {
+        Some(name) => Ok(Some(name.copy(alloc)?)),
+        None => Ok(None),
+    }
+}
+
+impl Duplicate for Group {
+    fn copy(&self, alloc: Global) -> Result<Group, NoMemory> {
+        Ok(Group {
+            name: name_copy(alloc, &self.name)?,
+            dims: self.dims.copy(alloc)?,
+            values: self.values.copy(alloc)?,
+        })
+    }
+}
+
+impl Duplicate for Batch {
+    fn copy(&self, alloc: Global) -> Result<Batch, NoMemory> {
+        Ok(Batch {
+            name: self.name.copy(alloc)?,
+            group: self.group.copy(alloc)?,
+            tmax: self.tmax,
+            points: self.points.copy(alloc)?,
+        })
+    }
 }

@@ -1,8 +1,11 @@
 //! What nodes hand on to one another, and what they do.
 
+use crate::duplicate::Duplicate;
 use crate::groups::Batch;
+use crate::memory::NoMemory;
 use crate::point::Point;
 use crate::text::Text;
+use std::alloc::Global;
 use std::fmt;
 
 /// The number of a source point in a run or a store, from 1. What a node gives has the stamp of the point that caused it.
@@ -18,6 +21,15 @@ pub enum Body {
     Batch(Batch),
 }
 
+impl Duplicate for Body {
+    fn copy(&self, alloc: Global) -> Result<Body, NoMemory> {
+        match self {
+            Body::Point(point) => Ok(Body::Point(point.copy(alloc)?)),
+            Body::Batch(batch) => Ok(Body::Batch(batch.copy(alloc)?)),
+        }
+    }
+}
+
 /// What a node hands on, with its stamp.
 #[derive(Debug, PartialEq, Eq, Drop)]
 pub struct Item {
@@ -25,6 +37,15 @@ pub struct Item {
     pub stamp: Stamp,
     /// The point or the points.
     pub body: Body,
+}
+
+impl Duplicate for Item {
+    fn copy(&self, alloc: Global) -> Result<Item, NoMemory> {
+        Ok(Item {
+            stamp: self.stamp,
+            body: self.body.copy(alloc)?,
+        })
+    }
 }
 
 /// The level of an alert (Kapacitor 1.6: alert node), in rising order.
@@ -60,6 +81,13 @@ impl Level {
 impl fmt::Display for Level {
     fn fmt<W: fmt::Write>(&self, f: &mut fmt::Formatter<W>) -> fmt::Result {
         f.write_str(self.name())
+    }
+}
+
+impl Duplicate for Level {
+    fn copy(&self, alloc: Global) -> Result<Level, NoMemory> {
+        let _ = alloc;
+        Ok(*self)
     }
 }
 

@@ -41,11 +41,38 @@ impl Model for Point {
 
     ghost coded = { Prim.hlevel (codes, key_map_code) };
 
-    ghost view = { λ p. record { db = p.db; rp = p.rp; name = p.name; tags = p.tags; fields = p.fields; dims = p.dims; by_name = p.by_name; time = p.time } };
+    ghost view = { λ p. record {
+      db = p.db;
+      rp = p.rp;
+      name = p.name;
+      tags = p.tags;
+      fields = p.fields;
+      dims = p.dims;
+      by_name = p.by_name;
+      time = p.time;
+    } };
 
-    ghost inverse = { λ s. record { db = s.db; rp = s.rp; name = s.name; tags = s.tags; fields = s.fields; dims = s.dims; by_name = s.by_name; time = s.time } };
+    ghost inverse = { λ s. record {
+      db = s.db;
+      rp = s.rp;
+      name = s.name;
+      tags = s.tags;
+      fields = s.fields;
+      dims = s.dims;
+      by_name = s.by_name;
+      time = s.time;
+    } };
 
-    ghost invariant = { λ p. IsPoint (record { db = p.db; rp = p.rp; name = p.name; tags = p.tags; fields = p.fields; dims = p.dims; by_name = p.by_name; time = p.time }) };
+    ghost invariant = { λ p. IsPoint (record {
+      db = p.db;
+      rp = p.rp;
+      name = p.name;
+      tags = p.tags;
+      fields = p.fields;
+      dims = p.dims;
+      by_name = p.by_name;
+      time = p.time;
+    }) };
 }
 
 impl Point {

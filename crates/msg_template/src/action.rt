@@ -4,7 +4,6 @@ ghost use Rattle.std.specs.Prelude.{◌≡◌, ◌≤◌, length, position};
 ghost use Rattle.std.specs.List.{position_or_len};
 ghost use Rattle.std.specs.Option.{option_map};
 ghost use Rattle.kap_base.specs.Words.{Answers};
-ghost use Rattle.kap_base.specs.Texts.{begins_with};
 ghost use Rattle.msg_template.specs.declared.fault.TemplateFault.TheVariants.{NoMemory as no_memory};
 ghost use Rattle.msg_template.specs.Actions.{action_at, are_spaces, cut_at_quote, dotted, ends_name, indexed, is_allowed, is_identifier, is_name_byte, listed, named, without_spaces};
 
@@ -80,15 +79,6 @@ fn without_spaces(bytes: &[u8]) -> &[u8]
         rest = behind;
     }
     rest
-}
-
-fn begins_with(bytes: &[u8], byte: u8) -> bool
-    ensures { result ≡ begins_with byte bytes.now }
-{
-    match bytes.first() {
-        Some(first) => *first == byte,
-        None => false,
-    }
 }
 
 fn named(name: &[u8]) -> Option<Action>

@@ -88,7 +88,8 @@ fn put_group(group: &Group, out: &mut String) -> Result<(), NoMemory>
 }
 
 fn put_tag(tags: &Tags, key: &Text, out: &mut String) -> Result<(), NoMemory>
-    ensures { OnOk result (string_bytes out.new ≡ string_bytes out.old ++ tag_value tags.now key.now) }
+    ensures { OnOk result
+        (string_bytes out.new ≡ string_bytes out.old ++ tag_value tags.now key.now) }
 {
     match tags.get(key) {
         Some(value) => put_text(value, out),
@@ -97,7 +98,8 @@ fn put_tag(tags: &Tags, key: &Text, out: &mut String) -> Result<(), NoMemory>
 }
 
 fn put_field(fields: &Fields, key: &Text, out: &mut String) -> Result<(), NoMemory>
-    ensures { OnOk result (string_bytes out.new ≡ string_bytes out.old ++ field_text fields.now key.now) }
+    ensures { OnOk result
+        (string_bytes out.new ≡ string_bytes out.old ++ field_text fields.now key.now) }
 {
     match fields.get(key) {
         Some(value) => put_value(value, out),

@@ -27,7 +27,8 @@ pub trait Plain {
         ensures said { IfOk result (λ said. said ≡ says self.old port body) };
 
     /// Nothing is said of a body of the other sort.
-    ghost silent: { (k : Self) (port : ℕ) (body : Body) → takes k body ≡ false → says k port body ≡ silence };
+    ghost silent: { (k : Self) (port : ℕ) (body : Body)
+        → takes k body ≡ false → says k port body ≡ silence };
 }
 
 /// The kind that treats each body by itself, and keeps nothing.

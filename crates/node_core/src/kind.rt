@@ -49,9 +49,12 @@ pub trait Kind {
 
     ghost begins: { (k : Self) → kept k [] (begin k) };
 
-    ghost goes_on: { (k : Self) (before : List Arrival) (s : Self.State) (x : Arrival) → kept k before s → kept k (before ++ x ∷ []) (step k s x).state };
+    ghost goes_on: { (k : Self) (before : List Arrival) (s : Self.State) (x : Arrival)
+        → kept k before s → kept k (before ++ x ∷ []) (step k s x).state };
 
-    ghost says: { (k : Self) (before : List Arrival) (s : Self.State) (x : Arrival) → kept k before s → (step k s x).said ≡ saying k before x };
+    ghost says: { (k : Self) (before : List Arrival) (s : Self.State) (x : Arrival)
+        → kept k before s → (step k s x).said ≡ saying k before x };
 
-    ghost stays: { (k : Self) (s : Self.State) (x : Arrival) → takes k x.1 ≡ false → step k s x ≡ record { state = s; said = silence } };
+    ghost stays: { (k : Self) (s : Self.State) (x : Arrival)
+        → takes k x.1 ≡ false → step k s x ≡ record { state = s; said = silence } };
 }

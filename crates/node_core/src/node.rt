@@ -66,9 +66,12 @@ pub trait Node: Drop {
     ) -> Result<(), NoMemory>
         requires { port < ports (spec self.old) }
         ensures spec { spec self.new ≡ spec self.old }
-        ensures state { OnOk result (state self.new ≡ (step (spec self.old) (state self.old) (port, item)).state) }
-        ensures items { OnOk result (out.new ≡ out.old ++ (step (spec self.old) (state self.old) (port, item)).given.items) }
-        ensures effects { OnOk result (effects.new ≡ effects.old ++ (step (spec self.old) (state self.old) (port, item)).given.effects) };
+        ensures state { OnOk result
+            (state self.new ≡ (step (spec self.old) (state self.old) (port, item)).state) }
+        ensures items { OnOk result
+            (out.new ≡ out.old ++ (step (spec self.old) (state self.old) (port, item)).given.items) }
+        ensures effects { OnOk result (effects.new
+            ≡ effects.old ++ (step (spec self.old) (state self.old) (port, item)).given.effects) };
 
     /// Appends the spelling of its state. After NoMemory `to` is as before.
     fn save(&self, to: &mut Bytes) -> Result<(), NoMemory>
@@ -87,16 +90,20 @@ pub trait Node: Drop {
         ensures { result ≡ drops (state self.now) };
 
     /// Fed a whole list from the first state on, it gives what the node gives for the list.
-    ghost folds: { (p : Self.Spec) (xs : List Input) → (fold (step p) (first p) xs).given ≡ given (answer p) xs };
+    ghost folds: { (p : Self.Spec) (xs : List Input)
+        → (fold (step p) (first p) xs).given ≡ given (answer p) xs };
 
     /// And it has dropped and counted what the node drops in the list.
-    ghost counts: { (p : Self.Spec) (xs : List Input) → drops (fold (step p) (first p) xs).state ≡ (given (answer p) xs).drops };
+    ghost counts: { (p : Self.Spec) (xs : List Input)
+        → drops (fold (step p) (first p) xs).state ≡ (given (answer p) xs).drops };
 
     /// All that it gives has the stamp of the input, and effects its life and its number.
-    ghost stamped: { (p : Self.Spec) (before : List Input) (x : Input) → IsStamped (life p) (number p) x.1.stamp.0 (answer p before x) };
+    ghost stamped: { (p : Self.Spec) (before : List Input) (x : Input)
+        → IsStamped (life p) (number p) x.1.stamp.0 (answer p before x) };
 
     /// An item of the other sort gives nothing and changes nothing.
-    ghost stays: { (p : Self.Spec) (s : Self.State) (x : Input) → takes p x.1.body ≡ false → step p s x ≡ stay s };
+    ghost stays: { (p : Self.Spec) (s : Self.State) (x : Input)
+        → takes p x.1.body ≡ false → step p s x ≡ stay s };
 
     /// What is spelled is read again whatever follows, and only what is spelled is read.
     ghost spelled: { (p : Self.Spec) → IsSpelling (fits p) (spell p) (read p) };

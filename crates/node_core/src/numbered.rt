@@ -91,7 +91,8 @@ fn give_first_effect(
     first: Option<What>,
     effects: &mut ItemList<Effect>,
 ) -> Result<u32, NoMemory>
-    ensures effects { OnOk result (effects.new ≡ effects.old ++ effects_from life node stamp seq (few_items first [])) }
+    ensures effects { OnOk result
+        (effects.new ≡ effects.old ++ effects_from life node stamp seq (few_items first [])) }
     ensures next { IfOk result (λ next. next ≡ seq + length (few_items first [])) }
 {
     let Some(what) = first else {
@@ -118,7 +119,8 @@ fn give_more_effects(
     more: Vec<What>,
     effects: &mut ItemList<Effect>,
 ) -> Result<u32, NoMemory>
-    ensures effects { OnOk result (effects.new ≡ effects.old ++ effects_from life node stamp seq more.items) }
+    ensures effects { OnOk result
+        (effects.new ≡ effects.old ++ effects_from life node stamp seq more.items) }
     ensures next { IfOk result (λ next. next ≡ seq + length more.items) }
 {
     let mut next = seq;
@@ -149,7 +151,8 @@ fn give_effects(
     deeds: Few<What>,
     effects: &mut ItemList<Effect>,
 ) -> Result<u32, NoMemory>
-    ensures effects { OnOk result (effects.new ≡ effects.old ++ effects_from life node stamp seq deeds) }
+    ensures effects { OnOk result
+        (effects.new ≡ effects.old ++ effects_from life node stamp seq deeds) }
     ensures next { IfOk result (λ next. next ≡ seq + length deeds) }
 {
     let (first, more) = deeds.into_parts();
@@ -190,13 +193,16 @@ impl<K: Kind + Drop> Node for Numbered<K> {
 
     ghost spelled = { λ s. running_spelled K.State.spelled };
 
-    ghost folds = { λ s. folds s.life s.node (K.saying s.kind) (K.step s.kind) (K.begin s.kind) (K.kept s.kind) (K.begins s.kind) (K.goes_on s.kind) (K.says s.kind) };
+    ghost folds = { λ s. folds s.life s.node (K.saying s.kind) (K.step s.kind) (K.begin s.kind)
+        (K.kept s.kind) (K.begins s.kind) (K.goes_on s.kind) (K.says s.kind) };
 
-    ghost counts = { λ s. counts s.life s.node (K.saying s.kind) (K.step s.kind) (K.begin s.kind) (K.kept s.kind) (K.begins s.kind) (K.goes_on s.kind) (K.says s.kind) };
+    ghost counts = { λ s. counts s.life s.node (K.saying s.kind) (K.step s.kind) (K.begin s.kind)
+        (K.kept s.kind) (K.begins s.kind) (K.goes_on s.kind) (K.says s.kind) };
 
     ghost stamped = { λ s. is_stamped s.life s.node (K.saying s.kind) };
 
-    ghost stays = { λ s r x h. running_stays s.life s.node (K.step s.kind) r x (K.stays s.kind r.inner (x.0, x.1.body) h) };
+    ghost stays = { λ s r x h.
+        running_stays s.life s.node (K.step s.kind) r x (K.stays s.kind r.inner (x.0, x.1.body) h) };
 
     fn feed(
         &mut self,

@@ -44,5 +44,7 @@ pub trait Rule {
         ensures said { IfOk result (λ said. said ≡ (step self.old cell.old port point).said) };
 
     /// What is kept of points, and of one more.
-    ghost goes_on: { (r : Self) (before : List Came) (port : ℕ) (p : PointValue) → step r (kept r before) port p ≡ record { state = kept r (before ++ (port, p) ∷ []); said = answer r before port p } };
+    ghost goes_on: { (r : Self) (before : List Came) (port : ℕ) (p : PointValue)
+        → step r (kept r before) port p
+        ≡ record { state = kept r (before ++ (port, p) ∷ []); said = answer r before port p } };
 }

@@ -26,7 +26,8 @@ impl Tally {
     /// The tally behind effects with this stamp, where the next one has this number.
     #[tactic(auto, using(crate::proofs::Loops::counted_to))]
     pub fn counted_to(&self, stamp: u64, next: u32) -> Tally
-        ensures { (more : ℕ) → next ≡ number_at self.now stamp + more → result ≡ counted self.now stamp more }
+        ensures { (more : ℕ) → next ≡ number_at self.now stamp + more
+            → result ≡ counted self.now stamp more }
     {
         if next == self.number_at(stamp) {
             *self

@@ -16,13 +16,16 @@ pub fn run<N: Node>(
 ) -> Result<(), NoMemory>
     requires first { N.state node.old ≡ N.first (N.spec node.old) }
     requires ports { AllAtPorts (N.ports (N.spec node.old)) inputs.items }
-    ensures items { OnOk result (out.new ≡ out.old ++ (given (N.answer (N.spec node.old)) inputs.items).items) }
+    ensures spec { OnOk result (N.spec node.new ≡ N.spec node.old) }
+    ensures items { OnOk result
+        (out.new ≡ out.old ++ (given (N.answer (N.spec node.old)) inputs.items).items) }
     ensures effects { OnOk result
         (effects.new ≡ effects.old ++ (given (N.answer (N.spec node.old)) inputs.items).effects) }
     ensures dropped { OnOk result
         (N.drops (N.state node.new) ≡ (given (N.answer (N.spec node.old)) inputs.items).drops) }
     ensures up_to { (s : ℕ) → InOrder inputs.items
-        → UpTo s (given (N.answer (N.spec node.old)) (inputs_up_to s inputs.items)) (given (N.answer (N.spec node.old)) inputs.items) }
+        → UpTo s (given (N.answer (N.spec node.old)) (inputs_up_to s inputs.items))
+        (given (N.answer (N.spec node.old)) inputs.items) }
 {
     'feeding: for (port, item) in inputs {
         node.feed(alloc, port, item, out, effects)?;

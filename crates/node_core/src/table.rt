@@ -160,7 +160,8 @@ pub(crate) fn feed_cell<R: Rule>(
     ensures rule { rule.new ≡ rule.old }
     ensures cells { OnOk result (table.new ≡ map.insert table.old (group_key point)
         (turn_of (R.kept rule.old []) (R.step rule.old) table.old port point).state) }
-    ensures said { IfOk result (λ said. said ≡ (turn_of (R.kept rule.old []) (R.step rule.old) table.old port point).said) }
+    ensures said { IfOk result (λ said. said
+        ≡ (turn_of (R.kept rule.old []) (R.step rule.old) table.old port point).said) }
 {
     table.looked_up.become_key_of(&point)?;
     let at = cell_at(rule, alloc, &mut table.cells, &table.looked_up)?;
