@@ -1,5 +1,5 @@
 -- What a graph's shape and want of faults say of each node, and which fault comes first.
-use Rattle.std.proofs.Common.{◌≡◌, ℕ, zero, suc, ◌+◌, ◌<◌, ◌≤◌, Bool, true, false, true≢false, ◌&&◌, ◌||◌, List, [], ◌∷◌, length, get_or, Option, Some, None, refl, sym, ◌∙◌, ap, subst, arith, if◌then◌else◌, slice_get, Contains, option_map, is_none, nat_lt, nat_le, nat_eq, IsTrue, lt_of_lt_of_le}
+use Rattle.std.proofs.Common.{◌≡◌, ℕ, zero, suc, ◌+◌, ◌<◌, Bool, true, false, true≢false, ◌&&◌, ◌||◌, List, [], ◌∷◌, length, get_or, Option, Some, None, refl, sym, ◌∙◌, ap, subst, arith, if◌then◌else◌, slice_get, Contains, option_map, is_none, nat_lt, nat_eq}
 use Rattle.std.specs.List.{list_any, list_all}
 use Rattle.std.specs.Option.{option_map_or}
 use Rattle.std.proofs.lemmas.Bool.{eqb-true, ltb-true, ltb-false, leb-false}
@@ -10,7 +10,6 @@ use Rattle.std.proofs.lemmas.Option.{slice_get_within, slice_get-get_or}
 use Rattle.task_graph.specs.declared.graph.Flow.{Flow}
 use Rattle.task_graph.specs.declared.graph.Flow.TheVariants.{Points, Batches}
 use Rattle.task_graph.specs.declared.graph.GraphFault.{GraphFault}
-use Rattle.task_graph.specs.declared.graph.GraphFault.TheVariants.{TooManyNodes, Chain, Parents, Kind}
 use Rattle.task_graph.specs.declared.graph.TheConstants.{NODE_LIMIT, PARENT_LIMIT}
 use Rattle.task_graph.specs.declared.spec.NodeSpec.{NodeSpec}
 use Rattle.task_graph.specs.declared.spec.Spec.{Spec}
@@ -98,36 +97,45 @@ record LowestFrom {L : Type 0} (all nodes : List (NodeSpec L)) (number : ℕ) (f
   fault_is : (at : ℕ) → at ≡ number + k → node_fault all at node ≡ Some fault
   lower : (j at : ℕ) (n : NodeSpec L) → at ≡ number + j → j < k → slice_get nodes j ≡ Some n → node_fault all at n ≡ None
 
+-- a fault here is the lowest
+fault_here : {L : Type 0} (all nodes : List (NodeSpec L)) (n : NodeSpec L) (number : ℕ) (fault : GraphFault)
+    → node_fault all number n ≡ Some fault → LowestFrom all (n ∷ nodes) number fault
+fault_here {L} all nodes n number fault e = record {
+  k = 0;
+  node = n;
+  there = refl;
+  fault_is = λ at i. let here : at ≡ number = omega arith in subst (λ (m : ℕ). node_fault all m n ≡ Some fault) (sym here) e;
+  lower = λ j at m i below there. absurd (omega arith);
+}
+
+lower_by_one : {L : Type 0} (all nodes : List (NodeSpec L)) (n : NodeSpec L) (number k : ℕ) → node_fault all number n ≡ None
+    → ((j at : ℕ) (m : NodeSpec L) → at ≡ (number + 1) + j → j < k → slice_get nodes j ≡ Some m → node_fault all at m ≡ None)
+    → (j at : ℕ) (m : NodeSpec L) → at ≡ number + j → j < suc k → slice_get (n ∷ nodes) j ≡ Some m → node_fault all at m ≡ None
+lower_by_one {L} all nodes n number k e lower zero at m i less there =
+    let same : n ≡ m = cc in
+    let here : at ≡ number = omega arith in
+    subst (λ (x : NodeSpec L). node_fault all at x ≡ None) same (subst (λ (a : ℕ). node_fault all a n ≡ None) (sym here) e)
+lower_by_one all nodes n number k e lower (suc j) at m i less there = lower j at m (omega arith) (omega arith) there
+
+-- a fault behind a node without one
+fault_behind : {L : Type 0} (all nodes : List (NodeSpec L)) (n : NodeSpec L) (number : ℕ) (fault : GraphFault)
+    → node_fault all number n ≡ None → LowestFrom all nodes (number + 1) fault → LowestFrom all (n ∷ nodes) number fault
+fault_behind {L} all nodes n number fault e low = record {
+  k = suc low.k;
+  node = low.node;
+  there = low.there;
+  fault_is = λ at i. low.fault_is at (omega arith);
+  lower = lower_by_one all nodes n number low.k e low.lower;
+}
+
 lowest_from : {L : Type 0} (all nodes : List (NodeSpec L)) (number : ℕ) (fault : GraphFault)
     → fault_from all number nodes ≡ Some fault → LowestFrom all nodes number fault
 lowest_from all [] number fault h = absurd cc
-lowest_from {L} all (n ∷ nodes) number fault h = go (node_fault all number n) refl h
-  where
-    here : (at : ℕ) → at ≡ number + 0 → at ≡ number
-    here at e = omega arith
-    go : (f : Option GraphFault) → node_fault all number n ≡ f → first f (fault_from all (number + 1) nodes) ≡ Some fault → LowestFrom all (n ∷ nodes) number fault
-    go (Some f) e is = record {
-      k = 0;
-      node = n;
-      there = refl;
-      fault_is = λ at i. subst (λ (m : ℕ). node_fault all m n ≡ Some fault) (sym (here at i)) (e ∙ is);
-      lower = λ j at m i below there. absurd (omega arith);
-    }
-    go None e is =
-        let low = lowest_from all nodes (number + 1) fault is in
-        record {
-          k = suc low.k;
-          node = low.node;
-          there = low.there;
-          fault_is = λ at i. low.fault_is at (omega arith);
-          lower = below low e;
-        }
-    below : (low : LowestFrom all nodes (number + 1) fault) → node_fault all number n ≡ None
-        → (j at : ℕ) (m : NodeSpec L) → at ≡ number + j → j < suc low.k → slice_get (n ∷ nodes) j ≡ Some m → node_fault all at m ≡ None
-    below low e zero at m i less there =
-        let same : n ≡ m = cc in
-        subst (λ (x : NodeSpec L). node_fault all at x ≡ None) same (subst (λ (a : ℕ). node_fault all a n ≡ None) (sym (here at i)) e)
-    below low e (suc j) at m i less there = low.lower j at m (omega arith) (omega arith) there
+lowest_from {L} all (n ∷ nodes) number fault h =
+    elim (node_fault all number n) as (λ (f : Option GraphFault). node_fault all number n ≡ f → first f (fault_from all (number + 1) nodes) ≡ Some fault → LowestFrom all (n ∷ nodes) number fault) [
+      | Some f ↦ λ e is. fault_here all nodes n number fault (e ∙ is)
+      | None ↦ λ e is. fault_behind all nodes n number fault e (lowest_from all nodes (number + 1) fault is)
+    ] refl h
 
 pub lowest_fault : {L : Type 0} (nodes : List (NodeSpec L)) (fault : GraphFault) → first_graph_fault nodes ≡ Some fault → IsLowestFault nodes fault
 lowest_fault {L} nodes fault h =
@@ -200,7 +208,7 @@ hangs_together {L} nodes number node graph later there =
     let behind : Behind number node = node_behind nodes number node graph.shape later there in
     let none : Quiet _ _ _ _ = quiet _ _ _ _ _ _ _ _ (no_fault nodes graph.faultless number node there) in
     let stands = (λ (p : ℕ) (parent : NodeSpec L) (has : Contains node.parents p) (is : slice_get nodes p ≡ Some parent).
-        parent_fails (cannot_stand node.spec) nodes node.parents p parent (neither_left _ _ none.parents) has is) in
+    parent_fails (cannot_stand node.spec) nodes node.parents p parent (neither_left _ _ none.parents) has is) in
     let one = first_parent nodes number node behind there in
     record {
       within = leb-false NODE_LIMIT number none.few;

@@ -8,7 +8,6 @@ ghost use Rattle.task_graph.specs.declared.spec.NodeSpec.{NodeSpec};
 
 /// A graph begins with the stream. Each other node has as many parents as fit what it is given, 64 at most, which stand before
 /// it and give what it takes.
-#[tactic(auto, using(crate::proofs::GraphLaws::begins_with_stream, crate::proofs::GraphLaws::hangs_together))]
 pub fn graphs_hang_together()
     ensures stream { (nodes : List (NodeSpec Tree)) → IsGraph nodes → BeginsWithStream nodes }
     ensures others { (nodes : List (NodeSpec Tree)) (number : ℕ) (node : NodeSpec Tree)
@@ -17,7 +16,6 @@ pub fn graphs_hang_together()
 {}
 
 /// The fault of nodes is that of the lowest node that has one, and there is none exactly where no node has one.
-#[tactic(auto, using(crate::proofs::GraphLaws::lowest_fault, crate::proofs::GraphLaws::no_fault))]
 pub fn lowest_fault_is_first()
     ensures fault { (nodes : List (NodeSpec Tree)) (fault : GraphFault)
         → first_graph_fault nodes ≡ Some fault → IsLowestFault nodes fault }
