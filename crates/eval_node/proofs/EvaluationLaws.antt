@@ -1,0 +1,74 @@
+-- The lambdas of an `eval` at a point, lambda by lambda.
+use Rattle.std.proofs.Common.{◌≡◌, ℕ, ◌+◌, ◌<◌, ◌≤◌, List, [], ◌∷◌, ◌++◌, length, get_or, take, drop, Option, Some, None, refl, sym, ap, subst, ◌∙◌, append_assoc, append-nil, arith}
+use Rattle.std.proofs.lemmas.List.{drop_more, drop_all, length-take-le, take-append-drop}
+use Rattle.std.proofs.Math.Seq.{drop-append-add, take-append-add}
+use Rattle.kap_base.specs.declared.value.Value.{Value}
+use Rattle.kap_base.specs.Points.{PointValue}
+use Rattle.kap_base.specs.Tree.{Tree}
+use Rattle.lambda_count.specs.Outcomes.{value_or_none}
+use Rattle.lambda_eval.specs.Values.{val}
+use Rattle.task_graph.specs.declared.spec.EvalResult.{EvalResult}
+use Rattle.eval_node.specs.Evaluations.{Evaluated, counted, evaluated, first_count, followed, other_counts, with_result}
+
+-- numbers in front of the others
+abbrev joined : List ℕ → Evaluated → Evaluated
+joined front r = record { counts = front ++ r.counts; point = r.point }
+
+-- what comes of a point whose first lambdas, so many, were evaluated
+abbrev pub ended : List (EvalResult Tree) → ℕ → List ℕ → PointValue → Evaluated
+ended xs place counts p = joined (take place counts) (evaluated (drop place xs) (drop place counts) p)
+
+pub at_start : (xs : List (EvalResult Tree)) (counts : List ℕ) (p : PointValue) → ended xs 0 counts p ≡ evaluated xs counts p
+at_start xs counts p = refl
+
+pub at_end : (xs : List (EvalResult Tree)) (place : ℕ) (counts : List ℕ) (p : PointValue)
+    → length xs ≤ place → ended xs place counts p ≡ record { counts = counts; point = Some p }
+at_end xs place counts p past =
+    ap (λ l. joined (take place counts) (evaluated l (drop place counts) p)) (drop_all place xs past)
+    ∙ ap (λ (l : List ℕ). let r : Evaluated = record { counts = l; point = Some p } in r) (take-append-drop place counts)
+
+-- the numbers where one was put at a place
+abbrev pub IsPut : ℕ → List ℕ → List ℕ → Type 0
+IsPut place old new = new ≡ take place old ++ (first_count (drop place old) + 1) ∷ other_counts (drop place old)
+
+pub put_length : (place : ℕ) (old new : List ℕ) → place ≤ length old → IsPut place old new → place + 1 ≤ length new
+put_length place old new within is =
+    rw is (grind (arith, length-append-cons (take place old) (first_count (drop place old) + 1) (other_counts (drop place old)), length-take-le place old within))
+  where
+    length-append-cons : (front : List ℕ) (n : ℕ) (rest : List ℕ) → length (front ++ n ∷ rest) ≡ length front + (length rest + 1)
+    length-append-cons [] n rest = omega arith
+    length-append-cons (x ∷ front) n rest = let e = length-append-cons front n rest in omega (arith, e)
+
+module _ (xs : List (EvalResult Tree)) (place : ℕ) (x : EvalResult Tree) (old new : List ℕ) (p : PointValue)
+    (within : place < length xs) (filled : place ≤ length old) (put : IsPut place old new) where
+  long : length (take place old) ≡ place
+  long = length-take-le place old filled
+
+  front_is : take (place + 1) new ≡ take place old ++ (first_count (drop place old) + 1) ∷ []
+  front_is = rw put (subst (λ (n : ℕ). take (n + 1) (take place old ++ (first_count (drop place old) + 1) ∷ other_counts (drop place old)) ≡ take place old ++ (first_count (drop place old) + 1) ∷ []) long
+      (take-append-add (take place old) ((first_count (drop place old) + 1) ∷ other_counts (drop place old)) 1))
+
+  others_is : drop (place + 1) new ≡ other_counts (drop place old)
+  others_is = rw put (subst (λ (n : ℕ). drop (n + 1) (take place old ++ (first_count (drop place old) + 1) ∷ other_counts (drop place old)) ≡ other_counts (drop place old)) long
+      (drop-append-add (take place old) ((first_count (drop place old) + 1) ∷ other_counts (drop place old)) 1))
+
+  -- what follows the value
+  opened : (v : Option Value) → value_or_none (val (get_or xs place x).lambda (first_count (drop place old)) p) ≡ v
+      → ended xs place old p ≡ joined (take place old) (followed (first_count (drop place old)) (other_counts (drop place old)) (get_or xs place x).name p (evaluated (drop (place + 1) xs)) v)
+  opened v is =
+      ap (λ l. joined (take place old) (evaluated l (drop place old) p)) (drop_more xs place x within)
+      ∙ ap (λ o. joined (take place old) (followed (first_count (drop place old)) (other_counts (drop place old)) (get_or xs place x).name p (evaluated (drop (place + 1) xs)) o)) is
+
+  pub after_fault : value_or_none (val (get_or xs place x).lambda (first_count (drop place old)) p) ≡ None
+      → ended xs place old p ≡ record { counts = new; point = None }
+  after_fault is = opened None is ∙ ap (λ (l : List ℕ). let r : Evaluated = record { counts = l; point = None } in r) (sym put)
+
+  pub after_value : (v : Value) → value_or_none (val (get_or xs place x).lambda (first_count (drop place old)) p) ≡ Some v
+      → ended xs place old p ≡ ended xs (place + 1) new (with_result (get_or xs place x).name v p)
+  after_value v is =
+      let q : PointValue = with_result (get_or xs place x).name v p in
+      let r : Evaluated = evaluated (drop (place + 1) xs) (other_counts (drop place old)) q in
+      opened (Some v) is
+      ∙ ap (λ (l : List ℕ). let s : Evaluated = record { counts = l; point = r.point } in s) (sym (append_assoc (take place old) ((first_count (drop place old) + 1) ∷ []) r.counts))
+      ∙ ap (λ l. joined l r) (sym front_is)
+      ∙ ap (λ l. joined (take (place + 1) new) (evaluated (drop (place + 1) xs) l q)) (sym others_is)

@@ -1,0 +1,3 @@
+pub mod EvaluationLaws
+pub mod CountLaws
+pub mod FieldLaws

@@ -1,0 +1,112 @@
+ghost use Rattle.std.specs.Prelude.{◌≡◌, IfOk};
+ghost use Rattle.eval_node.specs.Evals.{counts_in, eval_says, eval_step, seat_of, unless_empty, with_kept};
+ghost use Rattle.eval_node.specs.EvalLaws.{eval_goes_on};
+
+use crate::counts::Counts;
+use crate::evaluations::evaluate;
+use crate::fields::kept_fields;
+use kap_base::{Body, NoMemory, Point};
+use lambda_types::Lambda;
+use node_core::{Grouped, Node, Numbered, Rule, Said, Seat};
+use std::alloc::Global;
+use std::marker::Model;
+use task_graph::{EvalResult, EvalSpec, Keep};
+
+/// What `eval` does (Kapacitor 1.6: eval node), which contracts see as what it is given: in order, its lambdas become fields of
+/// the point, each seeing the results before it; then the kept fields stay. A point at which a lambda has a fault, or that
+/// keeps no field, is dropped and counted.
+#[derive(Drop)]
+pub struct Eval {
+    results: Vec<EvalResult<Lambda>>,
+    keep: Keep,
+}
+
+impl Model for Eval {
+    ghost use Rattle.std.specs.Coded.{codes};
+    ghost use Rattle.kap_base.specs.Tree.{Tree};
+    ghost use Rattle.kap_base.specs.TreeCode.{tree_code};
+    ghost use Rattle.task_graph.specs.declared.spec.EvalSpec.{EvalSpec};
+
+    ghost Value = { EvalSpec Tree };
+
+    ghost coded = { Prim.hlevel (codes, tree_code) };
+
+    ghost view = { λ e. record { results = e.results.items; keep = e.keep } };
+}
+
+/// The point with its kept fields, unless it has none.
+fn say_kept(
+    alloc: Global,
+    keep: &Keep,
+    results: &[EvalResult<Lambda>],
+    point: Point,
+) -> Result<Said, NoMemory>
+    ensures { IfOk result (λ said. said
+        ≡ unless_empty (with_kept (record { results = results.now; keep = keep.now }) point)) }
+{
+    let fields = kept_fields(alloc, keep, results, point.fields)?;
+    if fields.is_empty() {
+        return Ok(Said::dropped(alloc));
+    }
+    let kept = Point { fields, ..point };
+    Ok(Said::of_body(alloc, Body::Point(kept)))
+}
+
+impl Eval {
+    /// What this is given to does.
+    pub fn from_spec(spec: EvalSpec<Lambda>) -> Eval
+        ensures { result ≡ spec }
+    {
+        Eval {
+            results: spec.results.into_items(),
+            keep: spec.keep,
+        }
+    }
+}
+
+impl Rule for Eval {
+    type Cell = Counts;
+
+    ghost ports = { λ e. 1 };
+
+    ghost answer = { eval_says };
+
+    ghost kept = { counts_in };
+
+    ghost step = { eval_step };
+
+    ghost goes_on = { eval_goes_on };
+
+    fn first(&self, alloc: Global) -> Counts {
+        Counts::new(alloc)
+    }
+
+    fn feed(
+        &mut self,
+        alloc: Global,
+        cell: &mut Counts,
+        port: u32,
+        point: Point,
+    ) -> Result<Said, NoMemory> {
+        let _ = port;
+        match evaluate(alloc, self.results.as_mut_slice(), &mut cell.numbers, point)? {
+            Some(point) => say_kept(alloc, &self.keep, &self.results, point),
+            None => Ok(Said::dropped(alloc)),
+        }
+    }
+}
+
+/// The node `eval`.
+pub type EvalNode = Numbered<Grouped<Eval>>;
+
+/// The node `eval` that is given this, in its first state: in a life of its task, and with its number there.
+pub fn build(alloc: Global, life: u32, node: u32, spec: EvalSpec<Lambda>) -> EvalNode
+    ensures spec { ⟦<EvalNode as Node>⟧.spec result ≡ seat_of life node spec }
+    ensures first { ⟦<EvalNode as Node>⟧.state result
+        ≡ ⟦<EvalNode as Node>⟧.first (seat_of life node spec) }
+{
+    let kind = Grouped {
+        rule: Eval::from_spec(spec),
+    };
+    Numbered::new(alloc, Seat { life, node, kind })
+}

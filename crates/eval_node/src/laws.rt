@@ -1,0 +1,15 @@
+//! What the numbers of evaluations are: a law, and no code.
+
+ghost use Rattle.std.specs.Prelude.{◌≡◌, ℕ, List, slice_index};
+ghost use Rattle.kap_base.specs.Tree.{Tree};
+ghost use Rattle.node_core.specs.Groups.{Came};
+ghost use Rattle.task_graph.specs.declared.spec.EvalSpec.{EvalSpec};
+ghost use Rattle.eval_node.specs.Evals.{counts_in, evaluations};
+
+/// The number of a lambda is the number of points of the group at which it was evaluated, which are those at which each lambda
+/// before it had a value.
+#[tactic(auto, using(crate::proofs::CountLaws::count_is))]
+pub fn counts_are_evaluations()
+    ensures { (eval : EvalSpec Tree) (place : ℕ) (points : List Came)
+        → slice_index (counts_in eval points) place ≡ evaluations eval place points }
+{}
