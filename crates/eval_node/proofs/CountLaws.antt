@@ -28,23 +28,30 @@ never : (a : Bool) (n : ℕ) → n ≡ n + once a false
 never true n = sym (add-zero n)
 never false n = sym (add-zero n)
 
+-- the first lambda is evaluated at each point
+first_more : (xs : List (EvalResult Tree)) (counts : List ℕ) (name : List ℕ) (p : PointValue) (v : Option Value)
+    → slice_index (followed (first_count counts) (other_counts counts) name p (evaluated xs) v).counts 0 ≡ slice_index counts 0 + 1
+first_more xs counts name p None = ap (λ k. k + 1) (first_is counts)
+first_more xs counts name p (Some v) = ap (λ k. k + 1) (first_is counts)
+
+-- another one where those behind the first reach it
+other_more : (xs : List (EvalResult Tree)) (counts : List ℕ) (name : List ℕ) (p : PointValue) (n : ℕ)
+    → ((v : Value) → slice_index (evaluated xs (other_counts counts) (with_result name v p)).counts n
+    ≡ slice_index (other_counts counts) n + (if is_reached xs (other_counts counts) (with_result name v p) n then 1 else 0))
+    → (v : Option Value)
+    → slice_index (followed (first_count counts) (other_counts counts) name p (evaluated xs) v).counts (suc n)
+    ≡ slice_index counts (suc n) + once (is_some (slice_get xs n)) (is_some (followed (first_count counts) (other_counts counts) name p (evaluated (take n xs)) v).point)
+other_more xs counts name p n more None = other_is counts n ∙ never (is_some (slice_get xs n)) (slice_index counts (suc n))
+other_more xs counts name p n more (Some v) =
+    more v ∙ ap (λ k. k + once (is_some (slice_get xs n)) (is_some (evaluated (take n xs) (other_counts counts) (with_result name v p)).point)) (other_is counts n)
+
 -- a point counts for a lambda where it is evaluated there
 one_more : (xs : List (EvalResult Tree)) (counts : List ℕ) (p : PointValue) (place : ℕ)
     → slice_index (evaluated xs counts p).counts place ≡ slice_index counts place + (if is_reached xs counts p place then 1 else 0)
 one_more [] counts p place = sym (add-zero _)
-one_more (x ∷ xs) counts p zero = go (value_or_none (val x.lambda (first_count counts) p))
-  where
-    go : (v : Option Value) → slice_index (followed (first_count counts) (other_counts counts) x.name p (evaluated xs) v).counts 0 ≡ slice_index counts 0 + 1
-    go None = ap (λ k. k + 1) (first_is counts)
-    go (Some v) = ap (λ k. k + 1) (first_is counts)
-one_more (x ∷ xs) counts p (suc n) = go (value_or_none (val x.lambda (first_count counts) p))
-  where
-    go : (v : Option Value) → slice_index (followed (first_count counts) (other_counts counts) x.name p (evaluated xs) v).counts (suc n)
-        ≡ slice_index counts (suc n) + once (is_some (slice_get xs n)) (is_some (followed (first_count counts) (other_counts counts) x.name p (evaluated (take n xs)) v).point)
-    go None = other_is counts n ∙ never (is_some (slice_get xs n)) (slice_index counts (suc n))
-    go (Some v) =
-        one_more xs (other_counts counts) (with_result x.name v p) n
-        ∙ ap (λ k. k + once (is_some (slice_get xs n)) (is_some (evaluated (take n xs) (other_counts counts) (with_result x.name v p)).point)) (other_is counts n)
+one_more (x ∷ xs) counts p zero = first_more xs counts x.name p (value_or_none (val x.lambda (first_count counts) p))
+one_more (x ∷ xs) counts p (suc n) =
+    other_more xs counts x.name p n (λ (v : Value). one_more xs (other_counts counts) (with_result x.name v p) n) (value_or_none (val x.lambda (first_count counts) p))
 
 count_from : (eval : EvalSpec Tree) (place : ℕ) (before cs : List Came)
     → slice_index (counts_in eval (before ++ cs)) place ≡ slice_index (counts_in eval before) place + evaluations_behind eval place before cs

@@ -1,11 +1,12 @@
 -- The fields that are kept, as a list and as a map, and that a point with them is one.
-use Rattle.std.proofs.Common.{◌≡◌, ℕ, Bool, true, false, cond, T, List, [], ◌∷◌, refl, sym, ap, ◌∙◌}
-use Rattle.std.specs.Prelude.{◌&&◌, nat_lt, filter, IsTrue, None}
+use Rattle.std.proofs.Common.{arith, ◌≡◌, ℕ, Bool, true, false, cond, T, List, [], ◌∷◌, refl, sym, ap, ◌∙◌}
+use Rattle.std.specs.Prelude.{◌&&◌, ◌==◌, nat_lt, filter, IsTrue, None}
 use Rattle.std.specs.List.{list_all}
 use Rattle.std.specs.declared.cmp.Ordering.{Ordering}
 use Rattle.std.specs.declared.cmp.Ordering.TheVariants.{Equal}
 use Rattle.std.specs.FinMap.{empty, entries, entries_sorted, entries-from_sorted, from_sorted, get-entries, get-from_sorted, get-retain_keys, is_sorted, len, nat_cmp-IsAntisymmetric, retain_keys, same_entries_map, same_map, slice_cmp-IsAntisymmetric}
 use Rattle.std.specs.FinMap.Entries.{find-where_key, is_sorted-where_key, where_key}
+use Rattle.std.proofs.lemmas.Bool.Decides.{nat_tests}
 use Rattle.std.proofs.lemmas.Cmp.{nat_list_cmp_total}
 use Rattle.kap_base.specs.Maps.{KeyMap, byte_order, with_entries}
 use Rattle.kap_base.specs.Points.{IsPoint, PointValue, are_fields, is_value}
@@ -68,15 +69,18 @@ all_left t p (x ∷ xs) h =
     ]
 
 -- a point with those of its fields that are kept, where there are any
-pub kept_fits : (kept : List ℕ → Bool) (p : PointValue) → IsPoint p → IsTrue (nat_lt 0 (len (retain_keys p.fields kept)))
-    → IsPoint (record p { fields = retain_keys p.fields kept })
-kept_fits kept p h some = record {
+pub kept_fits : (p : PointValue) (kept : List ℕ → Bool) (fields : KeyMap Value) → fields ≡ retain_keys p.fields kept
+    → (len fields == 0) ≡ false → IsPoint p → IsPoint (record p { fields = fields })
+kept_fits p kept fields are some h = record {
   db = h.db;
   rp = h.rp;
   name = h.name;
   tags = h.tags;
-  fields = rw (entries-retained kept p.fields) (all_left _ _ (entries p.fields) h.fields);
-  some_field = some;
+  fields = rw (are, entries-retained kept p.fields) (all_left _ _ (entries p.fields) h.fields);
+  some_field = above_zero (len fields) some;
   dims = h.dims;
   time = h.time;
 }
+  where
+    above_zero : (n : ℕ) → (n == 0) ≡ false → IsTrue (nat_lt 0 n)
+    above_zero n e = grind (arith, nat_tests)

@@ -1,5 +1,5 @@
 ghost use Rattle.std.specs.Prelude.{◌≡◌, IfOk};
-ghost use Rattle.eval_node.specs.Evals.{counts_in, eval_says, eval_step, seat_of, unless_empty, with_kept};
+ghost use Rattle.eval_node.specs.Evals.{counts_in, eval_says, eval_step, said_of, seat_of, unless_empty, with_kept};
 ghost use Rattle.eval_node.specs.EvalLaws.{eval_goes_on};
 
 use crate::counts::Counts;
@@ -44,12 +44,47 @@ fn say_kept(
     ensures { IfOk result (λ said. said
         ≡ unless_empty (with_kept (record { results = results.now; keep = keep.now }) point)) }
 {
-    let fields = kept_fields(alloc, keep, results, point.fields)?;
+    let Point {
+        db,
+        rp,
+        name,
+        tags,
+        fields,
+        dims,
+        by_name,
+        time,
+    } = point;
+    let fields = kept_fields(alloc, keep, results, fields)?;
     if fields.is_empty() {
         return Ok(Said::dropped(alloc));
     }
-    let kept = Point { fields, ..point };
+    let kept = Point {
+        db,
+        rp,
+        name,
+        tags,
+        fields,
+        dims,
+        by_name,
+        time,
+    };
     Ok(Said::of_body(alloc, Body::Point(kept)))
+}
+
+/// What is said where this came of the lambdas.
+fn say_seen(
+    alloc: Global,
+    keep: &Keep,
+    results: &[EvalResult<Lambda>],
+    seen: Option<Point>,
+) -> Result<Said, NoMemory>
+    ensures { IfOk result (λ said. said
+        ≡ said_of (record { results = results.now; keep = keep.now }) seen) }
+{
+    match seen {
+        Some(point) => say_kept(alloc, keep, results, point),
+        None => Ok(Said::dropped(alloc)),
+    }
 }
 
 impl Eval {
@@ -89,10 +124,8 @@ impl Rule for Eval {
         point: Point,
     ) -> Result<Said, NoMemory> {
         let _ = port;
-        match evaluate(alloc, self.results.as_mut_slice(), &mut cell.numbers, point)? {
-            Some(point) => say_kept(alloc, &self.keep, &self.results, point),
-            None => Ok(Said::dropped(alloc)),
-        }
+        let seen = evaluate(alloc, self.results.as_mut_slice(), &mut cell.numbers, point)?;
+        say_seen(alloc, &self.keep, &self.results, seen)
     }
 }
 

@@ -8,7 +8,6 @@ ghost use Rattle.eval_node.specs.Evals.{counts_in, evaluations};
 
 /// The number of a lambda is the number of points of the group at which it was evaluated, which are those at which each lambda
 /// before it had a value.
-#[tactic(auto, using(crate::proofs::CountLaws::count_is))]
 pub fn counts_are_evaluations()
     ensures { (eval : EvalSpec Tree) (place : ℕ) (points : List Came)
         → slice_index (counts_in eval points) place ≡ evaluations eval place points }

@@ -6,7 +6,9 @@ mod eval;
 mod evaluations;
 mod fields;
 mod laws;
+mod sends;
 
 pub use counts::Counts;
 pub use eval::{Eval, EvalNode, build};
 pub use laws::counts_are_evaluations;
+pub use sends::send_eval_node;

@@ -8,5 +8,5 @@ abbrev pub invariant-evaluating : goal.invariant-evaluating
 invariant-evaluating l = record {
   kept : l.results ≡ l.fn.results;
   filled : l.place ≤ length l.numbers.items;
-  same : ended l.fn.results l.place l.numbers.items l.seen ≡ evaluated l.fn.results l.fn.numbers.items l.point;
+  same : ended l.fn.results l.place l.numbers.items l.seen ≡ evaluated l.fn.results l.fn.numbers.items l.fn.point;
 }

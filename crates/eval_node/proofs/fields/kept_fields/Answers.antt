@@ -16,5 +16,5 @@ pub returns : goal.returns
 returns c =
     let kept = is_kept c.args.keep.now c.args.results.now in
     let e : with_entries empty c.in_ok-left.left.items ≡ retain_keys c.args.fields kept =
-        left_of kept c.args.fields c.in_ok-left.left.items (c.in_ok-left.ensures ∙ ap (filter (λ e. kept e.0)) c.entries-2.ensures) in
+    left_of kept c.args.fields c.in_ok-left.left.items (c.in_ok-left.ensures ∙ ap (filter (λ e. kept e.0)) c.entries-2.ensures) in
     rw (← e) c.from_entries.ensures
