@@ -1,6 +1,6 @@
 -- The lambdas of an `eval` at a point, lambda by lambda.
-use Rattle.std.proofs.Common.{◌≡◌, ℕ, ◌+◌, ◌<◌, ◌≤◌, List, [], ◌∷◌, ◌++◌, length, get_or, take, drop, Option, Some, None, refl, sym, ap, subst, ◌∙◌, append_assoc, append-nil, arith, option_map}
-use Rattle.std.proofs.lemmas.List.{drop_more, drop_all, length-take-le, take-append-drop}
+use Rattle.std.proofs.Common.{◌≡◌, ℕ, ◌+◌, ◌<◌, ◌≤◌, List, [], ◌∷◌, ◌++◌, length, get_or, take, drop, Option, Some, None, refl, sym, ap, subst, ◌∙◌, append_assoc, arith, option_map}
+use Rattle.std.proofs.lemmas.List.{drop_more, length-take-le}
 use Rattle.std.proofs.Math.Seq.{drop-append-add, take-append-add}
 use Rattle.kap_base.specs.declared.value.Value.{Value}
 use Rattle.kap_base.specs.Points.{PointValue}
@@ -8,7 +8,7 @@ use Rattle.kap_base.specs.Tree.{Tree}
 use Rattle.lambda_count.specs.Outcomes.{value_or_none}
 use Rattle.lambda_eval.specs.Values.{val}
 use Rattle.task_graph.specs.declared.spec.EvalResult.{EvalResult}
-use Rattle.eval_node.specs.Evaluations.{Evaluated, counted, evaluated, first_count, followed, other_counts, with_result}
+use Rattle.eval_node.specs.Evaluations.{Evaluated, evaluated, first_count, followed, other_counts, with_result}
 
 -- numbers in front of the others
 abbrev joined : List ℕ → Evaluated → Evaluated
@@ -17,15 +17,6 @@ joined front r = record { counts = front ++ r.counts; point = r.point }
 -- what comes of a point whose first lambdas, so many, were evaluated
 abbrev pub ended : List (EvalResult Tree) → ℕ → List ℕ → PointValue → Evaluated
 ended xs place counts p = joined (take place counts) (evaluated (drop place xs) (drop place counts) p)
-
-pub at_start : (xs : List (EvalResult Tree)) (counts : List ℕ) (p : PointValue) → ended xs 0 counts p ≡ evaluated xs counts p
-at_start xs counts p = refl
-
-pub at_end : (xs : List (EvalResult Tree)) (place : ℕ) (counts : List ℕ) (p : PointValue)
-    → length xs ≤ place → ended xs place counts p ≡ record { counts = counts; point = Some p }
-at_end xs place counts p past =
-    ap (λ l. joined (take place counts) (evaluated l (drop place counts) p)) (drop_all place xs past)
-    ∙ ap (λ (l : List ℕ). let r : Evaluated = record { counts = l; point = Some p } in r) (take-append-drop place counts)
 
 -- the numbers where one was put at a place
 abbrev pub IsPut : ℕ → List ℕ → List ℕ → Type 0
@@ -61,10 +52,6 @@ module _ (xs : List (EvalResult Tree)) (place : ℕ) (x : EvalResult Tree) (old 
       ap (λ l. joined (take place old) (evaluated l (drop place old) p)) (drop_more xs place x within)
       ∙ ap (λ o. joined (take place old) (followed (first_count (drop place old)) (other_counts (drop place old)) (get_or xs place x).name p (evaluated (drop (place + 1) xs)) o)) is
 
-  after_fault : value_or_none (val (get_or xs place x).lambda (first_count (drop place old)) p) ≡ None
-      → ended xs place old p ≡ record { counts = new; point = None }
-  after_fault is = opened None is ∙ ap (λ (l : List ℕ). let r : Evaluated = record { counts = l; point = None } in r) (sym put)
-
   after_value : (v : Value) → value_or_none (val (get_or xs place x).lambda (first_count (drop place old)) p) ≡ Some v
       → ended xs place old p ≡ ended xs (place + 1) new (with_result (get_or xs place x).name v p)
   after_value v is =
@@ -80,10 +67,6 @@ module _ (xs : List (EvalResult Tree)) (place : ℕ) (x : EvalResult Tree) (old 
 option_map_some : {A B : Type 0} (f : A → B) (o : Option A) (y : B) → option_map f o ≡ Some y → (x : A) × (o ≡ Some x) × (y ≡ f x)
 option_map_some f None y h = absurd cc
 option_map_some f (Some x) y h = (x, refl, cc)
-
-option_map_none : {A B : Type 0} (f : A → B) (o : Option A) → option_map f o ≡ None → o ≡ None
-option_map_none f None h = refl
-option_map_none f (Some x) h = absurd cc
 
 -- where a number was put at a place, and the lambda there evaluated
 pub record Evaluates (xs : List (EvalResult Tree)) (place : ℕ) (x : EvalResult Tree) (old new : List ℕ) (p : PointValue) (k number : ℕ) (next : Option PointValue) : Type 0 where
@@ -103,14 +86,6 @@ is_put xs place x old new p k number next e =
 pub still_filled : (xs : List (EvalResult Tree)) (place : ℕ) (x : EvalResult Tree) (old new : List ℕ) (p : PointValue) (k number : ℕ) (next : Option PointValue)
     → Evaluates xs place x old new p k number next → place + 1 ≤ length new
 still_filled xs place x old new p k number next e = put_length place old new e.filled (is_put xs place x old new p k number next e)
-
-pub after_none : (xs : List (EvalResult Tree)) (place : ℕ) (x : EvalResult Tree) (old new : List ℕ) (p : PointValue) (k number : ℕ)
-    → Evaluates xs place x old new p k number None → ended xs place old p ≡ record { counts = new; point = None }
-after_none xs place x old new p k number e =
-    let none : value_or_none (val x.lambda k p) ≡ None = option_map_none (λ (v : Value). with_result x.name v p) (value_or_none (val x.lambda k p)) (sym e.gives) in
-    let value : value_or_none (val (get_or xs place x).lambda (first_count (drop place old)) p) ≡ None =
-    sym (λ i. value_or_none (val (e.here i).lambda (e.count i) p)) ∙ none in
-    after_fault xs place x old new p e.within e.filled (is_put xs place x old new p k number None e) value
 
 pub after_some : (xs : List (EvalResult Tree)) (place : ℕ) (x : EvalResult Tree) (old new : List ℕ) (p : PointValue) (k number : ℕ) (next : PointValue)
     → Evaluates xs place x old new p k number (Some next) → ended xs (place + 1) new next ≡ ended xs place old p

@@ -2,15 +2,13 @@
 use Rattle.std.proofs.Common.{arith, ◌≡◌, ℕ, Bool, true, false, cond, T, List, [], ◌∷◌, refl, sym, ap, ◌∙◌}
 use Rattle.std.specs.Prelude.{◌&&◌, ◌==◌, nat_lt, filter, IsTrue, None}
 use Rattle.std.specs.List.{list_all}
-use Rattle.std.specs.declared.cmp.Ordering.{Ordering}
 use Rattle.std.specs.declared.cmp.Ordering.TheVariants.{Equal}
 use Rattle.std.specs.FinMap.{empty, entries, entries_sorted, entries-from_sorted, from_sorted, get-entries, get-from_sorted, get-retain_keys, is_sorted, len, nat_cmp-IsAntisymmetric, retain_keys, same_entries_map, same_map, slice_cmp-IsAntisymmetric}
 use Rattle.std.specs.FinMap.Entries.{find-where_key, is_sorted-where_key, where_key}
 use Rattle.std.proofs.lemmas.Bool.Decides.{nat_tests}
 use Rattle.std.proofs.lemmas.Cmp.{nat_list_cmp_total}
 use Rattle.kap_base.specs.Maps.{KeyMap, byte_order, with_entries}
-use Rattle.kap_base.specs.Points.{IsPoint, PointValue, are_fields, is_value}
-use Rattle.kap_base.specs.Texts.{is_name}
+use Rattle.kap_base.specs.Points.{IsPoint, PointValue}
 use Rattle.kap_base.proofs.ManyLaws.{rising}
 use Rattle.kap_base.specs.declared.value.Value.{Value}
 

@@ -1,9 +1,9 @@
-use Rattle.std.proofs.Common.{rules, ◌≡◌, ◌∙◌, ℕ, ◌+◌, ◌<◌, ◌≤◌, length, take, drop, get_or, List, [], ◌∷◌, ◌++◌, Some, sym, ap, arith}
+use Rattle.std.proofs.Common.{◌≡◌, ◌∙◌, ℕ, ◌<◌, length, drop, get_or, List, Some, sym, ap}
 use Rattle.std.specs.Prelude.{slice_set}
 use Rattle.std.proofs.lemmas.List.{get_or_default, set-get_or}
 use Rattle.kap_base.specs.Tree.{Tree}
 use Rattle.task_graph.specs.declared.spec.EvalResult.{EvalResult}
-use Rattle.eval_node.specs.Evaluations.{first_count, other_counts}
+use Rattle.eval_node.specs.Evaluations.{first_count}
 use Rattle.eval_node.proofs.EvaluationLaws.{Evaluates, after_some, still_filled}
 use Rattle.eval_node.proofs.evaluations.evaluate.Goals as goal
 
