@@ -1,6 +1,7 @@
 //! The stream: the points of the databases and policies that a task sees.
 
 ghost use Rattle.std.specs.Prelude.{◌≡◌};
+ghost use Rattle.std.specs.List.{list_any};
 ghost use Rattle.basic_nodes.specs.Streams.{is_of, sees, stream_says};
 
 use crate::words::pass_if;
@@ -14,6 +15,12 @@ fn is_of(point: &Point, dbrp: &Dbrp) -> bool
     dbrp.db == point.db && dbrp.rp == point.rp
 }
 
+fn is_of_one(point: &Point, dbrps: &[Dbrp]) -> bool
+    ensures { result ≡ list_any (is_of point.now) dbrps.now }
+{
+    dbrps.iter().any(|dbrp| is_of(point, dbrp))
+}
+
 /// Whether a task with these sees the point.
 fn sees(dbrps: &Dbrps, point: &Point) -> bool
     ensures { result ≡ sees dbrps.now point.now }
@@ -21,7 +28,7 @@ fn sees(dbrps: &Dbrps, point: &Point) -> bool
     if dbrps.len() == 0 {
         return true;
     }
-    dbrps.as_slice().iter().any(|dbrp| is_of(point, dbrp))
+    is_of_one(point, dbrps.as_slice())
 }
 
 /// What the stream says of a point.
