@@ -2,10 +2,14 @@
 #![tactic(auto)]
 
 mod dimensions;
+mod group_kind;
 mod log;
 mod point_kind;
+mod selection;
 mod stream;
 mod words;
 
 pub use dimensions::{Dimensions, Grouping, Regrouping};
+pub use group_kind::GroupKind;
 pub use point_kind::PointKind;
+pub use selection::{Conditions, Selection};
