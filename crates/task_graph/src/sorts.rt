@@ -36,7 +36,11 @@ impl Name {
     pub fn from_text(text: Text) -> Option<Name>
         ensures { result ≡ tested is_name text }
     {
-        if text.is_name() { Some(Name { text }) } else { None }
+        if text.is_name() {
+            Some(Name { text })
+        } else {
+            None
+        }
     }
 
     /// Its text.
@@ -78,7 +82,11 @@ impl Measurement {
     pub fn from_text(text: Text) -> Option<Measurement>
         ensures { result ≡ tested is_measurement text }
     {
-        if text.is_measurement() { Some(Measurement { text }) } else { None }
+        if text.is_measurement() {
+            Some(Measurement { text })
+        } else {
+            None
+        }
     }
 
     /// Its text.
@@ -120,7 +128,11 @@ impl Line {
     pub fn from_text(text: Text) -> Option<Line>
         ensures { result ≡ tested is_line text }
     {
-        if text.is_line() { Some(Line { text }) } else { None }
+        if text.is_line() {
+            Some(Line { text })
+        } else {
+            None
+        }
     }
 
     /// Its text.
@@ -153,6 +165,8 @@ impl Model for Count {
     ghost Value = { ℕ };
 
     ghost view = { λ n. n.number };
+
+    ghost inverse = { λ n. record { number = n } };
 
     ghost invariant = { λ n. IsTrue (is_count n.number) };
 }
@@ -201,6 +215,8 @@ impl Model for Span {
 
     ghost view = { λ n. n.nanos };
 
+    ghost inverse = { λ n. record { nanos = n } };
+
     ghost invariant = { λ n. IsTrue (is_span n.nanos) };
 }
 
@@ -248,6 +264,8 @@ impl Model for Period {
 
     ghost view = { λ n. n.nanos };
 
+    ghost inverse = { λ n. record { nanos = n } };
+
     ghost invariant = { λ n. IsTrue (is_period n.nanos) };
 }
 
@@ -287,6 +305,8 @@ impl Model for ElapsedUnit {
     ghost Value = { ℕ };
 
     ghost view = { λ n. n.nanos };
+
+    ghost inverse = { λ n. record { nanos = n } };
 
     ghost invariant = { λ n. IsTrue (is_unit n.nanos) };
 }
