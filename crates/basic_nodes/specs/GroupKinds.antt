@@ -7,18 +7,21 @@ use Rattle.node_core.specs.Groups.{Came, GroupAnswer}
 use Rattle.node_core.specs.Laws.{filter-append}
 use Rattle.node_core.specs.Meaning.{Turn}
 use Rattle.basic_nodes.specs.declared.group_kind.GroupKind.{GroupKind}
-use Rattle.basic_nodes.specs.declared.group_kind.GroupKind.TheVariants.{From, Where}
+use Rattle.basic_nodes.specs.declared.group_kind.GroupKind.TheVariants.{From, Where, Sample}
 use Rattle.basic_nodes.specs.Conditions.{agrees, from_says, where_says}
+use Rattle.basic_nodes.specs.Shifts.{sample_says}
 
 -- whether a point is one of those that are counted: `from` counts those that it evaluates, the others count each
 abbrev pub is_counted : GroupKind → PointValue → Bool
 is_counted (From selection) p = agrees selection p
 is_counted (Where condition) p = true
+is_counted (Sample n) p = true
 
 -- what is said of a point, where so many points of its group were counted before
 abbrev pub says_behind : GroupKind → ℕ → PointValue → Said
 says_behind (From selection) k p = from_says selection k p
 says_behind (Where condition) k p = where_says condition k p
+says_behind (Sample n) k p = sample_says n k p
 
 -- how many of a group's points were counted
 abbrev pub count_in : GroupKind → List Came → ℕ

@@ -7,9 +7,12 @@ use Rattle.node_core.specs.declared.said.Said.{Said}
 use Rattle.node_core.specs.Groups.{is_point}
 use Rattle.node_core.specs.Meaning.{silence}
 use Rattle.basic_nodes.specs.declared.point_kind.PointKind.{PointKind}
-use Rattle.basic_nodes.specs.declared.point_kind.PointKind.TheVariants.{Stream, GroupBy, Log}
+use Rattle.basic_nodes.specs.declared.point_kind.PointKind.TheVariants.{Stream, GroupBy, Log, Default, Delete, Shift}
+use Rattle.basic_nodes.specs.Defaults.{default_says}
+use Rattle.basic_nodes.specs.Deletions.{delete_says}
 use Rattle.basic_nodes.specs.Dimensions.{group_by_says}
 use Rattle.basic_nodes.specs.Logs.{log_says}
+use Rattle.basic_nodes.specs.Shifts.{shift_says}
 use Rattle.basic_nodes.specs.Streams.{stream_says}
 use Rattle.basic_nodes.specs.Words.{of_points}
 
@@ -17,6 +20,9 @@ abbrev pub says_of : PointKind → PointValue → Said
 says_of (Stream dbrps) p = stream_says dbrps p
 says_of (GroupBy regrouping) p = group_by_says regrouping p
 says_of Log p = log_says p
+says_of (Default settings) p = default_says settings p
+says_of (Delete deletion) p = delete_says deletion p
+says_of (Shift by) p = shift_says by p
 
 -- what is said of a body, whatever its port
 abbrev pub point_says : PointKind → ℕ → Body → Said

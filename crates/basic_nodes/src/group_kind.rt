@@ -2,10 +2,12 @@ ghost use Rattle.std.specs.Prelude.{◌≡◌, ℕ, IfOk, OnOk};
 ghost use Rattle.basic_nodes.specs.GroupKinds.{count_in, group_goes_on, group_says, group_step};
 
 use crate::selection::{Selection, feed_from, feed_where};
+use crate::shift::feed_sample;
 use kap_base::{NoMemory, Point};
 use lambda_types::Lambda;
 use node_core::{Rule, Said};
 use std::alloc::Global;
+use task_graph::Count;
 
 /// What is done with a point by how many points of its group came before it (Kapacitor 1.6 node reference).
 #[derive(Drop)]
@@ -14,6 +16,8 @@ pub enum GroupKind {
     From(Selection),
     /// `where`.
     Where(Lambda),
+    /// `sample`.
+    Sample(Count),
 }
 
 impl Rule for GroupKind {
@@ -45,6 +49,7 @@ impl Rule for GroupKind {
         match self {
             GroupKind::From(selection) => feed_from(alloc, selection, cell, point),
             GroupKind::Where(condition) => feed_where(alloc, condition, cell, point),
+            GroupKind::Sample(n) => feed_sample(alloc, n, cell, point),
         }
     }
 }

@@ -2,12 +2,16 @@ ghost use Rattle.std.specs.Prelude.{◌≡◌, ℕ, IfOk};
 ghost use Rattle.node_core.specs.Groups.{is_point};
 ghost use Rattle.basic_nodes.specs.PointKinds.{point_says, point_silent, says_of};
 
+use crate::defaults::feed_default;
+use crate::deletions::{Deletion, feed_delete};
 use crate::dimensions::{Regrouping, feed_group_by};
 use crate::log::feed_log;
+use crate::shift::feed_shift;
 use crate::stream::feed_stream;
-use kap_base::{Body, Dbrps, NoMemory, Point};
+use kap_base::{Body, Dbrps, ItemList, NoMemory, Point};
 use node_core::{Plain, Said};
 use std::alloc::Global;
+use task_graph::DefaultSetting;
 
 /// What is done with each point by itself (Kapacitor 1.6 node reference).
 #[derive(Drop)]
@@ -18,6 +22,12 @@ pub enum PointKind {
     GroupBy(Regrouping),
     /// `log`.
     Log,
+    /// `default`, with its properties in order.
+    Default(ItemList<DefaultSetting>),
+    /// `delete`.
+    Delete(Deletion),
+    /// `shift`, in nanoseconds.
+    Shift(i64),
 }
 
 impl PointKind {
@@ -29,6 +39,9 @@ impl PointKind {
             PointKind::Stream(dbrps) => Ok(feed_stream(alloc, dbrps, point)),
             PointKind::GroupBy(regrouping) => feed_group_by(alloc, regrouping, point),
             PointKind::Log => feed_log(alloc, point),
+            PointKind::Default(settings) => feed_default(alloc, settings.as_slice(), point),
+            PointKind::Delete(deletion) => feed_delete(alloc, deletion, point),
+            PointKind::Shift(by) => Ok(feed_shift(alloc, *by, point)),
         }
     }
 }
