@@ -1,5 +1,5 @@
 -- A point without some of its fields and tags is a point.
-use Rattle.std.proofs.Common.{◌≡◌, ℕ, Bool, true, false, cond, T, List, [], ◌∷◌, map, refl, sym, ap, subst, ◌∙◌}
+use Rattle.std.proofs.Common.{◌≡◌, ℕ, Bool, true, false, cond, T, List, [], ◌∷◌, map, refl, sym, ap, subst, ◌∙◌, arith}
 use Rattle.std.specs.Prelude.{◌&&◌, ◌==◌, nat_lt, filter, IsTrue, None}
 use Rattle.std.specs.List.{list_all}
 use Rattle.std.specs.Str.{is_utf8}
@@ -8,29 +8,29 @@ use Rattle.std.specs.declared.cmp.Ordering.{Ordering}
 use Rattle.std.specs.declared.cmp.Ordering.TheVariants.{Equal}
 use Rattle.std.specs.FinMap.{empty, entries, entries_sorted, entries-from_sorted, from_sorted, get-entries, get-from_sorted, get-retain_keys, is_sorted, len, nat_cmp-IsAntisymmetric, retain_keys, same_entries_map, same_map, slice_cmp-IsAntisymmetric}
 use Rattle.std.specs.FinMap.Entries.{find-where_key, is_sorted-where_key, where_key}
+use Rattle.std.proofs.lemmas.Bool.Decides.{nat_tests}
 use Rattle.std.proofs.lemmas.Cmp.{nat_list_cmp_total}
+use Rattle.kap_base.specs.declared.value.Value.{Value}
 use Rattle.kap_base.specs.Maps.{KeyMap, byte_order, with_entries}
 use Rattle.kap_base.specs.Points.{IsPoint, PointValue, are_dimensions, rises}
 use Rattle.kap_base.proofs.ManyLaws.{rises_not, rises_step, rising}
-use Rattle.basic_nodes.specs.declared.deletions.Deletion.{Deletion}
-use Rattle.basic_nodes.specs.Deletions.{is_left, without}
 
 -- ---- maps without some keys
 
-module _ {X : Type 0} (p : List ℕ → Bool) where
-  -- texts that tie are equal
-  alike : (q x : List ℕ) → byte_order q x ≡ Equal → p x ≡ p q
-  alike q x e = ap p (sym (slice_cmp-IsAntisymmetric nat_cmp-IsAntisymmetric q x e))
+-- texts that tie are equal
+alike : (p : List ℕ → Bool) (q x : List ℕ) → byte_order q x ≡ Equal → p x ≡ p q
+alike p q x e = ap p (sym (slice_cmp-IsAntisymmetric nat_cmp-IsAntisymmetric q x e))
 
+module _ {X : Type 0} (p : List ℕ → Bool) where
   kept_sorted : (m : KeyMap X) → T (is_sorted byte_order (where_key byte_order p (entries m)))
   kept_sorted m = is_sorted-where_key byte_order p (entries m) (entries_sorted m)
 
   retained : (m : KeyMap X) → from_sorted (where_key byte_order p (entries m)) ≡ retain_keys m p
   retained m = same_map nat_list_cmp_total (slice_cmp-IsAntisymmetric nat_cmp-IsAntisymmetric) _ _ (λ q.
       get-from_sorted byte_order (where_key byte_order p (entries m)) q (kept_sorted m)
-      ∙ find-where_key byte_order p q (alike q) (entries m)
+      ∙ find-where_key byte_order p q (alike p q) (entries m)
       ∙ ap (λ o. cond (p q) o None) (sym (get-entries m q))
-      ∙ sym (get-retain_keys m p q (alike q)))
+      ∙ sym (get-retain_keys m p q (alike p q)))
 
   pub entries-retained : (m : KeyMap X) → entries (retain_keys m p) ≡ filter (λ e. p e.0) (entries m)
   entries-retained m = ap entries (sym (retained m)) ∙ entries-from_sorted byte_order (where_key byte_order p (entries m)) (kept_sorted m)
@@ -111,14 +111,19 @@ dims_left p names h =
     both (rises (filter p names)) (list_all is_utf8 (filter p names))
     (rises_left p names (first (rises names) (list_all is_utf8 names) h)) (all_left is_utf8 p names (second (rises names) (list_all is_utf8 names) h))
 
-pub without_fits : (d : Deletion) (p : PointValue) → IsPoint p → IsTrue (nat_lt 0 (len (retain_keys p.fields (is_left d.fields)))) → IsPoint (without d p)
-without_fits d p h some = record {
+-- a point with what is left, which is some field at least
+pub left_fits : (p : PointValue) (f t : List ℕ → Bool) (fields : KeyMap Value) (tags : KeyMap (List ℕ)) (dims : List (List ℕ)) → fields ≡ retain_keys p.fields f → tags ≡ retain_keys p.tags t
+    → dims ≡ filter t p.dims → (len fields == 0) ≡ false → IsPoint p → IsPoint (record p { fields = fields; tags = tags; dims = dims })
+left_fits p f t fields tags dims fields_are tags_are dims_are some h = record {
   db = h.db;
   rp = h.rp;
   name = h.name;
-  tags = rw (entries-retained (is_left d.tags) p.tags) (all_left _ _ (entries p.tags) h.tags);
-  fields = rw (entries-retained (is_left d.fields) p.fields) (all_left _ _ (entries p.fields) h.fields);
-  some_field = some;
-  dims = dims_left (is_left d.tags) p.dims h.dims;
+  tags = rw (tags_are, entries-retained t p.tags) (all_left _ _ (entries p.tags) h.tags);
+  fields = rw (fields_are, entries-retained f p.fields) (all_left _ _ (entries p.fields) h.fields);
+  some_field = above_zero (len fields) some;
+  dims = rw dims_are (dims_left t p.dims h.dims);
   time = h.time;
 }
+  where
+    above_zero : (n : ℕ) → (n == 0) ≡ false → IsTrue (nat_lt 0 n)
+    above_zero n e = grind (arith, nat_tests)

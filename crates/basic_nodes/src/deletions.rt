@@ -1,7 +1,7 @@
 //! `delete`.
 
-ghost use Rattle.std.specs.Prelude.{◌≡◌, filter, IfOk};
-ghost use Rattle.std.specs.List.{list_all};
+ghost use Rattle.std.specs.Prelude.{◌≡◌, bytes_eq, filter, IfOk};
+ghost use Rattle.std.specs.List.{list_all, list_any};
 ghost use Rattle.std.specs.FinMap.{retain_keys};
 ghost use Rattle.basic_nodes.specs.Deletions.{delete_says, is_left, without};
 
@@ -19,11 +19,24 @@ pub struct Deletion {
     pub tags: Names,
 }
 
+fn is_same(name: &Text, other: &Text) -> bool
+    ensures { result ≡ bytes_eq name.now other.now }
+{
+    name == other
+}
+
+/// Whether the name is one of these.
+fn is_among(names: &[Text], name: &Text) -> bool
+    ensures { result ≡ list_any (bytes_eq name.now) names.now }
+{
+    names.iter().any(|other| is_same(name, other))
+}
+
 /// Whether the name is none of these.
 fn is_left(taken: &[Text], name: &Text) -> bool
     ensures { result ≡ is_left taken.now name.now }
 {
-    !taken.iter().any(|other| name == other)
+    !is_among(taken, name)
 }
 
 /// The entries whose keys are none of these.
@@ -51,14 +64,14 @@ fn all_left<V>(taken: &[Text], entries: &[(Text, V)]) -> bool
 }
 
 /// The map without these keys. One that has none of them stays.
-#[tactic(auto, using(crate::proofs::DeletionLaws::left_of, crate::proofs::DeletionLaws::nothing_goes))]
 fn left<V: Duplicate + Drop>(
     alloc: Global,
-    taken: &[Text],
+    taken: &Names,
     keyed: KeyMap<V>,
 ) -> Result<KeyMap<V>, NoMemory>
     ensures { IfOk result (λ left. left ≡ retain_keys keyed (is_left taken.now)) }
 {
+    let taken = taken.as_slice();
     if all_left(taken, keyed.entries()) {
         return Ok(keyed);
     }
@@ -67,12 +80,12 @@ fn left<V: Duplicate + Drop>(
 }
 
 /// The names that are none of these.
-fn names_left(alloc: Global, taken: &[Text], names: Names) -> Result<Names, NoMemory>
+fn names_left(alloc: Global, taken: &Names, names: Names) -> Result<Names, NoMemory>
     ensures { IfOk result (λ left. left ≡ filter (is_left taken.now) names) }
 {
     let mut left = Vec::new(alloc);
     'moving: for name in names.into_items() {
-        if is_left(taken, &name) {
+        if is_left(taken.as_slice(), &name) {
             left.push(name)?;
         }
     }
@@ -97,12 +110,12 @@ pub(crate) fn feed_delete(
         by_name,
         time,
     } = point;
-    let fields = left(alloc, deletion.fields.as_slice(), fields)?;
+    let fields = left(alloc, &deletion.fields, fields)?;
     if fields.is_empty() {
         return Ok(Said::dropped(alloc));
     }
-    let tags = left(alloc, deletion.tags.as_slice(), tags)?;
-    let dims = names_left(alloc, deletion.tags.as_slice(), dims)?;
+    let tags = left(alloc, &deletion.tags, tags)?;
+    let dims = names_left(alloc, &deletion.tags, dims)?;
     let point = Point {
         db,
         rp,
