@@ -84,3 +84,5 @@ in_order_same text names =
     ∙ sym (contains_key-keys (map_of names) text)
     ∙ found text empty names
     ∙ rw (get-empty byte_order text) (any_alike text names)
+
+pub ruleset ordered = (in_order_rises, in_order_same)

@@ -105,3 +105,5 @@ port life node (Other kind) = refl
 pub takes_points : (life node : ℕ) (kind : BasicKind) → ◌≡◌ {A = Body → Bool} (either (λ s. is_point) (λ s. is_point) (seat_of life node kind)) is_point
 takes_points life node (One kind) = refl
 takes_points life node (Other kind) = refl
+
+pub ruleset seen = (answers, lives, numbers, port, takes_points)

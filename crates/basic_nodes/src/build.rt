@@ -16,7 +16,8 @@ use node_core::{Alone, Both, Grouped, Node, Numbered, Seat};
 use std::alloc::Global;
 use task_graph::{DeleteSetting, Dims, FromSpec, GroupBySpec};
 
-/// A node of these kinds: one that treats each point by itself, or one that goes by how many points of its group came before.
+/// A node of these kinds: one that treats each point by itself, or one that goes by how many points of its group came before
+/// it.
 pub type BasicNode = Both<Numbered<Alone<PointKind>>, Numbered<Grouped<GroupKind>>>;
 
 /// A node that treats each point by itself, in its first state.

@@ -31,7 +31,8 @@ fn set_field(
     value: &DefaultValue,
     point: &mut Point,
 ) -> Result<(), NoMemory>
-    ensures { OnOk result (point.new ≡ with_default (DefaultSetting.Field name.now value.now) point.old) }
+    ensures { OnOk result
+        (point.new ≡ with_default (DefaultSetting.Field name.now value.now) point.old) }
 {
     if point.fields.contains_key(name.text()) {
         return Ok(());
@@ -44,7 +45,8 @@ fn set_field(
 fn put_tag(point: &mut Point, name: Text, value: Text) -> Result<(), NoMemory>
     requires name { IsTrue (is_name name) }
     requires value { IsTrue (is_name value) }
-    ensures { OnOk result (point.new ≡ record point.old { tags = map.insert point.old.tags name value }) }
+    ensures { OnOk result
+        (point.new ≡ record point.old { tags = map.insert point.old.tags name value }) }
 {
     point.tags.insert(name, value)?;
     Ok(())
@@ -52,7 +54,8 @@ fn put_tag(point: &mut Point, name: Text, value: Text) -> Result<(), NoMemory>
 
 /// Sets a tag that is missing.
 fn set_tag(alloc: Global, name: &Name, value: &Name, point: &mut Point) -> Result<(), NoMemory>
-    ensures { OnOk result (point.new ≡ with_default (DefaultSetting.Tag name.now value.now) point.old) }
+    ensures { OnOk result
+        (point.new ≡ with_default (DefaultSetting.Tag name.now value.now) point.old) }
 {
     if point.tags.contains_key(name.text()) {
         return Ok(());

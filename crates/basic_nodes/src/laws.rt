@@ -13,10 +13,11 @@ use node_core::Node;
 
 /// Of a node of a kind, in a life and with a number: what it answers is what the kind says, stamped and numbered; that life
 /// and that number are its own; it has one port; and points are for it.
-#[tactic(auto, using(crate::specs::Nodes::answers, crate::specs::Nodes::lives, crate::specs::Nodes::numbers, crate::specs::Nodes::port, crate::specs::Nodes::takes_points))]
+#[tactic(auto, using(crate::specs::Nodes::seen))]
 pub fn nodes_say_what_kinds_say()
     ensures answer { (life node : ℕ) (kind : BasicKind)
-        → ⟦<BasicNode as Node>⟧.answer (seat_of life node kind) ≡ stamped life node (saying_of kind) }
+        → ⟦<BasicNode as Node>⟧.answer (seat_of life node kind)
+        ≡ stamped life node (saying_of kind) }
     ensures life { (life node : ℕ) (kind : BasicKind)
         → ⟦<BasicNode as Node>⟧.life (seat_of life node kind) ≡ life }
     ensures number { (life node : ℕ) (kind : BasicKind)
@@ -29,7 +30,7 @@ pub fn nodes_say_what_kinds_say()
 
 /// Dimensions are the names that a script gives, whatever their order and however often each is given: they rise, and a text
 /// is one of them exactly where it is one of the names.
-#[tactic(auto, using(crate::proofs::DimensionLaws::in_order_rises, crate::proofs::DimensionLaws::in_order_same))]
+#[tactic(auto, using(crate::proofs::DimensionLaws::ordered))]
 pub fn dimensions_are_the_names()
     ensures rising { (names : List (List ℕ)) → IsTrue (rises (in_order names)) }
     ensures same { (text : List ℕ) (names : List (List ℕ))

@@ -44,7 +44,8 @@ impl Conditions {
 
     /// Their value at a point, where they were evaluated `k` times before, or None where there is a fault.
     fn outcome(&mut self, alloc: Global, k: u64, point: &Point) -> Result<Option<Value>, NoMemory>
-        ensures value { IfOk result (λ v. v ≡ value_or_none (val (joined_by_and 0 self.old) k point.now)) }
+        ensures value { IfOk result
+            (λ v. v ≡ value_or_none (val (joined_by_and 0 self.old) k point.now)) }
         ensures kept { self.new ≡ self.old }
     {
         outcome_of_all(alloc, self.lambdas.as_mut_slice(), k, point)

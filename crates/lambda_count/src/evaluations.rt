@@ -40,7 +40,8 @@ pub fn outcome_of_all(
     k: u64,
     point: &Point,
 ) -> Result<Option<Value>, NoMemory>
-    ensures value { IfOk result (λ v. v ≡ value_or_none (val (joined_by_and 0 lambdas.old) k point.now)) }
+    ensures value { IfOk result
+        (λ v. v ≡ value_or_none (val (joined_by_and 0 lambdas.old) k point.now)) }
     ensures kept { lambdas.new ≡ lambdas.old }
 {
     if k >= EVALUATION_LIMIT {
