@@ -1,6 +1,6 @@
 -- What is said of a point by how many points of its group came before it.
 use Rattle.std.specs.Prelude.{◌≡◌, ℕ, ◌+◌, Bool, true, false, cond, if◌then◌else◌, List, [], ◌∷◌, ◌++◌, length, filter, refl}
-use Rattle.std.proofs.Common.{length-append, add-zero, append-nil}
+use Rattle.std.proofs.Common.{length-append}
 use Rattle.kap_base.specs.Points.{PointValue}
 use Rattle.node_core.specs.declared.said.Said.{Said}
 use Rattle.node_core.specs.Groups.{Came, GroupAnswer}

@@ -1,7 +1,5 @@
-use Rattle.std.proofs.Common.{◌≡◌, true, sym, subst}
-use Rattle.std.specs.Prelude.{filter, IfOk}
-use Rattle.std.specs.List.{list_all}
-use Rattle.std.specs.FinMap.{entries}
+use Rattle.std.proofs.Common.{◌≡◌, sym, subst}
+use Rattle.std.specs.Prelude.{IfOk}
 use Rattle.basic_nodes.specs.Deletions.{is_left}
 use Rattle.basic_nodes.proofs.DeletionLaws.{left_of, nothing_goes}
 use Rattle.basic_nodes.proofs.deletions.left.Goals as goal
