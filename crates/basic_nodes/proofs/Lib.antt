@@ -1,0 +1,4 @@
+pub mod DimensionLaws
+pub mod DeletionLaws
+pub mod TagLaws
+pub mod TimeLaws

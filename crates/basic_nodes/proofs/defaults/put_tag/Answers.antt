@@ -1,0 +1,5 @@
+use Rattle.basic_nodes.proofs.TagLaws.{with_tag}
+use Rattle.basic_nodes.proofs.defaults.put_tag.Goals as goal
+
+pub invariant_of-point-2 : goal.invariant_of-point-2
+invariant_of-point-2 c = rw c.in_ok-insert.ensures.ok (with_tag _ c.args.name c.args.value c.point.invariant c.requires.name c.requires.value)

@@ -1,0 +1,14 @@
+-- what nodes say of a point
+pub mod Words
+pub mod Streams
+pub mod Dimensions
+pub mod Logs
+pub mod Defaults
+pub mod Deletions
+pub mod Shifts
+pub mod Conditions
+-- what each kind says, and of what it keeps
+pub mod PointKinds
+pub mod GroupKinds
+-- the node of what a script hands to one
+pub mod Nodes

@@ -1,0 +1,109 @@
+-- The node of what a script hands to one.
+use Rattle.std.specs.Prelude.{◌≡◌, ℕ, Bool, List, [], ◌∷◌, refl}
+use Rattle.std.specs.List.{flat_map}
+use Rattle.lambda_types.specs.declared.lambda.Lambda.{Lambda}
+use Rattle.node_core.specs.declared.alone.Alone.{Alone}
+use Rattle.node_core.specs.declared.both.Both.{Both}
+use Rattle.node_core.specs.declared.both.Both.TheVariants.{One, Other}
+use Rattle.node_core.specs.declared.grouped.Grouped.{Grouped}
+use Rattle.node_core.specs.declared.numbered.Seat.{Seat}
+use Rattle.node_core.specs.Both.{either, of_both}
+use Rattle.node_core.specs.Groups.{in_groups, is_point}
+use Rattle.node_core.specs.Meaning.{Answer, Saying}
+use Rattle.node_core.specs.Numbering.{stamped}
+use Rattle.kap_base.specs.declared.items.Body.{Body}
+use Rattle.task_graph.specs.declared.spec.DeleteSetting.{DeleteSetting}
+use Rattle.task_graph.specs.declared.spec.DeleteSetting.TheVariants as deletes
+use Rattle.task_graph.specs.declared.spec.Dims.{Dims}
+use Rattle.task_graph.specs.declared.spec.Dims.TheVariants as dims
+use Rattle.task_graph.specs.declared.spec.FromSpec.{FromSpec}
+use Rattle.task_graph.specs.declared.spec.GroupBySpec.{GroupBySpec}
+use Rattle.basic_nodes.specs.declared.deletions.Deletion.{Deletion}
+use Rattle.basic_nodes.specs.declared.dimensions.Grouping.{Grouping}
+use Rattle.basic_nodes.specs.declared.dimensions.Grouping.TheVariants.{By, ByAll}
+use Rattle.basic_nodes.specs.declared.dimensions.Regrouping.{Regrouping}
+use Rattle.basic_nodes.specs.declared.group_kind.GroupKind.{GroupKind}
+use Rattle.basic_nodes.specs.declared.group_kind.GroupKind.TheVariants as groups
+use Rattle.basic_nodes.specs.declared.point_kind.PointKind.{PointKind}
+use Rattle.basic_nodes.specs.declared.point_kind.PointKind.TheVariants as points
+use Rattle.basic_nodes.specs.declared.selection.Selection.{Selection}
+use Rattle.basic_nodes.specs.declared.spec.BasicSpec.{BasicSpec}
+use Rattle.basic_nodes.specs.declared.spec.BasicSpec.TheVariants.{Stream, From, Where, GroupBy, Log, Default, Delete, Shift, Sample}
+use Rattle.basic_nodes.specs.Dimensions.{in_order}
+use Rattle.basic_nodes.specs.GroupKinds.{group_says}
+use Rattle.basic_nodes.specs.PointKinds.{point_says}
+
+-- dimensions as a point needs them
+abbrev pub grouping_of : Dims → Grouping
+grouping_of (dims.Names names) = By (in_order names)
+grouping_of dims.All = ByAll
+
+abbrev pub selection_of : FromSpec Lambda → Selection
+selection_of f = record { database = f.database; policy = f.retention_policy; measurement = f.measurement; conditions = f.conditions; grouping = grouping_of f.dims; by_measurement = f.by_measurement }
+
+abbrev pub regrouping_of : GroupBySpec → Regrouping
+regrouping_of g = record { grouping = grouping_of g.dims; by_measurement = g.by_measurement }
+
+abbrev pub field_named : DeleteSetting → List (List ℕ)
+field_named (deletes.Field name) = name ∷ []
+field_named (deletes.Tag name) = []
+
+abbrev pub tag_named : DeleteSetting → List (List ℕ)
+tag_named (deletes.Field name) = []
+tag_named (deletes.Tag name) = name ∷ []
+
+abbrev pub deletion_of : List DeleteSetting → Deletion
+deletion_of settings = record { fields = flat_map field_named settings; tags = flat_map tag_named settings }
+
+-- what a node does: with each point by itself, or by how many points of its group came before
+abbrev pub BasicKind : Type 0
+BasicKind = Both PointKind GroupKind
+
+-- what it says of an arrival, by the arrivals before it
+abbrev pub saying_of : BasicKind → Saying
+saying_of (One kind) = λ before x. point_says kind x.0 x.1
+saying_of (Other kind) = in_groups (group_says kind)
+
+-- what it does, by what it is given
+abbrev pub kind_of : BasicSpec → BasicKind
+kind_of (Stream dbrps) = One (points.Stream dbrps)
+kind_of (From spec) = Other (groups.From (selection_of spec))
+kind_of (Where condition) = Other (groups.Where condition)
+kind_of (GroupBy spec) = One (points.GroupBy (regrouping_of spec))
+kind_of (Log spec) = One points.Log
+kind_of (Default settings) = One (points.Default settings)
+kind_of (Delete settings) = One (points.Delete (deletion_of settings))
+kind_of (Shift by) = One (points.Shift by)
+kind_of (Sample n) = Other (groups.Sample n)
+
+-- a kind, the life in which it runs, and the number of the node
+abbrev pub BasicSeat : Type 0
+BasicSeat = Both (Seat (Alone PointKind)) (Seat (Grouped GroupKind))
+
+abbrev pub seat_of : ℕ → ℕ → BasicKind → BasicSeat
+seat_of life node = of_both (λ kind. record { life = life; node = node; kind = record { plain = kind } }) (λ kind. record { life = life; node = node; kind = record { rule = kind } })
+
+-- ---- what is seen of a node
+
+pub answers : (life node : ℕ) (kind : BasicKind)
+    → ◌≡◌ {A = Answer} (either (λ s. stamped s.life s.node (λ before x. point_says s.kind.plain x.0 x.1)) (λ s. stamped s.life s.node (in_groups (group_says s.kind.rule))) (seat_of life node kind)) (stamped life node (saying_of kind))
+answers life node (One kind) = refl
+answers life node (Other kind) = refl
+
+pub lives : (life node : ℕ) (kind : BasicKind) → either (λ s. s.life) (λ s. s.life) (seat_of life node kind) ≡ life
+lives life node (One kind) = refl
+lives life node (Other kind) = refl
+
+pub numbers : (life node : ℕ) (kind : BasicKind) → either (λ s. s.node) (λ s. s.node) (seat_of life node kind) ≡ node
+numbers life node (One kind) = refl
+numbers life node (Other kind) = refl
+
+pub port : (life node : ℕ) (kind : BasicKind) → either {C = ℕ} (λ s. 1) (λ s. 1) (seat_of life node kind) ≡ 1
+port life node (One kind) = refl
+port life node (Other kind) = refl
+
+pub takes_points : (life node : ℕ) (kind : BasicKind) → ◌≡◌ {A = Body → Bool} (either (λ s. is_point) (λ s. is_point) (seat_of life node kind)) is_point
+takes_points life node (One kind) = refl
+takes_points life node (Other kind) = refl
+
+pub ruleset seen = (answers, lives, numbers, port, takes_points)

@@ -1,0 +1,130 @@
+//! `delete`.
+
+ghost use Rattle.std.specs.Prelude.{◌≡◌, bytes_eq, filter, IfOk};
+ghost use Rattle.std.specs.List.{list_all, list_any};
+ghost use Rattle.std.specs.FinMap.{retain_keys};
+ghost use Rattle.basic_nodes.specs.Deletions.{delete_says, is_left, without};
+
+use crate::words::pass;
+use kap_base::{Duplicate, KeyMap, Names, NoMemory, Point, Text};
+use node_core::Said;
+use std::alloc::Global;
+
+/// `delete` (Kapacitor 1.6: delete node): what it takes away of each point.
+#[derive(Debug, Drop)]
+pub struct Deletion {
+    /// The names of fields.
+    pub fields: Names,
+    /// The names of tags, which go from the dimensions too.
+    pub tags: Names,
+}
+
+fn is_same(name: &Text, other: &Text) -> bool
+    ensures { result ≡ bytes_eq name.now other.now }
+{
+    name == other
+}
+
+/// Whether the name is one of these.
+fn is_among(names: &[Text], name: &Text) -> bool
+    ensures { result ≡ list_any (bytes_eq name.now) names.now }
+{
+    names.iter().any(|other| is_same(name, other))
+}
+
+/// Whether the name is none of these.
+fn is_left(taken: &[Text], name: &Text) -> bool
+    ensures { result ≡ is_left taken.now name.now }
+{
+    !is_among(taken, name)
+}
+
+/// The entries whose keys are none of these.
+fn entries_left<V: Duplicate + Drop>(
+    alloc: Global,
+    taken: &[Text],
+    entries: &[(Text, V)],
+) -> Result<Vec<(Text, V)>, NoMemory>
+    ensures { IfOk result (λ left. left.items ≡ filter (λ e. is_left taken.now e.0) entries.now) }
+{
+    let mut left = Vec::new(alloc);
+    'copying: for entry in entries {
+        if is_left(taken, &entry.0) {
+            left.push((entry.0.copy(alloc)?, entry.1.copy(alloc)?))?;
+        }
+    }
+    Ok(left)
+}
+
+/// Whether all keys of entries are none of these.
+fn all_left<V>(taken: &[Text], entries: &[(Text, V)]) -> bool
+    ensures { result ≡ list_all (λ e. is_left taken.now e.0) entries.now }
+{
+    entries.iter().all(|entry| is_left(taken, &entry.0))
+}
+
+/// The map without these keys. One that has none of them stays.
+fn left<V: Duplicate + Drop>(
+    alloc: Global,
+    taken: &Names,
+    keyed: KeyMap<V>,
+) -> Result<KeyMap<V>, NoMemory>
+    ensures { IfOk result (λ left. left ≡ retain_keys keyed (is_left taken.now)) }
+{
+    let taken = taken.as_slice();
+    if all_left(taken, keyed.entries()) {
+        return Ok(keyed);
+    }
+    let left = entries_left(alloc, taken, keyed.entries())?;
+    KeyMap::from_entries(alloc, left)
+}
+
+/// The names that are none of these.
+fn names_left(alloc: Global, taken: &Names, names: Names) -> Result<Names, NoMemory>
+    ensures { IfOk result (λ left. left ≡ filter (is_left taken.now) names) }
+{
+    let mut left = Vec::new(alloc);
+    'moving: for name in names.into_items() {
+        if is_left(taken.as_slice(), &name) {
+            left.push(name)?;
+        }
+    }
+    Ok(Names::from_items(left))
+}
+
+/// What `delete` says of a point.
+pub(crate) fn feed_delete(
+    alloc: Global,
+    deletion: &Deletion,
+    point: Point,
+) -> Result<Said, NoMemory>
+    ensures { IfOk result (λ said. said ≡ delete_says deletion.now point) }
+{
+    let Point {
+        db,
+        rp,
+        name,
+        tags,
+        fields,
+        dims,
+        by_name,
+        time,
+    } = point;
+    let fields = left(alloc, &deletion.fields, fields)?;
+    if fields.is_empty() {
+        return Ok(Said::dropped(alloc));
+    }
+    let tags = left(alloc, &deletion.tags, tags)?;
+    let dims = names_left(alloc, &deletion.tags, dims)?;
+    let point = Point {
+        db,
+        rp,
+        name,
+        tags,
+        fields,
+        dims,
+        by_name,
+        time,
+    };
+    Ok(pass(alloc, point))
+}

@@ -1,0 +1,149 @@
+//! By what points are grouped.
+
+ghost use Rattle.std.specs.Prelude.{◌≡◌, IfOk, IsTrue, map};
+ghost use Rattle.std.specs.FinMap.{keys};
+ghost use Rattle.std.specs.List.{list_all};
+ghost use Rattle.std.specs.Str.{is_utf8};
+ghost use Rattle.kap_base.specs.Points.{are_dimensions};
+ghost use Rattle.basic_nodes.specs.Dimensions.{dims_of, group_by_says, grouped, in_order, map_of};
+
+use crate::words::pass;
+use kap_base::{Duplicate, KeyMap, Names, NoMemory, Point, Text};
+use node_core::Said;
+use std::alloc::Global;
+use std::marker::Model;
+
+/// Names of tags in byte order, each once, as a point has them.
+#[derive(Debug, Drop)]
+pub struct Dimensions {
+    names: Names,
+}
+
+impl Model for Dimensions {
+    ghost use Rattle.std.specs.Prelude.{IsTrue, List, ℕ};
+    ghost use Rattle.kap_base.specs.Points.{are_dimensions};
+
+    ghost Value = { List (List ℕ) };
+
+    ghost view = { λ d. d.names };
+
+    ghost invariant = { λ d. IsTrue (are_dimensions d.names) };
+}
+
+/// The dimensions that a node sets.
+#[derive(Debug, Drop)]
+pub enum Grouping {
+    /// These.
+    By(Dimensions),
+    /// All tags of the point.
+    ByAll,
+}
+
+/// `groupBy` (Kapacitor 1.6: group by node).
+#[derive(Debug, Drop)]
+pub struct Regrouping {
+    /// The dimensions.
+    pub grouping: Grouping,
+    /// Whether grouping by name is turned on; it is never turned off.
+    pub by_measurement: bool,
+}
+
+/// The names of the keys of entries, in order.
+fn keys_of<V>(alloc: Global, entries: &[(Text, V)]) -> Result<Vec<Text>, NoMemory>
+    ensures keys { IfOk result (λ names. names.items ≡ map (λ e. e.0) entries.now) }
+    ensures utf8 { IfOk result (λ names. IsTrue (list_all is_utf8 names.items)) }
+{
+    let mut names = Vec::new(alloc);
+    'adding: for entry in entries {
+        names.push(entry.0.copy(alloc)?)?;
+    }
+    Ok(names)
+}
+
+/// The keys of a map: they can be dimensions.
+#[tactic(auto, using(crate::proofs::DimensionLaws::keys_fit))]
+fn key_names<V: Drop>(alloc: Global, keyed: &KeyMap<V>) -> Result<Names, NoMemory>
+    ensures keys { IfOk result (λ names. names ≡ keys keyed.now) }
+    ensures fit { IfOk result (λ names. IsTrue (are_dimensions names)) }
+{
+    let names = keys_of(alloc, keyed.entries())?;
+    Ok(Names::from_items(names))
+}
+
+/// A map that has these keys.
+fn map_of(alloc: Global, names: &[Text]) -> Result<KeyMap<()>, NoMemory>
+    ensures { IfOk result (λ keyed. keyed ≡ map_of names.now) }
+{
+    let mut entries = Vec::new(alloc);
+    'adding: for name in names {
+        entries.push((name.copy(alloc)?, ()))?;
+    }
+    KeyMap::from_entries(alloc, entries)
+}
+
+impl Dimensions {
+    /// These names in byte order, each once.
+    pub fn from_names(alloc: Global, names: &Names) -> Result<Dimensions, NoMemory>
+        ensures { IfOk result (λ dims. dims ≡ in_order names.now) }
+    {
+        let keyed = map_of(alloc, names.as_slice())?;
+        Ok(Dimensions {
+            names: key_names(alloc, &keyed)?,
+        })
+    }
+
+    /// The names.
+    fn names(&self, alloc: Global) -> Result<Names, NoMemory>
+        ensures names { IfOk result (λ names. names ≡ self.now) }
+        ensures fit { IfOk result (λ names. IsTrue (are_dimensions names)) }
+    {
+        self.names.copy(alloc)
+    }
+}
+
+/// The dimensions of a point.
+fn dims_of(alloc: Global, grouping: &Grouping, point: &Point) -> Result<Names, NoMemory>
+    ensures dims { IfOk result (λ dims. dims ≡ dims_of grouping.now point.now) }
+    ensures fit { IfOk result (λ dims. IsTrue (are_dimensions dims)) }
+{
+    match grouping {
+        Grouping::By(dims) => dims.names(alloc),
+        Grouping::ByAll => key_names(alloc, &point.tags),
+    }
+}
+
+/// The point with these dimensions, and grouped by name or not.
+fn with_dims(mut point: Point, dims: Names, by_name: bool) -> Point
+    requires { IsTrue (are_dimensions dims) }
+    ensures { result ≡ record point { dims = dims; by_name = by_name } }
+{
+    point.dims = dims;
+    point.by_name = by_name;
+    point
+}
+
+/// The point, grouped anew.
+pub(crate) fn group(
+    alloc: Global,
+    grouping: &Grouping,
+    by_name: bool,
+    point: Point,
+) -> Result<Point, NoMemory>
+    ensures { IfOk result (λ p. p ≡ grouped grouping.now by_name point) }
+{
+    let dims = dims_of(alloc, grouping, &point)?;
+    Ok(with_dims(point, dims, by_name))
+}
+
+/// What `groupBy` says of a point.
+pub(crate) fn feed_group_by(
+    alloc: Global,
+    regrouping: &Regrouping,
+    point: Point,
+) -> Result<Said, NoMemory>
+    ensures { IfOk result (λ said. said ≡ group_by_says regrouping.now point) }
+{
+    let by_name = point.by_name || regrouping.by_measurement;
+    let point = group(alloc, &regrouping.grouping, by_name, point)?;
+    Ok(pass(alloc, point))
+}
