@@ -25,29 +25,29 @@ module _ {P S : Type 0} (step : P → S → Input → Move S) where
   -- nodes after new points, behind earlier ones that gave out these lists
   abbrev pub nodes_after : List Item → List (List Item) → List (Active P S) → List (Active P S)
   nodes_after points outs [] = []
-  nodes_after points outs (a ∷ as) =
+  nodes_after points outs (a ∷ acts) =
       let m = moved points outs a in
-      record { spec = a.spec; state = m.state; parents = a.parents } ∷ nodes_after points (outs ++ m.given.items ∷ []) as
+      record { spec = a.spec; state = m.state; parents = a.parents } ∷ nodes_after points (outs ++ m.given.items ∷ []) acts
 
   -- their effects
   abbrev pub effects_after : List Item → List (List Item) → List (Active P S) → List Effect
   effects_after points outs [] = []
-  effects_after points outs (a ∷ as) =
-      let m = moved points outs a in m.given.effects ++ effects_after points (outs ++ m.given.items ∷ []) as
+  effects_after points outs (a ∷ acts) =
+      let m = moved points outs a in m.given.effects ++ effects_after points (outs ++ m.given.items ∷ []) acts
 
 -- each node is in its first state
 abbrev pub AreFirst : {P S : Type 0} → (P → S) → List (Active P S) → Type 0
 AreFirst first [] = ⊤
-AreFirst first (a ∷ as) = (a.state ≡ first a.spec) × AreFirst first as
+AreFirst first (a ∷ acts) = (a.state ≡ first a.spec) × AreFirst first acts
 
 module _ {P S : Type 0} (answer : P → Answer) (first : P → S) (step : P → S → Input → Move S) where
   -- each node is in the state that its input so far makes, behind earlier nodes that give this
   abbrev pub AreAt : ℕ → List Item → List Given → List (Active P S) → Type 0
   AreAt n points earlier [] = ⊤
-  AreAt n points earlier (a ∷ as) =
+  AreAt n points earlier (a ∷ acts) =
       (a.state ≡ (fold (step a.spec) (first a.spec) (merged n (lists_of points (outs_of earlier) a.parents))).state)
-      × AreAt n points (earlier ++ node_gives answer n points earlier (placed a) ∷ []) as
+      × AreAt n points (earlier ++ node_gives answer n points earlier (placed a) ∷ []) acts
 
   -- each node of a graph is in the state that these points make
   abbrev pub IsAt : List PointValue → List (Active P S) → Type 0
-  IsAt points as = AreAt (length points) (stamped_from 1 points) [] as
+  IsAt points acts = AreAt (length points) (stamped_from 1 points) [] acts

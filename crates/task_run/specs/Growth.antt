@@ -7,12 +7,8 @@ use Rattle.std.proofs.lemmas.List.Concat.{flat_map-append}
 use Rattle.kap_base.specs.declared.items.Item.{Item}
 use Rattle.node_core.specs.Meaning.{Input}
 use Rattle.node_core.specs.Cut.{AreStamped, AllUpTo}
+use Rattle.task_run.specs.Order.{ItemsUpTo}
 use Rattle.task_run.specs.Merging.{stamps, items_with, at_port, at_ports, inputs_with, merged}
-
--- no stamp is above this one
-abbrev pub ItemsUpTo : ℕ → List Item → Type 0
-ItemsUpTo n [] = ⊤
-ItemsUpTo n (i ∷ items) = (i.stamp.0 ≤ n) × ItemsUpTo n items
 
 -- each input has this stamp
 abbrev pub InputsAt : ℕ → List Input → Type 0
@@ -34,8 +30,9 @@ none-with s t (i ∷ items) e h = rw (h.0, e) (none-with s t items e h.1)
 all-with : (s : ℕ) (items : List Item) → AreStamped s items → items_with s items ≡ items
 all-with s [] h = refl
 all-with s (i ∷ items) h =
-    let same : (s == s) ≡ true = grind (arith, nat_tests) in
-    rw (h.0, same) (ap (λ (l : List Item). i ∷ l) (all-with s items h.1))
+    let e = h.0 in
+    let same : (i.stamp.0 == s) ≡ true = grind (arith, nat_tests) in
+    rw same (ap (λ (l : List Item). i ∷ l) (all-with s items h.1))
 
 none-above : (s n : ℕ) (items : List Item) → n < s → ItemsUpTo n items → items_with s items ≡ []
 none-above s n [] e h = refl

@@ -2,7 +2,11 @@ pub mod Merging
 pub mod Graphs
 pub mod Lives
 pub mod Plans
+pub mod Order
 pub mod Growth
 pub mod Active
 pub mod MoreLaws
 pub mod PointLaws
+pub mod OrderLaws
+pub mod Feeding
+pub mod Laid

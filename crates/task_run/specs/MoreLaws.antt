@@ -16,7 +16,8 @@ use Rattle.task_run.specs.Merging.{at_ports, merged}
 use Rattle.task_run.specs.Graphs.{Placed, stamped_from, outs_of, lists_of, node_gives, gives_behind}
 use Rattle.task_run.specs.Lives.{effects_with, node_effects_with}
 use Rattle.task_run.specs.Active.{Active, placed, moved, nodes_after, effects_after, AreAt}
-use Rattle.task_run.specs.Growth.{ItemsUpTo, InputsAt, Grows, merged_more, added_at, merged_up_to}
+use Rattle.task_run.specs.Order.{ItemsUpTo}
+use Rattle.task_run.specs.Growth.{InputsAt, Grows, merged_more, added_at, merged_up_to}
 
 -- no effect has a stamp above this one
 abbrev pub EffectsUpTo : ℕ → List Effect → Type 0
@@ -163,7 +164,7 @@ module _ {P : Type 0} (answer : P → Answer) (life number : P → ℕ) (stamped
   part-is n source ts are node =
       let before = merged n (lists_of source.old (outs_of (olds ts)) node.parents) in
       record {
-        old = after-up_to (life node.spec) (number node.spec) (answer node.spec) (stamped node.spec) n [] before (merged_up_to n _);
+        old = after-up_to (life node.spec) (number node.spec) (answer node.spec) (stamped node.spec) n [] before (merged_up_to n (lists_of source.old (outs_of (olds ts)) node.parents));
         more = after-at (life node.spec) (number node.spec) (answer node.spec) (stamped node.spec) (suc n) before _ (lists-at n source ts are node.parents);
       }
 
@@ -208,8 +209,9 @@ none-of s t (x ∷ effects) e h = rw (h.0, e) (none-of s t effects e h.1)
 all-of : (s : ℕ) (effects : List Effect) → EffectsAt s effects → effects_with s effects ≡ effects
 all-of s [] h = refl
 all-of s (x ∷ effects) h =
-    let same : (s == s) ≡ true = grind (arith, nat_tests) in
-    rw (h.0, same) (ap (λ (l : List Effect). x ∷ l) (all-of s effects h.1))
+    let e = h.0 in
+    let same : (x.stamp.0 == s) ≡ true = grind (arith, nat_tests) in
+    rw same (ap (λ (l : List Effect). x ∷ l) (all-of s effects h.1))
 
 none-beyond : (s n : ℕ) (effects : List Effect) → n < s → EffectsUpTo n effects → effects_with s effects ≡ []
 none-beyond s n [] e h = refl
@@ -289,35 +291,35 @@ module _ {P S : Type 0} (answer : P → Answer) (life number : P → ℕ) (stamp
     outs-more (u ∷ ts) t items e = ap (λ (ls : List (List Item)). u.more.items ∷ ls) (outs-more ts t items e)
 
     -- the nodes are where one point more brings them
-    pub all_at : (ts : List Part) → AreParts n ts → (as : List (Active P S)) → AreAt answer first step n source.old (olds ts) as
-        → AreAt answer first step (suc n) source.new (wholes ts) (nodes_after step source.more (outs_of (mores ts)) as)
+    pub all_at : (ts : List Part) → AreParts n ts → (acts : List (Active P S)) → AreAt answer first step n source.old (olds ts) acts
+        → AreAt answer first step (suc n) source.new (wholes ts) (nodes_after step source.more (outs_of (mores ts)) acts)
     all_at ts are [] at = tt
-    all_at ts are (a ∷ as) at =
+    all_at ts are (a ∷ acts) at =
         let t = part answer life number stamped n source ts (placed a) in
         let is = part-is answer life number stamped n source ts are (placed a) in
         let m = moved step source.more (outs_of (mores ts)) a in
         let earlier : olds ts ++ t.old ∷ [] ≡ olds (ts ++ t ∷ []) = sym (map-append (λ t. t.old) ts (t ∷ [])) in
-        let rest : AreAt answer first step n source.old (olds (ts ++ t ∷ [])) as = subst (λ (gs : List Given). AreAt answer first step n source.old gs as) earlier at.1 in
+        let rest : AreAt answer first step n source.old (olds (ts ++ t ∷ [])) acts = subst (λ (gs : List Given). AreAt answer first step n source.old gs acts) earlier at.1 in
         let outs : outs_of (mores ts) ++ m.given.items ∷ [] ≡ outs_of (mores (ts ++ t ∷ [])) = outs-more ts t m.given.items (ap (λ (g : Given). g.items) (moved-is ts a at.0)) in
         let gives : wholes ts ++ node_gives answer (suc n) source.new (wholes ts) (placed a) ∷ [] ≡ wholes (ts ++ t ∷ []) =
             ap (λ (g : Given). wholes ts ++ g ∷ []) (part-whole answer life number stamped n source ts are (placed a)) ∙ sym (map-append whole ts (t ∷ [])) in
         (state-is ts are a at.0,
-         subst (λ (gs : List Given). AreAt answer first step (suc n) source.new gs (nodes_after step source.more (outs_of (mores ts) ++ m.given.items ∷ []) as)) (sym gives)
-         (subst (λ (ls : List (List Item)). AreAt answer first step (suc n) source.new (wholes (ts ++ t ∷ [])) (nodes_after step source.more ls as)) (sym outs)
-          (all_at (ts ++ t ∷ []) (parts-more n ts t are is) as rest)))
+         subst (λ (gs : List Given). AreAt answer first step (suc n) source.new gs (nodes_after step source.more (outs_of (mores ts) ++ m.given.items ∷ []) acts)) (sym gives)
+         (subst (λ (ls : List (List Item)). AreAt answer first step (suc n) source.new (wholes (ts ++ t ∷ [])) (nodes_after step source.more ls acts)) (sym outs)
+          (all_at (ts ++ t ∷ []) (parts-more n ts t are is) acts rest)))
 
     -- and gave the effects that it adds
-    pub all_effects : (ts : List Part) → AreParts n ts → (as : List (Active P S)) → AreAt answer first step n source.old (olds ts) as
-        → effects_after step source.more (outs_of (mores ts)) as ≡ flat_map (λ g. g.effects) (mores (parts_behind answer life number stamped n source ts (map placed as)))
+    pub all_effects : (ts : List Part) → AreParts n ts → (acts : List (Active P S)) → AreAt answer first step n source.old (olds ts) acts
+        → effects_after step source.more (outs_of (mores ts)) acts ≡ flat_map (λ g. g.effects) (mores (parts_behind answer life number stamped n source ts (map placed acts)))
     all_effects ts are [] at = refl
-    all_effects ts are (a ∷ as) at =
+    all_effects ts are (a ∷ acts) at =
         let t = part answer life number stamped n source ts (placed a) in
         let is = part-is answer life number stamped n source ts are (placed a) in
         let m = moved step source.more (outs_of (mores ts)) a in
         let earlier : olds ts ++ t.old ∷ [] ≡ olds (ts ++ t ∷ []) = sym (map-append (λ t. t.old) ts (t ∷ [])) in
-        let rest : AreAt answer first step n source.old (olds (ts ++ t ∷ [])) as = subst (λ (gs : List Given). AreAt answer first step n source.old gs as) earlier at.1 in
+        let rest : AreAt answer first step n source.old (olds (ts ++ t ∷ [])) acts = subst (λ (gs : List Given). AreAt answer first step n source.old gs acts) earlier at.1 in
         let given_is : m.given ≡ t.more = moved-is ts a at.0 in
         let outs : outs_of (mores ts) ++ m.given.items ∷ [] ≡ outs_of (mores (ts ++ t ∷ [])) = outs-more ts t m.given.items (ap (λ (g : Given). g.items) given_is) in
-        ap (λ (ls : List (List Item)). m.given.effects ++ effects_after step source.more ls as) outs
-        ∙ ap (λ (es : List Effect). m.given.effects ++ es) (all_effects (ts ++ t ∷ []) (parts-more n ts t are is) as rest)
-        ∙ ap (λ (g : Given). g.effects ++ flat_map (λ g. g.effects) (mores (parts_behind answer life number stamped n source (ts ++ t ∷ []) (map placed as)))) given_is
+        ap (λ (ls : List (List Item)). m.given.effects ++ effects_after step source.more ls acts) outs
+        ∙ ap (λ (es : List Effect). m.given.effects ++ es) (all_effects (ts ++ t ∷ []) (parts-more n ts t are is) acts rest)
+        ∙ ap (λ (g : Given). g.effects ++ flat_map (λ g. g.effects) (mores (parts_behind answer life number stamped n source (ts ++ t ∷ []) (map placed acts)))) given_is

@@ -1,5 +1,5 @@
 -- What is planned of a life.
-use Rattle.std.specs.Prelude.{◌≡◌, ℕ, ◌+◌, ◌<◌, ⊤, List, [], ◌∷◌, length, max}
+use Rattle.std.specs.Prelude.{◌≡◌, ℕ, ◌+◌, ◌<◌, ⊤, List, [], ◌∷◌, length, map, max, zip}
 use Rattle.task_run.specs.Graphs.{Placed}
 
 -- the number of a life, its nodes, and the parents of each
@@ -25,23 +25,29 @@ pub record IsNodeAt (life number ports its_life its_number : ℕ) (parents : Lis
 module _ {N P : Type 0} (spec : N → P) (ports life number : P → ℕ) where
   -- nodes of this life, numbered from here on
   abbrev pub AreNodesFrom : ℕ → ℕ → List N → List (List ℕ) → Type 0
-  AreNodesFrom of at [] [] = ⊤
-  AreNodesFrom of at [] (ps ∷ pss) = ⊥
-  AreNodesFrom of at (n ∷ ns) [] = ⊥
-  AreNodesFrom of at (n ∷ ns) (ps ∷ pss) =
-      IsNodeAt of at (ports (spec n)) (life (spec n)) (number (spec n)) ps × AreNodesFrom of (at + 1) ns pss
+  AreNodesFrom which at [] [] = ⊤
+  AreNodesFrom which at [] (ps ∷ pss) = ⊥
+  AreNodesFrom which at (n ∷ ns) [] = ⊥
+  AreNodesFrom which at (n ∷ ns) (ps ∷ pss) =
+      IsNodeAt which at (ports (spec n)) (life (spec n)) (number (spec n)) ps × AreNodesFrom which (at + 1) ns pss
 
   -- a stream and further nodes, each at its place
   pub record IsPlan (plan : PlanValue N) : Type 0 where
     pub some_node : 0 < length plan.nodes
     pub nodes : AreNodesFrom plan.life 0 plan.nodes plan.parents
 
-  -- the nodes with their parents
-  abbrev pub placed_nodes : List N → List (List ℕ) → List (Placed P)
-  placed_nodes [] pss = []
-  placed_nodes (n ∷ ns) [] = []
-  placed_nodes (n ∷ ns) (ps ∷ pss) = record { spec = spec n; parents = ps } ∷ placed_nodes ns pss
-
-  -- the graph that is planned
+module _ {N P : Type 0} (spec : N → P) where
+  -- the graph that is planned: the nodes with their parents
   abbrev pub graph_of : PlanValue N → List (Placed P)
-  graph_of plan = placed_nodes plan.nodes plan.parents
+  graph_of plan = map (λ p. record { spec = spec p.0; parents = p.1 }) (zip plan.nodes plan.parents)
+
+  module _ {S : Type 0} (state : N → S) (first : P → S) where
+    -- each node is in its first state
+    abbrev pub AreFirstNodes : List N → Type 0
+    AreFirstNodes [] = ⊤
+    AreFirstNodes (n ∷ ns) = (state n ≡ first (spec n)) × AreFirstNodes ns
+
+    -- and so in all plans
+    abbrev pub AreFirstStates : List (PlanValue N) → Type 0
+    AreFirstStates [] = ⊤
+    AreFirstStates (plan ∷ plans) = AreFirstNodes plan.nodes × AreFirstStates plans

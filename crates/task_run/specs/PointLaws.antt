@@ -12,7 +12,8 @@ use Rattle.task_run.specs.Merging.{stamps, merged}
 use Rattle.task_run.specs.Graphs.{Placed, stamped_from, outs_of, lists_of, node_gives, gives_behind, graph_gives}
 use Rattle.task_run.specs.Lives.{effects_with, node_effects_with, life_effects_with, effects_of}
 use Rattle.task_run.specs.Active.{Active, placed, nodes_after, effects_after, AreFirst, AreAt, IsAt}
-use Rattle.task_run.specs.Growth.{ItemsUpTo, Grows}
+use Rattle.task_run.specs.Order.{ItemsUpTo}
+use Rattle.task_run.specs.Growth.{Grows}
 use Rattle.task_run.specs.MoreLaws.{Source, Part, AreParts, olds, mores, wholes, parts_behind, parts_behind-are, gives-old, gives-new, effects-old, effects-new, all_at, all_effects}
 
 -- a point with a stamp
@@ -88,38 +89,38 @@ module _ {P : Type 0} (answer : P → Answer) (life number : P → ℕ) (stamped
 
   module _ {S : Type 0} (first : P → S) (step : P → S → Input → Move S) (folds : (p : P) (xs : List Input) → (fold (step p) (first p) xs).given ≡ given (answer p) xs) where
     -- the states that one point more makes
-    pub goes_on : (ps : List PointValue) (p : PointValue) (as : List (Active P S)) → IsAt answer first step ps as
-        → IsAt answer first step (ps ++ p ∷ []) (nodes_after step (stamped_point (suc (length ps)) p ∷ []) [] as)
+    pub goes_on : (ps : List PointValue) (p : PointValue) (acts : List (Active P S)) → IsAt answer first step ps acts
+        → IsAt answer first step (ps ++ p ∷ []) (nodes_after step (stamped_point (suc (length ps)) p ∷ []) [] acts)
     unfolding source_of
-    goes_on ps p as at =
-        subst (λ (n : ℕ). AreAt answer first step n (stamped_from 1 (ps ++ p ∷ [])) [] (nodes_after step (stamped_point (suc (length ps)) p ∷ []) [] as)) (sym (length-more ps p))
-        (all_at answer life number stamped first step folds (length ps) (source_of ps p) [] tt as at)
+    goes_on ps p acts at =
+        subst (λ (n : ℕ). AreAt answer first step n (stamped_from 1 (ps ++ p ∷ [])) [] (nodes_after step (stamped_point (suc (length ps)) p ∷ []) [] acts)) (sym (length-more ps p))
+        (all_at answer life number stamped first step folds (length ps) (source_of ps p) [] tt acts at)
 
     -- the effects of its stamp
-    pub gives_on : (ps : List PointValue) (p : PointValue) (as : List (Active P S)) → IsAt answer first step ps as
-        → effects_after step (stamped_point (suc (length ps)) p ∷ []) [] as ≡ node_effects_with (suc (length ps)) (graph_gives answer (ps ++ p ∷ []) (map placed as))
+    pub gives_on : (ps : List PointValue) (p : PointValue) (acts : List (Active P S)) → IsAt answer first step ps acts
+        → effects_after step (stamped_point (suc (length ps)) p ∷ []) [] acts ≡ node_effects_with (suc (length ps)) (graph_gives answer (ps ++ p ∷ []) (map placed acts))
     unfolding source_of
-    gives_on ps p as at =
-        all_effects answer life number stamped first step folds (length ps) (source_of ps p) [] tt as at
-        ∙ sym (effects-new (length ps) (parts-of ps p (map placed as)) (parts-are ps p (map placed as)))
-        ∙ ap (λ (gs : List Given). node_effects_with (suc (length ps)) gs) (sym (graph-new ps p (map placed as)))
+    gives_on ps p acts at =
+        all_effects answer life number stamped first step folds (length ps) (source_of ps p) [] tt acts at
+        ∙ sym (effects-new (length ps) (parts-of ps p (map placed acts)) (parts-are ps p (map placed acts)))
+        ∙ ap (λ (gs : List Given). node_effects_with (suc (length ps)) gs) (sym (graph-new ps p (map placed acts)))
 
     -- before the first point
-    begins-at : (earlier : List Given) (as : List (Active P S)) → AreFirst first as → AreAt answer first step 0 [] earlier as
+    begins-at : (earlier : List Given) (acts : List (Active P S)) → AreFirst first acts → AreAt answer first step 0 [] earlier acts
     begins-at earlier [] h = tt
-    begins-at earlier (a ∷ as) h = (h.0, begins-at (earlier ++ node_gives answer 0 [] earlier (placed a) ∷ []) as h.1)
+    begins-at earlier (a ∷ acts) h = (h.0, begins-at (earlier ++ node_gives answer 0 [] earlier (placed a) ∷ []) acts h.1)
 
-    pub begins : (as : List (Active P S)) → AreFirst first as → IsAt answer first step [] as
-    begins as h = begins-at [] as h
+    pub begins : (acts : List (Active P S)) → AreFirst first acts → IsAt answer first step [] acts
+    begins acts h = begins-at [] acts h
 
     -- counted drops
     drops-at : (drops : S → ℕ) → ((p : P) (xs : List Input) → drops (fold (step p) (first p) xs).state ≡ (given (answer p) xs).drops)
-        → (n : ℕ) (points : List Item) (earlier : List Given) (as : List (Active P S)) → AreAt answer first step n points earlier as
-        → map (λ a. drops a.state) as ≡ map (λ g. g.drops) (gives_behind answer n points earlier (map placed as))
+        → (n : ℕ) (points : List Item) (earlier : List Given) (acts : List (Active P S)) → AreAt answer first step n points earlier acts
+        → map (λ a. drops a.state) acts ≡ map (λ g. g.drops) (gives_behind answer n points earlier (map placed acts))
     drops-at drops counts n points earlier [] at = refl
-    drops-at drops counts n points earlier (a ∷ as) at =
-        rw (at.0, counts a.spec (merged n (lists_of points (outs_of earlier) a.parents)), drops-at drops counts n points (earlier ++ node_gives answer n points earlier (placed a) ∷ []) as at.1) refl
+    drops-at drops counts n points earlier (a ∷ acts) at =
+        rw (at.0, counts a.spec (merged n (lists_of points (outs_of earlier) a.parents)), drops-at drops counts n points (earlier ++ node_gives answer n points earlier (placed a) ∷ []) acts at.1) refl
 
     pub dropped_at : (drops : S → ℕ) → ((p : P) (xs : List Input) → drops (fold (step p) (first p) xs).state ≡ (given (answer p) xs).drops)
-        → (ps : List PointValue) (as : List (Active P S)) → IsAt answer first step ps as → map (λ a. drops a.state) as ≡ map (λ g. g.drops) (graph_gives answer ps (map placed as))
-    dropped_at drops counts ps as at = drops-at drops counts (length ps) (stamped_from 1 ps) [] as at
+        → (ps : List PointValue) (acts : List (Active P S)) → IsAt answer first step ps acts → map (λ a. drops a.state) acts ≡ map (λ g. g.drops) (graph_gives answer ps (map placed acts))
+    dropped_at drops counts ps acts at = drops-at drops counts (length ps) (stamped_from 1 ps) [] acts at

@@ -1,11 +1,37 @@
 //! Laws of whole lists, and no code.
 
-ghost use Rattle.std.specs.Prelude.{◌≡◌, ℕ, suc, List, [], ◌∷◌, ◌++◌, length};
+ghost use Rattle.std.specs.Prelude.{◌≡◌, ℕ, suc, ◌<◌, List, [], ◌∷◌, ◌++◌, length, slice_index_or};
 ghost use Rattle.kap_base.specs.Points.{PointValue};
-ghost use Rattle.task_run.specs.Graphs.{Placed};
+ghost use Rattle.kap_base.specs.declared.items.Item.{Item};
+ghost use Rattle.node_core.specs.Meaning.{nothing};
+ghost use Rattle.task_run.specs.Merging.{merged};
+ghost use Rattle.task_run.specs.Order.{AreOrdered, IsStream, from_port};
+ghost use Rattle.task_run.specs.Plans.{AreBelow};
+ghost use Rattle.task_run.specs.Graphs.{Placed, graph_gives, node_gives, outs_of, stamped_from};
 ghost use Rattle.task_run.specs.Lives.{effects_of, life_effects_with};
 
 use node_core::Node;
+
+/// Merged lists stand by stamp, then by port, and each list is what came at its port, in order, where its stamps are those of n
+/// points and don't fall.
+#[tactic(auto, using(crate::specs::OrderLaws::merged_ordered, crate::specs::OrderLaws::merged_has))]
+pub fn merging_orders()
+    ensures ordered { (n : ℕ) (lists : List (List Item)) → AreOrdered (merged n lists) }
+    ensures has { (n port : ℕ) (lists : List (List Item)) → IsStream n (slice_index_or lists port [])
+        → from_port port (merged n lists) ≡ slice_index_or lists port [] }
+{}
+
+/// What a node gives is its function of the merged lists that its parents give out, which are earlier nodes; and the stamps of
+/// what it gives out are those of the points and don't fall.
+pub fn nodes_give_by_parents<N: Node>()
+    ensures parents { (points : List PointValue) (nodes : List (Placed N.Spec)) (i : ℕ) (d : Placed N.Spec)
+        → i < length nodes → AreBelow i (slice_index_or nodes i d).parents
+        → slice_index_or (graph_gives N.answer points nodes) i nothing
+            ≡ node_gives N.answer (length points) (stamped_from 1 points) (graph_gives N.answer points nodes)
+                (slice_index_or nodes i d) }
+    ensures streams { (points : List PointValue) (nodes : List (Placed N.Spec)) (i : ℕ)
+        → IsStream (length points) (slice_index_or (outs_of (graph_gives N.answer points nodes)) i []) }
+{}
 
 /// The effects of one point more are those with its stamp, behind the others.
 pub fn effects_go_on<N: Node>()
