@@ -89,26 +89,23 @@ pub taken_items : (outs : List (List Item)) (p : ℕ) (takes : List ℕ) (shelve
 taken_items outs p takes shelves d lt holds = (holds p d lt).items_are (let here = takes-here p takes in omega arith)
 
 -- the others are there for those that are to take them later
-pub holds_rest : (outs : List (List Item)) (p : ℕ) (takes : List ℕ) (shelves : List Shelf) (old new : Shelf) → p < length shelves → old ≡ get_or shelves p old
-    → new.left ≡ old.left - 1 → (1 < old.left → new.items ≡ old.items) → Holds outs (p ∷ takes) shelves → Holds outs takes (set shelves p new)
-holds_rest outs p takes shelves old new within is left kept holds i d lt = elim (p == i) as (λ b. (p == i) ≡ b → HoldsShelf (get_or outs i []) (takes_of i takes) (get_or (set shelves p new) i d)) [
-  | true ↦ λ e.
+pub holds_rest : (outs : List (List Item)) (p : ℕ) (takes : List ℕ) (shelves : List Shelf) (e new : Shelf) → p < length shelves
+    → new.left ≡ (get_or shelves p e).left - 1 → (1 < (get_or shelves p e).left → new.items ≡ (get_or shelves p e).items) → Holds outs (p ∷ takes) shelves → Holds outs takes (set shelves p new)
+holds_rest outs p takes shelves e new within left kept holds i d lt = elim (p == i) as (λ b. (p == i) ≡ b → HoldsShelf (get_or outs i []) (takes_of i takes) (get_or (set shelves p new) i d)) [
+  | true ↦ λ t.
       let same : p ≡ i = grind (arith, nat_tests) in
-      let lt' : p < length outs = omega arith in
-      let h = holds p old lt' in
+      let h = holds p e (omega arith) in
       let here = takes-here p takes in
       let low = h.left in
-      let there : get_or shelves p old ≡ old = sym is in
-      let low' : takes_of p (p ∷ takes) ≤ old.left = subst (λ (s : Shelf). takes_of p (p ∷ takes) ≤ s.left) there h.left in
       subst (λ (k : ℕ). HoldsShelf (get_or outs k []) (takes_of k takes) (get_or (set shelves p new) k d)) same
       (subst (λ (s : Shelf). HoldsShelf (get_or outs p []) (takes_of p takes) s) (sym (get_or-set_same shelves p new d within)) (record {
         left = omega arith;
-        items_are = λ some. kept (omega arith) ∙ subst (λ (s : Shelf). s.items ≡ get_or outs p []) there (h.items_are (omega arith));
+        items_are = λ some. kept (omega arith) ∙ h.items_are (omega arith);
       }))
-  | false ↦ λ e.
+  | false ↦ λ t.
       let other : i ≢ p = grind (arith, nat_tests) in
       let h = holds i d lt in
-      let same = takes-other i p takes e in
+      let same = takes-other i p takes t in
       subst (λ (s : Shelf). HoldsShelf (get_or outs i []) (takes_of i takes) s) (sym (get_or-set_other shelves p i new d other))
       (subst (λ (n : ℕ). HoldsShelf (get_or outs i []) n (get_or shelves i d)) same h)
 ] refl

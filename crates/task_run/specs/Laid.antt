@@ -34,7 +34,7 @@ module _ {N : Type 0} where
 
   -- a shelf for the stream and one for each cell, with the number of those that take it
   pub record HasShelves (cells : List (Cell N)) (shelves : List Shelf) : Type 0 where
-    pub shelves : length shelves ≡ suc (length cells)
+    pub one_each : length shelves ≡ suc (length cells)
     pub readers : (i : ℕ) → readers_at shelves i ≡ takes_of i (takes_in cells)
 
 module _ {S : Type 0} (step : S → Input → Move S) where
@@ -57,7 +57,7 @@ module _ {N P : Type 0} (spec : N → P) where
     pub record IsCellAt (number : ℕ) (c : Cell N) : Type 0 where
       pub earlier : AreBelow number c.parents
       pub some : 0 < length c.parents
-      pub ports : length c.parents ≤ ports (spec c.node)
+      pub ports_enough : length c.parents ≤ ports (spec c.node)
 
     abbrev pub AreCells : ℕ → List (Cell N) → Type 0
     AreCells number [] = ⊤
@@ -100,5 +100,5 @@ module _ {N P : Type 0} (spec : N → P) where
     -- what a run keeps
     pub record IsRunning (ports : P → ℕ) (answer : P → Answer) (first : P → S) (step : P → S → Input → Move S) (lives : List (Life N)) (given : ℕ) (points : List PointValue) : Type 0 where
       pub given_is : given ≡ length points
-      pub lives : AreLives ports lives
+      pub are_lives : AreLives ports lives
       pub states : AllAt answer first step points lives

@@ -1,0 +1,50 @@
+-- Steps of loops.
+use Rattle.std.proofs.Common.{◌≡◌, ℕ, zero, suc, ◌+◌, ◌-◌, ◌<◌, ◌≤◌, List, [], ◌∷◌, ◌++◌, map, length, refl, sym, ap, subst, ◌∙◌, get_or, set, drop, arith}
+use Rattle.std.proofs.lemmas.List.{drop_more, drop_all}
+use Rattle.kap_base.specs.declared.items.Item.{Item}
+use Rattle.kap_base.specs.declared.items.Effect.{Effect}
+use Rattle.node_core.specs.Meaning.{Input, Move}
+use Rattle.task_run.specs.declared.lives.Shelf.{Shelf}
+use Rattle.task_run.specs.Merging.{at_port, at_ports}
+use Rattle.task_run.specs.Plans.{AreBelow}
+use Rattle.task_run.specs.Feeding.{Fed, Due, due_more, due_none, due_first, Holds, NodeRan, NodeRunning, picked, taken_items, holds_rest}
+
+pub below_at : (n : ℕ) (ps : List ℕ) (i d : ℕ) → i < length ps → AreBelow n ps → get_or ps i d < n
+below_at n [] i d lt below = absurd (omega arith)
+below_at n (p ∷ ps) zero d lt below = below.0
+below_at n (p ∷ ps) (suc i) d lt below = below_at n ps i d (omega arith) below.1
+
+-- the number of readers stays
+pub readers_kept : (shelves : List Shelf) (p : ℕ) (d new : Shelf) → new.readers ≡ (get_or shelves p d).readers → map (λ s. s.readers) (set shelves p new) ≡ map (λ s. s.readers) shelves
+readers_kept [] p d new same = refl
+readers_kept (s ∷ shelves) zero d new same = ap (λ (n : ℕ). n ∷ map (λ s. s.readers) shelves) same
+readers_kept (s ∷ shelves) (suc p) d new same = ap (λ (l : List ℕ). s.readers ∷ l) (readers_kept shelves p d new same)
+
+module _ {S : Type 0} (step : S → Input → Move S) where
+  pub node_begins : (before : S) (outs : List (List Item)) (parents rest : List ℕ) (shelves : List Shelf) (out : List Item) (effects : List Effect)
+      → Holds outs (parents ++ rest) shelves → NodeRunning step before before outs parents parents 0 rest shelves out out effects effects
+  node_begins before outs parents rest shelves out effects holds = record { due = due_first step before (at_ports 0 (picked outs parents)) out effects; holds = holds }
+
+  -- one parent more
+  pub node_takes : (before now new : S) (outs : List (List Item)) (parents left : List ℕ) (p port : ℕ) (more rest : List ℕ) (shelves : List Shelf) (d shelf : Shelf) (out0 out1 out2 : List Item) (effects0 effects1 effects2 : List Effect)
+      → left ≡ p ∷ more → AreBelow (length outs) parents → p < length outs → p < length shelves → shelf.left ≡ (get_or shelves p d).left - 1 → (1 < (get_or shelves p d).left → shelf.items ≡ (get_or shelves p d).items)
+      → Fed step now new (at_port port (get_or shelves p d).items) out1 out2 effects1 effects2
+      → NodeRunning step before now outs parents left port rest shelves out0 out1 effects0 effects1
+      → NodeRunning step before new outs parents more (port + 1) rest (set shelves p shelf) out0 out2 effects0 effects2
+  node_takes before now new outs parents left p port more rest shelves d shelf out0 out1 out2 effects0 effects1 effects2 is below lt within left_is kept fed running =
+      let holds : Holds outs (p ∷ (more ++ rest)) shelves = subst (λ (l : List ℕ). Holds outs (l ++ rest) shelves) is running.holds in
+      let due : Due step before now (at_ports 0 (picked outs parents)) (at_ports port (picked outs (p ∷ more))) out0 out1 effects0 effects1 = subst (λ (l : List ℕ). Due step before now (at_ports 0 (picked outs parents)) (at_ports port (picked outs l)) out0 out1 effects0 effects1) is running.due in
+      let items : (get_or shelves p d).items ≡ get_or outs p [] = taken_items outs p (more ++ rest) shelves d lt holds in
+      let fed_out : Fed step now new (at_port port (get_or outs p [])) out1 out2 effects1 effects2 = subst (λ (l : List Item). Fed step now new (at_port port l) out1 out2 effects1 effects2) items fed in
+      record {
+        due = due_more step before now new (at_ports 0 (picked outs parents)) (at_port port (get_or outs p [])) (at_ports (port + 1) (picked outs more)) out0 out1 out2 effects0 effects1 effects2 due fed_out;
+        holds = holds_rest outs p (more ++ rest) shelves d shelf within left_is kept holds;
+      }
+
+  -- all of them
+  pub node_ran : (before now : S) (outs : List (List Item)) (parents left : List ℕ) (port : ℕ) (rest : List ℕ) (shelves : List Shelf) (out0 out : List Item) (effects0 effects : List Effect)
+      → left ≡ [] → NodeRunning step before now outs parents left port rest shelves out0 out effects0 effects → NodeRan step before now outs parents rest shelves out0 out effects0 effects
+  node_ran before now outs parents left port rest shelves out0 out effects0 effects none running = record {
+    fed = due_none step before now (at_ports 0 (picked outs parents)) out0 out effects0 effects (subst (λ (l : List ℕ). Due step before now (at_ports 0 (picked outs parents)) (at_ports port (picked outs l)) out0 out effects0 effects) none running.due);
+    holds = subst (λ (l : List ℕ). Holds outs (l ++ rest) shelves) none running.holds;
+  }
