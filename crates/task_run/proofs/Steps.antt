@@ -1,6 +1,6 @@
 -- Steps of loops.
 use Rattle.std.proofs.Common.{◌≡◌, ℕ, zero, suc, ◌+◌, ◌-◌, ◌<◌, ◌≤◌, List, [], ◌∷◌, ◌++◌, map, length, refl, sym, ap, subst, ◌∙◌, get_or, set, drop, arith}
-use Rattle.std.proofs.lemmas.List.{drop_more, drop_all}
+use Rattle.std.proofs.lemmas.List.{get_or-drop, drop-drop}
 use Rattle.kap_base.specs.declared.items.Item.{Item}
 use Rattle.kap_base.specs.declared.items.Effect.{Effect}
 use Rattle.node_core.specs.Meaning.{Input, Move}
@@ -14,11 +14,24 @@ below_at n [] i d lt below = absurd (omega arith)
 below_at n (p ∷ ps) zero d lt below = below.0
 below_at n (p ∷ ps) (suc i) d lt below = below_at n ps i d (omega arith) below.1
 
--- the number of readers stays
-pub readers_kept : (shelves : List Shelf) (p : ℕ) (d new : Shelf) → new.readers ≡ (get_or shelves p d).readers → map (λ s. s.readers) (set shelves p new) ≡ map (λ s. s.readers) shelves
-readers_kept [] p d new same = refl
-readers_kept (s ∷ shelves) zero d new same = ap (λ (n : ℕ). n ∷ map (λ s. s.readers) shelves) same
-readers_kept (s ∷ shelves) (suc p) d new same = ap (λ (l : List ℕ). s.readers ∷ l) (readers_kept shelves p d new same)
+pub below_more : (n m : ℕ) (ps : List ℕ) → n ≤ m → AreBelow n ps → AreBelow m ps
+below_more n m [] le below = tt
+below_more n m (p ∷ ps) le below = let low = below.0 in ((omega arith), below_more n m ps le below.1)
+
+-- what is seen of each stays where a new one looks as the old one did
+pub map_kept : {A B : Type 0} (f : A → B) (xs : List A) (p : ℕ) (d new : A) → f new ≡ f (get_or xs p d) → map f (set xs p new) ≡ map f xs
+map_kept f [] p d new same = refl
+map_kept {B = B} f (x ∷ xs) zero d new same = ap (λ (y : B). y ∷ map f xs) same
+map_kept {B = B} f (x ∷ xs) (suc p) d new same = ap (λ (l : List B). f x ∷ l) (map_kept f xs p d new same)
+
+-- two lists that are the same from a place on
+pub same_at : {A : Type 0} (xs ys : List A) (k : ℕ) (d : A) → drop k xs ≡ drop k ys → get_or xs k d ≡ get_or ys k d
+same_at xs ys k d e =
+    let none : k + 0 ≡ k = omega arith in
+    ap (λ (n : ℕ). get_or xs n d) (sym none) ∙ sym (get_or-drop k xs 0 d) ∙ ap (λ l. get_or l 0 d) e ∙ get_or-drop k ys 0 d ∙ ap (λ (n : ℕ). get_or ys n d) none
+
+pub same_rest : {A : Type 0} (xs ys : List A) (k : ℕ) → drop k xs ≡ drop k ys → drop (k + 1) xs ≡ drop (k + 1) ys
+same_rest xs ys k e = sym (drop-drop 1 k xs) ∙ ap (λ l. drop 1 l) e ∙ drop-drop 1 k ys
 
 module _ {S : Type 0} (step : S → Input → Move S) where
   pub node_begins : (before : S) (outs : List (List Item)) (parents rest : List ℕ) (shelves : List Shelf) (out : List Item) (effects : List Effect)

@@ -5,6 +5,7 @@ mod feeding;
 mod laws;
 mod lives;
 mod plans;
+mod running;
 mod trail;
 
 use kap_base::ItemList;

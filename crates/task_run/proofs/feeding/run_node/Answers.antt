@@ -1,8 +1,9 @@
 use Rattle.std.proofs.Common.{◌≡◌, ◌<◌, ◌+◌, ℕ, ◌∙◌, ◌∷◌, length, sym, ap, subst, get_or, set, drop, arith}
 use Rattle.std.proofs.lemmas.List.{drop_more, drop_all}
 use Rattle.kap_base.specs.declared.items.Item.{Item}
-use Rattle.task_run.specs.Feeding.{Fed, NodeRunning}
-use Rattle.task_run.proofs.Steps.{below_at, readers_kept, node_takes, node_ran}
+use Rattle.task_run.specs.declared.lives.Shelf.{Shelf}
+use Rattle.task_run.specs.Feeding.{NodeRunning}
+use Rattle.task_run.proofs.Steps.{below_at, map_kept, node_takes, node_ran}
 use Rattle.task_run.proofs.feeding.run_node.Goals as goal
 
 pub bounds-shelves-parent : goal.bounds-shelves-parent
@@ -11,10 +12,10 @@ bounds-shelves-parent g c =
     omega arith
 
 pub returns-in_err-take_from-clause-readers : goal.returns-in_err-take_from-clause-readers
-returns-in_err-take_from-clause-readers g c = readers_kept c.taking.shelves _ c.index-shelves-parent.result c.take_from.new.shelf c.take_from.ensures.readers ∙ c.taking.invariant.readers
+returns-in_err-take_from-clause-readers g c = map_kept (λ (s : Shelf). s.readers) c.taking.shelves (get_or c.args.parents.now c.taking.parent-index 0) c.index-shelves-parent.result c.take_from.new.shelf c.take_from.ensures.readers ∙ c.taking.invariant.readers
 
 pub returns-in_default-clause-readers : goal.returns-in_default-clause-readers
-returns-in_default-clause-readers g c = readers_kept c.taking.shelves _ c.index-shelves-parent.result c.take_from.new.shelf c.take_from.ensures.readers ∙ c.taking.invariant.readers
+returns-in_default-clause-readers g c = map_kept (λ (s : Shelf). s.readers) c.taking.shelves (get_or c.args.parents.now c.taking.parent-index 0) c.index-shelves-parent.result c.take_from.new.shelf c.take_from.ensures.readers ∙ c.taking.invariant.readers
 
 pub taking-preserved : goal.taking-preserved
 taking-preserved g c =
@@ -26,7 +27,7 @@ taking-preserved g c =
     record {
       spec = c.in_ok-take_from.ensures.spec ∙ same;
       port = omega (arith, c.in-Some.ensures);
-      readers = readers_kept c.taking.shelves _ c.index-shelves-parent.result c.take_from.new.shelf c.in_ok-take_from.ensures.readers ∙ c.taking.invariant.readers;
+      readers = map_kept (λ (s : Shelf). s.readers) c.taking.shelves (get_or c.args.parents.now c.taking.parent-index 0) c.index-shelves-parent.result c.take_from.new.shelf c.in_ok-take_from.ensures.readers ∙ c.taking.invariant.readers;
       running = λ outs rest below holds.
           let next : c.taking.port + 1 ≡ c.in-Some.next = omega (arith, c.in-Some.ensures) in
           let within = below_at (length c.args.shelves.now) c.args.parents.now c.taking.parent-index 0 here c.requires.earlier in
