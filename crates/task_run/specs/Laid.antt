@@ -3,6 +3,8 @@ use Rattle.std.proofs.Common.{◌≡◌, ℕ, zero, suc, ◌+◌, ◌<◌, ◌�
 use Rattle.std.specs.Prelude.{⊤, flat_map}
 use Rattle.kap_base.specs.Points.{PointValue}
 use Rattle.kap_base.specs.declared.items.Item.{Item}
+use Rattle.kap_base.specs.declared.items.Body.TheVariants as bodies
+use Rattle.kap_base.specs.declared.items.Stamp.{Stamp}
 use Rattle.kap_base.specs.declared.items.Effect.{Effect}
 use Rattle.node_core.specs.Meaning.{Input, Answer, Move, fold}
 use Rattle.task_run.specs.declared.lives.Shelf.{Shelf}
@@ -19,6 +21,10 @@ use Rattle.task_run.specs.Feeding.{Holds, takes_of, picked}
 abbrev pub points_of : Trail → List PointValue
 points_of Start = []
 points_of (More' shape before point) = points_of before ++ point.value ∷ []
+
+-- a point with a stamp
+abbrev pub item_of : Stamp → PointValue → Item
+item_of stamp p = record { stamp = stamp; body = bodies.Point p }
 
 -- how often the list of the node with a number is taken with each stamp
 abbrev pub readers_at : List Shelf → ℕ → ℕ
@@ -102,3 +108,10 @@ module _ {N P : Type 0} (spec : N → P) where
       pub given_is : given ≡ length points
       pub are_lives : AreLives ports lives
       pub states : AllAt answer first step points lives
+
+    -- what a stamp made of lives, one behind the other
+    pub record LivesRan (ports : P → ℕ) (step : P → S → Input → Move S) (item : Item) (lives0 lives : List (Life N)) (effects0 effects : List Effect) : Type 0 where
+      pub are_lives : AreLives ports lives
+      pub graphs : map graph_of_life lives ≡ map graph_of_life lives0
+      pub nodes : map active_life lives ≡ map (λ life. nodes_after step (item ∷ []) [] (active_life life)) lives0
+      pub effects_are : effects ≡ effects0 ++ flat_map (λ life. effects_after step (item ∷ []) [] (active_life life)) lives0

@@ -4,12 +4,12 @@ ghost use Rattle.std.specs.Prelude.{◌≡◌, ℕ, ◌+◌, ◌<◌, ◌≤◌,
 ghost use Rattle.kap_base.specs.declared.items.Item.{Item};
 ghost use Rattle.task_run.specs.Active.{nodes_after, effects_after};
 ghost use Rattle.task_run.specs.Feeding.{Holds, takes_of};
-ghost use Rattle.task_run.specs.Laid.{AreCells, CellRan, CellsRan, HasShelves, IsLife, active_life, graph_of_life, placed_cell, readers_at, takes_in};
+ghost use Rattle.task_run.specs.Laid.{AreCells, AreLives, CellRan, CellsRan, HasShelves, IsLife, LivesRan, active_life, graph_of_life, item_of, placed_cell, readers_at, takes_in};
 ghost use Rattle.task_run.specs.Plans.{AreBelow};
 
 use crate::feeding::run_node;
 use crate::lives::{Cell, Life, Shelf};
-use kap_base::{Effect, Item, ItemList, NoMemory};
+use kap_base::{Body, Duplicate, Effect, Item, ItemList, NoMemory, Point, Stamp};
 use node_core::{Items, Node};
 use std::alloc::Global;
 use std::mem;
@@ -103,4 +103,43 @@ fn run_life<N: Node>(
     life.stream.feed(alloc, 0, item, &mut out, effects)?;
     fill_shelf(&mut life.shelves[0], out);
     run_cells(alloc, &mut life.cells, &mut life.shelves, effects)
+}
+
+/// Runs lives on copies of a point.
+fn run_copies<N: Node>(
+    alloc: Global,
+    lives: &mut [Life<N>],
+    stamp: Stamp,
+    point: &Point,
+    effects: &mut ItemList<Effect>,
+) -> Result<(), NoMemory>
+    requires { AreLives N.spec N.ports lives.old }
+    ensures { OnOk result (LivesRan N.spec N.state N.ports N.step (item_of stamp point.now)
+        lives.old lives.new effects.old effects.new) }
+{
+    'running: for life in lives.iter_mut() {
+        let body = Body::Point(point.copy(alloc)?);
+        run_life(alloc, life, Item { stamp, body }, effects)?;
+    }
+    Ok(())
+}
+
+/// Runs lives on a point with a stamp.
+pub(crate) fn run_lives<N: Node>(
+    alloc: Global,
+    lives: &mut [Life<N>],
+    stamp: Stamp,
+    point: Point,
+    effects: &mut ItemList<Effect>,
+) -> Result<(), NoMemory>
+    requires { AreLives N.spec N.ports lives.old }
+    ensures { OnOk result (LivesRan N.spec N.state N.ports N.step (item_of stamp point)
+        lives.old lives.new effects.old effects.new) }
+{
+    let Some((last, others)) = lives.split_last_mut() else {
+        return Ok(());
+    };
+    run_copies(alloc, others, stamp, &point, effects)?;
+    let body = Body::Point(point);
+    run_life(alloc, last, Item { stamp, body }, effects)
 }
