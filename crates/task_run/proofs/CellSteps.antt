@@ -53,11 +53,6 @@ holds_put outs takes shelves n items new is within left items_is holds i d lt = 
       (subst (λ (l : List Item). HoldsShelf l (takes_of i takes) (get_or shelves i d)) (sym (get-left outs items i low)) (holds i d low))
 ] refl
 
-pub readers_is : (shelves : List Shelf) (i : ℕ) (d : Shelf) → i < length shelves → readers_at shelves i ≡ (get_or shelves i d).readers
-readers_is [] i d lt = absurd (omega arith)
-readers_is (s ∷ shelves) zero d lt = refl
-readers_is (s ∷ shelves) (suc i) d lt = readers_is shelves i d (omega arith)
-
 module _ {S : Type 0} (step : S → Input → Move S) where
   -- a node ran, and what it gave is on its shelf
   pub cell_ran : (before after : S) (outs : List (List Item)) (parents rest : List ℕ) (shelves : List Shelf) (n : ℕ) (out : List Item) (new : Shelf) (effects0 effects : List Effect)

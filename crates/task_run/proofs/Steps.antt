@@ -1,13 +1,16 @@
 -- Steps of loops.
-use Rattle.std.proofs.Common.{◌≡◌, ℕ, zero, suc, ◌+◌, ◌-◌, ◌<◌, ◌≤◌, List, [], ◌∷◌, ◌++◌, map, length, refl, sym, ap, subst, ◌∙◌, get_or, set, drop, arith}
+use Rattle.std.proofs.Common.{◌≡◌, ℕ, zero, suc, ◌+◌, ◌-◌, ◌<◌, ◌≤◌, ◌==◌, true, false, cond, List, [], ◌∷◌, ◌++◌, map, length, refl, sym, ap, subst, ◌∙◌, get_or, set, drop, arith}
 use Rattle.std.specs.Prelude.{Result, Ok, Err, OnOk}
-use Rattle.std.proofs.lemmas.List.{get_or-drop, drop-drop}
+use Rattle.std.specs.Prelude.{◌≢◌}
+use Rattle.std.proofs.lemmas.Bool.Decides.{nat_tests}
+use Rattle.std.proofs.lemmas.List.{get_or-drop, drop-drop, get_or-set_same, get_or-set_other, map-set, length-map}
 use Rattle.kap_base.specs.declared.items.Item.{Item}
 use Rattle.kap_base.specs.declared.items.Effect.{Effect}
 use Rattle.node_core.specs.Meaning.{Input, Move}
 use Rattle.task_run.specs.declared.lives.Shelf.{Shelf}
 use Rattle.task_run.specs.Merging.{at_port, at_ports}
 use Rattle.task_run.specs.Plans.{AreBelow}
+use Rattle.task_run.specs.Laid.{readers_at}
 use Rattle.task_run.specs.Feeding.{Fed, Due, due_more, due_none, due_first, Holds, NodeRan, NodeRunning, picked, taken_items, holds_rest}
 
 pub on_ok : {A E : Type 0} {P Q : Type 0} (r : Result A E) → (P → Q) → OnOk r P → OnOk r Q
@@ -32,6 +35,28 @@ pub map_kept : {A B : Type 0} (f : A → B) (xs : List A) (p : ℕ) (d new : A) 
 map_kept f [] p d new same = refl
 map_kept {B = B} f (x ∷ xs) zero d new same = ap (λ (y : B). y ∷ map f xs) same
 map_kept {B = B} f (x ∷ xs) (suc p) d new same = ap (λ (l : List B). f x ∷ l) (map_kept f xs p d new same)
+
+pub readers_is : (shelves : List Shelf) (i : ℕ) (d : Shelf) → i < length shelves → readers_at shelves i ≡ (get_or shelves i d).readers
+readers_is [] i d lt = absurd (omega arith)
+readers_is (s ∷ shelves) zero d lt = refl
+readers_is (s ∷ shelves) (suc i) d lt = readers_is shelves i d (omega arith)
+
+-- one reader more
+pub readers_more : (shelves : List Shelf) (p i : ℕ) (d new : Shelf) → p < length shelves → new.readers ≡ (get_or shelves p d).readers + 1
+    → readers_at (set shelves p new) i ≡ readers_at shelves i + cond (p == i) 1 0
+readers_more shelves p i d new lt more = elim (p == i) as (λ b. (p == i) ≡ b → readers_at (set shelves p new) i ≡ readers_at shelves i + cond b 1 0) [
+  | true ↦ λ e.
+      let same : p ≡ i = grind (arith, nat_tests) in
+      let long : p < length (map (λ (s : Shelf). s.readers) shelves) = let l = length-map shelves (λ (s : Shelf). s.readers) in omega arith in
+      let here = readers_is shelves p d lt in
+      subst (λ (k : ℕ). readers_at (set shelves p new) k ≡ readers_at shelves k + 1) same
+      (ap (λ (l : List ℕ). get_or l p 0) (map-set (λ (s : Shelf). s.readers) shelves p new)
+       ∙ get_or-set_same (map (λ (s : Shelf). s.readers) shelves) p new.readers 0 long ∙ more ∙ ap (λ (n : ℕ). n + 1) (sym here))
+  | false ↦ λ e.
+      let other : i ≢ p = grind (arith, nat_tests) in
+      ap (λ (l : List ℕ). get_or l i 0) (map-set (λ (s : Shelf). s.readers) shelves p new)
+      ∙ get_or-set_other (map (λ (s : Shelf). s.readers) shelves) p i new.readers 0 other ∙ omega arith
+] refl
 
 -- two lists that are the same from a place on
 pub same_at : {A : Type 0} (xs ys : List A) (k : ℕ) (d : A) → drop k xs ≡ drop k ys → get_or xs k d ≡ get_or ys k d

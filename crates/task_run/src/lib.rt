@@ -8,13 +8,13 @@ mod lives;
 mod making;
 mod plans;
 mod running;
-mod task_run;
+mod tasks;
 mod trail;
 
 use kap_base::ItemList;
 pub use laws::{effects_go_on, merging_orders, nodes_give_by_parents};
 pub use plans::LifePlan;
-pub use task_run::TaskRun;
+pub use tasks::TaskRun;
 
 /// The numbers of nodes.
 pub type Ids = ItemList<u32>;

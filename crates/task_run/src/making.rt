@@ -3,7 +3,7 @@
 ghost use Rattle.std.specs.Prelude.{◌≡◌, ℕ, ◌+◌, ◌<◌, IfOk, OnOk, length, map, zip};
 ghost use Rattle.task_run.specs.Active.{AreFirst};
 ghost use Rattle.task_run.specs.Feeding.{takes_of};
-ghost use Rattle.task_run.specs.Laid.{AllFirst, AreCells, AreLives, HasShelves, IsLife, active_life, cell_of, graph_of_life, readers_at};
+ghost use Rattle.task_run.specs.Laid.{AllFirst, AreCells, AreLives, HasShelves, IsLife, active_life, cell_of, graph_of_life, readers_at, takes_in};
 ghost use Rattle.task_run.specs.Plans.{AreBelow, AreFirstNodes, AreFirstStates, graph_of};
 
 use crate::Ids;
@@ -53,15 +53,26 @@ fn empty_shelves<N>(alloc: Global, cells: &[Cell<N>]) -> Result<Vec<Shelf>, NoMe
     Ok(shelves)
 }
 
+/// Counts the readers of each shelf.
+fn count_all<N: Node>(cells: &[Cell<N>], shelves: &mut [Shelf]) -> Result<(), NoMemory>
+    requires cells { AreCells N.spec N.ports 1 cells.now }
+    requires shelves { length shelves.old ≡ length cells.now + 1 }
+    ensures { OnOk result ((i : ℕ)
+        → readers_at shelves.new i ≡ readers_at shelves.old i + takes_of i (takes_in cells.now)) }
+{
+    'counting: for cell in cells {
+        count_takes(shelves, cell.parents.as_slice())?;
+    }
+    Ok(())
+}
+
 /// A shelf for the stream and one for each cell, with the number of those that take it.
 fn shelves_for<N: Node>(alloc: Global, cells: &[Cell<N>]) -> Result<Vec<Shelf>, NoMemory>
     requires { AreCells N.spec N.ports 1 cells.now }
     ensures { IfOk result (λ shelves. HasShelves cells.now shelves.items) }
 {
     let mut shelves = empty_shelves(alloc, cells)?;
-    'counting: for cell in cells {
-        count_takes(&mut shelves, cell.parents.as_slice())?;
-    }
+    count_all(cells, &mut shelves)?;
     Ok(shelves)
 }
 
@@ -69,11 +80,11 @@ fn shelves_for<N: Node>(alloc: Global, cells: &[Cell<N>]) -> Result<Vec<Shelf>, 
 fn cells_of<N: Node>(alloc: Global, nodes: Vec<N>, parents: Vec<Ids>) -> Result<Vec<Cell<N>>, NoMemory>
     ensures { IfOk result (λ cells. cells.items ≡ map cell_of (zip nodes.items parents.items)) }
 {
-    let mut cells = Vec::new(alloc);
-    'pairing: for (node, parents) in nodes.into_iter().zip(parents) {
-        cells.push(Cell { node, parents })?;
-    }
-    Ok(cells)
+    Ok(nodes
+        .into_iter()
+        .zip(parents)
+        .map(|(node, parents)| Cell { node, parents })
+        .collect(alloc)?)
 }
 
 /// The life of a plan.
@@ -98,10 +109,11 @@ fn life_of<N: Node>(alloc: Global, plan: LifePlan<N>) -> Result<Life<N>, NoMemor
 
 /// The lives of plans, in their order.
 pub(crate) fn lives_of<N: Node>(alloc: Global, plans: Vec<LifePlan<N>>) -> Result<Vec<Life<N>>, NoMemory>
-    requires { AreFirstStates N.spec N.state N.first plans.items }
     ensures lives { IfOk result (λ lives. AreLives N.spec N.ports lives.items) }
-    ensures graphs { IfOk result (λ lives. map (graph_of_life N.spec) lives.items ≡ map (graph_of N.spec) plans.items) }
-    ensures first { IfOk result (λ lives. AllFirst N.spec N.state N.first lives.items) }
+    ensures graphs { IfOk result (λ lives.
+        map (graph_of_life N.spec) lives.items ≡ map (graph_of N.spec) plans.items) }
+    ensures first { AreFirstStates N.spec N.state N.first plans.items
+        → IfOk result (λ lives. AllFirst N.spec N.state N.first lives.items) }
 {
     let mut lives = Vec::new(alloc);
     'making: for plan in plans {

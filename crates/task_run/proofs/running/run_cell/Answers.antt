@@ -5,8 +5,8 @@ use Rattle.task_run.specs.declared.lives.Shelf.{Shelf}
 use Rattle.task_run.specs.Plans.{AreBelow}
 use Rattle.task_run.specs.Feeding.{takes_of, Holds, NodeRan}
 use Rattle.task_run.specs.Laid.{readers_at}
-use Rattle.task_run.proofs.Steps.{below_more, map_kept}
-use Rattle.task_run.proofs.CellSteps.{holds_beside, cell_ran, readers_is}
+use Rattle.task_run.proofs.Steps.{below_more, map_kept, readers_is}
+use Rattle.task_run.proofs.CellSteps.{holds_beside, cell_ran}
 use Rattle.task_run.proofs.running.run_cell.Goals as goal
 
 pub run_node-requires-clause-earlier : goal.run_node-requires-clause-earlier

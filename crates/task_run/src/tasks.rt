@@ -5,7 +5,7 @@ ghost use Rattle.task_run.specs.Lives.{effects_of, life_effects_with, dropped_of
 ghost use Rattle.task_run.specs.Plans.{graph_of, AreFirstStates};
 
 use crate::Counts;
-use crate::drops::drops_of_lives;
+use crate::drops::counts_of;
 use crate::trail::Trail;
 use crate::lives::Life;
 use crate::making::lives_of;
@@ -99,6 +99,6 @@ impl<N: Node> TaskRun<N> {
         requires { IsFalse self.now.spent }
         ensures { IfOk result (λ counts. counts ≡ dropped_of N.answer self.now.lives self.now.points) }
     {
-        drops_of_lives(alloc, &self.lives)
+        counts_of(alloc, &self.lives)
     }
 }
