@@ -1,7 +1,9 @@
 -- What a run keeps, from one point to the next.
-use Rattle.std.proofs.Common.{◌≡◌, ℕ, zero, suc, ◌+◌, ◌<◌, ◌≤◌, List, [], ◌∷◌, ◌++◌, map, length, refl, sym, ap, subst, ◌∙◌, arith}
+use Rattle.std.proofs.Common.{◌≡◌, ℕ, zero, suc, ◌+◌, ◌<◌, ◌≤◌, List, [], ◌∷◌, ◌++◌, map, length, refl, sym, ap, subst, ◌∙◌, take, drop, append-nil, arith}
 use Rattle.std.specs.Prelude.{⊤, flat_map}
+use Rattle.std.proofs.lemmas.List.{length_push, drop_all, take_all}
 use Rattle.kap_base.specs.Points.{PointValue}
+use Rattle.kap_base.specs.declared.items.Item.{Item}
 use Rattle.kap_base.specs.declared.items.Effect.{Effect}
 use Rattle.node_core.specs.Meaning.{Given, Input, Answer, Move, given, fold}
 use Rattle.node_core.specs.Cut.{IsStamped}
@@ -11,7 +13,7 @@ use Rattle.task_run.specs.Graphs.{Placed, graph_gives}
 use Rattle.task_run.specs.Lives.{node_effects_with, life_effects_with, dropped_of}
 use Rattle.task_run.specs.Active.{Active, placed, AreFirst, IsAt, nodes_after, effects_after}
 use Rattle.task_run.specs.PointLaws.{stamped_point, goes_on, gives_on, begins, dropped_at}
-use Rattle.task_run.specs.Laid.{AllAt, AllFirst, active_cell, active_life, graph_of_life, placed_cell}
+use Rattle.task_run.specs.Laid.{IsRunning, LivesRan, AllAt, AllFirst, active_cell, active_life, graph_of_life, placed_cell}
 
 module _ {N P S : Type 0} (spec : N → P) (state : N → S) where
   cells-placed : (cells : List (Cell N)) → map placed (map (active_cell spec state) cells) ≡ map (placed_cell spec) cells
@@ -75,3 +77,33 @@ module _ {N P S : Type 0} (spec : N → P) (state : N → S) (answer : P → Ans
       let rest = all_drop drops counts points lives h.1 in
       ap (λ (ns : List ℕ). ns ∷ map (λ l. map (λ a. drops a.state) (active_life spec state l)) lives) one
       ∙ ap (λ (nss : List (List ℕ)). map (λ g. g.drops) (graph_gives answer points (graph_of_life spec l)) ∷ nss) rest
+
+  -- ---- a run
+
+  -- a stamp is the place of its point
+  same-item : (points : List PointValue) (p : PointValue) (given stamp : ℕ) → given ≡ length points → stamp ≡ given + 1 → stamped_point stamp p ≡ stamped_point (suc (length points)) p
+  same-item points p given stamp is next = let same : stamp ≡ suc (length points) = omega arith in ap (λ (n : ℕ). stamped_point n p) same
+
+  module _ (ports : P → ℕ) (points : List PointValue) (p : PointValue) (lives0 lives : List (Life N)) (given stamp : ℕ) (effects0 effects : List Effect)
+      (running : IsRunning spec state ports answer first step lives0 given points) (next : stamp ≡ given + 1) (ran : LivesRan spec state ports step (stamped_point stamp p) lives0 lives effects0 effects) where
+    pub run_goes_on : IsRunning spec state ports answer first step lives stamp (points ++ p ∷ [])
+    run_goes_on =
+        let is = running.given_is in
+        record {
+          given_is = let long = length_push points p in omega arith;
+          are_lives = ran.are_lives;
+          states = all_go_on points p lives0 lives running.states
+              (ran.nodes ∙ ap (λ (item : Item). map (λ l. nodes_after step (item ∷ []) [] (active_life spec state l)) lives0) (same-item points p given stamp running.given_is next));
+        }
+
+    pub run_gives : effects ≡ effects0 ++ life_effects_with answer (suc (length points)) (map (graph_of_life spec) lives0) (points ++ p ∷ [])
+    run_gives =
+        ran.effects_are
+        ∙ ap (λ (item : Item). effects0 ++ flat_map (λ l. effects_after step (item ∷ []) [] (active_life spec state l)) lives0) (same-item points p given stamp running.given_is next)
+        ∙ ap (λ (es : List Effect). effects0 ++ es) (all_give_on points p lives0 running.states)
+
+-- a slice of all of a vector, written back
+pub rejoin : {A : Type 0} (n : ℕ) (xs ys : List A) → length xs ≡ length ys → n ≡ length ys → take n (xs ++ drop (length xs) ys) ≡ xs
+rejoin n xs ys h k =
+    let none : drop (length xs) ys ≡ [] = drop_all (length xs) ys (omega arith) in
+    rw (none, append-nil) (take_all n xs (omega arith))

@@ -1,5 +1,4 @@
-ghost use Rattle.std.specs.Prelude.{◌≡◌, ℕ, suc, false, [], ◌∷◌, ◌++◌, List, IfOk, OnOk, OnErr, IsTrue, IsFalse, length, map};
-ghost use Rattle.kap_base.specs.Points.{PointValue};
+ghost use Rattle.std.specs.Prelude.{◌≡◌, suc, true, false, [], ◌∷◌, ◌++◌, List, IfOk, OnOk, OnErr, length, map};
 ghost use Rattle.kap_base.specs.declared.items.Effect.{Effect};
 ghost use Rattle.task_run.specs.Lives.{effects_of, life_effects_with, dropped_of};
 ghost use Rattle.task_run.specs.Plans.{graph_of, AreFirstStates};
@@ -30,9 +29,13 @@ pub struct TaskRun<N: Node> {
 
 impl<N: Node> Model for TaskRun<N> {
     ghost use Rattle.std.specs.Prelude.{◌≡◌, false, map};
+    ghost use Rattle.std.specs.Coded.{codes};
+    ghost use Rattle.kap_base.specs.Maps.{key_map_code};
     ghost use Rattle.task_run.specs.Lives.{RunValue};
 
     ghost Value = { RunValue N.Spec };
+
+    ghost coded = { Prim.hlevel (codes, key_map_code) };
 
     ghost use Rattle.task_run.specs.Laid.{graph_of_life};
     ghost use Rattle.task_run.specs.Laid.{points_of, IsRunning};
@@ -74,13 +77,13 @@ impl<N: Node> TaskRun<N> {
         point: Point,
         effects: &mut ItemList<Effect>,
     ) -> Result<(), NoMemory>
-        requires { IsFalse self.old.spent }
+        requires { self.old.spent ≡ false }
         ensures fed { OnOk result (self.new
             ≡ record { lives = self.old.lives; points = self.old.points ++ point ∷ []; spent = false }) }
         ensures effects { OnOk result (effects.new ≡ effects.old
             ++ life_effects_with N.answer (suc (length self.old.points)) self.old.lives
                 (self.old.points ++ point ∷ [])) }
-        ensures err { OnErr result (IsTrue self.new.spent) }
+        ensures err { OnErr result (self.new.spent ≡ true) }
     {
         self.spent = true;
         let Some(stamp) = self.given.checked_add(1) else {
@@ -94,9 +97,31 @@ impl<N: Node> TaskRun<N> {
         Ok(())
     }
 
+    /// Feeds points, one after the other. The effects of all points that were fed, behind what else was given, go on to be those
+    /// of all points. After NoMemory the run is spent.
+    pub fn feed_all(
+        &mut self,
+        alloc: Global,
+        points: Vec<Point>,
+        effects: &mut ItemList<Effect>,
+    ) -> Result<(), NoMemory>
+        requires { self.old.spent ≡ false }
+        ensures fed { OnOk result (self.new
+            ≡ record { lives = self.old.lives; points = self.old.points ++ points.items; spent = false }) }
+        ensures effects { OnOk result ((before : List Effect)
+            → effects.old ≡ before ++ effects_of N.answer self.old.lives self.old.points
+            → effects.new ≡ before ++ effects_of N.answer self.old.lives (self.old.points ++ points.items)) }
+        ensures err { OnErr result (self.new.spent ≡ true) }
+    {
+        'feeding: for point in points {
+            self.feed(alloc, point, effects)?;
+        }
+        Ok(())
+    }
+
     /// How many inputs each node of each life dropped and counted, life by life and node by node.
     pub fn dropped(&self, alloc: Global) -> Result<Counts, NoMemory>
-        requires { IsFalse self.now.spent }
+        requires { self.now.spent ≡ false }
         ensures { IfOk result (λ counts. counts ≡ dropped_of N.answer self.now.lives self.now.points) }
     {
         counts_of(alloc, &self.lives)
