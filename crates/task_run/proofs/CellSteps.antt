@@ -1,8 +1,8 @@
 -- Cells that run one behind the other.
-use Rattle.std.proofs.Common.{◌≡◌, ℕ, zero, suc, ◌+◌, ◌-◌, ◌<◌, ◌≤◌, ◌==◌, true, false, List, [], ◌∷◌, ◌++◌, map, length, refl, sym, ap, subst, ◌∙◌, get_or, set, take, drop, append-nil, append_assoc, arith}
+use Rattle.std.proofs.Common.{◌≡◌, ℕ, zero, suc, ◌+◌, ◌<◌, ◌≤◌, ◌==◌, true, false, List, [], ◌∷◌, ◌++◌, length, refl, sym, ap, subst, ◌∙◌, get_or, set, take, drop, append-nil, append_assoc, arith}
 use Rattle.std.specs.Prelude.{◌≢◌}
 use Rattle.std.proofs.lemmas.Bool.Decides.{nat_tests}
-use Rattle.std.proofs.lemmas.List.{get_or-set_same, get_or-set_other, drop_more, drop_all, take_all, take_more_set, map-append}
+use Rattle.std.proofs.lemmas.List.{get_or-set_same, get_or-set_other, drop_all, take_all, take_more_set, map-append}
 use Rattle.kap_base.specs.declared.items.Item.{Item}
 use Rattle.kap_base.specs.declared.items.Effect.{Effect}
 use Rattle.node_core.specs.Meaning.{Input, Move, fold}
@@ -11,8 +11,8 @@ use Rattle.task_run.specs.declared.lives.Cell.{Cell}
 use Rattle.task_run.specs.Merging.{at_ports}
 use Rattle.task_run.specs.Graphs.{Placed, lists_of}
 use Rattle.task_run.specs.Active.{Active, nodes_after, effects_after}
-use Rattle.task_run.specs.Feeding.{Fed, Holds, HoldsShelf, NodeRan, picked, takes_of, takes_of-append}
-use Rattle.task_run.specs.Laid.{CellRan, CellsRan, AreCells, IsCellAt, active_cell, active_cells, placed_cell, takes_in, readers_at}
+use Rattle.task_run.specs.Feeding.{Holds, HoldsShelf, NodeRan, picked, takes_of, takes_of-append}
+use Rattle.task_run.specs.Laid.{CellRan, CellsRan, AreCells, IsCellAt, active_cell, active_cells, placed_cell, takes_in}
 
 -- a shelf beside those that hold something
 pub holds_beside : (outs : List (List Item)) (takes : List ℕ) (shelves : List Shelf) (n : ℕ) (new : Shelf) → length outs ≡ n → Holds outs takes shelves → Holds outs takes (set shelves n new)
@@ -44,7 +44,7 @@ holds_put outs takes shelves n items new is within left items_is holds i d lt = 
       let same : n ≡ i = grind (arith, nat_tests) in
       subst (λ (k : ℕ). HoldsShelf (get_or (outs ++ items ∷ []) k []) (takes_of k takes) (get_or (set shelves n new) k d)) same
       (subst (λ (s : Shelf). HoldsShelf (get_or (outs ++ items ∷ []) n []) (takes_of n takes) s) (sym (get_or-set_same shelves n new d within))
-       (subst (λ (l : List Item). HoldsShelf l (takes_of n takes) new) (sym (get-last outs items n (sym is))) (record { left = left; items_are = λ some. items_is })))
+      (subst (λ (l : List Item). HoldsShelf l (takes_of n takes) new) (sym (get-last outs items n (sym is))) (record { left = left; items_are = λ some. items_is })))
   | false ↦ λ e.
       let other : i ≢ n = grind (arith, nat_tests) in
       let len = length-last outs items in
@@ -94,7 +94,7 @@ module _ {N P S : Type 0} (spec : N → P) (state : N → S) (step : P → S →
       let outs = running.outs ++ m.given.items ∷ [] in
       let picks = lists-picked points running.outs c.parents some in
       let made : nodes_after step points running.outs (active_cells spec state (c ∷ rest)) ≡ active_cell spec state new ∷ nodes_after step points outs (active_cells spec state rest) =
-          rw picks (ap (λ (a : Active P S). a ∷ nodes_after step points outs (active_cells spec state rest)) (same_active spec_is ran.state_is parents_is)) in
+      rw picks (ap (λ (a : Active P S). a ∷ nodes_after step points outs (active_cells spec state rest)) (same_active spec_is ran.state_is parents_is)) in
       let given_is : effects_after step points running.outs (active_cells spec state (c ∷ rest)) ≡ m.given.effects ++ effects_after step points outs (active_cells spec state rest) = rw picks refl in
       let old = running.nodes in
       let old_effects = running.effects_are in
@@ -166,7 +166,7 @@ module _ {N P S : Type 0} (spec : N → P) (state : N → S) (step : P → S →
       let all : items ++ [] ≡ out = append-nil items ∙ sym out_is in
       ap (λ (x : S). record { spec = p; state = x; parents = [] } ∷ active_cells spec state cells) state_is
       ∙ ap (λ (l : List (Active P S)). record { spec = p; state = (step p s (0, item)).state; parents = [] } ∷ l)
-        (ran.nodes ∙ ap (λ (l : List Item). nodes_after step (item ∷ []) (l ∷ []) (active_cells spec state cells0)) (sym all))
+      (ran.nodes ∙ ap (λ (l : List Item). nodes_after step (item ∷ []) (l ∷ []) (active_cells spec state cells0)) (sym all))
 
   pub stream_gives : (p : P) (s : S) (item : Item) (out : List Item) (cells0 cells : List (Cell N)) (effects0 effects1 effects2 : List Effect)
       → out ≡ (step p s (0, item)).given.items → effects1 ≡ effects0 ++ (step p s (0, item)).given.effects → CellsRan spec state step (item ∷ []) out cells0 cells effects1 effects2

@@ -1,7 +1,7 @@
 -- Lives that run one behind the other.
 use Rattle.std.proofs.Common.{◌≡◌, ℕ, zero, suc, ◌+◌, ◌<◌, ◌≤◌, List, [], ◌∷◌, ◌++◌, map, length, refl, sym, ap, subst, ◌∙◌, get_or, set, take, drop, append-nil, append_assoc, arith}
-use Rattle.std.specs.Prelude.{⊤, flat_map}
-use Rattle.std.proofs.lemmas.List.{drop_more, drop_all, take_all, take_more, take_more_set, map-append}
+use Rattle.std.specs.Prelude.{flat_map}
+use Rattle.std.proofs.lemmas.List.{take_all, take_more, take_more_set, map-append}
 use Rattle.std.proofs.lemmas.List.Concat.{flat_map-append}
 use Rattle.kap_base.specs.declared.items.Item.{Item}
 use Rattle.kap_base.specs.declared.items.Effect.{Effect}
@@ -12,8 +12,8 @@ use Rattle.task_run.specs.declared.lives.Life.{Life}
 use Rattle.task_run.specs.Graphs.{Placed}
 use Rattle.task_run.specs.Active.{Active, nodes_after, effects_after}
 use Rattle.task_run.specs.Feeding.{takes_of}
-use Rattle.task_run.proofs.Steps.{same_at, same_rest}
-use Rattle.task_run.specs.Laid.{AreCells, IsCellAt, AreLives, IsLife, HasShelves, LivesRan, active_life, graph_of_life, placed_cell, takes_in, readers_at}
+use Rattle.task_run.proofs.Steps.{same_at}
+use Rattle.task_run.specs.Laid.{AreCells, AreLives, IsLife, LivesRan, active_life, graph_of_life, placed_cell, takes_in}
 
 -- ---- what is laid out stays
 
@@ -137,7 +137,7 @@ module _ {N P S : Type 0} (spec : N → P) (state : N → S) (ports : P → ℕ)
       let one = one_ran (get_or lives i d) new effects1 effects2 is graph readers nodes effects_is in
       let both = both_ran (take i lives0) (get_or lives i d ∷ []) (take i lives) (new ∷ []) effects0 effects1 effects2 ran one in
       subst (λ (ls : List (Life N)). LivesRan spec state ports step item ls (take (i + 1) (set lives i new)) effects0 effects2)
-        (ap (λ (life : Life N). take i lives0 ++ life ∷ []) same ∙ sym (take_more lives0 i d lt0))
+      (ap (λ (life : Life N). take i lives0 ++ life ∷ []) same ∙ sym (take_more lives0 i d lt0))
       (subst (λ (ls : List (Life N)). LivesRan spec state ports step item (take i lives0 ++ get_or lives i d ∷ []) ls effects0 effects2) (sym (take_more_set lives i new lt)) both)
 
   pub all_ran : (lives0 lives : List (Life N)) (i : ℕ) (effects0 effects : List Effect) → length lives0 ≤ i → length lives ≤ i

@@ -1,12 +1,11 @@
 -- Lives that are made from plans.
-use Rattle.std.proofs.Common.{◌≡◌, ℕ, zero, suc, ◌+◌, ◌<◌, ◌≤◌, List, [], ◌∷◌, ◌++◌, map, length, refl, sym, ap, subst, ◌∙◌, get_or, arith}
-use Rattle.std.specs.Prelude.{⊤, max, zip, remove}
-use Rattle.task_run.specs.declared.lives.Cell.{Cell}
+use Rattle.std.proofs.Common.{◌≡◌, ℕ, suc, ◌+◌, ◌<◌, List, [], ◌∷◌, ◌++◌, map, length, refl, sym, ap, subst, ◌∙◌, get_or, arith}
+use Rattle.std.specs.Prelude.{zip, remove}
 use Rattle.task_run.specs.declared.lives.Life.{Life}
 use Rattle.task_run.specs.Graphs.{Placed}
-use Rattle.task_run.specs.Plans.{PlanValue, AreBelow, IsNodeAt, AreNodesFrom, AreFirstNodes, AreFirstStates, graph_of}
+use Rattle.task_run.specs.Plans.{PlanValue, AreBelow, AreNodesFrom, AreFirstNodes, AreFirstStates}
 use Rattle.task_run.specs.Active.{AreFirst}
-use Rattle.task_run.specs.Laid.{AllFirst, AreCells, AreLives, IsCellAt, IsLife, active_cell, active_life, cell_of, graph_of_life, placed_cell}
+use Rattle.task_run.specs.Laid.{AllFirst, AreCells, AreLives, IsLife, active_cell, active_life, cell_of, placed_cell}
 
 none-below : (ps : List ℕ) → AreBelow 0 ps → ps ≡ []
 none-below [] below = refl
@@ -24,9 +23,10 @@ module _ {N P : Type 0} (spec : N → P) (ports life number : P → ℕ) where
   cells-from which at place (n ∷ ns) [] e some are = tt
   cells-from which at place (n ∷ ns) (ps ∷ pss) e some are =
       let is = are.0 in
-      let ports_are = is.ports_are in
-      (record { earlier = subst (λ (k : ℕ). AreBelow k ps) e is.earlier; some = is.some_parent (omega arith); ports_enough = omega arith },
-       cells-from which (at + 1) (suc place) ns pss (omega arith) (omega arith) are.1)
+      let ports_are = is.ports_are in (
+        record { earlier = subst (λ (k : ℕ). AreBelow k ps) e is.earlier; some = is.some_parent (omega arith); ports_enough = omega arith },
+        cells-from which (at + 1) (suc place) ns pss (omega arith) (omega arith) are.1,
+      )
 
   -- the cells of a plan
   pub plan_cells : (which : ℕ) (ns : List N) (pss : List (List ℕ)) → AreNodesFrom spec ports life number which 0 ns pss → AreCells spec ports 1 (map cell_of (zip (remove ns 0) (remove pss 0)))

@@ -1,17 +1,17 @@
 -- What a run keeps, from one point to the next.
-use Rattle.std.proofs.Common.{◌≡◌, ℕ, zero, suc, ◌+◌, ◌<◌, ◌≤◌, List, [], ◌∷◌, ◌++◌, map, length, refl, sym, ap, subst, ◌∙◌, take, drop, append-nil, arith}
-use Rattle.std.specs.Prelude.{⊤, flat_map}
+use Rattle.std.proofs.Common.{◌≡◌, ℕ, suc, ◌+◌, List, [], ◌∷◌, ◌++◌, map, length, refl, sym, ap, subst, ◌∙◌, take, drop, append-nil, arith}
+use Rattle.std.specs.Prelude.{flat_map}
 use Rattle.std.proofs.lemmas.List.{length_push, drop_all, take_all}
 use Rattle.kap_base.specs.Points.{PointValue}
 use Rattle.kap_base.specs.declared.items.Item.{Item}
 use Rattle.kap_base.specs.declared.items.Effect.{Effect}
-use Rattle.node_core.specs.Meaning.{Given, Input, Answer, Move, given, fold}
+use Rattle.node_core.specs.Meaning.{Input, Answer, Move, given, fold}
 use Rattle.node_core.specs.Cut.{IsStamped}
 use Rattle.task_run.specs.declared.lives.Cell.{Cell}
 use Rattle.task_run.specs.declared.lives.Life.{Life}
 use Rattle.task_run.specs.Graphs.{Placed, graph_gives}
 use Rattle.task_run.specs.Lives.{node_effects_with, life_effects_with, dropped_of}
-use Rattle.task_run.specs.Active.{Active, placed, AreFirst, IsAt, nodes_after, effects_after}
+use Rattle.task_run.specs.Active.{Active, placed, IsAt, nodes_after, effects_after}
 use Rattle.task_run.specs.PointLaws.{stamped_point, goes_on, gives_on, begins, dropped_at}
 use Rattle.task_run.specs.Laid.{IsRunning, LivesRan, AllAt, AllFirst, active_cell, active_life, graph_of_life, placed_cell}
 
@@ -49,20 +49,21 @@ module _ {N P S : Type 0} (spec : N → P) (state : N → S) (answer : P → Ans
   all_go_on points p [] [] h e = tt
   all_go_on points p [] (l ∷ lives) h e = absurd cc
   all_go_on points p (l0 ∷ lives0) [] h e = absurd cc
-  all_go_on points p (l0 ∷ lives0) (l ∷ lives) h e =
-      (subst (λ (acts : List (Active P S)). IsAt answer first step (points ++ p ∷ []) acts) (sym (head-is e)) (goes_on answer life number stamped first step folds points p (active_life spec state l0) h.0),
-       all_go_on points p lives0 lives h.1 (tail-is e))
+  all_go_on points p (l0 ∷ lives0) (l ∷ lives) h e = (
+    subst (λ (acts : List (Active P S)). IsAt answer first step (points ++ p ∷ []) acts) (sym (head-is e)) (goes_on answer life number stamped first step folds points p (active_life spec state l0) h.0),
+    all_go_on points p lives0 lives h.1 (tail-is e),
+  )
 
   pub all_give_on : (points : List PointValue) (p : PointValue) (lives : List (Life N)) → AllAt spec state answer first step points lives
       → flat_map (λ l. effects_after step (stamped_point (suc (length points)) p ∷ []) [] (active_life spec state l)) lives
-        ≡ life_effects_with answer (suc (length points)) (map (graph_of_life spec) lives) (points ++ p ∷ [])
+      ≡ life_effects_with answer (suc (length points)) (map (graph_of_life spec) lives) (points ++ p ∷ [])
   all_give_on points p [] h = refl
   all_give_on points p (l ∷ lives) h =
       let n = suc (length points) in
       let item = stamped_point n p in
       let one : effects_after step (item ∷ []) [] (active_life spec state l) ≡ node_effects_with n (graph_gives answer (points ++ p ∷ []) (graph_of_life spec l)) =
-          gives_on answer life number stamped first step folds points p (active_life spec state l) h.0
-          ∙ ap (λ (nodes : List (Placed P)). node_effects_with n (graph_gives answer (points ++ p ∷ []) nodes)) (life_placed spec state l) in
+      gives_on answer life number stamped first step folds points p (active_life spec state l) h.0
+      ∙ ap (λ (nodes : List (Placed P)). node_effects_with n (graph_gives answer (points ++ p ∷ []) nodes)) (life_placed spec state l) in
       ap (λ (es : List Effect). es ++ flat_map (λ l. effects_after step (item ∷ []) [] (active_life spec state l)) lives) one
       ∙ ap (λ (es : List Effect). node_effects_with n (graph_gives answer (points ++ p ∷ []) (graph_of_life spec l)) ++ es) (all_give_on points p lives h.1)
 
@@ -72,8 +73,8 @@ module _ {N P S : Type 0} (spec : N → P) (state : N → S) (answer : P → Ans
   all_drop drops counts points [] h = refl
   all_drop drops counts points (l ∷ lives) h =
       let one : map (λ a. drops a.state) (active_life spec state l) ≡ map (λ g. g.drops) (graph_gives answer points (graph_of_life spec l)) =
-          dropped_at answer life number stamped first step folds drops counts points (active_life spec state l) h.0
-          ∙ ap (λ (nodes : List (Placed P)). map (λ g. g.drops) (graph_gives answer points nodes)) (life_placed spec state l) in
+      dropped_at answer life number stamped first step folds drops counts points (active_life spec state l) h.0
+      ∙ ap (λ (nodes : List (Placed P)). map (λ g. g.drops) (graph_gives answer points nodes)) (life_placed spec state l) in
       let rest = all_drop drops counts points lives h.1 in
       ap (λ (ns : List ℕ). ns ∷ map (λ l. map (λ a. drops a.state) (active_life spec state l)) lives) one
       ∙ ap (λ (nss : List (List ℕ)). map (λ g. g.drops) (graph_gives answer points (graph_of_life spec l)) ∷ nss) rest

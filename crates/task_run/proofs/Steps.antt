@@ -51,7 +51,7 @@ readers_more shelves p i d new lt more = elim (p == i) as (λ b. (p == i) ≡ b 
       let here = readers_is shelves p d lt in
       subst (λ (k : ℕ). readers_at (set shelves p new) k ≡ readers_at shelves k + 1) same
       (ap (λ (l : List ℕ). get_or l p 0) (map-set (λ (s : Shelf). s.readers) shelves p new)
-       ∙ get_or-set_same (map (λ (s : Shelf). s.readers) shelves) p new.readers 0 long ∙ more ∙ ap (λ (n : ℕ). n + 1) (sym here))
+      ∙ get_or-set_same (map (λ (s : Shelf). s.readers) shelves) p new.readers 0 long ∙ more ∙ ap (λ (n : ℕ). n + 1) (sym here))
   | false ↦ λ e.
       let other : i ≢ p = grind (arith, nat_tests) in
       ap (λ (l : List ℕ). get_or l i 0) (map-set (λ (s : Shelf). s.readers) shelves p new)

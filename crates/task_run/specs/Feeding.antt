@@ -1,14 +1,13 @@
 -- A node that is fed what its parents gave out with one stamp.
-use Rattle.std.proofs.Common.{◌≡◌, ℕ, zero, suc, ◌+◌, ◌-◌, ◌<◌, ◌≤◌, ◌==◌, true, false, cond, List, [], ◌∷◌, ◌++◌, map, length, refl, sym, ap, subst, ◌∙◌, append-nil, append_assoc, get_or, arith}
-use Rattle.std.specs.Prelude.{⊤, ◌≢◌, set}
+use Rattle.std.proofs.Common.{◌≡◌, ℕ, ◌+◌, ◌-◌, ◌<◌, ◌≤◌, ◌==◌, true, false, cond, List, [], ◌∷◌, ◌++◌, map, length, refl, sym, ap, subst, ◌∙◌, append-nil, append_assoc, get_or, arith}
+use Rattle.std.specs.Prelude.{◌≢◌, set}
 use Rattle.std.proofs.lemmas.Bool.Decides.{nat_tests}
 use Rattle.std.proofs.lemmas.List.{get_or-set_same, get_or-set_other}
 use Rattle.kap_base.specs.declared.items.Item.{Item}
 use Rattle.kap_base.specs.declared.items.Effect.{Effect}
-use Rattle.node_core.specs.Meaning.{Given, Input, Move, also, fold}
-use Rattle.node_core.specs.Laws.{also_assoc, also-nothing, nothing-also}
+use Rattle.node_core.specs.Meaning.{Input, Move, fold}
 use Rattle.task_run.specs.declared.lives.Shelf.{Shelf}
-use Rattle.task_run.specs.Merging.{at_port, at_ports}
+use Rattle.task_run.specs.Merging.{at_ports}
 use Rattle.task_run.specs.MoreLaws.{fold-append}
 
 module _ {S : Type 0} (step : S → Input → Move S) where

@@ -1,6 +1,6 @@
 -- Merged lists grow by what a further stamp adds to each.
-use Rattle.std.proofs.Common.{◌≡◌, ℕ, zero, suc, ◌+◌, ◌≤◌, ◌<◌, ◌==◌, true, false, cond, List, [], ◌∷◌, ◌++◌, map, length, refl, sym, ap, ◌∙◌, append-nil, arith}
-use Rattle.std.specs.Prelude.{⊤, filter, flat_map}
+use Rattle.std.proofs.Common.{◌≡◌, ℕ, zero, suc, ◌+◌, ◌≤◌, ◌<◌, ◌==◌, true, false, cond, List, [], ◌∷◌, ◌++◌, map, refl, sym, ap, append-nil, arith}
+use Rattle.std.specs.Prelude.{⊤}
 use Rattle.std.proofs.lemmas.Bool.Decides.{nat_tests}
 use Rattle.std.proofs.lemmas.List.Elements.{filter-append}
 use Rattle.std.proofs.lemmas.List.Concat.{flat_map-append}
@@ -8,7 +8,7 @@ use Rattle.kap_base.specs.declared.items.Item.{Item}
 use Rattle.node_core.specs.Meaning.{Input}
 use Rattle.node_core.specs.Cut.{AreStamped, AllUpTo}
 use Rattle.task_run.specs.Order.{ItemsUpTo}
-use Rattle.task_run.specs.Merging.{stamps, items_with, at_port, at_ports, inputs_with, merged}
+use Rattle.task_run.specs.Merging.{stamps, items_with, at_port, at_ports, merged}
 
 -- each input has this stamp
 abbrev pub InputsAt : ℕ → List Input → Type 0

@@ -1,5 +1,5 @@
 -- The nodes of lives as they are kept, and what a stamp makes of them.
-use Rattle.std.proofs.Common.{◌≡◌, ℕ, zero, suc, ◌+◌, ◌<◌, ◌≤◌, List, [], ◌∷◌, ◌++◌, map, length, get_or}
+use Rattle.std.proofs.Common.{◌≡◌, ℕ, suc, ◌<◌, ◌≤◌, List, [], ◌∷◌, ◌++◌, map, length, get_or}
 use Rattle.std.specs.Prelude.{⊤, flat_map}
 use Rattle.kap_base.specs.Points.{PointValue}
 use Rattle.kap_base.specs.declared.items.Item.{Item}
@@ -14,7 +14,7 @@ use Rattle.task_run.specs.declared.trail.Trail.{Trail, Start, More'}
 use Rattle.task_run.specs.Graphs.{Placed}
 use Rattle.task_run.specs.Merging.{at_ports}
 use Rattle.task_run.specs.Plans.{AreBelow}
-use Rattle.task_run.specs.Active.{Active, placed, AreFirst, IsAt, nodes_after, effects_after}
+use Rattle.task_run.specs.Active.{Active, AreFirst, IsAt, nodes_after, effects_after}
 use Rattle.task_run.specs.Feeding.{Holds, takes_of, picked}
 
 -- the points of a trail

@@ -1,19 +1,16 @@
 -- What one point more adds to what each node gives, to its state and to the effects.
-use Rattle.std.proofs.Common.{◌≡◌, ℕ, zero, suc, ◌+◌, ◌≤◌, ◌<◌, ◌==◌, true, false, cond, List, [], ◌∷◌, ◌++◌, map, length, refl, sym, ap, subst, ◌∙◌, append-nil, append_assoc, arith}
-use Rattle.std.specs.Prelude.{⊤, filter, flat_map, slice_index_or}
+use Rattle.std.proofs.Common.{◌≡◌, ℕ, zero, suc, ◌+◌, ◌≤◌, ◌<◌, ◌==◌, true, false, List, [], ◌∷◌, ◌++◌, map, refl, sym, ap, subst, ◌∙◌, append-nil, arith}
+use Rattle.std.specs.Prelude.{⊤, flat_map, slice_index_or}
 use Rattle.std.proofs.lemmas.Bool.Decides.{nat_tests}
 use Rattle.std.proofs.lemmas.List.{append_cancel_left, map-append}
 use Rattle.std.proofs.lemmas.List.Elements.{filter-append}
-use Rattle.std.proofs.lemmas.List.Concat.{flat_map-append}
-use Rattle.kap_base.specs.Points.{PointValue}
 use Rattle.kap_base.specs.declared.items.Item.{Item}
-use Rattle.kap_base.specs.declared.items.Body.TheVariants as bodies
 use Rattle.kap_base.specs.declared.items.Effect.{Effect}
-use Rattle.node_core.specs.Meaning.{Given, Input, Answer, Move, nothing, also, given_after, given, fold}
+use Rattle.node_core.specs.Meaning.{Given, Input, Answer, Move, also, given_after, given, fold}
 use Rattle.node_core.specs.Cut.{AreStamped, AreEffectsOf, IsStamped, AllUpTo}
-use Rattle.node_core.specs.Laws.{also_assoc, also-nothing, nothing-also, given-append}
+use Rattle.node_core.specs.Laws.{also_assoc, nothing-also, given-append}
 use Rattle.task_run.specs.Merging.{at_ports, merged}
-use Rattle.task_run.specs.Graphs.{Placed, stamped_from, outs_of, lists_of, node_gives, gives_behind}
+use Rattle.task_run.specs.Graphs.{Placed, outs_of, lists_of, node_gives, gives_behind}
 use Rattle.task_run.specs.Lives.{effects_with, node_effects_with}
 use Rattle.task_run.specs.Active.{Active, placed, moved, nodes_after, effects_after, AreAt}
 use Rattle.task_run.specs.Order.{ItemsUpTo}
@@ -188,7 +185,7 @@ module _ {P : Type 0} (answer : P → Answer) (life number : P → ℕ) (stamped
   gives-old n source ts (node ∷ nodes) =
       ap (λ (gs : List Given). (part n source ts node).old ∷ gs)
       (ap (λ (gs : List Given). gives_behind answer n source.old gs nodes) (sym (map-append (λ t. t.old) ts (part n source ts node ∷ [])))
-       ∙ gives-old n source (ts ++ part n source ts node ∷ []) nodes)
+      ∙ gives-old n source (ts ++ part n source ts node ∷ []) nodes)
 
   pub gives-new : (n : ℕ) (source : Source n) (ts : List Part) → AreParts n ts → (nodes : List (Placed P)) → gives_behind answer (suc n) source.new (wholes ts) nodes ≡ wholes (parts_behind n source ts nodes)
   gives-new n source ts are [] = refl
@@ -198,7 +195,7 @@ module _ {P : Type 0} (answer : P → Answer) (life number : P → ℕ) (stamped
       let rest = gives-new n source (ts ++ t ∷ []) (parts-more n ts t are is) nodes in
       rw (part-whole n source ts are node)
       (ap (λ (gs : List Given). whole t ∷ gs)
-       (ap (λ (gs : List Given). gives_behind answer (suc n) source.new gs nodes) (sym (map-append whole ts (t ∷ []))) ∙ rest))
+      (ap (λ (gs : List Given). gives_behind answer (suc n) source.new gs nodes) (sym (map-append whole ts (t ∷ []))) ∙ rest))
 
 -- ---- effects
 
@@ -302,11 +299,12 @@ module _ {P S : Type 0} (answer : P → Answer) (life number : P → ℕ) (stamp
         let rest : AreAt answer first step n source.old (olds (ts ++ t ∷ [])) acts = subst (λ (gs : List Given). AreAt answer first step n source.old gs acts) earlier at.1 in
         let outs : outs_of (mores ts) ++ m.given.items ∷ [] ≡ outs_of (mores (ts ++ t ∷ [])) = outs-more ts t m.given.items (ap (λ (g : Given). g.items) (moved-is ts a at.0)) in
         let gives : wholes ts ++ node_gives answer (suc n) source.new (wholes ts) (placed a) ∷ [] ≡ wholes (ts ++ t ∷ []) =
-            ap (λ (g : Given). wholes ts ++ g ∷ []) (part-whole answer life number stamped n source ts are (placed a)) ∙ sym (map-append whole ts (t ∷ [])) in
-        (state-is ts are a at.0,
-         subst (λ (gs : List Given). AreAt answer first step (suc n) source.new gs (nodes_after step source.more (outs_of (mores ts) ++ m.given.items ∷ []) acts)) (sym gives)
-         (subst (λ (ls : List (List Item)). AreAt answer first step (suc n) source.new (wholes (ts ++ t ∷ [])) (nodes_after step source.more ls acts)) (sym outs)
-          (all_at (ts ++ t ∷ []) (parts-more n ts t are is) acts rest)))
+        ap (λ (g : Given). wholes ts ++ g ∷ []) (part-whole answer life number stamped n source ts are (placed a)) ∙ sym (map-append whole ts (t ∷ [])) in (
+          state-is ts are a at.0,
+          subst (λ (gs : List Given). AreAt answer first step (suc n) source.new gs (nodes_after step source.more (outs_of (mores ts) ++ m.given.items ∷ []) acts)) (sym gives)
+              (subst (λ (ls : List (List Item)). AreAt answer first step (suc n) source.new (wholes (ts ++ t ∷ [])) (nodes_after step source.more ls acts)) (sym outs)
+              (all_at (ts ++ t ∷ []) (parts-more n ts t are is) acts rest)),
+        )
 
     -- and gave the effects that it adds
     pub all_effects : (ts : List Part) → AreParts n ts → (acts : List (Active P S)) → AreAt answer first step n source.old (olds ts) acts

@@ -1,5 +1,5 @@
 -- In which order merged lists stand, and that they have just what the lists have.
-use Rattle.std.specs.Prelude.{◌≡◌, ℕ, ◌+◌, ◌<◌, ◌≤◌, ◌==◌, ◌⊎◌, ⊤, List, [], ◌∷◌, map, filter}
+use Rattle.std.specs.Prelude.{◌≡◌, ℕ, ◌<◌, ◌≤◌, ◌==◌, ◌⊎◌, ⊤, List, [], ◌∷◌, map, filter}
 use Rattle.kap_base.specs.declared.items.Item.{Item}
 use Rattle.node_core.specs.Meaning.{Input}
 

@@ -1,5 +1,5 @@
 -- Merged lists stand in order, and have just what the lists have.
-use Rattle.std.proofs.Common.{◌≡◌, ℕ, zero, suc, ◌+◌, ◌-◌, ◌≤◌, ◌<◌, ◌==◌, true, false, cond, List, [], ◌∷◌, ◌++◌, map, length, refl, sym, ap, subst, ◌∙◌, append-nil, append_assoc, inl, inr, ⊎_elim, get_or, arith}
+use Rattle.std.proofs.Common.{◌≡◌, ℕ, zero, suc, ◌+◌, ◌≤◌, ◌<◌, ◌==◌, true, false, cond, List, [], ◌∷◌, ◌++◌, map, length, refl, sym, ap, subst, ◌∙◌, append-nil, append_assoc, inl, inr, ⊎_elim, get_or, arith}
 use Rattle.std.specs.Prelude.{⊤, filter, flat_map, nat_le}
 use Rattle.std.proofs.lemmas.Bool.Decides.{nat_tests}
 use Rattle.std.proofs.lemmas.List.{map-append}
@@ -9,7 +9,7 @@ use Rattle.kap_base.specs.declared.items.Item.{Item}
 use Rattle.node_core.specs.Meaning.{Given, Input, Answer, nothing, given_after, given}
 use Rattle.node_core.specs.Cut.{AllUpTo, AllFrom, AreStamped, IsStamped}
 use Rattle.task_run.specs.Merging.{stamps, items_with, at_port, at_ports, inputs_with, merged}
-use Rattle.task_run.specs.Order.{Precedes, PrecedesAll, AreOrdered, from_port, ItemsFrom, AreRising, ItemsUpTo, IsStream}
+use Rattle.task_run.specs.Order.{PrecedesAll, AreOrdered, from_port, ItemsFrom, AreRising, ItemsUpTo, IsStream}
 use Rattle.task_run.specs.Growth.{merged_up_to}
 use Rattle.task_run.specs.MoreLaws.{after-up_to}
 use Rattle.task_run.specs.Graphs.{Placed, stamped_from, outs_of, lists_of, node_gives, gives_behind, graph_gives}
@@ -53,11 +53,12 @@ ordered-port : (s port : ℕ) (items : List Item) (rest : List Input) → AreFro
 ordered-port s port [] rest from ordered = ordered
 ordered-port s port (i ∷ items) rest from ordered = elim (i.stamp.0 == s) as (λ b. (i.stamp.0 == s) ≡ b → AreOrdered (at_port port (cond b (i ∷ items_with s items) (items_with s items)) ++ rest)) [
   | true ↦ λ e.
-      let same : i.stamp.0 ≡ s = grind (arith, nat_tests) in
-      (precedes-append (port, i) _ _
-        (precedes-from s port (port, i) _ same (omega arith) (from-port s port port items (omega arith)))
-        (precedes-from s (port + 1) (port, i) rest same (omega arith) from),
-       ordered-port s port items rest from ordered)
+      let same : i.stamp.0 ≡ s = grind (arith, nat_tests) in (
+        precedes-append (port, i) _ _
+            (precedes-from s port (port, i) _ same (omega arith) (from-port s port port items (omega arith)))
+            (precedes-from s (port + 1) (port, i) rest same (omega arith) from),
+        ordered-port s port items rest from ordered,
+      )
   | false ↦ λ e. ordered-port s port items rest from ordered
 ] refl
 
@@ -126,8 +127,8 @@ merged-port k (suc n) lists =
     ap (from_port k) (flat_map-append (λ s. inputs_with s lists) (stamps n) (suc n ∷ []))
     ∙ from_port-append k (merged n lists) (inputs_with (suc n) lists ++ [])
     ∙ rw (append-nil, merged-port k n lists, at-port k k 0 (map (items_with (suc n)) lists) (omega arith), get-with (suc n) k lists)
-      (sym (flat_map-append (λ s. items_with s (get_or lists k [])) (stamps n) (suc n ∷ [])
-            ∙ ap (λ (l : List Item). flat_map (λ s. items_with s (get_or lists k [])) (stamps n) ++ l) (append-nil (items_with (suc n) (get_or lists k [])))))
+    (sym (flat_map-append (λ s. items_with s (get_or lists k [])) (stamps n) (suc n ∷ [])
+    ∙ ap (λ (l : List Item). flat_map (λ s. items_with s (get_or lists k [])) (stamps n) ++ l) (append-nil (items_with (suc n) (get_or lists k [])))))
 
 -- the items up to a stamp
 abbrev until : ℕ → List Item → List Item
@@ -203,9 +204,10 @@ rising-append s (x ∷ xs) ys are from rising =
 
 precedes-all-from : (s : ℕ) (x : Input) (xs : List Input) → s ≤ x.1.stamp.0 → PrecedesAll x xs → AllFrom s xs
 precedes-all-from s x [] le h = tt
-precedes-all-from s x (y ∷ xs) le h =
-    (⊎_elim (λ (p : x.1.stamp.0 < y.1.stamp.0). omega arith) (λ (q : (x.1.stamp.0 ≡ y.1.stamp.0) × (x.0 ≤ y.0)). let same = q.0 in omega arith) h.0,
-     precedes-all-from s x xs le h.1)
+precedes-all-from s x (y ∷ xs) le h = (
+  ⊎_elim (λ (p : x.1.stamp.0 < y.1.stamp.0). omega arith) (λ (q : (x.1.stamp.0 ≡ y.1.stamp.0) × (x.0 ≤ y.0)). let same = q.0 in omega arith) h.0,
+  precedes-all-from s x xs le h.1,
+)
 
 all-from-append : (s : ℕ) (xs ys : List Input) → AllFrom s xs → AllFrom s ys → AllFrom s (xs ++ ys)
 all-from-append s [] ys a b = b
@@ -230,8 +232,8 @@ module _ (life node : ℕ) (answer : Answer) (stamped : (before : List Input) (x
   after-rising before [] ordered = tt
   after-rising before (x ∷ xs) ordered =
       rising-append x.1.stamp.0 _ _ (stamped before x).items
-        (after-from x.1.stamp.0 (before ++ x ∷ []) xs (precedes-all-from x.1.stamp.0 x xs (omega arith) ordered.0))
-        (after-rising (before ++ x ∷ []) xs ordered.1)
+      (after-from x.1.stamp.0 (before ++ x ∷ []) xs (precedes-all-from x.1.stamp.0 x xs (omega arith) ordered.0))
+      (after-rising (before ++ x ∷ []) xs ordered.1)
 
   given-stream : (n : ℕ) (lists : List (List Item)) → IsStream n (given answer (merged n lists)).items
   given-stream n lists = record {

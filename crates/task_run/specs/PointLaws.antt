@@ -1,6 +1,6 @@
 -- What one point more adds to lives.
-use Rattle.std.proofs.Common.{◌≡◌, ℕ, zero, suc, ◌+◌, ◌≤◌, ◌<◌, List, [], ◌∷◌, ◌++◌, map, length, refl, sym, ap, subst, ◌∙◌, append-nil, append_assoc, arith}
-use Rattle.std.specs.Prelude.{⊤, filter, flat_map}
+use Rattle.std.proofs.Common.{◌≡◌, ℕ, zero, suc, ◌+◌, ◌≤◌, List, [], ◌∷◌, ◌++◌, map, length, refl, sym, ap, subst, ◌∙◌, append-nil, arith}
+use Rattle.std.specs.Prelude.{flat_map}
 use Rattle.std.proofs.lemmas.List.Concat.{flat_map-append}
 use Rattle.kap_base.specs.Points.{PointValue}
 use Rattle.kap_base.specs.declared.items.Item.{Item}
@@ -10,11 +10,10 @@ use Rattle.node_core.specs.Meaning.{Given, Input, Answer, Move, given, fold}
 use Rattle.node_core.specs.Cut.{IsStamped}
 use Rattle.task_run.specs.Merging.{stamps, merged}
 use Rattle.task_run.specs.Graphs.{Placed, stamped_from, outs_of, lists_of, node_gives, gives_behind, graph_gives}
-use Rattle.task_run.specs.Lives.{effects_with, node_effects_with, life_effects_with, effects_of}
+use Rattle.task_run.specs.Lives.{node_effects_with, life_effects_with, effects_of}
 use Rattle.task_run.specs.Active.{Active, placed, nodes_after, effects_after, AreFirst, AreAt, IsAt}
 use Rattle.task_run.specs.Order.{ItemsUpTo}
-use Rattle.task_run.specs.Growth.{Grows}
-use Rattle.task_run.specs.MoreLaws.{Source, Part, AreParts, olds, mores, wholes, parts_behind, parts_behind-are, gives-old, gives-new, effects-old, effects-new, all_at, all_effects}
+use Rattle.task_run.specs.MoreLaws.{Source, Part, AreParts, olds, wholes, parts_behind, parts_behind-are, gives-old, gives-new, effects-old, effects-new, all_at, all_effects}
 
 -- a point with a stamp
 abbrev pub stamped_point : ℕ → PointValue → Item

@@ -97,7 +97,7 @@ pub(crate) fn run_node<N: Node>(
     ensures ran { OnOk result ((outs : List (List Item)) (rest : List ℕ) → AreBelow (length outs) parents.now
         → Holds outs (parents.now ++ rest) shelves.old
         → NodeRan (N.step (N.spec node.old)) (N.state node.old) (N.state node.new) outs parents.now rest
-            shelves.new out.old out.new effects.old effects.new) }
+        shelves.new out.old out.new effects.old effects.new) }
 {
     let mut port: u32 = 0;
     'taking: for parent in parents {

@@ -27,8 +27,8 @@ pub fn nodes_give_by_parents<N: Node>()
     ensures parents { (points : List PointValue) (nodes : List (Placed N.Spec)) (i : ℕ) (d : Placed N.Spec)
         → i < length nodes → AreBelow i (slice_index_or nodes i d).parents
         → slice_index_or (graph_gives N.answer points nodes) i nothing
-            ≡ node_gives N.answer (length points) (stamped_from 1 points) (graph_gives N.answer points nodes)
-                (slice_index_or nodes i d) }
+        ≡ node_gives N.answer (length points) (stamped_from 1 points) (graph_gives N.answer points nodes)
+        (slice_index_or nodes i d) }
     ensures streams { (points : List PointValue) (nodes : List (Placed N.Spec)) (i : ℕ)
         → IsStream (length points) (slice_index_or (outs_of (graph_gives N.answer points nodes)) i []) }
 {}
@@ -37,6 +37,6 @@ pub fn nodes_give_by_parents<N: Node>()
 pub fn effects_go_on<N: Node>()
     ensures { (lives : List (List (Placed N.Spec))) (points : List PointValue) (p : PointValue)
         → effects_of N.answer lives (points ++ p ∷ [])
-            ≡ effects_of N.answer lives points
-                ++ life_effects_with N.answer (suc (length points)) lives (points ++ p ∷ []) }
+        ≡ effects_of N.answer lives points
+        ++ life_effects_with N.answer (suc (length points)) lives (points ++ p ∷ []) }
 {}

@@ -77,14 +77,20 @@ fn shelves_for<N: Node>(alloc: Global, cells: &[Cell<N>]) -> Result<Vec<Shelf>, 
 }
 
 /// The nodes with their parents.
-fn cells_of<N: Node>(alloc: Global, nodes: Vec<N>, parents: Vec<Ids>) -> Result<Vec<Cell<N>>, NoMemory>
+fn cells_of<N: Node>(
+    alloc: Global,
+    nodes: Vec<N>,
+    parents: Vec<Ids>,
+) -> Result<Vec<Cell<N>>, NoMemory>
     ensures { IfOk result (λ cells. cells.items ≡ map cell_of (zip nodes.items parents.items)) }
 {
-    Ok(nodes
-        .into_iter()
-        .zip(parents)
-        .map(|(node, parents)| Cell { node, parents })
-        .collect(alloc)?)
+    Ok(
+        nodes
+            .into_iter()
+            .zip(parents)
+            .map(|(node, parents)| Cell { node, parents })
+            .collect(alloc)?,
+    )
 }
 
 /// The life of a plan.
@@ -108,7 +114,10 @@ fn life_of<N: Node>(alloc: Global, plan: LifePlan<N>) -> Result<Life<N>, NoMemor
 }
 
 /// The lives of plans, in their order.
-pub(crate) fn lives_of<N: Node>(alloc: Global, plans: Vec<LifePlan<N>>) -> Result<Vec<Life<N>>, NoMemory>
+pub(crate) fn lives_of<N: Node>(
+    alloc: Global,
+    plans: Vec<LifePlan<N>>,
+) -> Result<Vec<Life<N>>, NoMemory>
     ensures lives { IfOk result (λ lives. AreLives N.spec N.ports lives.items) }
     ensures graphs { IfOk result (λ lives.
         map (graph_of_life N.spec) lives.items ≡ map (graph_of N.spec) plans.items) }

@@ -49,7 +49,7 @@ fn run_cell<N: Node>(
     ensures ran { OnOk result ((outs : List (List Item)) (rest : List ℕ) → length outs ≡ number
         → Holds outs (cell.old.parents ++ rest) shelves.old → takes_of number rest ≤ readers_at shelves.old number
         → CellRan (N.step (N.spec cell.old.node)) (N.state cell.old.node) (N.state cell.new.node) outs cell.old.parents rest
-            shelves.new effects.old effects.new) }
+        shelves.new effects.old effects.new) }
 {
     let mut out = clear_shelf(alloc, &mut shelves[number]);
     run_node(

@@ -5,11 +5,11 @@ ghost use Rattle.task_run.specs.Plans.{graph_of, AreFirstStates};
 
 use crate::Counts;
 use crate::drops::counts_of;
-use crate::trail::Trail;
 use crate::lives::Life;
 use crate::making::lives_of;
 use crate::plans::LifePlan;
 use crate::running::run_lives;
+use crate::trail::Trail;
 use kap_base::{Effect, ItemList, NoMemory, Point, Stamp};
 use node_core::Node;
 use std::alloc::Global;
@@ -82,7 +82,7 @@ impl<N: Node> TaskRun<N> {
             ≡ record { lives = self.old.lives; points = self.old.points ++ point ∷ []; spent = false }) }
         ensures effects { OnOk result (effects.new ≡ effects.old
             ++ life_effects_with N.answer (suc (length self.old.points)) self.old.lives
-                (self.old.points ++ point ∷ [])) }
+            (self.old.points ++ point ∷ [])) }
         ensures err { OnErr result (self.new.spent ≡ true) }
     {
         self.spent = true;

@@ -1,6 +1,5 @@
-use Rattle.std.proofs.Common.{◌≡◌, ◌<◌, ◌+◌, ℕ, ◌∙◌, ◌∷◌, length, sym, ap, subst, get_or, set, drop, arith}
+use Rattle.std.proofs.Common.{◌≡◌, ◌<◌, ◌+◌, ℕ, ◌∙◌, length, subst, get_or, set, drop, arith}
 use Rattle.std.proofs.lemmas.List.{drop_more, drop_all}
-use Rattle.kap_base.specs.declared.items.Item.{Item}
 use Rattle.task_run.specs.declared.lives.Shelf.{Shelf}
 use Rattle.task_run.specs.Feeding.{NodeRunning}
 use Rattle.task_run.proofs.Steps.{below_at, map_kept, node_takes, node_ran}
@@ -34,14 +33,14 @@ taking-preserved g c =
           let inside : p < length c.taking.shelves = omega arith in
           subst (λ (n : ℕ). NodeRunning (node.step spec) (node.state c.args.node.now) (node.state c.take_from.new.node) outs c.args.parents.now (drop (c.taking.parent-index + 1) c.args.parents.now) n rest (set c.taking.shelves p c.take_from.new.shelf) c.args.out.now c.take_from.new.out c.args.effects.now c.take_from.new.effects) next
           (node_takes (node.step spec) (node.state c.args.node.now) (node.state c.taking.node) (node.state c.take_from.new.node) outs c.args.parents.now (drop c.taking.parent-index c.args.parents.now) p c.taking.port
-            (drop (c.taking.parent-index + 1) c.args.parents.now) rest c.taking.shelves c.index-shelves-parent.result c.take_from.new.shelf c.args.out.now c.taking.out c.take_from.new.out c.args.effects.now c.taking.effects c.take_from.new.effects
-            (drop_more c.args.parents.now c.taking.parent-index 0 here) below (below_at (length outs) c.args.parents.now c.taking.parent-index 0 here below) inside c.in_ok-take_from.ensures.left c.in_ok-take_from.ensures.kept
-            (rw same at c.in_ok-take_from.ensures.fed)
-            (c.taking.invariant.running outs rest below holds));
+          (drop (c.taking.parent-index + 1) c.args.parents.now) rest c.taking.shelves c.index-shelves-parent.result c.take_from.new.shelf c.args.out.now c.taking.out c.take_from.new.out c.args.effects.now c.taking.effects c.take_from.new.effects
+          (drop_more c.args.parents.now c.taking.parent-index 0 here) below (below_at (length outs) c.args.parents.now c.taking.parent-index 0 here below) inside c.in_ok-take_from.ensures.left c.in_ok-take_from.ensures.kept
+          (rw same at c.in_ok-take_from.ensures.fed)
+          (c.taking.invariant.running outs rest below holds));
     }
 
 pub returns-clause-ran : goal.returns-clause-ran
 returns-clause-ran g c = λ outs rest below holds.
     let node = g.N.Node in
     node_ran (node.step (node.spec c.args.node.now)) (node.state c.args.node.now) (node.state c.taking.node) outs c.args.parents.now (drop c.taking.parent-index c.args.parents.now) c.taking.port rest c.taking.shelves c.args.out.now c.taking.out c.args.effects.now c.taking.effects
-      (drop_all c.taking.parent-index c.args.parents.now (omega arith)) (c.taking.invariant.running outs rest below holds)
+    (drop_all c.taking.parent-index c.args.parents.now (omega arith)) (c.taking.invariant.running outs rest below holds)

@@ -1,8 +1,7 @@
 use Rattle.std.proofs.Common.{◌≡◌, ℕ, List, ◌++◌, drop, map, length}
 use Rattle.kap_base.specs.declared.items.Item.{Item}
-use Rattle.task_run.specs.Merging.{at_ports}
 use Rattle.task_run.specs.Plans.{AreBelow}
-use Rattle.task_run.specs.Feeding.{Due, Holds, picked, NodeRunning}
+use Rattle.task_run.specs.Feeding.{Holds, NodeRunning}
 use Rattle.task_run.proofs.feeding.run_node.Given as goal
 
 abbrev pub invariant-taking : goal.invariant-taking

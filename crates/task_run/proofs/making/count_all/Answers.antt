@@ -1,4 +1,4 @@
-use Rattle.std.proofs.Common.{◌≡◌, ◌<◌, ◌+◌, ◌∙◌, ℕ, List, length, sym, ap, subst, get_or, drop, arith}
+use Rattle.std.proofs.Common.{◌<◌, ◌+◌, ◌∙◌, ℕ, List, length, sym, ap, subst, get_or, drop, arith}
 use Rattle.std.proofs.lemmas.List.{drop_more, drop_all}
 use Rattle.task_run.specs.declared.lives.Cell.{Cell}
 use Rattle.task_run.specs.Feeding.{takes_of, takes_of-append}

@@ -1,4 +1,4 @@
-use Rattle.std.proofs.Common.{◌≡◌, ◌<◌, ◌+◌, ℕ, List, length, ap, get_or, set, drop, arith}
+use Rattle.std.proofs.Common.{◌<◌, ℕ, List, length, ap, get_or, arith}
 use Rattle.std.proofs.lemmas.List.{drop_more}
 use Rattle.task_run.specs.Feeding.{takes_of}
 use Rattle.task_run.proofs.Steps.{below_at, readers_more}

@@ -2,7 +2,6 @@ use Rattle.std.proofs.Common.{◌≡◌, ◌<◌, ℕ, List, [], ◌∷◌, map,
 use Rattle.std.specs.Prelude.{zip, remove}
 use Rattle.std.proofs.lemmas.Grind.{common_steps}
 use Rattle.task_run.specs.declared.lives.Cell.{Cell}
-use Rattle.task_run.specs.Graphs.{Placed}
 use Rattle.task_run.specs.Plans.{PlanValue, AreFirstNodes, graph_of}
 use Rattle.task_run.specs.Active.{AreFirst}
 use Rattle.task_run.specs.Laid.{AreCells, HasShelves, active_cell, cell_of, placed_cell}
@@ -57,7 +56,8 @@ returns g c =
           ∙ plan_graph node.spec node.ports node.life node.number which ns pss stream c.plan.invariant.some_node c.plan.invariant.nodes stream_is
           ∙ ap (λ (p : PlanValue g.row.N.Denot). graph_of node.spec p) c.plan.view_is;
       first = λ are.
-          let firsts : AreFirstNodes node.spec node.state node.first ns = subst (λ (p : PlanValue g.row.N.Denot). AreFirstNodes node.spec node.state node.first p.nodes) (sym c.plan.view_is) are in
-          (plan_stream_first node.spec node.state node.first ns stream c.plan.invariant.some_node stream_is firsts,
-           subst (λ (cs : List (Cell g.row.N.Denot)). AreFirst node.first (map (active_cell node.spec node.state) cs)) (sym cells_are) (plan_cells_first node.spec node.state node.first ns pss firsts));
+          let firsts : AreFirstNodes node.spec node.state node.first ns = subst (λ (p : PlanValue g.row.N.Denot). AreFirstNodes node.spec node.state node.first p.nodes) (sym c.plan.view_is) are in (
+            plan_stream_first node.spec node.state node.first ns stream c.plan.invariant.some_node stream_is firsts,
+            subst (λ (cs : List (Cell g.row.N.Denot)). AreFirst node.first (map (active_cell node.spec node.state) cs)) (sym cells_are) (plan_cells_first node.spec node.state node.first ns pss firsts),
+          );
     }

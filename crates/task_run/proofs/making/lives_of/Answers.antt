@@ -1,6 +1,5 @@
-use Rattle.std.proofs.Common.{◌≡◌, List, [], ◌∷◌, ◌++◌, map, sym, ap, ◌∙◌}
+use Rattle.std.proofs.Common.{[], ◌∷◌, map, sym, ap, ◌∙◌}
 use Rattle.std.proofs.lemmas.List.{map-append}
-use Rattle.task_run.specs.Graphs.{Placed}
 use Rattle.task_run.specs.Laid.{graph_of_life}
 use Rattle.task_run.specs.Plans.{graph_of}
 use Rattle.task_run.proofs.PlanSteps.{first_front, first_last, all_first_more, lives_more}

@@ -1,9 +1,8 @@
-use Rattle.std.proofs.Common.{◌≡◌, ◌<◌, ◌≤◌, ℕ, ◌∙◌, ◌++◌, [], List, map, length, sym, ap, subst, get_or, set, refl, arith}
+use Rattle.std.proofs.Common.{◌≡◌, ◌<◌, ℕ, ◌∙◌, ◌++◌, List, length, ap, subst, get_or, arith}
 use Rattle.std.proofs.lemmas.List.{length-set}
 use Rattle.kap_base.specs.declared.items.Item.{Item}
 use Rattle.task_run.specs.declared.lives.Shelf.{Shelf}
-use Rattle.task_run.specs.Plans.{AreBelow}
-use Rattle.task_run.specs.Feeding.{takes_of, Holds, NodeRan}
+use Rattle.task_run.specs.Feeding.{NodeRan}
 use Rattle.task_run.specs.Laid.{readers_at}
 use Rattle.task_run.proofs.Steps.{below_more, map_kept, readers_is}
 use Rattle.task_run.proofs.CellSteps.{holds_beside, cell_ran}
@@ -39,5 +38,5 @@ returns-clause-ran g c = λ outs rest is holds takes.
     let here = readers_is c.run_node.new.shelves n c.index-shelves-number-2.result within in
     let left = ap (λ (s : Shelf). s.left) c.fill_shelf.ensures in
     cell_ran step (node.state c.args.cell.now.node) (node.state c.run_node.new.node) outs parents rest c.run_node.new.shelves n c.run_node.new.out c.fill_shelf.new.shelf c.args.effects.now c.run_node.new.effects
-      is within (omega arith) (ap (λ (s : Shelf). s.items) c.fill_shelf.ensures)
-      (subst (λ (l : List Item). NodeRan step (node.state c.args.cell.now.node) (node.state c.run_node.new.node) outs parents rest c.run_node.new.shelves l c.run_node.new.out c.args.effects.now c.run_node.new.effects) c.clear_shelf-out.ensures.empty ran)
+    is within (omega arith) (ap (λ (s : Shelf). s.items) c.fill_shelf.ensures)
+    (subst (λ (l : List Item). NodeRan step (node.state c.args.cell.now.node) (node.state c.run_node.new.node) outs parents rest c.run_node.new.shelves l c.run_node.new.out c.args.effects.now c.run_node.new.effects) c.clear_shelf-out.ensures.empty ran)

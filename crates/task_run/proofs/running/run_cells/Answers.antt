@@ -1,9 +1,8 @@
-use Rattle.std.proofs.Common.{◌≡◌, ◌<◌, ◌≤◌, ◌+◌, ℕ, ◌∙◌, ◌++◌, ◌∷◌, [], List, map, length, sym, ap, subst, get_or, set, drop, arith}
+use Rattle.std.proofs.Common.{◌≡◌, ◌<◌, ◌+◌, ℕ, ◌∙◌, ◌++◌, ◌∷◌, List, length, sym, ap, subst, get_or, drop, arith}
 use Rattle.std.proofs.lemmas.List.{drop_more, drop-set-lt}
-use Rattle.kap_base.specs.declared.items.Item.{Item}
 use Rattle.task_run.specs.declared.lives.Cell.{Cell}
-use Rattle.task_run.specs.Feeding.{takes_of, Holds}
-use Rattle.task_run.specs.Laid.{AreCells, IsCellAt, placed_cell, readers_at, takes_in}
+use Rattle.task_run.specs.Feeding.{Holds}
+use Rattle.task_run.specs.Laid.{placed_cell, readers_at, takes_in}
 use Rattle.task_run.proofs.Steps.{map_kept, same_at, same_rest}
 use Rattle.task_run.proofs.CellSteps.{cells_more, cells_end, takes_dropped, cell_at, same_placed}
 use Rattle.task_run.proofs.running.run_cells.Goals as goal
@@ -56,8 +55,8 @@ running-preserved g c =
           let readers : readers_at c.running.shelves (place + 1) ≡ readers_at c.args.shelves.now (place + 1) = ap (λ (l : List ℕ). get_or l (place + 1) 0) c.running.invariant.readers in
           let held : Holds running.outs (cell.parents ++ takes_in (drop (place + 1) cells0)) c.running.shelves = subst (λ (cs : List (Cell g.row.N.Denot)). Holds running.outs (takes_in cs) c.running.shelves) first running.holds in
           cells_more node.spec node.state node.step points out cells0 cells place cell new c.running.shelves c.run_cell.new.shelves c.args.effects.now c.running.effects c.run_cell.new.effects
-            lt first some facts.spec facts.parents running
-            (facts.ran running.outs (takes_in (drop (place + 1) cells0)) (omega arith) held (omega arith));
+          lt first some facts.spec facts.parents running
+          (facts.ran running.outs (takes_in (drop (place + 1) cells0)) (omega arith) held (omega arith));
     }
 
 pub returns-clause-ran : goal.returns-clause-ran

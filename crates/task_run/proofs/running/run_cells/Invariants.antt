@@ -1,4 +1,4 @@
-use Rattle.std.proofs.Common.{◌≡◌, [], ◌∷◌, List, drop, map, length}
+use Rattle.std.proofs.Common.{◌≡◌, [], ◌∷◌, List, drop, map}
 use Rattle.kap_base.specs.declared.items.Item.{Item}
 use Rattle.task_run.specs.Feeding.{Holds}
 use Rattle.task_run.specs.Laid.{placed_cell, takes_in}

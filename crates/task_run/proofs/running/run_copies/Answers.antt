@@ -1,4 +1,4 @@
-use Rattle.std.proofs.Common.{◌≡◌, ◌<◌, ◌+◌, ◌∙◌, length, get_or, set, take, refl, sym, subst, arith}
+use Rattle.std.proofs.Common.{◌≡◌, ◌<◌, ◌+◌, ◌∙◌, length, set, take, refl, sym, subst, arith}
 use Rattle.std.proofs.lemmas.List.{drop-set-lt}
 use Rattle.kap_base.specs.Points.{PointValue}
 use Rattle.task_run.specs.Laid.{LivesRan, item_of}
@@ -36,8 +36,8 @@ running-preserved g c =
       ran =
           subst (λ (q : PointValue). LivesRan node.spec node.state node.ports node.step (item_of c.args.stamp q) (take (i + 1) lives0) (take (i + 1) (set lives i c.run_life.new.life)) c.args.effects.now c.run_life.new.effects) same
           (next_ran node.spec node.state node.ports node.step (item_of c.args.stamp c.in_ok-copy.field-0) lives0 lives i d c.run_life.new.life c.args.effects.now c.running.effects c.run_life.new.effects
-            lt lt0 c.running.invariant.rest c.requires facts.graph facts.readers facts.nodes facts.effects
-            (subst (λ (q : PointValue). LivesRan node.spec node.state node.ports node.step (item_of c.args.stamp q) (take i lives0) (take i lives) c.args.effects.now c.running.effects) (sym same) c.running.invariant.ran));
+          lt lt0 c.running.invariant.rest c.requires facts.graph facts.readers facts.nodes facts.effects
+          (subst (λ (q : PointValue). LivesRan node.spec node.state node.ports node.step (item_of c.args.stamp q) (take i lives0) (take i lives) c.args.effects.now c.running.effects) (sym same) c.running.invariant.ran));
     }
 
 pub returns : goal.returns

@@ -1,11 +1,9 @@
-use Rattle.std.proofs.Common.{◌≡◌, ℕ, suc, false, List, [], ◌∷◌, ◌++◌, Bool, map, length, take, drop, refl, sym, ap, subst, ◌∙◌, arith}
+use Rattle.std.proofs.Common.{◌≡◌, suc, false, List, [], ◌∷◌, ◌++◌, length, take, drop, refl, sym, ap, subst, ◌∙◌, arith}
 use Rattle.std.proofs.lemmas.Grind.{common_steps}
 use Rattle.kap_base.specs.Points.{PointValue}
-use Rattle.kap_base.specs.declared.items.Effect.{Effect}
 use Rattle.task_run.specs.declared.lives.Life.{Life}
-use Rattle.task_run.specs.declared.trail.Trail.{Trail}
 use Rattle.task_run.specs.Lives.{RunValue, life_effects_with}
-use Rattle.task_run.specs.Laid.{IsRunning, LivesRan, graph_of_life, item_of, points_of}
+use Rattle.task_run.specs.Laid.{IsRunning, LivesRan, item_of, points_of}
 use Rattle.task_run.proofs.RunSteps.{run_goes_on, run_gives, rejoin}
 use Rattle.task_run.proofs.tasks.TaskRun.feed.Goals as goal
 

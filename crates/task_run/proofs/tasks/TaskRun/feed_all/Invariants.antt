@@ -1,6 +1,6 @@
 use Rattle.std.proofs.Common.{◌≡◌, ◌++◌, List, false}
 use Rattle.kap_base.specs.declared.items.Effect.{Effect}
-use Rattle.task_run.specs.Lives.{RunValue, effects_of}
+use Rattle.task_run.specs.Lives.{effects_of}
 use Rattle.task_run.proofs.tasks.TaskRun.feed_all.Given as goal
 
 abbrev pub invariant-feeding : goal.invariant-feeding
