@@ -79,9 +79,6 @@ module _ {N P S : Type 0} (spec : N → P) (state : N → S) (step : P → S →
     pub effects_are : effects ++ effects_after step points outs (active_cells spec state (drop place cells0)) ≡ effects0 ++ effects_after step points (out ∷ []) (active_cells spec state cells0)
     pub holds : Holds outs (takes_in (drop place cells0)) shelves
 
-  pub cells_begin : (points out : List Item) (cells : List (Cell N)) (shelves : List Shelf) (effects : List Effect) → Holds (out ∷ []) (takes_in cells) shelves → CellsRunning points out cells cells 0 shelves effects effects
-  cells_begin points out cells shelves effects holds = record { outs = out ∷ []; count = refl; nodes = refl; effects_are = refl; holds = holds }
-
   pub cells_more : (points out : List Item) (cells0 cells : List (Cell N)) (place : ℕ) (c new : Cell N) (shelves0 shelves : List Shelf) (effects0 effects1 effects2 : List Effect)
       → place < length cells → drop place cells0 ≡ c ∷ drop (place + 1) cells0 → 0 < length c.parents
       → spec new.node ≡ spec c.node → new.parents ≡ c.parents
@@ -150,33 +147,3 @@ module _ {N P : Type 0} (spec : N → P) where
     where
       placed-by : {p q : P} {xs ys : List ℕ} → p ≡ q → xs ≡ ys → ◌≡◌ {A = Placed P} (record { spec = p; parents = xs }) (record { spec = q; parents = ys })
       placed-by e f = cc
-
--- ---- a life
-
--- what the stream gave out is there for all that take it
-pub stream_holds : (takes : List ℕ) (shelves : List Shelf) (out : List Item) (new : Shelf) → 0 < length shelves → takes_of 0 takes ≤ new.left → new.items ≡ out → Holds (out ∷ []) takes (set shelves 0 new)
-stream_holds takes shelves out new within left is = holds_put [] takes shelves 0 out new refl within left is (λ i d lt. absurd (omega arith))
-
-module _ {N P S : Type 0} (spec : N → P) (state : N → S) (step : P → S → Input → Move S) where
-  pub stream_more : (p : P) (s new : S) (item : Item) (out : List Item) (cells0 cells : List (Cell N)) (effects1 effects2 : List Effect)
-      → new ≡ (step p s (0, item)).state → out ≡ (step p s (0, item)).given.items → CellsRan spec state step (item ∷ []) out cells0 cells effects1 effects2
-      → ◌≡◌ {A = List (Active P S)} (record { spec = p; state = new; parents = [] } ∷ active_cells spec state cells) (nodes_after step (item ∷ []) [] (record { spec = p; state = s; parents = [] } ∷ active_cells spec state cells0))
-  stream_more p s new item out cells0 cells effects1 effects2 state_is out_is ran =
-      let items = (step p s (0, item)).given.items in
-      let all : items ++ [] ≡ out = append-nil items ∙ sym out_is in
-      ap (λ (x : S). record { spec = p; state = x; parents = [] } ∷ active_cells spec state cells) state_is
-      ∙ ap (λ (l : List (Active P S)). record { spec = p; state = (step p s (0, item)).state; parents = [] } ∷ l)
-      (ran.nodes ∙ ap (λ (l : List Item). nodes_after step (item ∷ []) (l ∷ []) (active_cells spec state cells0)) (sym all))
-
-  pub stream_gives : (p : P) (s : S) (item : Item) (out : List Item) (cells0 cells : List (Cell N)) (effects0 effects1 effects2 : List Effect)
-      → out ≡ (step p s (0, item)).given.items → effects1 ≡ effects0 ++ (step p s (0, item)).given.effects → CellsRan spec state step (item ∷ []) out cells0 cells effects1 effects2
-      → effects2 ≡ effects0 ++ effects_after step (item ∷ []) [] (record { spec = p; state = s; parents = [] } ∷ active_cells spec state cells0)
-  stream_gives p s item out cells0 cells effects0 effects1 effects2 out_is effects_is ran =
-      let g = (step p s (0, item)).given in
-      let all : g.items ++ [] ≡ out = append-nil g.items ∙ sym out_is in
-      let rest = effects_after step (item ∷ []) (out ∷ []) (active_cells spec state cells0) in
-      ran.effects_are
-      ∙ ap (λ (l : List Effect). l ++ rest) effects_is
-      ∙ append_assoc effects0 g.effects rest
-      ∙ ap (λ (l : List Effect). effects0 ++ (l ++ rest)) (sym (append-nil g.effects))
-      ∙ ap (λ (l : List Item). effects0 ++ ((g.effects ++ []) ++ effects_after step (item ∷ []) (l ∷ []) (active_cells spec state cells0))) (sym all)

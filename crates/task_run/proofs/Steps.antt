@@ -11,7 +11,7 @@ use Rattle.task_run.specs.declared.lives.Shelf.{Shelf}
 use Rattle.task_run.specs.Merging.{at_port, at_ports}
 use Rattle.task_run.specs.Plans.{AreBelow}
 use Rattle.task_run.specs.Laid.{readers_at}
-use Rattle.task_run.specs.Feeding.{Fed, Due, due_more, due_none, due_first, Holds, NodeRan, NodeRunning, picked, taken_items, holds_rest}
+use Rattle.task_run.specs.Feeding.{Fed, Due, due_more, due_none, Holds, NodeRan, NodeRunning, picked, taken_items, holds_rest}
 
 pub on_ok : {A E : Type 0} {P Q : Type 0} (r : Result A E) → (P → Q) → OnOk r P → OnOk r Q
 on_ok (Ok x) f p = f p
@@ -68,10 +68,6 @@ pub same_rest : {A : Type 0} (xs ys : List A) (k : ℕ) → drop k xs ≡ drop k
 same_rest xs ys k e = sym (drop-drop 1 k xs) ∙ ap (λ l. drop 1 l) e ∙ drop-drop 1 k ys
 
 module _ {S : Type 0} (step : S → Input → Move S) where
-  pub node_begins : (before : S) (outs : List (List Item)) (parents rest : List ℕ) (shelves : List Shelf) (out : List Item) (effects : List Effect)
-      → Holds outs (parents ++ rest) shelves → NodeRunning step before before outs parents parents 0 rest shelves out out effects effects
-  node_begins before outs parents rest shelves out effects holds = record { due = due_first step before (at_ports 0 (picked outs parents)) out effects; holds = holds }
-
   -- one parent more
   pub node_takes : (before now new : S) (outs : List (List Item)) (parents left : List ℕ) (p port : ℕ) (more rest : List ℕ) (shelves : List Shelf) (d shelf : Shelf) (out0 out1 out2 : List Item) (effects0 effects1 effects2 : List Effect)
       → left ≡ p ∷ more → AreBelow (length outs) parents → p < length outs → p < length shelves → shelf.left ≡ (get_or shelves p d).left - 1 → (1 < (get_or shelves p d).left → shelf.items ≡ (get_or shelves p d).items)

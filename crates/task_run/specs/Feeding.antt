@@ -43,16 +43,6 @@ module _ {S : Type 0} (step : S → Input → Move S) where
     effects_are = sym (append-nil effects) ∙ due.effects_are;
   }
 
-  -- one input
-  pub fed_one : (before after : S) (x : Input) (out0 out : List Item) (effects0 effects : List Effect)
-      → after ≡ (step before x).state → out ≡ out0 ++ (step before x).given.items → effects ≡ effects0 ++ (step before x).given.effects
-      → Fed before after (x ∷ []) out0 out effects0 effects
-  fed_one before after x out0 out effects0 effects s i e = record {
-    state_is = s;
-    items = i ∙ ap (λ l. out0 ++ l) (sym (append-nil (step before x).given.items));
-    effects_are = e ∙ ap (λ l. effects0 ++ l) (sym (append-nil (step before x).given.effects));
-  }
-
 -- how many times a list is taken
 abbrev pub takes_of : ℕ → List ℕ → ℕ
 takes_of i [] = 0

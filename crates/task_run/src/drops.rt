@@ -11,7 +11,8 @@ use std::alloc::Global;
 
 /// Appends the count of each cell.
 fn count_cells<N: Node>(cells: &[Cell<N>], counts: &mut ItemList<u64>) -> Result<(), NoMemory>
-    ensures { OnOk result (counts.new ≡ counts.old ++ map (λ c. N.drops (N.state c.node)) cells.now) }
+    ensures { OnOk result
+        (counts.new ≡ counts.old ++ map (λ c. N.drops (N.state c.node)) cells.now) }
 {
     'counting: for cell in cells {
         counts.push(cell.node.dropped())?;

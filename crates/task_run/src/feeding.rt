@@ -94,10 +94,11 @@ pub(crate) fn run_node<N: Node>(
     requires earlier { AreBelow (length shelves.old) parents.now }
     ensures spec { N.spec node.new ≡ N.spec node.old }
     ensures readers { map (λ s. s.readers) shelves.new ≡ map (λ s. s.readers) shelves.old }
-    ensures ran { OnOk result ((outs : List (List Item)) (rest : List ℕ) → AreBelow (length outs) parents.now
+    ensures ran { OnOk result ((outs : List (List Item)) (rest : List ℕ)
+        → AreBelow (length outs) parents.now
         → Holds outs (parents.now ++ rest) shelves.old
-        → NodeRan (N.step (N.spec node.old)) (N.state node.old) (N.state node.new) outs parents.now rest
-        shelves.new out.old out.new effects.old effects.new) }
+        → NodeRan (N.step (N.spec node.old)) (N.state node.old) (N.state node.new)
+        outs parents.now rest shelves.new out.old out.new effects.old effects.new) }
 {
     let mut port: u32 = 0;
     'taking: for parent in parents {

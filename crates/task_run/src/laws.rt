@@ -17,20 +17,22 @@ use node_core::Node;
 #[tactic(auto, using(crate::specs::OrderLaws::merged_ordered, crate::specs::OrderLaws::merged_has))]
 pub fn merging_orders()
     ensures ordered { (n : ℕ) (lists : List (List Item)) → AreOrdered (merged n lists) }
-    ensures has { (n port : ℕ) (lists : List (List Item)) → IsStream n (slice_index_or lists port [])
+    ensures has { (n port : ℕ) (lists : List (List Item))
+        → IsStream n (slice_index_or lists port [])
         → from_port port (merged n lists) ≡ slice_index_or lists port [] }
 {}
 
 /// What a node gives is its function of the merged lists that its parents give out, which are earlier nodes; and the stamps of
 /// what it gives out are those of the points and don't fall.
 pub fn nodes_give_by_parents<N: Node>()
-    ensures parents { (points : List PointValue) (nodes : List (Placed N.Spec)) (i : ℕ) (d : Placed N.Spec)
-        → i < length nodes → AreBelow i (slice_index_or nodes i d).parents
+    ensures parents { (points : List PointValue) (nodes : List (Placed N.Spec)) (i : ℕ)
+        (d : Placed N.Spec) → i < length nodes → AreBelow i (slice_index_or nodes i d).parents
         → slice_index_or (graph_gives N.answer points nodes) i nothing
-        ≡ node_gives N.answer (length points) (stamped_from 1 points) (graph_gives N.answer points nodes)
-        (slice_index_or nodes i d) }
+        ≡ node_gives N.answer (length points) (stamped_from 1 points)
+        (graph_gives N.answer points nodes) (slice_index_or nodes i d) }
     ensures streams { (points : List PointValue) (nodes : List (Placed N.Spec)) (i : ℕ)
-        → IsStream (length points) (slice_index_or (outs_of (graph_gives N.answer points nodes)) i []) }
+        → IsStream (length points)
+        (slice_index_or (outs_of (graph_gives N.answer points nodes)) i []) }
 {}
 
 /// The effects of one point more are those with its stamp, behind the others.

@@ -24,5 +24,6 @@ impl<N: Node> Model for LifePlan<N> {
 
     ghost inverse = { λ p. record { life = p.life; nodes = p.nodes; parents = p.parents } };
 
-    ghost invariant = { λ p. IsPlan N.spec N.ports N.life N.number (record { life = p.life; nodes = p.nodes; parents = p.parents }) };
+    ghost invariant = { λ p. IsPlan N.spec N.ports N.life N.number
+        (record { life = p.life; nodes = p.nodes; parents = p.parents }) };
 }

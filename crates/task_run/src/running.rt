@@ -26,7 +26,8 @@ fn clear_shelf(alloc: Global, shelf: &mut Shelf) -> Items
 
 /// Puts on a shelf what its node gave out.
 fn fill_shelf(shelf: &mut Shelf, items: Items)
-    ensures { shelf.new ≡ record { items = items; readers = shelf.old.readers; left = shelf.old.readers } }
+    ensures { shelf.new
+        ≡ record { items = items; readers = shelf.old.readers; left = shelf.old.readers } }
 {
     shelf.items = items;
     shelf.left = shelf.readers;
@@ -47,9 +48,10 @@ fn run_cell<N: Node>(
     ensures parents { cell.new.parents ≡ cell.old.parents }
     ensures readers { map (λ s. s.readers) shelves.new ≡ map (λ s. s.readers) shelves.old }
     ensures ran { OnOk result ((outs : List (List Item)) (rest : List ℕ) → length outs ≡ number
-        → Holds outs (cell.old.parents ++ rest) shelves.old → takes_of number rest ≤ readers_at shelves.old number
-        → CellRan (N.step (N.spec cell.old.node)) (N.state cell.old.node) (N.state cell.new.node) outs cell.old.parents rest
-        shelves.new effects.old effects.new) }
+        → Holds outs (cell.old.parents ++ rest) shelves.old
+        → takes_of number rest ≤ readers_at shelves.old number
+        → CellRan (N.step (N.spec cell.old.node)) (N.state cell.old.node) (N.state cell.new.node)
+        outs cell.old.parents rest shelves.new effects.old effects.new) }
 {
     let mut out = clear_shelf(alloc, &mut shelves[number]);
     run_node(
@@ -75,7 +77,8 @@ fn run_cells<N: Node>(
     requires shelves { HasShelves cells.old shelves.old }
     ensures placed { map (placed_cell N.spec) cells.new ≡ map (placed_cell N.spec) cells.old }
     ensures readers { map (λ s. s.readers) shelves.new ≡ map (λ s. s.readers) shelves.old }
-    ensures ran { OnOk result ((points out : List Item) → Holds (out ∷ []) (takes_in cells.old) shelves.old
+    ensures ran { OnOk result ((points out : List Item)
+        → Holds (out ∷ []) (takes_in cells.old) shelves.old
         → CellsRan N.spec N.state N.step points out cells.old cells.new effects.old effects.new) }
 {
     'running: for (place, cell) in cells.iter_mut().enumerate() {
@@ -93,11 +96,12 @@ fn run_life<N: Node>(
 ) -> Result<(), NoMemory>
     requires { IsLife N.spec N.ports life.old }
     ensures graph { graph_of_life N.spec life.new ≡ graph_of_life N.spec life.old }
-    ensures readers { map (λ s. s.readers) life.new.shelves.items ≡ map (λ s. s.readers) life.old.shelves.items }
+    ensures readers { map (λ s. s.readers) life.new.shelves.items
+        ≡ map (λ s. s.readers) life.old.shelves.items }
     ensures nodes { OnOk result (active_life N.spec N.state life.new
         ≡ nodes_after N.step (item ∷ []) [] (active_life N.spec N.state life.old)) }
-    ensures effects { OnOk result (effects.new
-        ≡ effects.old ++ effects_after N.step (item ∷ []) [] (active_life N.spec N.state life.old)) }
+    ensures effects { OnOk result (effects.new ≡ effects.old
+        ++ effects_after N.step (item ∷ []) [] (active_life N.spec N.state life.old)) }
 {
     let mut out = clear_shelf(alloc, &mut life.shelves[0]);
     life.stream.feed(alloc, 0, item, &mut out, effects)?;

@@ -1,4 +1,4 @@
-ghost use Rattle.std.specs.Prelude.{◌≡◌, suc, true, false, [], ◌∷◌, ◌++◌, List, IfOk, OnOk, OnErr, length, map};
+ghost use Rattle.std.specs.Prelude.{◌≡◌, suc, false, [], ◌∷◌, ◌++◌, List, IfOk, OnOk, is_err, length, map};
 ghost use Rattle.kap_base.specs.declared.items.Effect.{Effect};
 ghost use Rattle.task_run.specs.Lives.{effects_of, life_effects_with, dropped_of};
 ghost use Rattle.task_run.specs.Plans.{graph_of, AreFirstStates};
@@ -40,10 +40,15 @@ impl<N: Node> Model for TaskRun<N> {
     ghost use Rattle.task_run.specs.Laid.{graph_of_life};
     ghost use Rattle.task_run.specs.Laid.{points_of, IsRunning};
 
-    ghost view = { λ r. record { lives = map (graph_of_life N.spec) r.lives.items; points = points_of r.trail; spent = r.spent } };
+    ghost view = { λ r. record {
+      lives = map (graph_of_life N.spec) r.lives.items;
+      points = points_of r.trail;
+      spent = r.spent;
+    } };
 
     ghost invariant = { λ r. r.spent ≡ false
-        → IsRunning N.spec N.state N.ports N.answer N.first N.step r.lives.items r.given (points_of r.trail) };
+        → IsRunning N.spec N.state N.ports N.answer N.first N.step
+        r.lives.items r.given (points_of r.trail) };
 }
 
 impl<N: Node> TaskRun<N> {
@@ -78,12 +83,12 @@ impl<N: Node> TaskRun<N> {
         effects: &mut ItemList<Effect>,
     ) -> Result<(), NoMemory>
         requires { self.old.spent ≡ false }
-        ensures fed { OnOk result (self.new
-            ≡ record { lives = self.old.lives; points = self.old.points ++ point ∷ []; spent = false }) }
+        ensures lives { OnOk result (self.new.lives ≡ self.old.lives) }
+        ensures points { OnOk result (self.new.points ≡ self.old.points ++ point ∷ []) }
+        ensures spent { self.new.spent ≡ is_err result }
         ensures effects { OnOk result (effects.new ≡ effects.old
             ++ life_effects_with N.answer (suc (length self.old.points)) self.old.lives
             (self.old.points ++ point ∷ [])) }
-        ensures err { OnErr result (self.new.spent ≡ true) }
     {
         self.spent = true;
         let Some(stamp) = self.given.checked_add(1) else {
@@ -106,12 +111,13 @@ impl<N: Node> TaskRun<N> {
         effects: &mut ItemList<Effect>,
     ) -> Result<(), NoMemory>
         requires { self.old.spent ≡ false }
-        ensures fed { OnOk result (self.new
-            ≡ record { lives = self.old.lives; points = self.old.points ++ points.items; spent = false }) }
+        ensures lives { OnOk result (self.new.lives ≡ self.old.lives) }
+        ensures points { OnOk result (self.new.points ≡ self.old.points ++ points.items) }
+        ensures spent { self.new.spent ≡ is_err result }
         ensures effects { OnOk result ((before : List Effect)
             → effects.old ≡ before ++ effects_of N.answer self.old.lives self.old.points
-            → effects.new ≡ before ++ effects_of N.answer self.old.lives (self.old.points ++ points.items)) }
-        ensures err { OnErr result (self.new.spent ≡ true) }
+            → effects.new ≡ before
+            ++ effects_of N.answer self.old.lives (self.old.points ++ points.items)) }
     {
         'feeding: for point in points {
             self.feed(alloc, point, effects)?;
@@ -122,7 +128,8 @@ impl<N: Node> TaskRun<N> {
     /// How many inputs each node of each life dropped and counted, life by life and node by node.
     pub fn dropped(&self, alloc: Global) -> Result<Counts, NoMemory>
         requires { self.now.spent ≡ false }
-        ensures { IfOk result (λ counts. counts ≡ dropped_of N.answer self.now.lives self.now.points) }
+        ensures { IfOk result (λ counts.
+            counts ≡ dropped_of N.answer self.now.lives self.now.points) }
     {
         counts_of(alloc, &self.lives)
     }

@@ -2,7 +2,7 @@ use Rattle.std.proofs.Common.{◌≡◌, ◌++◌, ◌∷◌, [], suc, List, len
 use Rattle.kap_base.specs.Points.{PointValue}
 use Rattle.kap_base.specs.declared.items.Effect.{Effect}
 use Rattle.task_run.specs.Graphs.{Placed}
-use Rattle.task_run.specs.Lives.{RunValue, effects_of, life_effects_with}
+use Rattle.task_run.specs.Lives.{effects_of, life_effects_with}
 use Rattle.task_run.specs.PointLaws.{effects_more}
 use Rattle.task_run.proofs.tasks.TaskRun.feed_all.Goals as goal
 
@@ -14,14 +14,13 @@ feeding-preserved g c =
     let yielded = c.feeding.yielded in
     let p = c.in-Some.point in
     let old = c.feeding.self in
-    let new = c.in_ok-feed.ensures.fed in
     let lives_are = c.feeding.invariant.lives_are in
     let points_are = c.feeding.invariant.points_are in
     let next : old.points ++ p ∷ [] ≡ points0 ++ (yielded ++ p ∷ []) = ap (λ (ps : List PointValue). ps ++ p ∷ []) points_are ∙ append_assoc points0 yielded (p ∷ []) in
     record {
-      lives_are = ap (λ (r : RunValue g.row.N-Spec.Denot). r.lives) new ∙ lives_are;
-      points_are = ap (λ (r : RunValue g.row.N-Spec.Denot). r.points) new ∙ next;
-      fresh = ap (λ (r : RunValue g.row.N-Spec.Denot). r.spent) new;
+      lives_are = c.in_ok-feed.ensures.lives ∙ lives_are;
+      points_are = c.in_ok-feed.ensures.points ∙ next;
+      fresh = c.in_ok-feed.ensures.spent;
       given = λ before is.
           let one = effects_more node.answer node.life node.number g.met.N.Node.stamped lives old.points p in
           c.in_ok-feed.ensures.effects
