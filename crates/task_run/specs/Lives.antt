@@ -1,8 +1,9 @@
 -- The effects and the drops of lives that run side by side.
-use Rattle.std.specs.Prelude.{ℕ, Bool, ◌==◌, List, map, filter, flat_map, length}
+use Rattle.std.specs.Prelude.{ℕ, Bool, List, map, flat_map, length}
 use Rattle.kap_base.specs.Points.{PointValue}
 use Rattle.kap_base.specs.declared.items.Effect.{Effect}
 use Rattle.node_core.specs.Meaning.{Given, Answer}
+use Rattle.task_run.specs.Stamps.{of_effect, with_stamp}
 use Rattle.task_run.specs.Merging.{stamps}
 use Rattle.task_run.specs.Graphs.{Placed, graph_gives}
 
@@ -14,7 +15,7 @@ pub record RunValue (P : Type 0) : Type 0 where
 
 -- the effects with a stamp
 abbrev pub effects_with : ℕ → List Effect → List Effect
-effects_with stamp effects = filter (λ e. e.stamp.0 == stamp) effects
+effects_with stamp effects = with_stamp of_effect stamp effects
 
 -- the effects with a stamp of nodes, by node, then by place
 abbrev pub node_effects_with : ℕ → List Given → List Effect

@@ -1,7 +1,8 @@
 -- Lists of items merged by their stamps.
-use Rattle.std.specs.Prelude.{ℕ, zero, suc, ◌+◌, ◌==◌, List, [], ◌∷◌, ◌++◌, map, filter, flat_map}
+use Rattle.std.specs.Prelude.{ℕ, zero, suc, ◌+◌, List, [], ◌∷◌, ◌++◌, map, flat_map}
 use Rattle.kap_base.specs.declared.items.Item.{Item}
 use Rattle.node_core.specs.Meaning.{Input}
+use Rattle.task_run.specs.Stamps.{of_item, with_stamp}
 
 -- the stamps 1 to n
 abbrev pub stamps : ℕ → List ℕ
@@ -10,7 +11,7 @@ stamps (suc n) = stamps n ++ suc n ∷ []
 
 -- the items with a stamp
 abbrev pub items_with : ℕ → List Item → List Item
-items_with stamp items = filter (λ i. i.stamp.0 == stamp) items
+items_with stamp items = with_stamp of_item stamp items
 
 -- items that come at a port
 abbrev pub at_port : ℕ → List Item → List Input

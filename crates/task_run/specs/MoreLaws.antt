@@ -1,5 +1,5 @@
 -- What one point more adds to what each node gives, to its state and to the effects.
-use Rattle.std.proofs.Common.{◌≡◌, ℕ, zero, suc, ◌+◌, ◌≤◌, ◌<◌, ◌==◌, true, false, List, [], ◌∷◌, ◌++◌, map, refl, sym, ap, subst, ◌∙◌, append-nil, arith}
+use Rattle.std.proofs.Common.{◌≡◌, ℕ, zero, suc, ◌+◌, ◌≤◌, ◌<◌, ◌==◌, false, List, [], ◌∷◌, ◌++◌, map, refl, sym, ap, subst, ◌∙◌, append-nil, arith}
 use Rattle.std.specs.Prelude.{⊤, flat_map, slice_index_or}
 use Rattle.std.proofs.lemmas.Bool.Decides.{nat_tests}
 use Rattle.std.proofs.lemmas.List.{append_cancel_left, map-append}
@@ -7,32 +7,16 @@ use Rattle.std.proofs.lemmas.List.Elements.{filter-append}
 use Rattle.kap_base.specs.declared.items.Item.{Item}
 use Rattle.kap_base.specs.declared.items.Effect.{Effect}
 use Rattle.node_core.specs.Meaning.{Given, Input, Answer, Move, also, given_after, given, fold}
-use Rattle.node_core.specs.Cut.{AreStamped, AreEffectsOf, IsStamped, AllUpTo}
+use Rattle.node_core.specs.Cut.{IsStamped}
 use Rattle.node_core.specs.Laws.{also_assoc, nothing-also, given-append}
 use Rattle.task_run.specs.Merging.{at_ports, merged}
 use Rattle.task_run.specs.Graphs.{Placed, outs_of, lists_of, node_gives, gives_behind}
-use Rattle.task_run.specs.Lives.{effects_with, node_effects_with}
+use Rattle.task_run.specs.Lives.{node_effects_with}
 use Rattle.task_run.specs.Active.{Active, placed, moved, nodes_after, effects_after, AreAt}
-use Rattle.task_run.specs.Order.{ItemsUpTo}
-use Rattle.task_run.specs.Growth.{InputsAt, Grows, merged_more, added_at, merged_up_to}
-
--- no effect has a stamp above this one
-abbrev pub EffectsUpTo : ℕ → List Effect → Type 0
-EffectsUpTo n [] = ⊤
-EffectsUpTo n (e ∷ effects) = (e.stamp.0 ≤ n) × EffectsUpTo n effects
-
--- each effect has this stamp
-abbrev pub EffectsAt : ℕ → List Effect → Type 0
-EffectsAt stamp [] = ⊤
-EffectsAt stamp (e ∷ effects) = (e.stamp.0 ≡ stamp) × EffectsAt stamp effects
-
-pub record GivenUpTo (n : ℕ) (g : Given) : Type 0 where
-  pub items : ItemsUpTo n g.items
-  pub effects : EffectsUpTo n g.effects
-
-pub record GivenAt (stamp : ℕ) (g : Given) : Type 0 where
-  pub items : AreStamped stamp g.items
-  pub effects : EffectsAt stamp g.effects
+use Rattle.task_run.specs.Stamps.{of_effect, of_input, HaveStamp}
+use Rattle.task_run.specs.StampLaws.{none_with, all_with, none_above}
+use Rattle.task_run.specs.GivenLaws.{GivenAt, GivenUpTo, after_at, after_up_to}
+use Rattle.task_run.specs.Growth.{Grows, merged_more, added_at, merged_up_to}
 
 -- what a node gave so far, and what it gives with the next stamp
 pub record Part : Type 0 where
@@ -63,60 +47,6 @@ pub parts-more : (n : ℕ) (ts : List Part) (t : Part) → AreParts n ts → IsP
 parts-more n [] t are is = (is, tt)
 parts-more n (u ∷ ts) t are is = (are.0, parts-more n ts t are.1 is)
 
--- ---- what is given has the stamp of the input
-
-items-up_to-append : (n : ℕ) (xs ys : List Item) → ItemsUpTo n xs → ItemsUpTo n ys → ItemsUpTo n (xs ++ ys)
-items-up_to-append n [] ys a b = b
-items-up_to-append n (x ∷ xs) ys a b = (a.0, items-up_to-append n xs ys a.1 b)
-
-effects-up_to-append : (n : ℕ) (xs ys : List Effect) → EffectsUpTo n xs → EffectsUpTo n ys → EffectsUpTo n (xs ++ ys)
-effects-up_to-append n [] ys a b = b
-effects-up_to-append n (x ∷ xs) ys a b = (a.0, effects-up_to-append n xs ys a.1 b)
-
-items-at-append : (n : ℕ) (xs ys : List Item) → AreStamped n xs → AreStamped n ys → AreStamped n (xs ++ ys)
-items-at-append n [] ys a b = b
-items-at-append n (x ∷ xs) ys a b = (a.0, items-at-append n xs ys a.1 b)
-
-effects-at-append : (n : ℕ) (xs ys : List Effect) → EffectsAt n xs → EffectsAt n ys → EffectsAt n (xs ++ ys)
-effects-at-append n [] ys a b = b
-effects-at-append n (x ∷ xs) ys a b = (a.0, effects-at-append n xs ys a.1 b)
-
-stamped-up_to : (n s : ℕ) (items : List Item) → s ≤ n → AreStamped s items → ItemsUpTo n items
-stamped-up_to n s [] le are = tt
-stamped-up_to n s (i ∷ items) le are = let same = are.0 in ((omega arith), stamped-up_to n s items le are.1)
-
-effects_of-up_to : (n s life node : ℕ) (effects : List Effect) → s ≤ n → AreEffectsOf life node s effects → EffectsUpTo n effects
-effects_of-up_to n s life node [] le are = tt
-effects_of-up_to n s life node (e ∷ effects) le are = let same = are.0.stamp_is in ((omega arith), effects_of-up_to n s life node effects le are.1)
-
-stamped-at : (n s : ℕ) (items : List Item) → s ≡ n → AreStamped s items → AreStamped n items
-stamped-at n s items e are = subst (λ (t : ℕ). AreStamped t items) e are
-
-effects_of-at : (n s life node : ℕ) (effects : List Effect) → s ≡ n → AreEffectsOf life node s effects → EffectsAt n effects
-effects_of-at n s life node [] e are = tt
-effects_of-at n s life node (x ∷ effects) e are = (are.0.stamp_is ∙ e, effects_of-at n s life node effects e are.1)
-
-module _ (life node : ℕ) (answer : Answer) (stamped : (before : List Input) (x : Input) → IsStamped life node x.1.stamp.0 (answer before x)) where
-  pub after-up_to : (n : ℕ) (before xs : List Input) → AllUpTo n xs → GivenUpTo n (given_after answer before xs)
-  after-up_to n before [] up_to = record { items = tt; effects = tt }
-  after-up_to n before (x ∷ xs) up_to =
-      let is = stamped before x in
-      let rest = after-up_to n (before ++ x ∷ []) xs up_to.1 in
-      record {
-        items = items-up_to-append n _ _ (stamped-up_to n x.1.stamp.0 _ up_to.0 is.items) rest.items;
-        effects = effects-up_to-append n _ _ (effects_of-up_to n x.1.stamp.0 life node _ up_to.0 is.effects) rest.effects;
-      }
-
-  after-at : (n : ℕ) (before xs : List Input) → InputsAt n xs → GivenAt n (given_after answer before xs)
-  after-at n before [] at = record { items = tt; effects = tt }
-  after-at n before (x ∷ xs) at =
-      let is = stamped before x in
-      let rest = after-at n (before ++ x ∷ []) xs at.1 in
-      record {
-        items = items-at-append n _ _ (stamped-at n x.1.stamp.0 _ at.0 is.items) rest.items;
-        effects = effects-at-append n _ _ (effects_of-at n x.1.stamp.0 life node _ at.0 is.effects) rest.effects;
-      }
-
 -- ---- the lists that a node takes grow
 
 -- a list that nothing is known of but that it is empty
@@ -144,7 +74,7 @@ pub lists-more : (n : ℕ) (source : Source n) (ts : List Part) → AreParts n t
 lists-more n source ts are [] = merged_more n (λ i. source.old) (λ i. source.more) (λ i. source.new) (λ i. source.grows) (0 ∷ [])
 lists-more n source ts are (p ∷ ps) = merged_more n (out_at (olds ts)) (out_at (mores ts)) (out_at (wholes ts)) (parts-grow n ts are) (p ∷ ps)
 
-lists-at : (n : ℕ) (source : Source n) (ts : List Part) → AreParts n ts → (parents : List ℕ) → InputsAt (suc n) (at_ports 0 (lists_of source.more (outs_of (mores ts)) parents))
+lists-at : (n : ℕ) (source : Source n) (ts : List Part) → AreParts n ts → (parents : List ℕ) → HaveStamp of_input (suc n) (at_ports 0 (lists_of source.more (outs_of (mores ts)) parents))
 lists-at n source ts are [] = added_at n (λ i. source.old) (λ i. source.more) (λ i. source.new) (λ i. source.grows) 0 (0 ∷ [])
 lists-at n source ts are (p ∷ ps) = added_at n (out_at (olds ts)) (out_at (mores ts)) (out_at (wholes ts)) (parts-grow n ts are) 0 (p ∷ ps)
 
@@ -161,8 +91,8 @@ module _ {P : Type 0} (answer : P → Answer) (life number : P → ℕ) (stamped
   part-is n source ts are node =
       let before = merged n (lists_of source.old (outs_of (olds ts)) node.parents) in
       record {
-        old = after-up_to (life node.spec) (number node.spec) (answer node.spec) (stamped node.spec) n [] before (merged_up_to n (lists_of source.old (outs_of (olds ts)) node.parents));
-        more = after-at (life node.spec) (number node.spec) (answer node.spec) (stamped node.spec) (suc n) before _ (lists-at n source ts are node.parents);
+        old = after_up_to (life node.spec) (number node.spec) (answer node.spec) (stamped node.spec) n [] before (merged_up_to n (lists_of source.old (outs_of (olds ts)) node.parents));
+        more = after_at (life node.spec) (number node.spec) (answer node.spec) (stamped node.spec) (suc n) before _ (lists-at n source ts are node.parents);
       }
 
   -- all that it gives is both
@@ -199,37 +129,19 @@ module _ {P : Type 0} (answer : P → Answer) (life number : P → ℕ) (stamped
 
 -- ---- effects
 
-none-of : (s t : ℕ) (effects : List Effect) → (t == s) ≡ false → EffectsAt t effects → effects_with s effects ≡ []
-none-of s t [] e h = refl
-none-of s t (x ∷ effects) e h = rw (h.0, e) (none-of s t effects e h.1)
-
-all-of : (s : ℕ) (effects : List Effect) → EffectsAt s effects → effects_with s effects ≡ effects
-all-of s [] h = refl
-all-of s (x ∷ effects) h =
-    let e = h.0 in
-    let same : (x.stamp.0 == s) ≡ true = grind (arith, nat_tests) in
-    rw same (ap (λ (l : List Effect). x ∷ l) (all-of s effects h.1))
-
-none-beyond : (s n : ℕ) (effects : List Effect) → n < s → EffectsUpTo n effects → effects_with s effects ≡ []
-none-beyond s n [] e h = refl
-none-beyond s n (x ∷ effects) e h =
-    let low = h.0 in
-    let other : (x.stamp.0 == s) ≡ false = grind (arith, nat_tests) in
-    rw other (none-beyond s n effects e h.1)
-
 -- the effects with an old stamp are those that were there
 pub effects-old : (n s : ℕ) (ts : List Part) → s ≤ n → AreParts n ts → node_effects_with s (wholes ts) ≡ node_effects_with s (olds ts)
 effects-old n s [] le are = refl
 effects-old n s (t ∷ ts) le are =
     let other : (suc n == s) ≡ false = grind (arith, nat_tests) in
-    rw (filter-append, none-of s (suc n) t.more.effects other are.0.more.effects, append-nil, effects-old n s ts le are.1) refl
+    rw (filter-append, none_with of_effect s (suc n) t.more.effects other are.0.more.effects, append-nil, effects-old n s ts le are.1) refl
 
 -- the effects with the next stamp are those that were added
 pub effects-new : (n : ℕ) (ts : List Part) → AreParts n ts → node_effects_with (suc n) (wholes ts) ≡ flat_map (λ g. g.effects) (mores ts)
 effects-new n [] are = refl
 effects-new n (t ∷ ts) are =
     let above : n < suc n = omega arith in
-    rw (filter-append, none-beyond (suc n) n t.old.effects above are.0.old.effects, all-of (suc n) t.more.effects are.0.more.effects, effects-new n ts are.1) refl
+    rw (filter-append, none_above of_effect (suc n) n t.old.effects above are.0.old.effects, all_with of_effect (suc n) t.more.effects are.0.more.effects, effects-new n ts are.1) refl
 
 -- ---- states
 

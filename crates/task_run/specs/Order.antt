@@ -19,24 +19,3 @@ AreOrdered (x ∷ xs) = PrecedesAll x xs × AreOrdered xs
 -- what came at a port, in order
 abbrev pub from_port : ℕ → List Input → List Item
 from_port port xs = map (λ x. x.1) (filter (λ x. x.0 == port) xs)
-
--- no stamp is below this one
-abbrev pub ItemsFrom : ℕ → List Item → Type 0
-ItemsFrom stamp [] = ⊤
-ItemsFrom stamp (i ∷ items) = (stamp ≤ i.stamp.0) × ItemsFrom stamp items
-
--- the stamps don't fall
-abbrev pub AreRising : List Item → Type 0
-AreRising [] = ⊤
-AreRising (i ∷ items) = ItemsFrom i.stamp.0 items × AreRising items
-
--- no stamp is above this one
-abbrev pub ItemsUpTo : ℕ → List Item → Type 0
-ItemsUpTo n [] = ⊤
-ItemsUpTo n (i ∷ items) = (i.stamp.0 ≤ n) × ItemsUpTo n items
-
--- the stamps are those of n points and don't fall
-pub record IsStream (n : ℕ) (items : List Item) : Type 0 where
-  pub from_one : ItemsFrom 1 items
-  pub up_to : ItemsUpTo n items
-  pub rising : AreRising items

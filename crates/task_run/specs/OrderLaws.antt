@@ -1,17 +1,20 @@
 -- Merged lists stand in order, and have just what the lists have.
 use Rattle.std.proofs.Common.{◌≡◌, ℕ, zero, suc, ◌+◌, ◌≤◌, ◌<◌, ◌==◌, true, false, cond, List, [], ◌∷◌, ◌++◌, map, length, refl, sym, ap, subst, ◌∙◌, append-nil, append_assoc, inl, inr, ⊎_elim, get_or, arith}
-use Rattle.std.specs.Prelude.{⊤, filter, flat_map, nat_le}
+use Rattle.std.specs.Prelude.{⊤, flat_map}
 use Rattle.std.proofs.lemmas.Bool.Decides.{nat_tests}
 use Rattle.std.proofs.lemmas.List.{map-append}
 use Rattle.std.proofs.lemmas.List.Elements.{filter-append}
 use Rattle.std.proofs.lemmas.List.Concat.{flat_map-append}
 use Rattle.kap_base.specs.declared.items.Item.{Item}
-use Rattle.node_core.specs.Meaning.{Given, Input, Answer, nothing, given_after, given}
-use Rattle.node_core.specs.Cut.{AllUpTo, AllFrom, AreStamped, IsStamped}
+use Rattle.node_core.specs.Meaning.{Given, Input, Answer, nothing, given}
+use Rattle.node_core.specs.Cut.{IsStamped}
 use Rattle.task_run.specs.Merging.{stamps, items_with, at_port, at_ports, inputs_with, merged}
-use Rattle.task_run.specs.Order.{PrecedesAll, AreOrdered, from_port, ItemsFrom, AreRising, ItemsUpTo, IsStream}
+use Rattle.task_run.specs.Stamps.{of_item, of_effect, of_input, StampsUpTo, StampsFrom, StampsRise, IsStream}
+use Rattle.task_run.specs.StampLaws.{from_append, stream_by_stamp}
+use Rattle.task_run.specs.GivenLaws.{GivenStream, after_from, after_up_to, after_rises}
+use Rattle.task_run.specs.Lives.{effects_with}
+use Rattle.task_run.specs.Order.{PrecedesAll, AreOrdered, from_port}
 use Rattle.task_run.specs.Growth.{merged_up_to}
-use Rattle.task_run.specs.MoreLaws.{after-up_to}
 use Rattle.task_run.specs.Graphs.{Placed, stamped_from, outs_of, lists_of, node_gives, gives_behind, graph_gives}
 use Rattle.task_run.specs.Plans.{AreBelow}
 use Rattle.kap_base.specs.Points.{PointValue}
@@ -72,7 +75,7 @@ precedes-later n p x (y ∷ ys) le from =
     let later : y.1.stamp.0 ≡ suc n = from.0.0 in
     (inl (omega arith), precedes-later n p x ys le from.1)
 
-ordered-later : (n p : ℕ) (xs ys : List Input) → AllUpTo n xs → AreOrdered xs → AreFrom (suc n) p ys → AreOrdered ys → AreOrdered (xs ++ ys)
+ordered-later : (n p : ℕ) (xs ys : List Input) → StampsUpTo of_input n xs → AreOrdered xs → AreFrom (suc n) p ys → AreOrdered ys → AreOrdered (xs ++ ys)
 ordered-later n p [] ys up_to a from b = b
 ordered-later n p (x ∷ xs) ys up_to a from b =
     (precedes-append x xs ys a.0 (precedes-later n p x ys up_to.0 from), ordered-later n p xs ys up_to.1 a.1 from b)
@@ -130,127 +133,67 @@ merged-port k (suc n) lists =
     (sym (flat_map-append (λ s. items_with s (get_or lists k [])) (stamps n) (suc n ∷ [])
     ∙ ap (λ (l : List Item). flat_map (λ s. items_with s (get_or lists k [])) (stamps n) ++ l) (append-nil (items_with (suc n) (get_or lists k [])))))
 
--- the items up to a stamp
-abbrev until : ℕ → List Item → List Item
-until n items = filter (λ i. nat_le i.stamp.0 n) items
-
-until-none : (n m : ℕ) (items : List Item) → n < m → ItemsFrom m items → until n items ≡ []
-until-none n m [] lt from = refl
-until-none n m (i ∷ items) lt from =
-    let low : m ≤ i.stamp.0 = from.0 in
-    let above : nat_le i.stamp.0 n ≡ false = grind (arith, nat_tests) in
-    rw above (until-none n m items lt from.1)
-
-with-none : (s m : ℕ) (items : List Item) → s < m → ItemsFrom m items → items_with s items ≡ []
-with-none s m [] lt from = refl
-with-none s m (i ∷ items) lt from =
-    let low : m ≤ i.stamp.0 = from.0 in
-    let other : (i.stamp.0 == s) ≡ false = grind (arith, nat_tests) in
-    rw other (with-none s m items lt from.1)
-
-until-more : (n : ℕ) (items : List Item) → AreRising items → until (suc n) items ≡ until n items ++ items_with (suc n) items
-until-more n [] rising = refl
-until-more n (i ∷ items) rising = elim (nat_le i.stamp.0 n) as (λ b. nat_le i.stamp.0 n ≡ b → until (suc n) (i ∷ items) ≡ cond b (i ∷ until n items) (until n items) ++ items_with (suc n) (i ∷ items)) [
-  | true ↦ λ e.
-      let low : nat_le i.stamp.0 (suc n) ≡ true = grind (arith, nat_tests) in
-      let other : (i.stamp.0 == suc n) ≡ false = grind (arith, nat_tests) in
-      rw (low, other) (ap (λ (l : List Item). i ∷ l) (until-more n items rising.1))
-  | false ↦ λ e. elim (i.stamp.0 == suc n) as (λ b. (i.stamp.0 == suc n) ≡ b → until (suc n) (i ∷ items) ≡ until n items ++ cond b (i ∷ items_with (suc n) items) (items_with (suc n) items)) [
-    | true ↦ λ f.
-        let low : nat_le i.stamp.0 (suc n) ≡ true = grind (arith, nat_tests) in
-        let above : n < i.stamp.0 = grind (arith, nat_tests) in
-        let none : until n items ≡ [] = until-none n i.stamp.0 items above rising.0 in
-        rw (low, until-more n items rising.1, none) refl
-    | false ↦ λ f.
-        let high : nat_le i.stamp.0 (suc n) ≡ false = grind (arith, nat_tests) in
-        rw high (until-more n items rising.1)
-  ] refl
-] refl
-
-until-zero : (items : List Item) → ItemsFrom 1 items → until 0 items ≡ []
-until-zero items from = until-none 0 1 items (omega arith) from
-
-by-stamp : (n : ℕ) (items : List Item) → ItemsFrom 1 items → AreRising items → flat_map (λ s. items_with s items) (stamps n) ≡ until n items
-by-stamp zero items from rising = sym (until-zero items from)
-by-stamp (suc n) items from rising =
-    flat_map-append (λ s. items_with s items) (stamps n) (suc n ∷ [])
-    ∙ rw (append-nil, by-stamp n items from rising) (sym (until-more n items rising))
-
-until-all : (n : ℕ) (items : List Item) → ItemsUpTo n items → until n items ≡ items
-until-all n [] up_to = refl
-until-all n (i ∷ items) up_to =
-    let low = up_to.0 in
-    let in' : nat_le i.stamp.0 n ≡ true = grind (arith, nat_tests) in
-    rw in' (ap (λ (l : List Item). i ∷ l) (until-all n items up_to.1))
-
 -- each list is what came at its port, where its stamps are those of n points and don't fall
-pub merged_has : (n k : ℕ) (lists : List (List Item)) → IsStream n (get_or lists k []) → from_port k (merged n lists) ≡ get_or lists k []
-merged_has n k lists is = merged-port k n lists ∙ by-stamp n (get_or lists k []) is.from_one is.rising ∙ until-all n (get_or lists k []) is.up_to
+pub merged_has : (n k : ℕ) (lists : List (List Item)) → IsStream of_item n (get_or lists k []) → from_port k (merged n lists) ≡ get_or lists k []
+merged_has n k lists is = merged-port k n lists ∙ stream_by_stamp of_item n (get_or lists k []) is
 
 -- ---- what nodes give out are such lists
 
-items-from-append : (s : ℕ) (xs ys : List Item) → ItemsFrom s xs → ItemsFrom s ys → ItemsFrom s (xs ++ ys)
-items-from-append s [] ys a b = b
-items-from-append s (x ∷ xs) ys a b = (a.0, items-from-append s xs ys a.1 b)
-
-stamped-from : (s t : ℕ) (items : List Item) → s ≤ t → AreStamped t items → ItemsFrom s items
-stamped-from s t [] le are = tt
-stamped-from s t (i ∷ items) le are = let same = are.0 in ((omega arith), stamped-from s t items le are.1)
-
-rising-append : (s : ℕ) (xs ys : List Item) → AreStamped s xs → ItemsFrom s ys → AreRising ys → AreRising (xs ++ ys)
-rising-append s [] ys are from rising = rising
-rising-append s (x ∷ xs) ys are from rising =
-    (rw are.0 (items-from-append s xs ys (stamped-from s s xs (omega arith) are.1) from), rising-append s xs ys are.1 from rising)
-
-precedes-all-from : (s : ℕ) (x : Input) (xs : List Input) → s ≤ x.1.stamp.0 → PrecedesAll x xs → AllFrom s xs
+precedes-all-from : (s : ℕ) (x : Input) (xs : List Input) → s ≤ x.1.stamp.0 → PrecedesAll x xs → StampsFrom of_input s xs
 precedes-all-from s x [] le h = tt
 precedes-all-from s x (y ∷ xs) le h = (
   ⊎_elim (λ (p : x.1.stamp.0 < y.1.stamp.0). omega arith) (λ (q : (x.1.stamp.0 ≡ y.1.stamp.0) × (x.0 ≤ y.0)). let same = q.0 in omega arith) h.0,
   precedes-all-from s x xs le h.1,
 )
 
-all-from-append : (s : ℕ) (xs ys : List Input) → AllFrom s xs → AllFrom s ys → AllFrom s (xs ++ ys)
-all-from-append s [] ys a b = b
-all-from-append s (x ∷ xs) ys a b = (a.0, all-from-append s xs ys a.1 b)
+ordered-rises : (xs : List Input) → AreOrdered xs → StampsRise of_input xs
+ordered-rises [] ordered = tt
+ordered-rises (x ∷ xs) ordered = (precedes-all-from x.1.stamp.0 x xs (omega arith) ordered.0, ordered-rises xs ordered.1)
 
-are-from-all : (s t p : ℕ) (xs : List Input) → s ≤ t → AreFrom t p xs → AllFrom s xs
+are-from-all : (s t p : ℕ) (xs : List Input) → s ≤ t → AreFrom t p xs → StampsFrom of_input s xs
 are-from-all s t p [] le from = tt
 are-from-all s t p (x ∷ xs) le from = let same = from.0.0 in ((omega arith), are-from-all s t p xs le from.1)
 
-merged-from : (n : ℕ) (lists : List (List Item)) → AllFrom 1 (merged n lists)
+merged-from : (n : ℕ) (lists : List (List Item)) → StampsFrom of_input 1 (merged n lists)
 merged-from zero lists = tt
 merged-from (suc n) lists =
-    rw (flat_map-append, append-nil) (all-from-append 1 (merged n lists) _ (merged-from n lists) (are-from-all 1 (suc n) 0 _ (omega arith) (from-ports (suc n) 0 0 lists (omega arith))))
+    rw (flat_map-append, append-nil) (from_append of_input 1 (merged n lists) _ (merged-from n lists) (are-from-all 1 (suc n) 0 _ (omega arith) (from-ports (suc n) 0 0 lists (omega arith))))
 
 module _ (life node : ℕ) (answer : Answer) (stamped : (before : List Input) (x : Input) → IsStamped life node x.1.stamp.0 (answer before x)) where
-  after-from : (s : ℕ) (before xs : List Input) → AllFrom s xs → ItemsFrom s (given_after answer before xs).items
-  after-from s before [] from = tt
-  after-from s before (x ∷ xs) from =
-      items-from-append s _ _ (stamped-from s x.1.stamp.0 _ from.0 (stamped before x).items) (after-from s (before ++ x ∷ []) xs from.1)
-
-  after-rising : (before xs : List Input) → AreOrdered xs → AreRising (given_after answer before xs).items
-  after-rising before [] ordered = tt
-  after-rising before (x ∷ xs) ordered =
-      rising-append x.1.stamp.0 _ _ (stamped before x).items
-      (after-from x.1.stamp.0 (before ++ x ∷ []) xs (precedes-all-from x.1.stamp.0 x xs (omega arith) ordered.0))
-      (after-rising (before ++ x ∷ []) xs ordered.1)
-
-  given-stream : (n : ℕ) (lists : List (List Item)) → IsStream n (given answer (merged n lists)).items
-  given-stream n lists = record {
-    from_one = after-from 1 [] (merged n lists) (merged-from n lists);
-    up_to = (after-up_to life node answer stamped n [] (merged n lists) (merged_up_to n lists)).items;
-    rising = after-rising [] (merged n lists) (merged_ordered n lists);
-  }
+  given-stream : (n : ℕ) (lists : List (List Item)) → GivenStream n (given answer (merged n lists))
+  given-stream n lists =
+      let from = after_from life node answer stamped 1 [] (merged n lists) (merged-from n lists) in
+      let up_to = after_up_to life node answer stamped n [] (merged n lists) (merged_up_to n lists) in
+      let rises = after_rises life node answer stamped [] (merged n lists) (ordered-rises (merged n lists) (merged_ordered n lists)) in
+      record {
+        items = record { from_one = from.items; up_to = up_to.items; rising = rises.items };
+        effects = record { from_one = from.effects; up_to = up_to.effects; rising = rises.effects };
+      }
 
 module _ {P : Type 0} (answer : P → Answer) (life number : P → ℕ) (stamped : (p : P) (before : List Input) (x : Input) → IsStamped (life p) (number p) x.1.stamp.0 (answer p before x)) where
-  behind-stream : (n : ℕ) (points : List Item) (earlier : List Given) (nodes : List (Placed P)) (k : ℕ) → IsStream n (get_or (outs_of (gives_behind answer n points earlier nodes)) k [])
-  behind-stream n points earlier [] k = record { from_one = tt; up_to = tt; rising = tt }
+  behind-stream : (n : ℕ) (points : List Item) (earlier : List Given) (nodes : List (Placed P)) (k : ℕ) → GivenStream n (get_or (gives_behind answer n points earlier nodes) k nothing)
+  behind-stream n points earlier [] k = record { items = record { from_one = tt; up_to = tt; rising = tt }; effects = record { from_one = tt; up_to = tt; rising = tt } }
   behind-stream n points earlier (node ∷ nodes) zero = given-stream (life node.spec) (number node.spec) (answer node.spec) (stamped node.spec) n (lists_of points (outs_of earlier) node.parents)
   behind-stream n points earlier (node ∷ nodes) (suc k) = behind-stream n points (earlier ++ node_gives answer n points earlier node ∷ []) nodes k
 
+  -- what each node of a graph gives
+  pub gives_are_streams : (points : List PointValue) (nodes : List (Placed P)) (k : ℕ) → GivenStream (length points) (get_or (graph_gives answer points nodes) k nothing)
+  gives_are_streams points nodes k = behind-stream (length points) (stamped_from 1 points) [] nodes k
+
+  out-of : (gives : List Given) (k : ℕ) → get_or (outs_of gives) k [] ≡ (get_or gives k nothing).items
+  out-of [] k = refl
+  out-of (g ∷ gives) zero = refl
+  out-of (g ∷ gives) (suc k) = out-of gives k
+
   -- what each node of a graph gives out
-  pub outs_are_streams : (points : List PointValue) (nodes : List (Placed P)) (k : ℕ) → IsStream (length points) (get_or (outs_of (graph_gives answer points nodes)) k [])
-  outs_are_streams points nodes k = behind-stream (length points) (stamped_from 1 points) [] nodes k
+  pub outs_are_streams : (points : List PointValue) (nodes : List (Placed P)) (k : ℕ) → IsStream of_item (length points) (get_or (outs_of (graph_gives answer points nodes)) k [])
+  outs_are_streams points nodes k =
+      subst (λ (items : List Item). IsStream of_item (length points) items) (sym (out-of (graph_gives answer points nodes) k)) (gives_are_streams points nodes k).items
+
+  -- the effects of each node, stamp by stamp, are all that it gives
+  pub effects_by_stamp : (points : List PointValue) (nodes : List (Placed P)) (k : ℕ)
+      → flat_map (λ s. effects_with s (get_or (graph_gives answer points nodes) k nothing).effects) (stamps (length points)) ≡ (get_or (graph_gives answer points nodes) k nothing).effects
+  effects_by_stamp points nodes k = stream_by_stamp of_effect (length points) (get_or (graph_gives answer points nodes) k nothing).effects (gives_are_streams points nodes k).effects
 
   -- ---- each node by its parents
 

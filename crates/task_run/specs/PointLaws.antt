@@ -12,7 +12,7 @@ use Rattle.task_run.specs.Merging.{stamps, merged}
 use Rattle.task_run.specs.Graphs.{Placed, stamped_from, outs_of, lists_of, node_gives, gives_behind, graph_gives}
 use Rattle.task_run.specs.Lives.{node_effects_with, life_effects_with, effects_of}
 use Rattle.task_run.specs.Active.{Active, placed, nodes_after, effects_after, AreFirst, AreAt, IsAt}
-use Rattle.task_run.specs.Order.{ItemsUpTo}
+use Rattle.task_run.specs.Stamps.{of_item, StampsUpTo}
 use Rattle.task_run.specs.MoreLaws.{Source, Part, AreParts, olds, wholes, parts_behind, parts_behind-are, gives-old, gives-new, effects-old, effects-new, all_at, all_effects}
 
 -- a point with a stamp
@@ -23,7 +23,7 @@ from-more : (s : ℕ) (ps : List PointValue) (p : PointValue) (n : ℕ) → n �
 from-more s [] p n e = let same : s ≡ n = omega arith in ap (λ (t : ℕ). stamped_point t p ∷ []) same
 from-more s (q ∷ ps) p n e = ap (λ (l : List Item). stamped_point s q ∷ l) (from-more (s + 1) ps p n (omega arith))
 
-from-up_to : (s : ℕ) (ps : List PointValue) (n : ℕ) → s + length ps ≤ n + 1 → ItemsUpTo n (stamped_from s ps)
+from-up_to : (s : ℕ) (ps : List PointValue) (n : ℕ) → s + length ps ≤ n + 1 → StampsUpTo of_item n (stamped_from s ps)
 from-up_to s [] n le = tt
 from-up_to s (q ∷ ps) n le = ((omega arith), from-up_to (s + 1) ps n (omega arith))
 
