@@ -1,0 +1,17 @@
+pub mod Stamps
+pub mod Merging
+pub mod Graphs
+pub mod Lives
+pub mod Plans
+pub mod Order
+pub mod EffectOrder
+pub mod StampLaws
+pub mod GivenLaws
+pub mod Growth
+pub mod Active
+pub mod MoreLaws
+pub mod PointLaws
+pub mod OrderLaws
+pub mod EffectLaws
+pub mod Feeding
+pub mod Laid
