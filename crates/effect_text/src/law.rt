@@ -1,0 +1,16 @@
+//! What holds of texts of effects: laws, and no code.
+
+ghost use Rattle.std.specs.Prelude.{◌≡◌, ◌++◌, [], List};
+ghost use Rattle.std.specs.List.{flat_map};
+ghost use Rattle.kap_base.specs.declared.items.Effect.{Effect};
+ghost use Rattle.kap_base.specs.declared.items.Event.{Event};
+ghost use Rattle.effect_text.specs.Lines.{events_of, text_behind};
+ghost use Rattle.effect_text.specs.declared.names.TaskNames.{TaskNames};
+
+/// The text of effects and of more is that of the first, and that of the others behind the events of the first.
+#[tactic(auto, using(crate::proofs::TextLaws::text_more))]
+pub fn text_goes_on()
+    ensures { (tasks : List TaskNames) (events : List Event) (xs ys : List Effect)
+        → text_behind tasks events (xs ++ ys)
+        ≡ text_behind tasks events xs ++ text_behind tasks (events ++ events_of xs) ys }
+{}

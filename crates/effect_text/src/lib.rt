@@ -1,0 +1,12 @@
+//! The text of what the nodes of tasks did: lines of logged points, of transitions of alerts, and of how many points were dropped.
+#![tactic(auto)]
+
+mod dropped;
+mod effects;
+mod law;
+mod names;
+
+pub use dropped::put_dropped;
+pub use effects::put_effects;
+pub use law::text_goes_on;
+pub use names::TaskNames;
