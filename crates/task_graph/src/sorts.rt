@@ -154,6 +154,8 @@ impl Model for Count {
 
     ghost view = { λ n. n.number };
 
+    ghost inverse = { λ n. record { number = n } };
+
     ghost invariant = { λ n. IsTrue (is_count n.number) };
 }
 
@@ -200,6 +202,8 @@ impl Model for Span {
     ghost Value = { ℕ };
 
     ghost view = { λ n. n.nanos };
+
+    ghost inverse = { λ n. record { nanos = n } };
 
     ghost invariant = { λ n. IsTrue (is_span n.nanos) };
 }
@@ -248,6 +252,8 @@ impl Model for Period {
 
     ghost view = { λ n. n.nanos };
 
+    ghost inverse = { λ n. record { nanos = n } };
+
     ghost invariant = { λ n. IsTrue (is_period n.nanos) };
 }
 
@@ -287,6 +293,8 @@ impl Model for ElapsedUnit {
     ghost Value = { ℕ };
 
     ghost view = { λ n. n.nanos };
+
+    ghost inverse = { λ n. record { nanos = n } };
 
     ghost invariant = { λ n. IsTrue (is_unit n.nanos) };
 }
