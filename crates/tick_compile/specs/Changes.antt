@@ -13,7 +13,7 @@ use Rattle.task_graph.specs.declared.spec.LogSpec.{LogSpec}
 use Rattle.task_graph.specs.declared.spec.Spec.{Spec}
 use Rattle.task_graph.specs.declared.spec.Spec.TheVariants as specs
 use Rattle.tick_compile.specs.declared.changes.EvalProps.{EvalProps}
-use Rattle.tick_compile.specs.declared.fault.NodeFault.{NodeFault}
+use Rattle.tick_compile.specs.declared.node_fault.NodeFault.{NodeFault}
 use Rattle.tick_compile.specs.declared.given.Node.{Node}
 use Rattle.tick_compile.specs.Words.{each, fitting, needed}
 use Rattle.tick_compile.specs.Sorts.{as_default, as_duration, as_lambda, as_name, as_text, dimensions, nothing, one, pair}

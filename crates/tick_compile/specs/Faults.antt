@@ -5,8 +5,8 @@ use Rattle.tick_parser.specs.declared.fault.ParseFault.{ParseFault}
 use Rattle.tick_parser.specs.declared.fault.ParseFault.TheVariants as parses
 use Rattle.tick_vars.specs.declared.fault.VarFault.{VarFault}
 use Rattle.tick_vars.specs.declared.fault.VarFault.TheVariants as names
-use Rattle.tick_compile.specs.declared.fault.ScriptFault.{ScriptFault}
-use Rattle.tick_compile.specs.declared.fault.ScriptFault.TheVariants.{Lex, Parse, Name, NoMemory}
+use Rattle.tick_compile.specs.declared.script_fault.ScriptFault.{ScriptFault}
+use Rattle.tick_compile.specs.declared.script_fault.ScriptFault.TheVariants.{Lex, Parse, Name, NoMemory}
 
 -- want of memory is one fault, wherever it is met
 abbrev pub of_lex : LexFault → ScriptFault

@@ -5,7 +5,7 @@ use Rattle.task_graph.specs.declared.spec.Dims.TheVariants as dims
 use Rattle.task_graph.specs.declared.spec.FromSpec.{FromSpec}
 use Rattle.task_graph.specs.declared.spec.Spec.{Spec}
 use Rattle.task_graph.specs.declared.spec.Spec.TheVariants as specs
-use Rattle.tick_compile.specs.declared.fault.NodeFault.{NodeFault}
+use Rattle.tick_compile.specs.declared.node_fault.NodeFault.{NodeFault}
 use Rattle.tick_compile.specs.declared.given.Node.{Node}
 use Rattle.tick_compile.specs.Words.{needed}
 use Rattle.tick_compile.specs.Sorts.{as_count, as_lambda, as_text, dimensions, nothing, one}

@@ -1,8 +1,9 @@
 -- The kinds of nodes that a script can make, by their names, and what each is given.
-use Rattle.std.specs.Prelude.{ℕ, if◌then◌else◌, List, Option, Some, None, Result, Err, codes, bytes_eq}
+use Rattle.std.specs.Prelude.{ℕ, Bool, true, false, if◌then◌else◌, List, Option, Some, None, Result, Err, codes, bytes_eq}
 use Rattle.task_graph.specs.declared.spec.Spec.{Spec}
-use Rattle.tick_compile.specs.declared.fault.NodeFault.{NodeFault}
-use Rattle.tick_compile.specs.declared.fault.NodeFault.TheVariants.{NoKind}
+use Rattle.task_graph.specs.declared.spec.Spec.TheVariants as specs
+use Rattle.tick_compile.specs.declared.node_fault.NodeFault.{NodeFault}
+use Rattle.tick_compile.specs.declared.node_fault.NodeFault.TheVariants.{NoKind}
 use Rattle.tick_compile.specs.declared.given.Node.{Node}
 use Rattle.tick_compile.specs.declared.kind.Kind.{Kind}
 use Rattle.tick_compile.specs.declared.kind.Kind.TheVariants.{From, Where, Eval, GroupBy, Log, Default, Delete, Shift, Sample}
@@ -37,3 +38,17 @@ spec_by (Some Sample) node = sample_spec node
 
 abbrev pub spec_of : {L : Type 0} → Node L → Result (Spec L) NodeFault
 spec_of node = spec_by (kind_named node.kind) node
+
+-- of a kind that the run can build
+abbrev pub is_built : {L : Type 0} → Spec L → Bool
+is_built (specs.Stream dbrps) = true
+is_built (specs.From from) = true
+is_built (specs.Where l) = true
+is_built (specs.Eval eval) = true
+is_built (specs.GroupBy group) = true
+is_built (specs.Log log) = true
+is_built (specs.Default settings) = true
+is_built (specs.Delete settings) = true
+is_built (specs.Shift d) = true
+is_built (specs.Sample n) = true
+is_built other = false

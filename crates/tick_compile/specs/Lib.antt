@@ -9,3 +9,4 @@ pub mod Nodes
 pub mod Typing
 pub mod Tasks
 pub mod Scripts
+pub mod Texts

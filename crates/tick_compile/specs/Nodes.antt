@@ -1,12 +1,13 @@
 -- A task's nodes, from those of its script.
-use Rattle.std.specs.Prelude.{ℕ, zero, suc, List, [], ◌∷◌, ◌++◌, length, Result, Ok, Err}
+use Rattle.std.specs.Prelude.{ℕ, zero, suc, List, [], ◌∷◌, ◌++◌, if◌then◌else◌, length, take, Result, Ok, Err}
 use Rattle.std.specs.Fmt.{decimal}
 use Rattle.kap_base.specs.declared.dbrp.Dbrp.{Dbrp}
 use Rattle.kap_base.specs.Words.{◌>>=◌}
+use Rattle.task_graph.specs.Edges.{takes_nodes}
 use Rattle.task_graph.specs.declared.spec.NodeSpec.{NodeSpec}
 use Rattle.task_graph.specs.declared.spec.Spec.{Spec}
 use Rattle.task_graph.specs.declared.spec.Spec.TheVariants as specs
-use Rattle.tick_compile.specs.declared.fault.NodeFault.{NodeFault}
+use Rattle.tick_compile.specs.declared.node_fault.NodeFault.{NodeFault}
 use Rattle.tick_compile.specs.declared.given.Given.{Given}
 use Rattle.tick_compile.specs.declared.given.Given.TheVariants as givens
 use Rattle.tick_compile.specs.declared.given.Node.{Node}
@@ -23,9 +24,13 @@ nodes_in [] = []
 nodes_in (givens.Node number ∷ args) = number ∷ nodes_in args
 nodes_in (_ ∷ args) = nodes_in args
 
--- the parents of a node: the one under which it stands, and those that it is given
-abbrev pub parents_of : {L : Type 0} → Node L → List ℕ
-parents_of node = node.parent ∷ nodes_in node.args
+-- the node under which a node stands, and those that it is given
+abbrev pub nodes_above : {L : Type 0} → Node L → List ℕ
+nodes_above node = node.parent ∷ nodes_in node.args
+
+-- the parents of a node that is given this: all of them, or the first alone where it takes no nodes
+abbrev pub parents_of : {L : Type 0} → Spec L → List ℕ → List ℕ
+parents_of spec above = if takes_nodes spec then above else take 1 above
 
 -- a node's name: its kind and its number
 abbrev pub node_name : List ℕ → ℕ → List ℕ
@@ -37,7 +42,7 @@ stream_node dbrps node = stream_spec dbrps node >>= λ spec. Ok (record { name =
 
 -- a node of this number that isn't the stream
 abbrev pub other_node : {L : Type 0} → ℕ → Node L → Result (NodeSpec L) NodeFault
-other_node number node = spec_of node >>= λ spec. Ok (record { name = node_name node.kind number; spec = spec; parents = parents_of node })
+other_node number node = spec_of node >>= λ spec. Ok (record { name = node_name node.kind number; spec = spec; parents = parents_of spec (nodes_above node) })
 
 -- the node of this number
 abbrev pub node_spec : {L : Type 0} → List Dbrp → ℕ → Node L → Result (NodeSpec L) NodeFault

@@ -1,5 +1,5 @@
 -- Which texts are tasks, and the first fault of those that are none.
-use Rattle.std.specs.Prelude.{◌≡◌, ◌⊎◌, ℕ, List, Option, Ok, Err, IsUtf8}
+use Rattle.std.specs.Prelude.{◌≡◌, ◌⊎◌, ℕ, List, Option, Some, Ok, Err, IsUtf8}
 use Rattle.kap_base.specs.Utf8.{BreaksAt}
 use Rattle.lambda_types.specs.Faults.{Refusal}
 use Rattle.tick_lexer.specs.declared.token.Token.{Token}
@@ -9,8 +9,8 @@ use Rattle.tick_parser.specs.Script.{IsScriptOf}
 use Rattle.tick_parser.specs.Refusal.{IsRefused}
 use Rattle.tick_vars.specs.Nodes.{BoundTree}
 use Rattle.tick_vars.specs.Binding.{bound_of}
-use Rattle.tick_compile.specs.declared.fault.ScriptFault.{ScriptFault}
-use Rattle.tick_compile.specs.declared.fault.ScriptFault.TheVariants.{NotUtf8, Lex, Parse, Name}
+use Rattle.tick_compile.specs.declared.script_fault.ScriptFault.{ScriptFault}
+use Rattle.tick_compile.specs.declared.script_fault.ScriptFault.TheVariants.{NotUtf8, Lex, Parse, Name}
 use Rattle.tick_compile.specs.declared.tasks.Task.{Task}
 use Rattle.tick_compile.specs.Tasks.{compiled}
 
@@ -52,3 +52,7 @@ pub record IsMiswritten (refused : Option Refusal) (text : List ℕ) (fault : Sc
 -- the first fault of a text that is no task, where this pattern is refused, or none is
 abbrev pub Refuses : Option Refusal → List ℕ → ScriptFault → Type 0
 Refuses refused text fault = IsMisread text fault ⊎ IsMiswritten refused text fault
+
+-- the pattern at this place is the refused one
+abbrev pub IsRefusedAt : Option Refusal → ℕ → Type 0
+IsRefusedAt refused at = (pattern : List ℕ) × (refused ≡ Some (record { text = pattern; at = at }))

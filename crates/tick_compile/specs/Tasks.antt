@@ -12,10 +12,10 @@ use Rattle.task_graph.specs.declared.spec.NodeSpec.{NodeSpec}
 use Rattle.task_graph.specs.declared.spec.Spec.{Spec}
 use Rattle.task_graph.specs.declared.spec.Spec.TheVariants.{From}
 use Rattle.tick_vars.specs.Nodes.{BoundTree, NodeTree}
-use Rattle.tick_compile.specs.declared.fault.ScriptFault.{ScriptFault}
-use Rattle.tick_compile.specs.declared.fault.ScriptFault.TheVariants.{NoKind, Property, Argument, Handler, Template, Lambda, Graph, NoFrom, NoMemory}
-use Rattle.tick_compile.specs.declared.fault.NodeFault.{NodeFault}
-use Rattle.tick_compile.specs.declared.fault.NodeFault.TheVariants as nodes
+use Rattle.tick_compile.specs.declared.script_fault.ScriptFault.{ScriptFault}
+use Rattle.tick_compile.specs.declared.script_fault.ScriptFault.TheVariants.{NoKind, Property, Argument, Handler, Template, Lambda, Graph, NoFrom, NoMemory}
+use Rattle.tick_compile.specs.declared.node_fault.NodeFault.{NodeFault}
+use Rattle.tick_compile.specs.declared.node_fault.NodeFault.TheVariants as nodes
 use Rattle.tick_compile.specs.Nodes.{specs_from}
 use Rattle.tick_compile.specs.Typing.{node_of, type_fault}
 

@@ -1,7 +1,7 @@
 -- Words on lists of what is given.
 use Rattle.std.specs.Prelude.{ℕ, Bool, if◌then◌else◌, List, [], ◌∷◌, ◌++◌, Option, Some, None, Result, Ok, Err}
-use Rattle.tick_compile.specs.declared.fault.NodeFault.{NodeFault}
-use Rattle.tick_compile.specs.declared.fault.NodeFault.TheVariants.{Argument}
+use Rattle.tick_compile.specs.declared.node_fault.NodeFault.{NodeFault}
+use Rattle.tick_compile.specs.declared.node_fault.NodeFault.TheVariants.{Argument}
 
 -- the only one of a list
 abbrev pub only : {A : Type 0} → List A → Option A

@@ -5,7 +5,7 @@ ghost use Rattle.kap_base.specs.Words.{Answers};
 ghost use Rattle.tick_compile.specs.Rows.{set_by};
 ghost use Rattle.tick_compile.specs.Changes.{default_rows, default_spec, delete_rows, delete_spec, eval_results, eval_rows, eval_spec, group_by_rows, group_by_spec, kept, log_rows, log_spec, no_eval, no_log, shift_spec};
 
-use crate::fault::NodeFault;
+use crate::node_fault::NodeFault;
 use crate::given::{Node, Setting};
 use crate::props::{Props, no_props, set_all};
 use crate::readers::{all, dimensions, lambdas, nothing, one, pair};

@@ -5,7 +5,7 @@ ghost use Rattle.kap_base.specs.Words.{Answers};
 ghost use Rattle.tick_compile.specs.Rows.{set_by};
 ghost use Rattle.tick_compile.specs.Filters.{from_rows, from_spec, no_from, sample_spec, where_spec};
 
-use crate::fault::NodeFault;
+use crate::node_fault::NodeFault;
 use crate::given::{Node, Setting};
 use crate::props::{Props, no_props, set_all};
 use crate::readers::{dimensions, lambda, nothing, one};

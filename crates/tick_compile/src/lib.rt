@@ -2,19 +2,24 @@
 #![tactic(auto)]
 
 mod changes;
-mod fault;
 mod filters;
 mod given;
 mod kind;
+mod law;
+mod node_fault;
 mod nodes;
 mod props;
 mod readers;
+mod script_fault;
+mod script_texts;
 mod scripts;
 mod sorts;
 mod tasks;
 mod typing;
 mod untyped;
 
-pub use fault::ScriptFault;
-pub use scripts::compile;
+pub use law::scripts_have_one_answer;
+pub use script_fault::ScriptFault;
+pub use script_texts::script_text;
+pub use scripts::{compile, read_tree};
 pub use tasks::Task;

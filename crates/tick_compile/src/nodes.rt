@@ -3,12 +3,12 @@
 ghost use Rattle.std.specs.Prelude.{◌≡◌, ◌++◌, ◌∷◌, [], IfOk, OnOk};
 ghost use Rattle.kap_base.specs.Words.{Answers};
 ghost use Rattle.tick_compile.specs.Kinds.{spec_by, spec_of};
-ghost use Rattle.tick_compile.specs.Nodes.{node_name, node_spec, nodes_in, other_node, parents_of, specs_from, stream_node, stream_spec};
+ghost use Rattle.tick_compile.specs.Nodes.{node_name, node_spec, nodes_above, nodes_in, other_node, parents_of, specs_from, stream_node, stream_spec};
 
 use crate::changes::{
     default_spec, delete_spec, eval_spec, group_by_spec, log_spec, shift_spec,
 };
-use crate::fault::NodeFault;
+use crate::node_fault::NodeFault;
 use crate::filters::{from_spec, sample_spec, where_spec};
 use crate::given::{Given, Node};
 use crate::kind::{Kind, kind_named};
@@ -80,10 +80,10 @@ fn add_node<L>(ids: &mut Ids, given: &Given<L>) -> Result<(), NoMemory>
     }
 }
 
-/// The parents of a node that isn't the stream.
+/// The node under which a node stands, and those that it is given.
 #[tactic(auto, using(crate::proofs::NodeLaws::nodes_more))]
-fn parents_of<L: Drop>(alloc: Global, node: &Node<L>) -> Result<Ids, NoMemory>
-    ensures { IfOk result (λ ids. ids ≡ parents_of node.now) }
+fn nodes_above<L: Drop>(alloc: Global, node: &Node<L>) -> Result<Ids, NoMemory>
+    ensures { IfOk result (λ ids. ids ≡ nodes_above node.now) }
 {
     let mut ids = Ids::new(alloc);
     ids.push(node.parent)?;
@@ -91,6 +91,16 @@ fn parents_of<L: Drop>(alloc: Global, node: &Node<L>) -> Result<Ids, NoMemory>
         add_node(&mut ids, given)?;
     }
     Ok(ids)
+}
+
+/// Those of these nodes that are the parents of a node that is given this.
+fn parents_of<L>(spec: &Spec<L>, mut above: Ids) -> Ids
+    ensures { result ≡ parents_of spec.now above }
+{
+    if !spec.takes_nodes() {
+        above.truncate(1);
+    }
+    above
 }
 
 /// The name of a node of this kind with this number.
@@ -128,10 +138,12 @@ fn other_node<L: Drop>(
     ensures { Answers NodeFault.NoMemory result (other_node number node) }
 {
     let name = node_name(alloc, &node.kind, number)?;
-    let parents = parents_of(alloc, &node)?;
+    let above = nodes_above(alloc, &node)?;
+    let spec = spec_of(alloc, node)?;
+    let parents = parents_of(&spec, above);
     Ok(NodeSpec {
         name,
-        spec: spec_of(alloc, node)?,
+        spec,
         parents,
     })
 }

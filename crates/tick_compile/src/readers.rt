@@ -5,7 +5,7 @@ ghost use Rattle.kap_base.specs.Words.{Answers};
 ghost use Rattle.tick_compile.specs.Words.{each, needed, only, two};
 ghost use Rattle.tick_compile.specs.Sorts.{as_lambda, dimensions, is_star, nothing, one, pair};
 
-use crate::fault::NodeFault;
+use crate::node_fault::NodeFault;
 use crate::given::{Args, Given};
 use crate::sorts::Sort;
 use kap_base::ItemList;

@@ -10,7 +10,8 @@ ghost use Rattle.tick_compile.specs.Tasks.{NodeSpecTrees, checked, compiled, com
 ghost use Rattle.tick_compile.specs.Nodes.{specs_from};
 ghost use Rattle.tick_compile.specs.Typing.{node_of, type_fault};
 
-use crate::fault::{NodeFault, ScriptFault};
+use crate::node_fault::NodeFault;
+use crate::script_fault::ScriptFault;
 use crate::given::Node;
 use crate::nodes::node_specs;
 use crate::typing::typed_nodes;

@@ -18,6 +18,7 @@ fn takes_conditions(kind: &Text) -> bool
 }
 
 /// A lambda whose word `lambda` stands at this place.
+#[tactic(auto, using(crate::proofs::TypingLaws::truth_is))]
 fn typed_lambda<P: Patterns>(
     alloc: Global,
     body: &SharedExpr,

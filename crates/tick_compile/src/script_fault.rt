@@ -1,53 +1,16 @@
-//! Why a node is none, and why a text is no task.
+//! Why a text is no task.
 
 ghost use Rattle.std.specs.Prelude.{◌≡◌};
 ghost use Rattle.tick_compile.specs.Faults.{of_lex, of_name, of_parse};
-ghost use Rattle.tick_compile.specs.declared.fault.NodeFault.TheVariants.{NoMemory as no_memory};
-ghost use Rattle.tick_compile.specs.declared.fault.ScriptFault.TheVariants.{NoMemory as none_left};
+ghost use Rattle.tick_compile.specs.declared.script_fault.ScriptFault.TheVariants.{NoMemory as no_memory};
 
 use kap_base::NoMemory;
 use lambda_types::TypeFault;
 use msg_template::TemplateFault;
-use std::alloc::{AllocError, AllocFailed};
 use task_graph::GraphFault;
 use tick_lexer::LexFault;
 use tick_parser::ParseFault;
 use tick_vars::VarFault;
-
-/// The first fault of a node that is none: of its kind, its arguments or its properties. Each number is a place in the script.
-#[derive(Clone, Copy, Debug, PartialEq, Eq)]
-pub(crate) enum NodeFault {
-    NoKind(u32),
-    Property(u32),
-    Argument(u32),
-    Handler(u32),
-    Template(u32, TemplateFault),
-    NoMemory,
-}
-
-impl From<NoMemory> for NodeFault {
-    ghost from_gives = { λ _ f. f ≡ no_memory };
-
-    fn from(_: NoMemory) -> Self {
-        NodeFault::NoMemory
-    }
-}
-
-impl From<AllocError> for NodeFault {
-    ghost from_gives = { λ _ f. f ≡ no_memory };
-
-    fn from(_: AllocError) -> Self {
-        NodeFault::NoMemory
-    }
-}
-
-impl<T: Drop> From<AllocFailed<T>> for NodeFault {
-    ghost from_gives = { λ _ f. f ≡ no_memory };
-
-    fn from(_: AllocFailed<T>) -> Self {
-        NodeFault::NoMemory
-    }
-}
 
 /// The first fault of a text that is no task (Kapacitor 1.6 TICKscript language and node reference): of its bytes, its tokens, its
 /// grammar and its names; then of its nodes, in the order in which they are made, each of its kind, its arguments, its properties
@@ -85,7 +48,7 @@ pub enum ScriptFault {
 }
 
 impl From<NoMemory> for ScriptFault {
-    ghost from_gives = { λ _ f. f ≡ none_left };
+    ghost from_gives = { λ _ f. f ≡ no_memory };
 
     fn from(_: NoMemory) -> Self {
         ScriptFault::NoMemory
