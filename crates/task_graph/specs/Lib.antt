@@ -1,1 +1,3 @@
 pub mod Sorts
+pub mod Edges
+pub mod Graphs

@@ -1,5 +1,6 @@
 -- What a value that a script hands to a node must be.
-use Rattle.std.specs.Prelude.{ℕ, ℤ, pos, negsuc, Bool, ◌&&◌, ◌*◌, ◌^◌, if◌then◌else◌, Option, Some, None, nat_le}
+use Rattle.std.specs.Prelude.{ℕ, ℤ, pos, negsuc, Bool, ◌&&◌, if◌then◌else◌, Option, Some, None, nat_le}
+use Rattle.task_graph.specs.declared.sorts.TheConstants.{SPAN_LIMIT, UNIT_LIMIT}
 
 -- the value, where it passes the test
 abbrev pub tested : {A : Type 0} → (A → Bool) → A → Option A
@@ -16,7 +17,7 @@ is_count n = nat_le 1 n
 
 -- a time that may pass, in nanoseconds
 abbrev pub is_span : ℕ → Bool
-is_span n = nat_le n (2 * 10 ^ 17)
+is_span n = nat_le n SPAN_LIMIT
 
 -- one that isn't 0
 abbrev pub is_period : ℕ → Bool
@@ -24,4 +25,4 @@ is_period n = nat_le 1 n && is_span n
 
 -- one of at least a microsecond
 abbrev pub is_unit : ℕ → Bool
-is_unit n = nat_le 1000 n && is_span n
+is_unit n = nat_le UNIT_LIMIT n && is_span n

@@ -36,7 +36,11 @@ impl Name {
     pub fn from_text(text: Text) -> Option<Name>
         ensures { result ≡ tested is_name text }
     {
-        if text.is_name() { Some(Name { text }) } else { None }
+        if text.is_name() {
+            Some(Name { text })
+        } else {
+            None
+        }
     }
 
     /// Its text.
@@ -78,7 +82,11 @@ impl Measurement {
     pub fn from_text(text: Text) -> Option<Measurement>
         ensures { result ≡ tested is_measurement text }
     {
-        if text.is_measurement() { Some(Measurement { text }) } else { None }
+        if text.is_measurement() {
+            Some(Measurement { text })
+        } else {
+            None
+        }
     }
 
     /// Its text.
@@ -120,7 +128,11 @@ impl Line {
     pub fn from_text(text: Text) -> Option<Line>
         ensures { result ≡ tested is_line text }
     {
-        if text.is_line() { Some(Line { text }) } else { None }
+        if text.is_line() {
+            Some(Line { text })
+        } else {
+            None
+        }
     }
 
     /// Its text.
