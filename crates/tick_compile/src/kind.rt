@@ -6,7 +6,7 @@ ghost use Rattle.tick_compile.specs.Kinds.{kind_named};
 use kap_base::Text;
 
 /// A kind of node that a script can make.
-#[derive(Clone, Copy, Debug, PartialEq, Eq)]
+#[derive(Clone, Copy)]
 pub(crate) enum Kind {
     From,
     Where,
