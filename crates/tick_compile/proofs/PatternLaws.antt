@@ -67,7 +67,7 @@ arg_told refused condition (NodeArg number place) at is = absurd cc
 
 all_told : {A : Type 0} (refused : Option Refusal) (fault : A → Option TypeFault) → ((x : A) → Told refused (fault x)) → (xs : List A) → Told refused (firsts fault xs)
 all_told refused fault each [] at is = absurd cc
-all_told refused fault each (x ∷ xs) = first_told refused (fault x) (firsts fault xs) (each x) (all_told refused fault each xs)
+all_told refused fault each (x ∷ xs) at is = first_told refused (fault x) (firsts fault xs) (each x) (all_told refused fault each xs) at is
 
 prop_told : (refused : Option Refusal) (condition : Bool) (prop : PropTree) → Told refused (prop_fault refused condition prop)
 prop_told refused condition prop = all_told refused (arg_fault refused condition) (arg_told refused condition) prop.args

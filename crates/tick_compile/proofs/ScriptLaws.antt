@@ -3,6 +3,7 @@ use Rattle.std.proofs.Common.{◌≡◌, ℕ, ◌≤◌, Bool, true, false, Opti
 use Rattle.std.specs.Prelude.{◌⊎◌, Result, Ok, Err, IsUtf8}
 use Rattle.std.specs.Str.{is_utf8}
 use Rattle.std.proofs.lemmas.Str.{IsUtf8-from_is_utf8, is_utf8-from_IsUtf8}
+use Rattle.kap_base.specs.declared.dbrp.Dbrp.{Dbrp}
 use Rattle.kap_base.specs.Tree.{Tree}
 use Rattle.kap_base.specs.Utf8.{broken_at}
 use Rattle.kap_base.proofs.Utf8Laws.{breaks_there, one_place}
@@ -117,12 +118,19 @@ apart refused text task fault p (inl q) = bound_or_misread text p.«bound» faul
 apart refused text task fault p (inr q) =
     ok_or_err task.graph fault (compiled refused p.«bound») p.nodes (ap (compiled refused) (same_bound text p.«bound» q.«bound» p.binds q.binds) ∙ q.nodes)
 
+-- the task of these nodes, which sees this
+abbrev task_of : List (NodeSpec Tree) → List Dbrp → Task
+task_of nodes dbrps = record { graph = nodes; dbrps = dbrps }
+
+same_task : (a b : Task) → a.graph ≡ b.graph → a.dbrps ≡ b.dbrps → a ≡ b
+same_task a b graph dbrps = ap (λ (nodes : List (NodeSpec Tree)). task_of nodes a.dbrps) graph ∙ ap (task_of b.graph) dbrps
+
 pub one_task : (refused : Option Refusal) (text : List ℕ) (a b : Task) → Accepts refused text a → Accepts refused text b → a ≡ b
 one_task refused text a b p q =
     let same = same_bound text p.«bound» q.«bound» p.binds q.binds in
     let graph : a.graph ≡ b.graph = one_ok a.graph b.graph (compiled refused p.«bound») p.nodes (ap (compiled refused) same ∙ q.nodes) in
     let dbrps : a.dbrps ≡ b.dbrps = p.dbrps ∙ (ap (λ (t : BoundTree). t.dbrps) same ∙ sym q.dbrps) in
-    cc
+    same_task a b graph dbrps
 
 -- ---- each text has an answer
 

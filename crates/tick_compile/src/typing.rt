@@ -1,6 +1,7 @@
 //! Nodes with their lambdas typed.
 
 ghost use Rattle.std.specs.Prelude.{◌≡◌, map};
+ghost use Rattle.lambda_types.specs.Sets.{types_of};
 ghost use Rattle.tick_vars.specs.Nodes.{arg_tree, arg_trees, node_tree, node_trees, prop_tree};
 ghost use Rattle.tick_compile.specs.Typing.{Counts, Finds, arg_fault, firsts, given_of, lambda_fault, node_fault, node_of, prop_fault, setting_of, takes_conditions, type_fault};
 
@@ -17,8 +18,14 @@ fn takes_conditions(kind: &Text) -> bool
     kind.bytes() != b"eval".as_slice()
 }
 
+/// Whether a lambda can be a condition.
+fn can_be_true(lambda: &Lambda) -> bool
+    ensures { result ≡ (types_of lambda.now).truth }
+{
+    lambda.can_be(Ty::Bool)
+}
+
 /// A lambda whose word `lambda` stands at this place.
-#[tactic(auto, using(crate::proofs::TypingLaws::truth_is))]
 fn typed_lambda<P: Patterns>(
     alloc: Global,
     body: &SharedExpr,
@@ -32,7 +39,7 @@ fn typed_lambda<P: Patterns>(
 {
     typed_without_fault();
     let lambda = infer(alloc, body, pats)?;
-    if condition && !lambda.can_be(Ty::Bool) {
+    if condition && !can_be_true(&lambda) {
         return Err(TypeFault::Mismatch(at));
     }
     Ok(lambda)
