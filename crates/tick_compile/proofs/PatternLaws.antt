@@ -122,9 +122,9 @@ compiled_fault refused bind t is =
     ⊎_elim
     (λ (l : read ≡ Err (Lambda t)). absurd (no_raised (specs_from bind.dbrps [] (map node_of bind.nodes)) t l))
     (λ (r : (specs : List (NodeSpec Tree)) × ((typed (type_fault refused bind.nodes) >>= λ _. finished specs) ≡ Err (Lambda t))). ⊎_elim
-      (λ (l : typed (type_fault refused bind.nodes) ≡ Err (Lambda t)). typed_fault (type_fault refused bind.nodes) t l)
-      (λ (q : (x : Unit {0}) × (finished r.0 ≡ Err (Lambda t))). absurd (no_finished r.0 t q.1))
-      (either_step (typed (type_fault refused bind.nodes)) (λ _. finished r.0) (Lambda t) r.1))
+    (λ (l : typed (type_fault refused bind.nodes) ≡ Err (Lambda t)). typed_fault (type_fault refused bind.nodes) t l)
+    (λ (q : (x : Unit {0}) × (finished r.0 ≡ Err (Lambda t))). absurd (no_finished r.0 t q.1))
+    (either_step (typed (type_fault refused bind.nodes)) (λ _. finished r.0) (Lambda t) r.1))
     (either_step read (λ specs. typed (type_fault refused bind.nodes) >>= λ _. finished specs) (Lambda t) is)
 
 -- a text is refused for a pattern only where that is the refused one

@@ -21,7 +21,9 @@ use Rattle.tick_compile.proofs.KindLaws.{IsRight, spec_right}
 use Rattle.tick_compile.specs.Nodes.{node_name, node_spec, nodes_above, nodes_in, other_node, parents_of, specs_from, stream_spec}
 use Rattle.tick_compile.specs.Rows.{no_props}
 use Rattle.lambda_types.specs.Faults.{Refusal}
+use Rattle.tick_compile.specs.declared.script_fault.ScriptFault.{ScriptFault}
 use Rattle.tick_compile.specs.declared.script_fault.ScriptFault.TheVariants.{NoFrom}
+use Rattle.tick_compile.specs.declared.tasks.Task.{Task}
 use Rattle.tick_compile.specs.Typing.{given_of, node_of, type_fault}
 use Rattle.tick_compile.specs.Tasks.{compiled, has_from, raised, typed, well_joined}
 
@@ -165,3 +167,8 @@ compiled_built refused bind nodes is =
     let same : read.0 ≡ nodes = kept_if (has_from read.0) read.0 nodes NoFrom joined.2 in
     subst (λ (s : List (NodeSpec Tree)). list_all built s ≡ true) same
     (all_built bind.dbrps (map node_of bind.nodes) [] read.0 refl (raised_ok (specs_from bind.dbrps [] (map node_of bind.nodes)) read.0 read.1))
+
+-- the same of an answer
+pub answer_built : (r : Result Task ScriptFault) (bind : BoundTree) → IfOk r (λ task. compiled None bind ≡ Ok task.graph) → IfOk r (λ task. list_all (λ node. is_built node.spec) task.graph ≡ true)
+answer_built (Ok task) bind is = compiled_built None bind task.graph is
+answer_built (Err fault) bind is = tt

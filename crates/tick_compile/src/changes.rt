@@ -5,8 +5,8 @@ ghost use Rattle.kap_base.specs.Words.{Answers};
 ghost use Rattle.tick_compile.specs.Rows.{set_by};
 ghost use Rattle.tick_compile.specs.Changes.{default_rows, default_spec, delete_rows, delete_spec, eval_results, eval_rows, eval_spec, group_by_rows, group_by_spec, kept, log_rows, log_spec, no_eval, no_log, shift_spec};
 
-use crate::node_fault::NodeFault;
 use crate::given::{Node, Setting};
+use crate::node_fault::NodeFault;
 use crate::props::{Props, no_props, set_all};
 use crate::readers::{all, dimensions, lambdas, nothing, one, pair};
 use kap_base::{ItemList, Names, NoMemory};
@@ -76,7 +76,12 @@ fn eval_results<L: Drop>(
 pub(crate) fn eval_spec<L: Drop>(alloc: Global, node: Node<L>) -> Result<Spec<L>, NodeFault>
     ensures { Answers NodeFault.NoMemory result (eval_spec node) }
 {
-    let Node { args, props, at, .. } = node;
+    let Node {
+        args,
+        props,
+        at,
+        ..
+    } = node;
     let lambdas = lambdas(alloc, args, at)?;
     let first = EvalProps {
         names: ItemList::new(alloc),
@@ -114,7 +119,12 @@ impl<L: Drop> Props<L> for GroupBySpec {
 pub(crate) fn group_by_spec<L: Drop>(alloc: Global, node: Node<L>) -> Result<Spec<L>, NodeFault>
     ensures { Answers NodeFault.NoMemory result (group_by_spec node) }
 {
-    let Node { args, props, at, .. } = node;
+    let Node {
+        args,
+        props,
+        at,
+        ..
+    } = node;
     let first = GroupBySpec {
         dims: dimensions(alloc, args, at)?,
         by_measurement: false,
@@ -146,7 +156,12 @@ impl<L: Drop> Props<L> for LogSpec {
 pub(crate) fn log_spec<L: Drop>(alloc: Global, node: Node<L>) -> Result<Spec<L>, NodeFault>
     ensures { Answers NodeFault.NoMemory result (log_spec node) }
 {
-    let Node { args, props, at, .. } = node;
+    let Node {
+        args,
+        props,
+        at,
+        ..
+    } = node;
     nothing(args, at)?;
     let first = LogSpec {
         level: None,
@@ -181,7 +196,12 @@ impl<L: Drop> Props<L> for ItemList<DefaultSetting> {
 pub(crate) fn default_spec<L: Drop>(alloc: Global, node: Node<L>) -> Result<Spec<L>, NodeFault>
     ensures { Answers NodeFault.NoMemory result (default_spec node) }
 {
-    let Node { args, props, at, .. } = node;
+    let Node {
+        args,
+        props,
+        at,
+        ..
+    } = node;
     nothing(args, at)?;
     Ok(Spec::Default(set_all(alloc, props, ItemList::new(alloc))?))
 }
@@ -210,7 +230,12 @@ impl<L: Drop> Props<L> for ItemList<DeleteSetting> {
 pub(crate) fn delete_spec<L: Drop>(alloc: Global, node: Node<L>) -> Result<Spec<L>, NodeFault>
     ensures { Answers NodeFault.NoMemory result (delete_spec node) }
 {
-    let Node { args, props, at, .. } = node;
+    let Node {
+        args,
+        props,
+        at,
+        ..
+    } = node;
     nothing(args, at)?;
     Ok(Spec::Delete(set_all(alloc, props, ItemList::new(alloc))?))
 }
@@ -219,7 +244,12 @@ pub(crate) fn delete_spec<L: Drop>(alloc: Global, node: Node<L>) -> Result<Spec<
 pub(crate) fn shift_spec<L: Drop>(alloc: Global, node: Node<L>) -> Result<Spec<L>, NodeFault>
     ensures { Answers NodeFault.NoMemory result (shift_spec node) }
 {
-    let Node { args, props, at, .. } = node;
+    let Node {
+        args,
+        props,
+        at,
+        ..
+    } = node;
     let nanos = one(alloc, args, at)?;
     no_props(&props)?;
     Ok(Spec::Shift(nanos))

@@ -5,8 +5,8 @@ ghost use Rattle.kap_base.specs.Words.{Answers};
 ghost use Rattle.tick_compile.specs.Rows.{set_by};
 ghost use Rattle.tick_compile.specs.Filters.{from_rows, from_spec, no_from, sample_spec, where_spec};
 
-use crate::node_fault::NodeFault;
 use crate::given::{Node, Setting};
+use crate::node_fault::NodeFault;
 use crate::props::{Props, no_props, set_all};
 use crate::readers::{dimensions, lambda, nothing, one};
 use kap_base::{ItemList, Names};
@@ -54,7 +54,12 @@ impl<L: Drop> Props<L> for FromSpec<L> {
 pub(crate) fn from_spec<L: Drop>(alloc: Global, node: Node<L>) -> Result<Spec<L>, NodeFault>
     ensures { Answers NodeFault.NoMemory result (from_spec node) }
 {
-    let Node { args, props, at, .. } = node;
+    let Node {
+        args,
+        props,
+        at,
+        ..
+    } = node;
     nothing(args, at)?;
     let first = FromSpec {
         database: None,
@@ -71,7 +76,12 @@ pub(crate) fn from_spec<L: Drop>(alloc: Global, node: Node<L>) -> Result<Spec<L>
 pub(crate) fn where_spec<L: Drop>(node: Node<L>) -> Result<Spec<L>, NodeFault>
     ensures { Answers NodeFault.NoMemory result (where_spec node) }
 {
-    let Node { args, props, at, .. } = node;
+    let Node {
+        args,
+        props,
+        at,
+        ..
+    } = node;
     let lambda = lambda(args, at)?;
     no_props(&props)?;
     Ok(Spec::Where(lambda))
@@ -81,7 +91,12 @@ pub(crate) fn where_spec<L: Drop>(node: Node<L>) -> Result<Spec<L>, NodeFault>
 pub(crate) fn sample_spec<L: Drop>(alloc: Global, node: Node<L>) -> Result<Spec<L>, NodeFault>
     ensures { Answers NodeFault.NoMemory result (sample_spec node) }
 {
-    let Node { args, props, at, .. } = node;
+    let Node {
+        args,
+        props,
+        at,
+        ..
+    } = node;
     let count = one(alloc, args, at)?;
     no_props(&props)?;
     Ok(Spec::Sample(count))

@@ -5,13 +5,11 @@ ghost use Rattle.kap_base.specs.Words.{Answers};
 ghost use Rattle.tick_compile.specs.Kinds.{spec_by, spec_of};
 ghost use Rattle.tick_compile.specs.Nodes.{node_name, node_spec, nodes_above, nodes_in, other_node, parents_of, specs_from, stream_node, stream_spec};
 
-use crate::changes::{
-    default_spec, delete_spec, eval_spec, group_by_spec, log_spec, shift_spec,
-};
-use crate::node_fault::NodeFault;
+use crate::changes::{default_spec, delete_spec, eval_spec, group_by_spec, log_spec, shift_spec};
 use crate::filters::{from_spec, sample_spec, where_spec};
 use crate::given::{Given, Node};
 use crate::kind::{Kind, kind_named};
+use crate::node_fault::NodeFault;
 use crate::props::no_props;
 use itoa::Buffer;
 use kap_base::{Dbrp, Dbrps, Duplicate, ItemList, NoMemory, Text};
@@ -59,11 +57,7 @@ fn copy_of(alloc: Global, dbrps: &[Dbrp]) -> Result<Dbrps, NoMemory>
 }
 
 /// What the stream is given.
-fn stream_spec<L: Drop>(
-    alloc: Global,
-    dbrps: &[Dbrp],
-    node: Node<L>,
-) -> Result<Spec<L>, NodeFault>
+fn stream_spec<L: Drop>(alloc: Global, dbrps: &[Dbrp], node: Node<L>) -> Result<Spec<L>, NodeFault>
     ensures { Answers NodeFault.NoMemory result (stream_spec dbrps.now node) }
 {
     no_props(&node.props)?;

@@ -5,8 +5,8 @@ ghost use Rattle.kap_base.specs.Words.{Answers};
 ghost use Rattle.tick_compile.specs.Words.{each, needed, only, two};
 ghost use Rattle.tick_compile.specs.Sorts.{as_lambda, dimensions, is_star, nothing, one, pair};
 
-use crate::node_fault::NodeFault;
 use crate::given::{Args, Given};
+use crate::node_fault::NodeFault;
 use crate::sorts::Sort;
 use kap_base::ItemList;
 use std::alloc::Global;
@@ -138,11 +138,7 @@ fn is_star<L>(args: &[Given<L>]) -> bool
 }
 
 /// The star alone, or texts.
-pub(crate) fn dimensions<L: Drop>(
-    alloc: Global,
-    args: Args<L>,
-    at: u32,
-) -> Result<Dims, NodeFault>
+pub(crate) fn dimensions<L: Drop>(alloc: Global, args: Args<L>, at: u32) -> Result<Dims, NodeFault>
     ensures { Answers NodeFault.NoMemory result (needed at (dimensions args)) }
 {
     if is_star(args.as_slice()) {

@@ -66,12 +66,7 @@ fn bound_of(alloc: Global, text: &[u8]) -> Result<Bound, ScriptFault>
 /// `ScriptFault` tells. It takes texts of at most 65,536 bytes. `Lambda` with `Pattern` comes only where the count of refusals of
 /// `pats` rose in this call, at the place of the pattern whose text was refused last; a task is given only where no pattern was
 /// refused. Each node of it is of a kind that the run can build. `NoMemory` comes where an allocation fails.
-#[tactic(auto, using(crate::proofs::TaskLaws::compiled_built))]
-pub fn compile<P: Patterns>(
-    alloc: Global,
-    text: &[u8],
-    pats: &mut P,
-) -> Result<Task, ScriptFault>
+pub fn compile<P: Patterns>(alloc: Global, text: &[u8], pats: &mut P) -> Result<Task, ScriptFault>
     requires { length text.now ≤ SCRIPT_LIMIT }
     ensures task { IfOk result (λ task. Accepts None text.now task) }
     ensures built { IfOk result (λ task. list_all (λ node. is_built node.spec) task.graph ≡ true) }

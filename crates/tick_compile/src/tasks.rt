@@ -10,10 +10,10 @@ ghost use Rattle.tick_compile.specs.Tasks.{NodeSpecTrees, checked, compiled, com
 ghost use Rattle.tick_compile.specs.Nodes.{specs_from};
 ghost use Rattle.tick_compile.specs.Typing.{node_of, type_fault};
 
-use crate::node_fault::NodeFault;
-use crate::script_fault::ScriptFault;
 use crate::given::Node;
+use crate::node_fault::NodeFault;
 use crate::nodes::node_specs;
+use crate::script_fault::ScriptFault;
 use crate::typing::typed_nodes;
 use crate::untyped::untyped_nodes;
 use kap_base::{Dbrp, Dbrps, ItemList};

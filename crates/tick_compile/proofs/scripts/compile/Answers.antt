@@ -1,0 +1,5 @@
+use Rattle.tick_compile.proofs.TaskLaws.{answer_built}
+use Rattle.tick_compile.proofs.scripts.compile.Goals as goal
+
+pub returns-clause-built : goal.returns-clause-built
+returns-clause-built g c = answer_built c.compile_bound.result _ c.compile_bound.ensures.task
