@@ -1,0 +1,12 @@
+pub mod Faults
+pub mod Words
+pub mod Rows
+pub mod Sorts
+pub mod Filters
+pub mod Changes
+pub mod Kinds
+pub mod Nodes
+pub mod Typing
+pub mod Tasks
+pub mod Scripts
+pub mod Texts

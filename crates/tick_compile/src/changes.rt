@@ -1,0 +1,256 @@
+//! `eval`, `groupBy`, `log`, `default`, `delete` and `shift`.
+
+ghost use Rattle.std.specs.Prelude.{◌≡◌, IfOk};
+ghost use Rattle.kap_base.specs.Words.{Answers};
+ghost use Rattle.tick_compile.specs.Rows.{set_by};
+ghost use Rattle.tick_compile.specs.Changes.{default_rows, default_spec, delete_rows, delete_spec, eval_results, eval_rows, eval_spec, group_by_rows, group_by_spec, kept, log_rows, log_spec, no_eval, no_log, shift_spec};
+
+use crate::given::{Node, Setting};
+use crate::node_fault::NodeFault;
+use crate::props::{Props, no_props, set_all};
+use crate::readers::{all, dimensions, lambdas, nothing, one, pair};
+use kap_base::{ItemList, Names, NoMemory};
+use std::alloc::Global;
+use task_graph::{
+    DefaultSetting, DeleteSetting, EvalResult, EvalSpec, GroupBySpec, Keep, LogSpec, Name, Spec,
+};
+
+/// The properties of `eval`.
+#[derive(Drop)]
+pub(crate) struct EvalProps {
+    pub(crate) names: ItemList<Name>,
+    pub(crate) keep: Keep,
+}
+
+/// What is kept of the fields.
+fn kept(names: Names) -> Keep
+    ensures { result ≡ kept names }
+{
+    if names.len() == 0 {
+        Keep::All
+    } else {
+        Keep::Names(names)
+    }
+}
+
+impl<L: Drop> Props<L> for EvalProps {
+    ghost sets = { set_by eval_rows };
+
+    fn set(mut self, alloc: Global, prop: Setting<L>) -> Result<EvalProps, NodeFault>
+        ensures { Answers NodeFault.NoMemory result (set_by eval_rows self prop) }
+    {
+        let Setting { name, args, at } = prop;
+        let name = name.bytes();
+        if name == b"as".as_slice() {
+            self.names = all(alloc, args, at)?;
+            return Ok(self);
+        }
+        if name == b"keep".as_slice() {
+            self.keep = kept(all(alloc, args, at)?);
+            return Ok(self);
+        }
+        Err(NodeFault::Property(at))
+    }
+}
+
+/// Each lambda with its name.
+fn eval_results<L: Drop>(
+    alloc: Global,
+    lambdas: ItemList<L>,
+    names: ItemList<Name>,
+) -> Result<ItemList<EvalResult<L>>, NoMemory>
+    ensures { IfOk result (λ results. results ≡ eval_results lambdas names) }
+{
+    let mut results = ItemList::new(alloc);
+    let mut names = names.into_items().into_iter();
+    'pairing: for lambda in lambdas.into_items() {
+        let Some(name) = names.next() else {
+            return Ok(results);
+        };
+        results.push(EvalResult { lambda, name })?;
+    }
+    Ok(results)
+}
+
+/// `eval(l..)`.
+pub(crate) fn eval_spec<L: Drop>(alloc: Global, node: Node<L>) -> Result<Spec<L>, NodeFault>
+    ensures { Answers NodeFault.NoMemory result (eval_spec node) }
+{
+    let Node {
+        args,
+        props,
+        at,
+        ..
+    } = node;
+    let lambdas = lambdas(alloc, args, at)?;
+    let first = EvalProps {
+        names: ItemList::new(alloc),
+        keep: Keep::Results,
+    };
+    let EvalProps { names, keep } = set_all(alloc, props, first)?;
+    if lambdas.len() == 0 {
+        return Err(NodeFault::Argument(at));
+    }
+    if lambdas.len() != names.len() {
+        return Err(NodeFault::Argument(at));
+    }
+    let results = eval_results(alloc, lambdas, names)?;
+    Ok(Spec::Eval(EvalSpec { results, keep }))
+}
+
+impl<L: Drop> Props<L> for GroupBySpec {
+    ghost sets = { set_by group_by_rows };
+
+    fn set(mut self, alloc: Global, prop: Setting<L>) -> Result<GroupBySpec, NodeFault>
+        ensures { Answers NodeFault.NoMemory result (set_by group_by_rows self prop) }
+    {
+        let _ = alloc;
+        let Setting { name, args, at } = prop;
+        if name.bytes() == b"byMeasurement".as_slice() {
+            nothing(args, at)?;
+            self.by_measurement = true;
+            return Ok(self);
+        }
+        Err(NodeFault::Property(at))
+    }
+}
+
+/// `groupBy(s..)` or `groupBy(*)`.
+pub(crate) fn group_by_spec<L: Drop>(alloc: Global, node: Node<L>) -> Result<Spec<L>, NodeFault>
+    ensures { Answers NodeFault.NoMemory result (group_by_spec node) }
+{
+    let Node {
+        args,
+        props,
+        at,
+        ..
+    } = node;
+    let first = GroupBySpec {
+        dims: dimensions(alloc, args, at)?,
+        by_measurement: false,
+    };
+    Ok(Spec::GroupBy(set_all(alloc, props, first)?))
+}
+
+impl<L: Drop> Props<L> for LogSpec {
+    ghost sets = { set_by log_rows };
+
+    fn set(mut self, alloc: Global, prop: Setting<L>) -> Result<LogSpec, NodeFault>
+        ensures { Answers NodeFault.NoMemory result (set_by log_rows self prop) }
+    {
+        let Setting { name, args, at } = prop;
+        let name = name.bytes();
+        if name == b"level".as_slice() {
+            self.level = Some(one(alloc, args, at)?);
+            return Ok(self);
+        }
+        if name == b"prefix".as_slice() {
+            self.prefix = Some(one(alloc, args, at)?);
+            return Ok(self);
+        }
+        Err(NodeFault::Property(at))
+    }
+}
+
+/// `log()`.
+pub(crate) fn log_spec<L: Drop>(alloc: Global, node: Node<L>) -> Result<Spec<L>, NodeFault>
+    ensures { Answers NodeFault.NoMemory result (log_spec node) }
+{
+    let Node {
+        args,
+        props,
+        at,
+        ..
+    } = node;
+    nothing(args, at)?;
+    let first = LogSpec {
+        level: None,
+        prefix: None,
+    };
+    Ok(Spec::Log(set_all(alloc, props, first)?))
+}
+
+impl<L: Drop> Props<L> for ItemList<DefaultSetting> {
+    ghost sets = { set_by default_rows };
+
+    fn set(mut self, alloc: Global, prop: Setting<L>) -> Result<ItemList<DefaultSetting>, NodeFault>
+        ensures { Answers NodeFault.NoMemory result (set_by default_rows self prop) }
+    {
+        let Setting { name, args, at } = prop;
+        let name = name.bytes();
+        if name == b"field".as_slice() {
+            let (key, value) = pair(alloc, args, at)?;
+            self.push(DefaultSetting::Field(key, value))?;
+            return Ok(self);
+        }
+        if name == b"tag".as_slice() {
+            let (key, value) = pair(alloc, args, at)?;
+            self.push(DefaultSetting::Tag(key, value))?;
+            return Ok(self);
+        }
+        Err(NodeFault::Property(at))
+    }
+}
+
+/// `default()`.
+pub(crate) fn default_spec<L: Drop>(alloc: Global, node: Node<L>) -> Result<Spec<L>, NodeFault>
+    ensures { Answers NodeFault.NoMemory result (default_spec node) }
+{
+    let Node {
+        args,
+        props,
+        at,
+        ..
+    } = node;
+    nothing(args, at)?;
+    Ok(Spec::Default(set_all(alloc, props, ItemList::new(alloc))?))
+}
+
+impl<L: Drop> Props<L> for ItemList<DeleteSetting> {
+    ghost sets = { set_by delete_rows };
+
+    fn set(mut self, alloc: Global, prop: Setting<L>) -> Result<ItemList<DeleteSetting>, NodeFault>
+        ensures { Answers NodeFault.NoMemory result (set_by delete_rows self prop) }
+    {
+        let Setting { name, args, at } = prop;
+        let name = name.bytes();
+        if name == b"field".as_slice() {
+            self.push(DeleteSetting::Field(one(alloc, args, at)?))?;
+            return Ok(self);
+        }
+        if name == b"tag".as_slice() {
+            self.push(DeleteSetting::Tag(one(alloc, args, at)?))?;
+            return Ok(self);
+        }
+        Err(NodeFault::Property(at))
+    }
+}
+
+/// `delete()`.
+pub(crate) fn delete_spec<L: Drop>(alloc: Global, node: Node<L>) -> Result<Spec<L>, NodeFault>
+    ensures { Answers NodeFault.NoMemory result (delete_spec node) }
+{
+    let Node {
+        args,
+        props,
+        at,
+        ..
+    } = node;
+    nothing(args, at)?;
+    Ok(Spec::Delete(set_all(alloc, props, ItemList::new(alloc))?))
+}
+
+/// `shift(d)`.
+pub(crate) fn shift_spec<L: Drop>(alloc: Global, node: Node<L>) -> Result<Spec<L>, NodeFault>
+    ensures { Answers NodeFault.NoMemory result (shift_spec node) }
+{
+    let Node {
+        args,
+        props,
+        at,
+        ..
+    } = node;
+    let nanos = one(alloc, args, at)?;
+    no_props(&props)?;
+    Ok(Spec::Shift(nanos))
+}

@@ -1,0 +1,82 @@
+//! Texts, compiled to tasks.
+
+ghost use Rattle.std.specs.Prelude.{◌≡◌, ◌≢◌, ◌≤◌, true, false, length, IfErr, IfOk, None};
+ghost use Rattle.std.specs.List.{list_all};
+ghost use Rattle.kap_base.specs.Words.{HasRisen};
+ghost use Rattle.lambda_types.specs.Builds.{AtMostOneMore};
+ghost use Rattle.tick_lexer.specs.declared.limits.TheConstants.{SCRIPT_LIMIT};
+ghost use Rattle.tick_parser.specs.Trees.{script_tree};
+ghost use Rattle.tick_vars.specs.Law.{IsSettled};
+ghost use Rattle.tick_vars.specs.Nodes.{bound_tree};
+ghost use Rattle.tick_compile.specs.Kinds.{is_built};
+ghost use Rattle.tick_compile.specs.Scripts.{Accepts, Binds, IsMisread, Parses, Refuses};
+ghost use Rattle.tick_compile.specs.Tasks.{is_refusal, refusal_in};
+
+use crate::script_fault::ScriptFault;
+use crate::tasks::{Task, compile_bound};
+use kap_base::{bytes_break_in_one_place, utf8_text};
+use lambda_types::Patterns;
+use std::alloc::Global;
+use tick_lexer::lex;
+use tick_parser::{Tree, parse};
+use tick_vars::{Bound, bind, bound_as_written};
+
+/// The tree of a text's tokens.
+fn tree_of(alloc: Global, text: &str) -> Result<Tree, ScriptFault>
+    requires { length text.now ≤ SCRIPT_LIMIT }
+    ensures tree { IfOk result (λ tree. Parses text.now (script_tree tree)) }
+    ensures fault { IfErr result (λ f. f ≢ ScriptFault.NoMemory → IsMisread text.now f) }
+    ensures plain { IfErr result (λ f. is_refusal f ≡ false) }
+{
+    let tokens = lex(alloc, text)?;
+    let tree = parse(alloc, &tokens)?;
+    Ok(tree)
+}
+
+/// The tree of a script's text (Kapacitor 1.6 TICKscript language reference: Syntax), or the first fault of its bytes, its tokens or
+/// its grammar. It takes texts of at most 65,536 bytes. `NoMemory` comes where an allocation fails.
+pub fn read_tree(alloc: Global, text: &[u8]) -> Result<Tree, ScriptFault>
+    requires { length text.now ≤ SCRIPT_LIMIT }
+    ensures tree { IfOk result (λ tree. Parses text.now (script_tree tree)) }
+    ensures fault { IfErr result (λ f. f ≢ ScriptFault.NoMemory → IsMisread text.now f) }
+    ensures plain { IfErr result (λ f. is_refusal f ≡ false) }
+{
+    bytes_break_in_one_place();
+    match utf8_text(text) {
+        Ok(text) => tree_of(alloc, text),
+        Err(at) => Err(ScriptFault::NotUtf8(at as u32)),
+    }
+}
+
+/// The nodes of a script's text, with names replaced by what they stand for.
+fn bound_of(alloc: Global, text: &[u8]) -> Result<Bound, ScriptFault>
+    requires { length text.now ≤ SCRIPT_LIMIT }
+    ensures binds { IfOk result (λ bound. Binds text.now (bound_tree bound)) }
+    ensures settled { IfOk result (λ bound. IsSettled (bound_tree bound)) }
+    ensures fault { IfErr result (λ f. f ≢ ScriptFault.NoMemory → IsMisread text.now f) }
+    ensures plain { IfErr result (λ f. is_refusal f ≡ false) }
+{
+    bound_as_written();
+    let tree = read_tree(alloc, text)?;
+    let bound = bind(alloc, &tree)?;
+    Ok(bound)
+}
+
+/// The task of a script's text (Kapacitor 1.6 TICKscript language and node reference), or its first fault, in the order that
+/// `ScriptFault` tells. It takes texts of at most 65,536 bytes. `Lambda` with `Pattern` comes only where the count of refusals of
+/// `pats` rose in this call, at the place of the pattern whose text was refused last; a task is given only where no pattern was
+/// refused. Each node of it is of a kind that the run can build. `NoMemory` comes where an allocation fails.
+pub fn compile<P: Patterns>(alloc: Global, text: &[u8], pats: &mut P) -> Result<Task, ScriptFault>
+    requires { length text.now ≤ SCRIPT_LIMIT }
+    ensures task { IfOk result (λ task. Accepts None text.now task) }
+    ensures built { IfOk result (λ task. list_all (λ node. is_built node.spec) task.graph ≡ true) }
+    ensures fault { IfErr result (λ f. f ≢ ScriptFault.NoMemory →
+        Refuses (refusal_in f (P.refused pats.new)) text.now f) }
+    ensures kept { IfOk result (λ task. P.refusals pats.new ≡ P.refusals pats.old) }
+    ensures rose { IfErr result (λ f. is_refusal f ≡ true →
+        HasRisen (P.refusals pats.old) (P.refusals pats.new)) }
+    ensures counted { AtMostOneMore (P.refusals pats.old) (P.refusals pats.new) }
+{
+    let bound = bound_of(alloc, text)?;
+    compile_bound(alloc, bound, pats)
+}
