@@ -40,8 +40,10 @@ fn replay_by<S: Source, K: Sink>(
     ensures status { (name bytes : List ℕ) → IsLogScript script.now name → S.left input.old ≡ Some bytes
         → IsUnlessFailed result (status_at (reading_of bytes).stop) }
     ensures read { result ≡ Status.Ok → HasEnded (S.left input.old) (S.left input.new) }
-    ensures read_fault { result ≡ Status.ReadFault → HasRisen (S.faults input.old) (S.faults input.new) }
-    ensures write_fault { result ≡ Status.WriteFault → HasRisen (K.faults out.old) (K.faults out.new) }
+    ensures read_fault { result ≡ Status.ReadFault
+        → HasRisen (S.faults input.old) (S.faults input.new) }
+    ensures write_fault { result ≡ Status.WriteFault
+        → HasRisen (K.faults out.old) (K.faults out.new) }
 {
     match measurement_of(script.as_bytes()) {
         Some(name) => replay(alloc, id.as_bytes(), name, input, out),
@@ -64,9 +66,11 @@ pub fn command<S: Source, K: Sink>(
     out: &mut K,
 ) -> Status
     // Usage exactly where the words aren't those of a command.
-    ensures usage { ExactlyWhere result Status.Usage (request_in (map string_bytes words.now) ≡ None) }
+    ensures usage { ExactlyWhere result Status.Usage
+        (request_in (map string_bytes words.now) ≡ None) }
     // ScriptForm exactly where they ask for a replay, and its script isn't of the form.
-    ensures script_form { ExactlyWhere result Status.ScriptForm (AsksForOtherScript (map string_bytes words.now)) }
+    ensures script_form { ExactlyWhere result Status.ScriptForm
+        (AsksForOtherScript (map string_bytes words.now)) }
     // After these nothing was read or written.
     ensures nothing { (result ≡ Status.Usage) ⊎ (result ≡ Status.ScriptForm)
         → Keeps (S.left input.old) (S.left input.new)
@@ -82,15 +86,18 @@ pub fn command<S: Source, K: Sink>(
     ensures replayed { (id name : List ℕ) → AsksFor (map string_bytes words.now) id name
         → Replayed (text_of id name) result (S.left input.old) (S.left input.new)
         (K.written out.old) (K.written out.new) }
-    // Its status is Ok where the input is a recording, and else that of its first fault, unless memory ran out or a device failed.
+    // Its status is Ok where the input is a recording, and else that of its first fault, unless memory ran out or a
+    // device failed.
     ensures status { (id name bytes : List ℕ) → AsksFor (map string_bytes words.now) id name
         → S.left input.old ≡ Some bytes
         → IsUnlessFailed result (status_at (reading_of bytes).stop) }
     // At Ok the input was read to its end.
     ensures read { result ≡ Status.Ok → HasEnded (S.left input.old) (S.left input.new) }
     // A fault of the input or the output comes only where its count rose in this call.
-    ensures read_fault { result ≡ Status.ReadFault → HasRisen (S.faults input.old) (S.faults input.new) }
-    ensures write_fault { result ≡ Status.WriteFault → HasRisen (K.faults out.old) (K.faults out.new) }
+    ensures read_fault { result ≡ Status.ReadFault
+        → HasRisen (S.faults input.old) (S.faults input.new) }
+    ensures write_fault { result ≡ Status.WriteFault
+        → HasRisen (K.faults out.old) (K.faults out.new) }
 {
     match request_in(words) {
         None => Status::Usage,
