@@ -8,3 +8,4 @@ pub mod TextLaws
 pub mod PointLaws
 pub mod TestLaws
 pub mod EntryLaws
+pub mod RetainLaws

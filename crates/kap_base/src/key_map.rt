@@ -74,7 +74,8 @@ fn sort_entries<V: Drop>(mut entries: Vec<(Text, V)>) -> Result<Vec<(Text, V)>, 
 /// The entries put one after the other.
 fn last_of_each<V: Drop>(alloc: Global, entries: Vec<(Text, V)>) -> Result<Vec<(Text, V)>, NoMemory>
     ensures rising { IfOk result (λ kept. IsTrue (map.is_sorted byte_order kept.items)) }
-    ensures same { IfOk result (λ kept. map.from_sorted kept.items ≡ with_entries map.empty entries.items) }
+    ensures same { IfOk result (λ kept. map.from_sorted kept.items
+        ≡ with_entries map.empty entries.items) }
 {
     let mut kept = Vec::new(alloc);
     'putting: for (key, value) in entries {

@@ -80,7 +80,8 @@ impl Point {
     pub fn put_field(&mut self, name: Text, value: Value) -> Result<(), NoMemory>
         requires name { IsTrue (is_name name) }
         requires value { IsTrue (is_value value) }
-        ensures ok { OnOk result (self.new ≡ record self.old { fields = map.insert self.old.fields name value }) }
+        ensures ok { OnOk result (self.new
+            ≡ record self.old { fields = map.insert self.old.fields name value }) }
         ensures err { OnErr result (self.new ≡ self.old) }
     {
         self.fields.insert(name, value)?;

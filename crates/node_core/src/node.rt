@@ -83,7 +83,8 @@ pub trait Node: Drop {
     /// node of this spec stands there. After any `Err` the cursor stays, and so does the state.
     fn load(&mut self, alloc: Global, from: &mut Cursor) -> Result<(), CodeFault>
         ensures spec { spec self.new ≡ spec self.old }
-        ensures loaded { Loads (read (spec self.old)) from.old from.new (state self.old) (state self.new) result };
+        ensures loaded { Loads (read (spec self.old)) from.old from.new
+            (state self.old) (state self.new) result };
 
     /// How many inputs were dropped and counted.
     fn dropped(&self) -> u64

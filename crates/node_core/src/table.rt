@@ -84,7 +84,8 @@ fn cell_at<R: Rule>(
     key: &Key,
 ) -> Result<usize, NoMemory>
     requires { IsTrue (map.is_sorted byte_order cells.old.items) }
-    ensures ok { IfOk result (IsCellOf cells.old.items cells.new.items key.now (R.kept rule.now [])) }
+    ensures ok { IfOk result
+        (IsCellOf cells.old.items cells.new.items key.now (R.kept rule.now [])) }
     ensures err { OnErr result (cells.new.items ≡ cells.old.items) }
 {
     match search(cells, key) {

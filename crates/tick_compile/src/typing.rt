@@ -51,8 +51,8 @@ fn typed_arg<P: Patterns>(
     condition: bool,
     pats: &mut P,
 ) -> Result<Given<Lambda>, TypeFault>
-    ensures finds { Finds (given_of (arg_tree arg.now)) (λ r. arg_fault r condition (arg_tree arg.now))
-        (P.refused pats.new) result }
+    ensures finds { Finds (given_of (arg_tree arg.now))
+        (λ r. arg_fault r condition (arg_tree arg.now)) (P.refused pats.new) result }
     ensures counts { Counts result (P.refusals pats.old) (P.refusals pats.new) }
 {
     match arg {
@@ -146,8 +146,8 @@ pub(crate) fn typed_nodes<P: Patterns>(
     nodes: &[RawNode],
     pats: &mut P,
 ) -> Result<ItemList<Node<Lambda>>, TypeFault>
-    ensures finds { Finds (map node_of (node_trees nodes.now)) (λ r. type_fault r (node_trees nodes.now))
-        (P.refused pats.new) result }
+    ensures finds { Finds (map node_of (node_trees nodes.now))
+        (λ r. type_fault r (node_trees nodes.now)) (P.refused pats.new) result }
     ensures counts { Counts result (P.refusals pats.old) (P.refusals pats.new) }
 {
     let mut typed = ItemList::new(alloc);

@@ -1,7 +1,7 @@
 use Rattle.std.proofs.Common.{◌≡◌, sym, subst}
 use Rattle.std.specs.Prelude.{IfOk}
 use Rattle.basic_nodes.specs.Deletions.{is_left}
-use Rattle.basic_nodes.proofs.DeletionLaws.{left_of, nothing_goes}
+use Rattle.kap_base.proofs.RetainLaws.{left_of, nothing_goes}
 use Rattle.basic_nodes.proofs.deletions.left.Goals as goal
 
 pub returns-then-all_left : goal.returns-then-all_left

@@ -4,7 +4,7 @@ use Rattle.std.specs.List.{list_all}
 use Rattle.std.specs.FinMap.{empty, retain_keys}
 use Rattle.kap_base.specs.Maps.{with_entries}
 use Rattle.eval_node.specs.Evals.{is_kept}
-use Rattle.eval_node.proofs.FieldLaws.{left_of, nothing_goes}
+use Rattle.kap_base.proofs.RetainLaws.{left_of, nothing_goes}
 use Rattle.eval_node.proofs.fields.kept_fields.Goals as goal
 
 pub returns-then-are_kept : goal.returns-then-are_kept
