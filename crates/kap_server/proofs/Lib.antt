@@ -1,3 +1,5 @@
-pub mod ScriptLaws
 pub mod ReplayLaws
 pub mod CheckLaws
+pub mod PairLaws
+pub mod ReadyLaws
+pub mod TellLaws

@@ -1,10 +1,9 @@
 pub mod Words
-pub mod Script
-pub mod Lines
-pub mod ScriptTexts
 pub mod Statuses
-pub mod Scripts
 pub mod ReadingIn
 pub mod Checking
 pub mod Replaying
+pub mod Pairs
+pub mod Runs
+pub mod Readying
 pub mod Command

@@ -6,10 +6,10 @@ use Rattle.recording_file.specs.Recording.{Stop, Ended, Faulty, Undecided}
 use Rattle.recording_file.specs.declared.fault.RecFault.{RecFault}
 use Rattle.recording_file.specs.declared.fault.RecFault.TheVariants as faults
 use Rattle.kap_server.specs.declared.status.Status.{Status}
-use Rattle.kap_server.specs.declared.status.Status.TheVariants.{Ok, Usage, Script, Line, Truncated, TooLong, ScriptForm, NoMemory, ReadFault, WriteFault}
-use Rattle.kap_server.specs.declared.script_fault.ScriptFault.{ScriptFault}
-use Rattle.kap_server.specs.declared.script_fault.ScriptFault.TheVariants as scripts
-use Rattle.kap_server.specs.ScriptTexts.{text_of_fault}
+use Rattle.kap_server.specs.declared.status.Status.TheVariants.{Ok, Usage, Script, Line, Truncated, Exists, TooManyTasks, TooLong, NoMemory, ReadFault, WriteFault}
+use Rattle.tick_compile.specs.declared.script_fault.ScriptFault.{ScriptFault}
+use Rattle.tick_compile.specs.declared.script_fault.ScriptFault.TheVariants as scripts
+use Rattle.tick_compile.specs.Texts.{text_of_fault}
 
 -- the number with which the process ends
 abbrev pub number_of : Status → ℕ
@@ -18,8 +18,9 @@ number_of Usage = 2
 number_of (Script fault) = 3
 number_of (Line n fault) = 4
 number_of (Truncated n) = 5
+number_of Exists = 8
+number_of TooManyTasks = 9
 number_of TooLong = 10
-number_of ScriptForm = 21
 number_of NoMemory = 70
 number_of ReadFault = 71
 number_of WriteFault = 72
@@ -44,8 +45,9 @@ text_of_status Usage = codes "usage"
 text_of_status (Script fault) = text_of_fault fault
 text_of_status (Line n fault) = fault_line (record { line = n; fault = fault })
 text_of_status (Truncated n) = codes "truncated at line " ++ decimal n
+text_of_status Exists = codes "exists"
+text_of_status TooManyTasks = codes "too many tasks"
 text_of_status TooLong = codes "too long"
-text_of_status ScriptForm = codes "script form"
 text_of_status NoMemory = codes "no memory"
 text_of_status ReadFault = codes "read fault"
 text_of_status WriteFault = codes "write fault"

@@ -3,17 +3,15 @@
 
 mod checking;
 mod commands;
-mod lines;
+mod laws;
+mod readying;
 mod replaying;
-mod script;
-mod script_fault;
-mod script_texts;
 mod status;
+mod telling;
 mod texts;
 mod words;
 
-pub use commands::{command, texts_check_in_one_way};
-pub use script_fault::ScriptFault;
-pub use script_texts::script_text;
+pub use commands::command;
+pub use laws::{pairs_have_one_meaning, texts_check_in_one_way};
 pub use status::Status;
 pub use texts::status_text;

@@ -1,17 +1,23 @@
-ghost use Rattle.std.specs.Prelude.{◌≡◌, ◌≤◌, OnOk, OnErr};
+//! The replay of tasks that are ready to run.
+
+ghost use Rattle.std.specs.Prelude.{◌≡◌, ◌≤◌, false, map, OnOk, OnErr};
 ghost use Rattle.kap_base.specs.Words.{HasRisen};
 ghost use Rattle.kap_io.specs.Causes.{HasCause};
 ghost use Rattle.kap_io.specs.Pieces.{AppendsPrefix};
 ghost use Rattle.recording_file.specs.Reading.{HasEnded};
-ghost use Rattle.kap_server.specs.Lines.{text_of};
+ghost use Rattle.task_run.specs.Plans.{AreFirstStates, graph_of};
 ghost use Rattle.kap_server.specs.Replaying.{IsWritten, WritesSome, Replayed};
+ghost use Rattle.kap_server.specs.Runs.{EndsWritten, run_rest, run_text};
 
-use crate::lines::put_point;
 use crate::status::Status;
-use kap_base::Bytes;
+use crate::telling::Telling;
+use effect_text::TaskNames;
+use kap_base::{Bytes, NoMemory};
 use kap_io::{Failed, Sink, Source, write_all};
+use node_core::Node;
 use recording_file::Reader;
 use std::alloc::Global;
+use task_run::{LifePlan, effects_go_on};
 
 /// From how many bytes on the text that is due is written.
 const PIECE: usize = 65_536;
@@ -53,16 +59,40 @@ fn write_rest<K: Sink>(out: &mut K, text: &Bytes, status: Status) -> Status
     }
 }
 
-/// Replays the recording that the input gives: a line for each point of the measurement. What is due is written before each
-/// read of the input that may wait.
-pub fn replay<S: Source, K: Sink>(
+/// Writes the rest of the text of a whole recording, and the lines of what was dropped, where they are wanted.
+fn write_end<K: Sink, N: Node>(
     alloc: Global,
-    id: &[u8],
-    name: &[u8],
+    counts: bool,
+    names: &[TaskNames],
+    telling: &Telling<N>,
+    mut text: Bytes,
+    out: &mut K,
+) -> Status
+    requires { telling.now.run.spent ≡ false }
+    ensures written { EndsWritten result (K.written out.old) (K.written out.new)
+        text (run_rest N.answer counts names.now telling.now.run.lives telling.now.run.points)
+        (K.faults out.old) (K.faults out.new) }
+    ensures later { K.faults out.old ≤ K.faults out.new }
+{
+    match telling.put_counts(alloc, counts, names, &mut text) {
+        Ok(()) => write_rest(out, &text, Status::Ok),
+        Err(NoMemory) => Status::NoMemory,
+    }
+}
+
+/// Replays the recording that the input gives: the text of what the nodes do, and behind it of what they dropped, where that is
+/// wanted. What is due is written before each read of the input that may wait.
+pub(crate) fn replay<S: Source, K: Sink, N: Node>(
+    alloc: Global,
+    counts: bool,
+    names: &[TaskNames],
+    plans: Vec<LifePlan<N>>,
     input: &mut S,
     out: &mut K,
 ) -> Status
-    ensures replayed { Replayed (text_of id.now name.now) result
+    requires { AreFirstStates N.spec N.state N.first plans.items }
+    ensures replayed { Replayed (run_text N.answer names.now (map (graph_of N.spec) plans.items))
+        (run_rest N.answer counts names.now (map (graph_of N.spec) plans.items)) result
         (S.left input.old) (S.left input.new) (K.written out.old) (K.written out.new) }
     ensures read { result ≡ Status.Ok → HasEnded (S.left input.old) (S.left input.new) }
     ensures read_fault { result ≡ Status.ReadFault
@@ -70,6 +100,11 @@ pub fn replay<S: Source, K: Sink>(
     ensures write_fault { result ≡ Status.WriteFault
         → HasRisen (K.faults out.old) (K.faults out.new) }
 {
+    effects_go_on::<N>();
+    let mut telling = match Telling::new(alloc, plans) {
+        Ok(telling) => telling,
+        Err(NoMemory) => return Status::NoMemory,
+    };
     let mut reader = Reader::new(alloc);
     let mut text = Bytes::new(alloc);
     'replaying: loop {
@@ -79,12 +114,12 @@ pub fn replay<S: Source, K: Sink>(
         }
         let point = match reader.next(alloc, input) {
             Ok(Some(point)) => point,
-            Ok(None) => return write_rest(out, &text, Status::Ok),
+            Ok(None) => return write_end(alloc, counts, names, &telling, text, out),
             Err(fault) => return write_rest(out, &text, Status::from(fault)),
         };
-        match put_point(id, name, &point, &mut text) {
+        match telling.tell(alloc, names, point, &mut text) {
             Ok(()) => {}
-            Err(_) => return Status::NoMemory,
+            Err(NoMemory) => return Status::NoMemory,
         }
     }
 }

@@ -3,9 +3,10 @@
 ghost use Rattle.std.specs.Prelude.{◌≡◌};
 ghost use Rattle.kap_server.specs.Statuses.{status_of, status_of_script};
 
-use crate::script_fault::ScriptFault;
+use kap_base::NoMemory;
 use line_points::LineFault;
 use recording_file::RecFault;
+use tick_compile::ScriptFault;
 
 /// How a command ended.
 #[derive(Clone, Copy, Debug, PartialEq, Eq)]
@@ -14,16 +15,18 @@ pub enum Status {
     Ok,
     /// The words aren't those of a command.
     Usage,
-    /// The script isn't one: its first fault.
+    /// A script isn't one of a task: its first fault.
     Script { fault: ScriptFault },
     /// This line of the recording, numbered from 1, is the first that is no database, no policy or no line of the line protocol.
     Line { line: u64, fault: LineFault },
     /// The recording ends inside a group of three lines: this line is missing.
     Truncated { line: u64 },
-    /// The recording has more than 1,073,741,824 bytes, or the script that was to be checked more than 65,536.
+    /// A task's id was given before.
+    Exists,
+    /// There are more than 64 tasks.
+    TooManyTasks,
+    /// The recording has more than 1,073,741,824 bytes, or a script more than 65,536.
     TooLong,
-    /// The script isn't of the one form that is known until scripts are compiled.
-    ScriptForm,
     /// Memory ran out.
     NoMemory,
     /// The input failed.
@@ -45,8 +48,9 @@ impl Status {
             Status::Script { .. } => 3,
             Status::Line { .. } => 4,
             Status::Truncated { .. } => 5,
+            Status::Exists => 8,
+            Status::TooManyTasks => 9,
             Status::TooLong => 10,
-            Status::ScriptForm => 21,
             Status::NoMemory => 70,
             Status::ReadFault => 71,
             Status::WriteFault => 72,
@@ -76,5 +80,14 @@ impl From<ScriptFault> for Status {
             ScriptFault::NoMemory => Status::NoMemory,
             _ => Status::Script { fault },
         }
+    }
+}
+
+impl From<NoMemory> for Status {
+    ghost from_gives = { λ f s. s ≡ Status.NoMemory };
+
+    fn from(fault: NoMemory) -> Self {
+        let NoMemory = fault;
+        Status::NoMemory
     }
 }

@@ -3,12 +3,12 @@
 ghost use Rattle.std.specs.Prelude.{◌≡◌, IfOk};
 ghost use Rattle.kap_server.specs.Statuses.{text_of_status};
 
-use crate::script_texts::script_text;
 use crate::status::Status;
 use itoa::Buffer;
 use kap_base::{Bytes, NoMemory};
 use line_points::{BodyFault, body_text};
 use std::alloc::Global;
+use tick_compile::script_text;
 
 pub(crate) fn copy_of(alloc: Global, bytes: &[u8]) -> Result<Bytes, NoMemory>
     ensures { IfOk result (λ text. text ≡ bytes.now) }
@@ -44,8 +44,9 @@ pub fn status_text(alloc: Global, status: &Status) -> Result<Bytes, NoMemory>
             },
         ),
         Status::Truncated { line } => truncated_text(alloc, *line),
+        Status::Exists => copy_of(alloc, b"exists"),
+        Status::TooManyTasks => copy_of(alloc, b"too many tasks"),
         Status::TooLong => copy_of(alloc, b"too long"),
-        Status::ScriptForm => copy_of(alloc, b"script form"),
         Status::NoMemory => copy_of(alloc, b"no memory"),
         Status::ReadFault => copy_of(alloc, b"read fault"),
         Status::WriteFault => copy_of(alloc, b"write fault"),

@@ -1,10 +1,9 @@
 //! The words of a command line.
 
-ghost use Rattle.std.specs.Prelude.{◌≡◌, ◌&&◌, not, map, codes, string_bytes};
+ghost use Rattle.std.specs.Prelude.{◌≡◌, false, true, map, string_bytes};
 ghost use Rattle.std.specs.List.{list_all};
-ghost use Rattle.std.specs.Str.{bytes_eq};
 ghost use Rattle.std.specs.Option.{option_map};
-ghost use Rattle.kap_server.specs.Words.{is_id, is_id_byte, is_letter, is_name_byte, is_option, request_in, request_of};
+ghost use Rattle.kap_server.specs.Words.{are_pairs, check_request, is_id, is_id_byte, is_letter, is_option, replay_request, request_in, request_of, request_of_pairs};
 
 /// How many bytes the id of a task may have.
 pub(crate) const ID_LIMIT: usize = 64;
@@ -14,8 +13,9 @@ pub(crate) const ID_LIMIT: usize = 64;
 pub(crate) enum Request<'a> {
     /// To check the script that the input gives.
     Check,
-    /// To replay the recording that the input gives, for the task of this id, which has this script.
-    Replay { id: &'a str, script: &'a str },
+    /// To replay the recording that the input gives, for the tasks of these words, each an id and a script behind it; and to tell
+    /// what was dropped, where `counts`.
+    Replay { counts: bool, words: &'a [String] },
 }
 
 fn is_letter(byte: u8) -> bool
@@ -24,23 +24,10 @@ fn is_letter(byte: u8) -> bool
     byte.is_ascii_uppercase() || byte.is_ascii_lowercase()
 }
 
-fn is_name_byte(byte: u8) -> bool
-    ensures { result ≡ is_name_byte byte }
-{
-    is_letter(byte) || byte.is_ascii_digit() || byte == b'_'
-}
-
 fn is_id_byte(byte: u8) -> bool
     ensures { result ≡ is_id_byte byte }
 {
-    is_name_byte(byte) || byte == b'-' || byte == b'.'
-}
-
-/// Whether all bytes may stand in a name of a script.
-pub(crate) fn has_name_bytes(bytes: &[u8]) -> bool
-    ensures { result ≡ list_all is_name_byte bytes.now }
-{
-    bytes.iter().all(|b| is_name_byte(*b))
+    is_letter(byte) || byte.is_ascii_digit() || byte == b'_' || byte == b'-' || byte == b'.'
 }
 
 fn has_id_bytes(bytes: &[u8]) -> bool
@@ -64,37 +51,70 @@ fn is_id(word: &[u8]) -> bool
     !word.is_empty() && word.len() <= ID_LIMIT && has_id_bytes(word)
 }
 
-fn is_replay(command: &String, id: &String) -> bool
-    ensures { result ≡ bytes_eq (string_bytes command.now) (codes "replay") && is_id
-        (string_bytes id.now) && not (is_option (string_bytes id.now)) }
+/// Whether the words are ids, each with a script behind it.
+fn are_pairs(words: &[String]) -> bool
+    ensures { result ≡ are_pairs (map string_bytes words.now) }
 {
-    command.as_str() == "replay" && is_id(id.as_bytes()) && !is_option(id.as_bytes())
+    let mut rest = words;
+    'pairing: loop {
+        match rest {
+            [] => return true,
+            [_] => return false,
+            [id, _, others @ ..] => {
+                if !is_id(id.as_bytes()) {
+                    return false;
+                }
+                rest = others;
+            }
+        }
+    }
+}
+
+/// To replay the recording for the tasks of the words, where they are ids and scripts.
+fn request_of_pairs(counts: bool, words: &[String]) -> Option<Request<'_>>
+    ensures { option_map request_of result
+        ≡ request_of_pairs counts (map string_bytes words.now) }
+{
+    let (id, _) = words.split_first()?;
+    if is_option(id.as_bytes()) || !are_pairs(words) {
+        return None;
+    }
+    Some(Request::Replay { counts, words })
+}
+
+/// The same behind options.
+fn replay_request(words: &[String]) -> Option<Request<'_>>
+    ensures { option_map request_of result ≡ replay_request (map string_bytes words.now) }
+{
+    let (word, rest) = words.split_first()?;
+    if word.as_str() == "--counts" {
+        request_of_pairs(true, rest)
+    } else {
+        request_of_pairs(false, words)
+    }
+}
+
+/// To check a script, where no further words are there.
+fn check_request(words: &[String]) -> Option<Request<'_>>
+    ensures { option_map request_of result ≡ check_request (map string_bytes words.now) }
+{
+    if words.is_empty() {
+        Some(Request::Check)
+    } else {
+        None
+    }
 }
 
 /// What the words of the command line ask for.
 pub(crate) fn request_in(words: &[String]) -> Option<Request<'_>>
     ensures { option_map request_of result ≡ request_in (map string_bytes words.now) }
 {
-    match words {
-        [] => None,
-        [command] => {
-            if command.as_str() == "check" {
-                Some(Request::Check)
-            } else {
-                None
-            }
-        }
-        [_, _] => None,
-        [command, id, script] => {
-            if is_replay(command, id) {
-                Some(Request::Replay {
-                    id: id.as_str(),
-                    script: script.as_str(),
-                })
-            } else {
-                None
-            }
-        }
-        _ => None,
+    let (command, rest) = words.split_first()?;
+    if command.as_str() == "check" {
+        check_request(rest)
+    } else if command.as_str() == "replay" {
+        replay_request(rest)
+    } else {
+        None
     }
 }

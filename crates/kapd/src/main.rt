@@ -1,5 +1,5 @@
 //! `kapd - check` prints the canonical form of the script on standard input, and `kapd - replay ID SCRIPT` replays the recording
-//! there, and writes the lines of its points to standard output.
+//! there by the task of the script, and writes what it does to standard output.
 #![tactic(auto)]
 
 ghost use Rattle.std.specs.Prelude.{◌≡◌, map, string_bytes};
@@ -8,6 +8,7 @@ ghost use Rattle.kapd.specs.Places.{behind_place};
 
 use kap_io::{ReadSource, WriteSink};
 use kap_server::{Status, command, status_text};
+use lambda_types::RegexPatterns;
 use std::env::Env;
 use std::process::ExitCode;
 use std::{env, io};
@@ -17,15 +18,16 @@ const HELP: &str = "kapd PLACE COMMAND ..
 
 PLACE is `-`. Commands:
 
-  check              reads a script from standard input, and writes its canonical form
-  replay ID SCRIPT   reads a recording from standard input, and writes a line for each point that the script logs
+  check                       reads a script from standard input, and writes its canonical form
+  replay [--counts] ID SCRIPT [ID SCRIPT]..
+                              reads a recording from standard input, and writes what the tasks do at its points
 
-  ID      the task's name: 1 to 64 ASCII letters, digits, `_`, `-` and `.`, not beginning with `--`
-  SCRIPT  of a replay: exactly stream|from().measurement('M')|log(), where M has 1 to 64 ASCII letters, digits and
-          `_`, and no digit first
+  --counts  tells behind that how many points each node dropped
+  ID        a task's name: 1 to 64 ASCII letters, digits, `_`, `-` and `.`; the first doesn't begin with `--`
+  SCRIPT    the task's script, a TICKscript of at most 65,536 bytes
 
-A script that is checked is a TICKscript of at most 65,536 bytes. Its bytes, tokens, grammar and names are looked at.
-The kinds of nodes, their properties, patterns and the types of lambdas aren't yet.
+A replay has at most 64 tasks. A task's nodes are of these kinds: stream, from, where, eval, groupBy, log, default,
+delete, shift and sample. Other kinds of Kapacitor 1.6 are refused as NoKind.
 
 A recording has three lines a point: the database, the retention policy, and the point in InfluxDB's line protocol.
 Database and policy are UTF-8 of at most 65,536 bytes. Numbers of fields are whole, from -9223372036854775808i to
@@ -34,15 +36,22 @@ Database and policy are UTF-8 of at most 65,536 bytes. Numbers of fields are who
 
 An example:
 
-  printf 'd\\nr\\ncpu,host=a idle=7i 5\\n' | kapd - replay t \"stream|from().measurement('cpu')|log()\"
+  printf 'd\\nr\\ncpu,host=a idle=7i 5\\n' |
+    kapd - replay t \"stream|from().measurement('cpu').where(lambda: \\\"idle\\\" < 10)|log()\"
+
+A line of the output is `out ID NODE POINT`, or with --counts `dropped ID NODE NUMBER`; NODE is a kind and the node's
+number in its task.
 
 The exit status, and what standard error says behind `kapd: `:
 
-  0   (nothing: all was done)          10  too long
-  2   usage                            21  script form
-  3   script: FAULT at BYTE            70  no memory
+  0   (nothing: all was done)          9   too many tasks
+  2   usage                            10  too long
+  3   script: FAULT at PLACE           70  no memory
   4   line N: FAULT                    71  read fault
   5   truncated at line N              72  write fault
+  8   exists
+
+PLACE is a byte of the script, counted from 0; of a Graph fault it is the node's number.
 
   kapd --help        prints this
   kapd --version     prints the version
@@ -72,7 +81,8 @@ fn words_of<R: Env + AllocGlobal>(rt: &R) -> Result<Vec<String>, Status> {
 fn run<R: Input + Print + AllocGlobal>(rt: &R, words: &[String]) -> Status {
     let mut input = ReadSource::new(rt.reader());
     let mut out = WriteSink::new(io::writer(rt));
-    command(rt.alloc(), words, &mut input, &mut out)
+    let mut pats = RegexPatterns::new(rt.alloc(), Vec::new(rt.alloc()));
+    command(rt.alloc(), words, &mut input, &mut out, &mut pats)
 }
 
 /// The words behind the place `-`, where the words begin with it. No other place is known yet.

@@ -1,0 +1,72 @@
+-- What a replay of tasks writes.
+use Rattle.std.specs.Prelude.{◌≡◌, ◌⊎◌, ℕ, ◌+◌, Bool, ◌++◌, if◌then◌else◌, List, [], ◌∷◌, Option, None, Some}
+use Rattle.std.specs.Io.KnownBytes.{Keeps}
+use Rattle.kap_base.specs.Points.{PointValue}
+use Rattle.lambda_types.specs.Faults.{Refusal}
+use Rattle.node_core.specs.Meaning.{Answer}
+use Rattle.node_set.specs.Nodes.{AnySpec}
+use Rattle.node_set.specs.Tasks.{nodes_from, with_first}
+use Rattle.effect_text.specs.Lines.{dropped_text, text_of}
+use Rattle.effect_text.specs.declared.names.TaskNames.{TaskNames}
+use Rattle.task_run.specs.Graphs.{Placed}
+use Rattle.task_run.specs.Lives.{dropped_of, effects_of}
+use Rattle.tick_compile.specs.Tasks.{refusal_in}
+use Rattle.tick_compile.specs.declared.tasks.Task.{Task}
+use Rattle.kap_server.specs.declared.status.Status.{Status}
+use Rattle.kap_server.specs.declared.status.Status.TheVariants.{Ok, Script, NoMemory}
+use Rattle.kap_server.specs.Pairs.{AreTasks, AreNoTasks, task_names}
+use Rattle.kap_server.specs.Replaying.{IsWritten, Replayed, TextOf}
+use Rattle.kap_server.specs.Words.{Pair}
+
+-- the nodes of a life
+abbrev pub Nodes : Type 0
+Nodes = List (Placed AnySpec)
+
+-- the lives of tasks, numbered from here on
+abbrev pub lives_from : ℕ → List Task → Option (List Nodes)
+lives_from life [] = Some []
+lives_from life (task ∷ tasks) = with_first (nodes_from life 0 task.graph) (lives_from (life + 1) tasks)
+
+module _ {P : Type 0} (answer : P → Answer) where
+  -- the text of what the nodes of lives do on points
+  abbrev pub run_text : List TaskNames → List (List (Placed P)) → TextOf
+  run_text names lives points = text_of names (effects_of answer lives points)
+
+  -- and then the lines of what they dropped, where those are wanted
+  abbrev pub run_rest : Bool → List TaskNames → List (List (Placed P)) → TextOf
+  run_rest counts names lives points = if counts then dropped_text names (dropped_of answer lives points) else []
+
+-- the pairs are tasks, which run in lives numbered from 1, and their text was written, as the status says
+pub record RunsTasks (answer : AnySpec → Answer) (counts : Bool) (pairs : List Pair) (result : Status) (s t w v : Option (List ℕ)) : Type 0 where
+  pub tasks : List Task
+  pub lives : List Nodes
+  pub are : AreTasks [] pairs tasks
+  pub made : lives_from 1 tasks ≡ Some lives
+  pub replayed : Replayed (run_text answer (task_names pairs tasks) lives) (run_rest answer counts (task_names pairs tasks) lives) result s t w v
+
+-- the refused pattern of which a status speaks, if it speaks of one, by the text that was refused last
+abbrev pub refusal_of : Status → List ℕ → Option Refusal
+refusal_of (Script fault) refused = refusal_in fault refused
+refusal_of other refused = None
+
+-- the status says why the first pair that is no task is none, and nothing was read or written
+pub record RefusesPairs (refused : List ℕ) (pairs : List Pair) (result : Status) (s t w v : Option (List ℕ)) : Type 0 where
+  pub why : AreNoTasks (refusal_of result refused) [] pairs result
+  pub read : Keeps s t
+  pub written : Keeps w v
+
+-- memory ran out, and nothing was read or written
+pub record RanOut (result : Status) (s t w v : Option (List ℕ)) : Type 0 where
+  pub why : result ≡ NoMemory
+  pub read : Keeps s t
+  pub written : Keeps w v
+
+-- What stands after a replay, where s and t are what was left of the input before and after, w and v what was written, and
+-- `refused` is the pattern that was refused last.
+abbrev pub Ran : (AnySpec → Answer) → List ℕ → Bool → List Pair → Status → Option (List ℕ) → Option (List ℕ) → Option (List ℕ) → Option (List ℕ) → Type 0
+Ran answer refused counts pairs result s t w v =
+    RunsTasks answer counts pairs result s t w v ⊎ (RefusesPairs refused pairs result s t w v ⊎ RanOut result s t w v)
+
+-- what is due and the rest behind it were written, or the output failed, or memory ran out and nothing was written
+abbrev pub EndsWritten : Status → Option (List ℕ) → Option (List ℕ) → List ℕ → List ℕ → ℕ → ℕ → Type 0
+EndsWritten result w v due rest before after = IsWritten Ok result w v (due ++ rest) before after ⊎ ((result ≡ NoMemory) × Keeps w v)

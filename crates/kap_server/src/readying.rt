@@ -1,0 +1,124 @@
+//! Tasks, made ready to run.
+
+ghost use Rattle.std.specs.Prelude.{◌≡◌, ◌≢◌, ◌+◌, ◌<◌, ◌^◌, map, true, IfErr, OnOk, length, nat_lt, string_bytes};
+ghost use Rattle.std.specs.List.{list_all};
+ghost use Rattle.kap_base.specs.Words.{HasRisen};
+ghost use Rattle.tick_compile.specs.Kinds.{is_built};
+ghost use Rattle.kap_server.specs.Pairs.{AreNoTasks, IsNoTask, is_among};
+ghost use Rattle.kap_server.specs.Readying.{AddsTask, AddsTasks, PutsTask, ids_of, is_pattern_refused};
+ghost use Rattle.kap_server.specs.Runs.{refusal_of};
+ghost use Rattle.kap_server.specs.Words.{pairs_of};
+
+use crate::status::Status;
+use effect_text::TaskNames;
+use kap_base::{NoMemory, Text};
+use lambda_types::Patterns;
+use node_core::Node;
+use node_set::{AnyNode, TaskPlan, plan_task};
+use std::alloc::Global;
+use task_run::LifePlan;
+use tick_compile::{Task, compile};
+use tick_lexer::SCRIPT_LIMIT;
+
+/// How many tasks a replay may have.
+pub(crate) const TASK_LIMIT: usize = 64;
+
+/// Tasks that are ready to run: the names by which lines tell of them, and their lives.
+#[derive(Drop)]
+pub(crate) struct Ready {
+    pub(crate) names: Vec<TaskNames>,
+    pub(crate) plans: Vec<LifePlan<AnyNode>>,
+}
+
+/// Whether a task has the id.
+fn has_id(names: &[TaskNames], id: &str) -> bool
+    ensures { result ≡ is_among id.now (ids_of names.now) }
+{
+    names.iter().any(|task| id.as_bytes() == task.id.bytes())
+}
+
+/// Puts a task behind those that are ready, to run in this life.
+fn put_task(
+    alloc: Global,
+    life: u32,
+    id: &str,
+    task: Task,
+    ready: &mut Ready,
+) -> Result<(), NoMemory>
+    requires { list_all (λ node. is_built node.spec) task.graph ≡ true }
+    ensures { OnOk result (PutsTask ⟦<AnyNode as Node>⟧.spec ⟦<AnyNode as Node>⟧.state
+        ⟦<AnyNode as Node>⟧.first life id.now task ready.old.names.items ready.new.names.items
+        ready.old.plans.items ready.new.plans.items) }
+{
+    let TaskPlan { plan, names } = plan_task(alloc, life, task.graph)?;
+    let id = Text::from_str(alloc, id)?;
+    ready.names.push(TaskNames { id, nodes: names })?;
+    ready.plans.push(plan)?;
+    Ok(())
+}
+
+/// Makes the task of an id and a script ready, to run in this life behind the others.
+fn add_task<P: Patterns>(
+    alloc: Global,
+    life: u32,
+    id: &str,
+    script: &str,
+    ready: &mut Ready,
+    pats: &mut P,
+) -> Result<(), Status>
+    ensures ok { OnOk result (AddsTask ⟦<AnyNode as Node>⟧.spec ⟦<AnyNode as Node>⟧.state
+        ⟦<AnyNode as Node>⟧.first life (record { id = id.now; script = script.now })
+        ready.old.names.items ready.new.names.items ready.old.plans.items ready.new.plans.items) }
+    ensures err { IfErr result (λ s. s ≢ Status.NoMemory
+        → IsNoTask (refusal_of s (P.refused pats.new)) (ids_of ready.old.names.items)
+        (record { id = id.now; script = script.now }) s) }
+    ensures rose { IfErr result (λ s. is_pattern_refused s ≡ true
+        → HasRisen (P.refusals pats.old) (P.refusals pats.new)) }
+    ensures kept { OnOk result (P.refusals pats.new ≡ P.refusals pats.old) }
+{
+    if script.len() > SCRIPT_LIMIT {
+        return Err(Status::TooLong);
+    }
+    if has_id(&ready.names, id) {
+        return Err(Status::Exists);
+    }
+    let task = compile(alloc, script.as_bytes(), pats)?;
+    put_task(alloc, life, id, task, ready)?;
+    Ok(())
+}
+
+/// Makes the tasks of ids, each with a script behind it, ready, to run in lives from this one on behind the others. An `Err` is that
+/// of the first that is no task.
+pub(crate) fn add_tasks<P: Patterns>(
+    alloc: Global,
+    life: u32,
+    words: &[String],
+    ready: &mut Ready,
+    pats: &mut P,
+) -> Result<(), Status>
+    requires { life + length words.now < 2 ^ 32 }
+    ensures ok { OnOk result (AddsTasks ⟦<AnyNode as Node>⟧.spec ⟦<AnyNode as Node>⟧.state
+        ⟦<AnyNode as Node>⟧.first life (pairs_of (map string_bytes words.now))
+        ready.old.names.items ready.new.names.items ready.old.plans.items ready.new.plans.items) }
+    ensures err { IfErr result (λ s. s ≢ Status.NoMemory
+        → AreNoTasks (refusal_of s (P.refused pats.new)) (ids_of ready.old.names.items)
+        (pairs_of (map string_bytes words.now)) s) }
+    ensures rose { IfErr result (λ s. is_pattern_refused s ≡ true
+        → HasRisen (P.refusals pats.old) (P.refusals pats.new)) }
+    ensures kept { OnOk result (P.refusals pats.new ≡ P.refusals pats.old) }
+{
+    match words {
+        [id, script, rest @ ..] => {
+            add_task(alloc, life, id.as_str(), script.as_str(), ready, pats)?;
+            add_tasks(alloc, life + 1, rest, ready, pats)
+        }
+        _ => Ok(()),
+    }
+}
+
+/// Whether there are more tasks than there may be.
+pub(crate) fn are_too_many(words: &[String]) -> bool
+    ensures { result ≡ nat_lt TASK_LIMIT (length (pairs_of (map string_bytes words.now))) }
+{
+    words.len() >= 2 * TASK_LIMIT + 2
+}

@@ -1,0 +1,278 @@
+-- Nodes that were made for those of a graph are what is planned of a task.
+use Rattle.std.proofs.Common.{◌≡◌, ℕ, ◌+◌, ◌<◌, ◌≤◌, Bool, true, false, Option, None, Some, List, [], ◌∷◌, ◌++◌, length, map, refl, sym, ap, ◌∙◌, subst, append_assoc, append-nil, arith}
+use Rattle.std.specs.Prelude.{◌&&◌, IsTrue, if◌then◌else◌, is_some, max, nat_eq, nat_le, nat_lt, zip}
+use Rattle.std.specs.List.{list_all}
+use Rattle.std.proofs.lemmas.Bool.Decides.{nat_tests}
+use Rattle.kap_base.specs.Tree.{Tree}
+use Rattle.kap_base.proofs.TestLaws.{first_of, second_of}
+use Rattle.node_core.specs.Both.{either}
+use Rattle.node_core.specs.declared.both.Both.TheVariants.{One, Other}
+use Rattle.task_graph.specs.Edges.{is_stream}
+use Rattle.task_graph.specs.Graphs.{IsGraph, are_behind, fault_from, has_shape, is_fit, node_fault}
+use Rattle.task_graph.specs.Graphs.{first as earlier}
+use Rattle.task_graph.specs.declared.graph.GraphFault.{GraphFault}
+use Rattle.task_graph.specs.declared.graph.GraphFault.TheVariants.{TooManyNodes}
+use Rattle.task_graph.specs.declared.graph.TheConstants.{NODE_LIMIT}
+use Rattle.task_graph.specs.declared.spec.NodeSpec.{NodeSpec}
+use Rattle.task_graph.specs.declared.spec.Spec.{Spec}
+use Rattle.task_graph.specs.declared.spec.Spec.TheVariants.{Stream, From, Where, Eval, GroupBy, Log, Default, Delete, Shift, Sample, Window, Select, StateCount, ChangeDetect, Difference, CumulativeSum, Elapsed, Union, Join, Alert}
+use Rattle.task_run.specs.Graphs.{Placed}
+use Rattle.task_run.specs.Plans.{AreBelow, AreFirstNodes, AreNodesFrom, IsNodeAt, IsPlan, PlanValue, graph_of}
+use Rattle.basic_nodes.specs.declared.spec.BasicSpec.{BasicSpec}
+use Rattle.basic_nodes.specs.declared.spec.BasicSpec.TheVariants as basic
+use Rattle.basic_nodes.specs.Nodes.{kind_of, lives, numbers, port}
+use Rattle.basic_nodes.specs.Nodes.{seat_of as basic_seat}
+use Rattle.node_set.specs.Drafts.{AddsNodes, AreNodesOf, DraftValue, IsNodeOf}
+use Rattle.node_set.specs.Nodes.{AnySpec, any_spec, is_known}
+use Rattle.node_set.specs.Tasks.{nodes_from}
+
+-- ---- where a node sits
+
+abbrev pub any_life : AnySpec → ℕ
+any_life = either (either (λ s. s.life) (λ s. s.life)) (λ s. s.life)
+
+abbrev pub any_number : AnySpec → ℕ
+any_number = either (either (λ s. s.node) (λ s. s.node)) (λ s. s.node)
+
+abbrev pub any_ports : AnySpec → ℕ
+any_ports = either (either (λ s. 1) (λ s. 1)) (λ s. 1)
+
+-- the node sits in this life with this number, and has one port
+pub record Sits (life number : ℕ) (spec : AnySpec) : Type 0 where
+  pub life_is : any_life spec ≡ life
+  pub number_is : any_number spec ≡ number
+  pub port : any_ports spec ≡ 1
+
+abbrev WhereKnown : (AnySpec → Type 0) → Option AnySpec → Type 0
+WhereKnown P None = Unit {0}
+WhereKnown P (Some spec) = P spec
+
+known_is : (P : AnySpec → Type 0) (o : Option AnySpec) (spec : AnySpec) → o ≡ Some spec → WhereKnown P o → P spec
+known_is P o spec is h = subst (WhereKnown P) is h
+
+basic_sits : (life number : ℕ) (spec : BasicSpec) → Sits life number (One (basic_seat life number (kind_of spec)))
+basic_sits life number spec = record {
+  life_is = lives life number (kind_of spec);
+  number_is = numbers life number (kind_of spec);
+  port = port life number (kind_of spec);
+}
+
+each_sits : (life number : ℕ) (spec : Spec Tree) → WhereKnown (Sits life number) (any_spec life number spec)
+each_sits life number (Stream dbrps) = basic_sits life number (basic.Stream dbrps)
+each_sits life number (From from) = basic_sits life number (basic.From from)
+each_sits life number (Where condition) = basic_sits life number (basic.Where condition)
+each_sits life number (Eval eval) = record { life_is = refl; number_is = refl; port = refl }
+each_sits life number (GroupBy group) = basic_sits life number (basic.GroupBy group)
+each_sits life number (Log log) = basic_sits life number (basic.Log log)
+each_sits life number (Default settings) = basic_sits life number (basic.Default settings)
+each_sits life number (Delete settings) = basic_sits life number (basic.Delete settings)
+each_sits life number (Shift by) = basic_sits life number (basic.Shift by)
+each_sits life number (Sample n) = basic_sits life number (basic.Sample n)
+each_sits life number (Window window) = tt
+each_sits life number (Select select) = tt
+each_sits life number (StateCount count) = tt
+each_sits life number (ChangeDetect fields) = tt
+each_sits life number (Difference field) = tt
+each_sits life number (CumulativeSum field) = tt
+each_sits life number (Elapsed elapsed) = tt
+each_sits life number (Union rename) = tt
+each_sits life number (Join join) = tt
+each_sits life number (Alert alert) = tt
+
+-- ---- one parent
+
+is_one : (n : ℕ) → IsTrue (nat_eq n 1) → n ≡ 1
+is_one n h = grind (arith, nat_tests)
+
+-- a known node that fits so many parents has one
+abbrev OneParent : ℕ → Spec Tree → AnySpec → Type 0
+OneParent n spec at = IsTrue (is_fit n spec) → n ≡ 1
+
+each_has_one : (life number n : ℕ) (spec : Spec Tree) → WhereKnown (OneParent n spec) (any_spec life number spec)
+each_has_one life number n (Stream dbrps) = is_one n
+each_has_one life number n (From from) = is_one n
+each_has_one life number n (Where condition) = is_one n
+each_has_one life number n (Eval eval) = λ h. is_one n (first_of (nat_eq n 1) (nat_lt 0 (length eval.results)) h)
+each_has_one life number n (GroupBy group) = is_one n
+each_has_one life number n (Log log) = is_one n
+each_has_one life number n (Default settings) = is_one n
+each_has_one life number n (Delete settings) = is_one n
+each_has_one life number n (Shift by) = is_one n
+each_has_one life number n (Sample k) = is_one n
+each_has_one life number n (Window window) = tt
+each_has_one life number n (Select select) = tt
+each_has_one life number n (StateCount count) = tt
+each_has_one life number n (ChangeDetect fields) = tt
+each_has_one life number n (Difference field) = tt
+each_has_one life number n (CumulativeSum field) = tt
+each_has_one life number n (Elapsed elapsed) = tt
+each_has_one life number n (Union rename) = tt
+each_has_one life number n (Join join) = tt
+each_has_one life number n (Alert alert) = tt
+
+below : (number : ℕ) (parents : List ℕ) → IsTrue (list_all (λ p. nat_lt p number) parents) → AreBelow number parents
+below number [] h = tt
+below number (p ∷ ps) h =
+    let lower : IsTrue (nat_lt p number) = first_of (nat_lt p number) (list_all (λ p. nat_lt p number) ps) h in
+    (grind (arith, nat_tests), below number ps (second_of (nat_lt p number) (list_all (λ p. nat_lt p number) ps) h))
+
+-- ---- how many nodes a graph has
+
+no_fault : (a b : Option GraphFault) → earlier a b ≡ None → (a ≡ None) × (b ≡ None)
+no_fault None b h = (refl, h)
+no_fault (Some f) b h = absurd cc
+
+not_many : (b : Bool) (rest : Option GraphFault) → (if b then Some TooManyNodes else rest) ≡ None → b ≡ false
+not_many true rest h = absurd cc
+not_many false rest h = refl
+
+is_low : (nodes : List (NodeSpec Tree)) (number : ℕ) (node : NodeSpec Tree) → node_fault nodes number node ≡ None → nat_le NODE_LIMIT number ≡ false
+is_low nodes number node h = not_many (nat_le NODE_LIMIT number) _ h
+
+-- nodes without a fault, numbered from here on, are few
+few_from : (all : List (NodeSpec Tree)) (number : ℕ) (nodes : List (NodeSpec Tree)) → number ≤ NODE_LIMIT → fault_from all number nodes ≡ None → number + length nodes ≤ NODE_LIMIT
+few_from all number [] le h = omega (arith, le)
+few_from all number (node ∷ nodes) le h =
+    let none = no_fault (node_fault all number node) (fault_from all (number + 1) nodes) h in
+    let low : nat_le NODE_LIMIT number ≡ false = is_low all number node none.0 in
+    let less : number < NODE_LIMIT = grind (arith, nat_tests) in
+    let more = few_from all (number + 1) nodes (omega (arith, less)) none.1 in
+    omega (arith, more)
+
+-- a graph has few nodes
+pub few : (graph : List (NodeSpec Tree)) → IsGraph graph → 0 + length graph ≤ NODE_LIMIT
+few graph h = few_from graph 0 graph (omega arith) h.faultless
+
+module _ {N S : Type 0} (spec : N → AnySpec) (state : N → S) (first : AnySpec → S) where
+  abbrev Are : ℕ → ℕ → List (NodeSpec Tree) → List N → Type 0
+  Are = AreNodesOf spec state first
+
+  abbrev Adds : ℕ → ℕ → List (NodeSpec Tree) → DraftValue N → DraftValue N → Type 0
+  Adds = AddsNodes spec state first
+
+  -- ---- adding nodes
+
+  -- one node that is another's
+  record IsOne (life number : ℕ) (node : NodeSpec Tree) (ns : List N) : Type 0 where
+    pub n : N
+    pub is : ns ≡ n ∷ []
+    pub of : IsNodeOf spec state first life number node n
+
+  one : (life number : ℕ) (node : NodeSpec Tree) (ns : List N) → Are life number (node ∷ []) ns → IsOne life number node ns
+  one life number node [] h = absurd h
+  one life number node (n ∷ []) h = record { n = n; is = refl; of = h.0 }
+  one life number node (n ∷ m ∷ ms) h = absurd h.1
+
+  -- a list with one item more and then others
+  then_more : {A : Type 0} (a b c more : List A) (x : A) → b ≡ a ++ x ∷ [] → c ≡ b ++ more → c ≡ a ++ x ∷ more
+  then_more {A = A} a b c more x p q = q ∙ ap (λ (l : List A). l ++ more) p ∙ append_assoc a (x ∷ []) more
+
+  pub adds_first : (life number : ℕ) (node : NodeSpec Tree) (nodes : List (NodeSpec Tree)) (a b c : DraftValue N)
+      → Adds life number (node ∷ []) a b → Adds life (number + 1) nodes b c → Adds life number (node ∷ nodes) a c
+  adds_first life number node nodes a b c p q =
+      let o = one life number node p.added p.are in
+      record {
+        added = o.n ∷ q.added;
+        are = (o.of, q.are);
+        nodes_are = then_more a.nodes b.nodes c.nodes q.added o.n (p.nodes_are ∙ ap (λ (l : List N). a.nodes ++ l) o.is) q.nodes_are;
+        parents_are = then_more a.parents b.parents c.parents (map (λ n. n.parents) nodes) node.parents p.parents_are q.parents_are;
+        names_are = then_more a.names b.names c.names (map (λ n. n.name) nodes) node.name p.names_are q.names_are;
+      }
+
+  pub adds_none : (life number : ℕ) (a : DraftValue N) → Adds life number [] a a
+  adds_none life number a = record {
+    added = [];
+    are = tt;
+    nodes_are = sym (append-nil a.nodes);
+    parents_are = sym (append-nil a.parents);
+    names_are = sym (append-nil a.names);
+  }
+
+  -- ---- what was added is the graph
+
+  pub are_graph : (life number : ℕ) (graph : List (NodeSpec Tree)) (ns : List N) → Are life number graph ns
+      → nodes_from life number graph ≡ Some (map (λ (p : N × List ℕ). record { spec = spec p.0; parents = p.1 }) (zip ns (map (λ n. n.parents) graph)))
+  are_graph life number [] [] h = refl
+  are_graph life number [] (n ∷ ns) h = absurd h
+  are_graph life number (g ∷ gs) [] h = absurd h
+  are_graph life number (g ∷ gs) (n ∷ ns) h = rw (h.0.made, are_graph life (number + 1) gs ns h.1) refl
+
+  pub begin : (life number : ℕ) (graph : List (NodeSpec Tree)) (ns : List N) → Are life number graph ns → AreFirstNodes spec state first ns
+  begin life number [] [] h = tt
+  begin life number [] (n ∷ ns) h = absurd h
+  begin life number (g ∷ gs) [] h = absurd h
+  begin life number (g ∷ gs) (n ∷ ns) h = (h.0.begins, begin life (number + 1) gs ns h.1)
+
+  -- ---- and a plan
+
+  abbrev Planned : ℕ → ℕ → List N → List (List ℕ) → Type 0
+  Planned = AreNodesFrom spec any_ports any_life any_number
+
+  sits : (life number : ℕ) (g : NodeSpec Tree) (n : N) → IsNodeOf spec state first life number g n → Sits life number (spec n)
+  sits life number g n h = known_is (Sits life number) (any_spec life number g.spec) (spec n) h.made (each_sits life number g.spec)
+
+  -- the stream has no parent
+  stands_first : (life : ℕ) (g : NodeSpec Tree) (n : N) → IsNodeOf spec state first life 0 g n → length g.parents ≡ 0 → IsNodeAt life 0 (any_ports (spec n)) (any_life (spec n)) (any_number (spec n)) g.parents
+  stands_first life g n h none = by g.parents none where
+    at : Sits life 0 (spec n)
+    at = sits life 0 g n h
+    by : (parents : List ℕ) → length parents ≡ 0 → IsNodeAt life 0 (any_ports (spec n)) (any_life (spec n)) (any_number (spec n)) parents
+    by [] e = record { life_is = at.life_is; number_is = at.number_is; earlier = tt; some_parent = λ h. absurd (omega arith); ports_are = at.port }
+    by (p ∷ ps) e = absurd (omega arith)
+
+  stands : (life number : ℕ) (g : NodeSpec Tree) (n : N) → IsNodeOf spec state first life number g n → IsTrue (is_fit (length g.parents) g.spec)
+      → IsTrue (list_all (λ p. nat_lt p number) g.parents) → IsNodeAt life number (any_ports (spec n)) (any_life (spec n)) (any_number (spec n)) g.parents
+  stands life number g n h fit lower =
+      let at = sits life number g n h in
+      let is : length g.parents ≡ 1 = known_is (OneParent (length g.parents) g.spec) (any_spec life number g.spec) (spec n) h.made (each_has_one life number (length g.parents) g.spec) fit in
+      record {
+        life_is = at.life_is;
+        number_is = at.number_is;
+        earlier = below number g.parents lower;
+        some_parent = λ h. omega arith;
+        ports_are = at.port ∙ ap (max 1) (sym is);
+      }
+
+  planned_behind : (life number : ℕ) (graph : List (NodeSpec Tree)) (ns : List N) → Are life number graph ns → IsTrue (are_behind number graph) → Planned life number ns (map (λ n. n.parents) graph)
+  planned_behind life number [] [] h shape = tt
+  planned_behind life number [] (n ∷ ns) h shape = absurd h
+  planned_behind life number (g ∷ gs) [] h shape = absurd h
+  planned_behind life number (g ∷ gs) (n ∷ ns) h shape =
+      let fit : Bool = is_fit (length g.parents) g.spec in
+      let lower : Bool = list_all (λ p. nat_lt p number) g.parents in
+      let here = first_of (fit && lower) (are_behind (number + 1) gs) shape in
+      (stands life number g n h.0 (first_of fit lower here) (second_of fit lower here),
+       planned_behind life (number + 1) gs ns h.1 (second_of (fit && lower) (are_behind (number + 1) gs) shape))
+
+  -- the nodes of a graph are a plan
+  pub planned : (life : ℕ) (graph : List (NodeSpec Tree)) (ns : List N) → Are life 0 graph ns → IsTrue (has_shape graph)
+      → IsPlan spec any_ports any_life any_number (record { life = life; nodes = ns; parents = map (λ n. n.parents) graph })
+  planned life [] ns h shape = absurd cc
+  planned life (g ∷ gs) [] h shape = absurd h
+  planned life (g ∷ gs) (n ∷ ns) h shape =
+      let stream : Bool = is_stream g.spec in
+      let alone : Bool = nat_eq (length g.parents) 0 in
+      let none : IsTrue alone = second_of stream alone (first_of (stream && alone) (are_behind 1 gs) shape) in
+      record {
+        some_node = omega arith;
+        nodes = (stands_first life g n h.0 (grind (arith, nat_tests)), planned_behind life 1 gs ns h.1 (second_of (stream && alone) (are_behind 1 gs) shape));
+      }
+
+  -- ---- the whole graph
+
+  -- nothing was made yet
+  abbrev Nothing : DraftValue N
+  Nothing = record { nodes = []; parents = []; names = [] }
+
+  module _ (life : ℕ) (graph : List (NodeSpec Tree)) (d : DraftValue N) (adds : Adds life 0 graph Nothing d) where
+    abbrev plan_of : DraftValue N → PlanValue N
+    plan_of d = record { life = life; nodes = d.nodes; parents = d.parents }
+
+    pub whole_nodes : nodes_from life 0 graph ≡ Some (graph_of spec (plan_of d))
+    whole_nodes = rw (adds.nodes_are, adds.parents_are) (are_graph life 0 graph adds.added adds.are)
+
+    pub whole_begin : AreFirstNodes spec state first d.nodes
+    whole_begin = rw adds.nodes_are (begin life 0 graph adds.added adds.are)
+
+    pub whole_plan : IsGraph graph → IsPlan spec any_ports any_life any_number (plan_of d)
+    whole_plan h = rw (adds.nodes_are, adds.parents_are) (planned life graph adds.added adds.are h.shape)

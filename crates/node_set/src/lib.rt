@@ -1,0 +1,9 @@
+//! The nodes of all kinds that a script can make, and what is planned of a task.
+#![tactic(auto)]
+
+mod any;
+mod drafts;
+mod tasks;
+
+pub use any::{AnyNode, any_node};
+pub use tasks::{TaskPlan, plan_task};
