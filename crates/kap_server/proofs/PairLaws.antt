@@ -69,7 +69,7 @@ OneMeaning ids pair = ((task : Task) × IsTask ids pair task) ⊎ ((status : Sta
 by_script : (ids : List (List ℕ)) (pair : Pair) → IsShort pair.script → is_among pair.id ids ≡ false
     → ((task : Task) × Accepts None pair.script task) ⊎ ((fault : ScriptFault) × Refuses None pair.script fault) → OneMeaning ids pair
 by_script ids pair short new (inl a) = inl (a.0, record { short = short; new = new; accepted = a.1 })
-by_script ids pair short new (inr f) = inr (statuses.Script f.0, (short, (new, f.1)))
+by_script ids pair short new (inr f) = inr (statuses.Script f.0, (short, new, f.1))
 
 by_id : (ids : List (List ℕ)) (pair : Pair) → IsShort pair.script → (b : Bool) → is_among pair.id ids ≡ b → OneMeaning ids pair
 by_id ids pair short true is = inr (statuses.Exists, (short, is))
@@ -87,18 +87,17 @@ one_meaning ids pair = by_length ids pair (nat_le (length pair.script) SCRIPT_LI
 abbrev Meaning : List (List ℕ) → List Pair → Type 0
 Meaning ids pairs = ((tasks : List Task) × AreTasks ids pairs tasks) ⊎ ((status : Status) × AreNoTasks None ids pairs status)
 
-mutual
-  of_first : (ids : List (List ℕ)) (pair : Pair) (pairs : List Pair) → OneMeaning ids pair → Meaning ids (pair ∷ pairs)
-  of_first ids pair pairs (inl t) = of_rest ids pair pairs t.0 t.1 (some_meaning (ids ++ pair.id ∷ []) pairs)
-  of_first ids pair pairs (inr n) = inr (n.0, inl n.1)
+of_rest : (ids : List (List ℕ)) (pair : Pair) (pairs : List Pair) (task : Task) → IsTask ids pair task → Meaning (ids ++ pair.id ∷ []) pairs → Meaning ids (pair ∷ pairs)
+of_rest ids pair pairs task is (inl ts) = inl (task ∷ ts.0, (is, ts.1))
+of_rest ids pair pairs task is (inr n) = inr (n.0, inr (task, (is, n.1)))
 
-  of_rest : (ids : List (List ℕ)) (pair : Pair) (pairs : List Pair) (task : Task) → IsTask ids pair task → Meaning (ids ++ pair.id ∷ []) pairs → Meaning ids (pair ∷ pairs)
-  of_rest ids pair pairs task is (inl ts) = inl (task ∷ ts.0, (is, ts.1))
-  of_rest ids pair pairs task is (inr n) = inr (n.0, inr (task, (is, n.1)))
+of_first : (ids : List (List ℕ)) (pair : Pair) (pairs : List Pair) → OneMeaning ids pair → Meaning (ids ++ pair.id ∷ []) pairs → Meaning ids (pair ∷ pairs)
+of_first ids pair pairs (inl t) rest = of_rest ids pair pairs t.0 t.1 rest
+of_first ids pair pairs (inr n) rest = inr (n.0, inl n.1)
 
-  pub some_meaning : (ids : List (List ℕ)) (pairs : List Pair) → Meaning ids pairs
-  some_meaning ids [] = inl ([], tt)
-  some_meaning ids (pair ∷ pairs) = of_first ids pair pairs (one_meaning ids pair)
+pub some_meaning : (ids : List (List ℕ)) (pairs : List Pair) → Meaning ids pairs
+some_meaning ids [] = inl ([], tt)
+some_meaning ids (pair ∷ pairs) = of_first ids pair pairs (one_meaning ids pair) (some_meaning (ids ++ pair.id ∷ []) pairs)
 
 pub same_tasks : (ids : List (List ℕ)) (pairs : List Pair) (a b : List Task) → AreTasks ids pairs a → AreTasks ids pairs b → a ≡ b
 same_tasks ids [] [] [] p q = refl
@@ -131,9 +130,9 @@ reason_of_none refused ids [] status p = absurd p
 reason_of_none refused ids (pair ∷ pairs) status (inl p) = by status p where
   by : (status : Status) → IsNoTask refused ids pair status
       → (status ≢ statuses.Ok) × (status ≢ statuses.Usage) × (status ≢ statuses.TooManyTasks) × (status ≢ statuses.NoMemory) × (status ≢ statuses.ReadFault) × (status ≢ statuses.WriteFault)
-  by (statuses.Script fault) p = (λ e. absurd cc, (λ e. absurd cc, (λ e. absurd cc, (λ e. absurd cc, (λ e. absurd cc, λ e. absurd cc)))))
-  by statuses.Exists p = (λ e. absurd cc, (λ e. absurd cc, (λ e. absurd cc, (λ e. absurd cc, (λ e. absurd cc, λ e. absurd cc)))))
-  by statuses.TooLong p = (λ e. absurd cc, (λ e. absurd cc, (λ e. absurd cc, (λ e. absurd cc, (λ e. absurd cc, λ e. absurd cc)))))
+  by (statuses.Script fault) p = (λ e. absurd cc, λ e. absurd cc, λ e. absurd cc, λ e. absurd cc, λ e. absurd cc, λ e. absurd cc)
+  by statuses.Exists p = (λ e. absurd cc, λ e. absurd cc, λ e. absurd cc, λ e. absurd cc, λ e. absurd cc, λ e. absurd cc)
+  by statuses.TooLong p = (λ e. absurd cc, λ e. absurd cc, λ e. absurd cc, λ e. absurd cc, λ e. absurd cc, λ e. absurd cc)
   by statuses.Ok p = absurd p
   by statuses.Usage p = absurd p
   by (statuses.Line n fault) p = absurd p
@@ -154,3 +153,21 @@ words_of_pairs (id ∷ script ∷ words) =
     let a = h.0 in
     let b = h.1 in
     (omega (arith, a), omega (arith, b))
+
+more_than : (n k : ℕ) → k + k ≤ n → n ≤ 1 + (k + k) → nat_le 130 n ≡ nat_lt 64 k
+more_than n k low high = by (nat_le 130 n) (nat_lt 64 k) refl refl where
+  by : (a b : Bool) → nat_le 130 n ≡ a → nat_lt 64 k ≡ b → a ≡ b
+  by true true p q = refl
+  by false false p q = refl
+  by true false p q =
+      let x : 130 ≤ n = grind (arith, nat_tests) in
+      let y : k ≤ 64 = grind (arith, nat_tests) in
+      absurd (omega (arith, x, y, low, high))
+  by false true p q =
+      let x : n < 130 = grind (arith, nat_tests) in
+      let y : 64 < k = grind (arith, nat_tests) in
+      absurd (omega (arith, x, y, low, high))
+
+-- words that are more pairs than there may be
+pub many_words : (words : List (List ℕ)) → nat_le 130 (length words) ≡ nat_lt 64 (length (pairs_of words))
+many_words words = let h = words_of_pairs words in more_than (length words) (length (pairs_of words)) h.0 h.1

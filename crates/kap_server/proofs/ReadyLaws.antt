@@ -1,7 +1,8 @@
 -- Tasks are made ready one after the other.
 use Rattle.std.proofs.Common.{◌≡◌, ℕ, ◌+◌, Bool, true, false, Option, None, Some, List, [], ◌∷◌, ◌++◌, map, inl, inr, refl, sym, ap, ◌∙◌, subst, append_assoc, append-nil}
-use Rattle.std.specs.Prelude.{is_some, IsTrue}
-use Rattle.std.specs.List.{list_all}
+use Rattle.std.specs.Prelude.{◌||◌, is_some, IsTrue}
+use Rattle.std.specs.List.{list_all, list_any}
+use Rattle.std.specs.Str.{bytes_eq}
 use Rattle.std.proofs.lemmas.List.{map-append}
 use Rattle.kap_base.specs.Tree.{Tree}
 use Rattle.kap_base.proofs.TestLaws.{both, first_of, second_of}
@@ -14,7 +15,7 @@ use Rattle.task_run.specs.Plans.{AreFirstNodes, AreFirstStates, PlanValue, graph
 use Rattle.node_set.specs.Nodes.{AnySpec, is_known}
 use Rattle.node_set.specs.Tasks.{are_known, nodes_from, with_first}
 use Rattle.effect_text.specs.declared.names.TaskNames.{TaskNames}
-use Rattle.kap_server.specs.Pairs.{AreTasks, IsTask, names_of, task_names}
+use Rattle.kap_server.specs.Pairs.{AreTasks, IsTask, is_among, names_of, task_names}
 use Rattle.kap_server.specs.Readying.{AddsTask, AddsTasks, PutsTask, ids_of}
 use Rattle.kap_server.specs.Runs.{Nodes, lives_from}
 use Rattle.kap_server.specs.Words.{Pair}
@@ -49,6 +50,11 @@ all_known (node ∷ nodes) h =
     both (is_known node.spec) (are_known nodes)
     (built_known node.spec (first_of (is_built node.spec) (list_all (λ node. is_built node.spec) nodes) h))
     (all_known nodes (second_of (is_built node.spec) (list_all (λ node. is_built node.spec) nodes) h))
+
+-- an id among those of tasks
+pub among : (id : List ℕ) (names : List TaskNames) → list_any (λ task. bytes_eq id task.id) names ≡ is_among id (ids_of names)
+among id [] = refl
+among id (task ∷ names) = ap (λ b. bytes_eq id task.id || b) (among id names)
 
 -- ---- task after task
 

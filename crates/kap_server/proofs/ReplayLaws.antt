@@ -32,9 +32,16 @@ all_of v x due p = (length due, omega arith, subst (Appends v x) (sym (take-leng
 none_of : (v : Option (List ℕ)) (due : List ℕ) → AppendsPrefix v v due
 none_of v due = (0, omega arith, Appends-nil v)
 
--- nothing more than a prefix of nothing was written
+-- where nothing was written, a prefix was
 pub kept_none : (v x : Option (List ℕ)) (due : List ℕ) → Keeps v x → AppendsPrefix v x due
-kept_none v x due keeps = subst (λ (o : Option (List ℕ)). AppendsPrefix v o due) keeps (none_of v due)
+kept_none None x due keeps = (0, omega arith, tt)
+kept_none (Some xs) None due keeps = absurd keeps
+kept_none (Some xs) (Some ys) due keeps = (0, omega arith, keeps ∙ sym (append-nil xs))
+
+-- nothing was written yet
+pub nothing_yet : (text rest : TextOf) (s w : Option (List ℕ)) → WritesPrefix text rest s w w
+nothing_yet text rest None w = tt
+nothing_yet text rest (Some input) w = none_of w _
 
 module _ (text rest : TextOf) (none : text [] ≡ []) (grows : Grows text) where
   -- at the start nothing is due

@@ -71,12 +71,7 @@ fn read_script<S: Source>(alloc: Global, input: &mut S) -> Result<Bytes, Status>
 }
 
 /// Writes the canonical form of the script of a text.
-fn write_form<K: Sink, P: Patterns>(
-    alloc: Global,
-    text: &[u8],
-    out: &mut K,
-    pats: &mut P,
-) -> Status
+fn write_form<K: Sink, P: Patterns>(alloc: Global, text: &[u8], out: &mut K, pats: &mut P) -> Status
     requires { length text.now ≤ SCRIPT_LIMIT }
     ensures checked { Checked (P.refused pats.new) result (Some text.now) None
         (K.written out.old) (K.written out.new) }

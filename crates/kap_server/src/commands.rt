@@ -1,6 +1,6 @@
 //! The commands by their words.
 
-ghost use Rattle.std.specs.Prelude.{◌≡◌, ◌⊎◌, ◌≤◌, false, true, ℕ, Bool, List, None, Some, length, map, nat_lt, string_bytes};
+ghost use Rattle.std.specs.Prelude.{◌≡◌, ◌⊎◌, ◌≤◌, [], false, true, ℕ, Bool, List, None, Some, length, map, nat_lt, string_bytes};
 ghost use Rattle.std.specs.Io.KnownBytes.{Keeps};
 ghost use Rattle.kap_base.specs.Words.{HasRisen};
 ghost use Rattle.node_core.specs.Meaning.{Answer};
@@ -53,7 +53,10 @@ fn replay_pairs<S: Source, K: Sink, P: Patterns>(
         plans: Vec::new(alloc),
     };
     match add_tasks(alloc, 1, words, &mut ready, pats) {
-        Ok(()) => replay(alloc, counts, &ready.names, ready.plans, input, out),
+        Ok(()) => {
+            let Ready { names, plans } = ready;
+            replay(alloc, counts, &names, plans, input, out)
+        }
         Err(status) => status,
     }
 }

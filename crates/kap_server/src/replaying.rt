@@ -17,7 +17,7 @@ use kap_io::{Failed, Sink, Source, write_all};
 use node_core::Node;
 use recording_file::Reader;
 use std::alloc::Global;
-use task_run::{LifePlan, effects_go_on};
+use task_run::LifePlan;
 
 /// From how many bytes on the text that is due is written.
 const PIECE: usize = 65_536;
@@ -100,7 +100,6 @@ pub(crate) fn replay<S: Source, K: Sink, N: Node>(
     ensures write_fault { result ≡ Status.WriteFault
         → HasRisen (K.faults out.old) (K.faults out.new) }
 {
-    effects_go_on::<N>();
     let mut telling = match Telling::new(alloc, plans) {
         Ok(telling) => telling,
         Err(NoMemory) => return Status::NoMemory,

@@ -84,6 +84,8 @@ impl From<ScriptFault> for Status {
 }
 
 impl From<NoMemory> for Status {
+    ghost use Rattle.kap_server.specs.declared.status.Status.{Status};
+
     ghost from_gives = { λ f s. s ≡ Status.NoMemory };
 
     fn from(fault: NoMemory) -> Self {

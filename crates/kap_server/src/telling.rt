@@ -12,7 +12,7 @@ use effect_text::{TaskNames, put_dropped, put_effects};
 use kap_base::{Bytes, Effect, ItemList, NoMemory, Point};
 use node_core::Node;
 use std::alloc::Global;
-use task_run::{LifePlan, TaskRun, effects_go_on};
+use task_run::{LifePlan, TaskRun};
 use topic_core::Topics;
 
 /// A run, the topics of the events in it, and room for the effects of one point.
@@ -59,10 +59,10 @@ impl<N: Node> Telling<N> {
         ensures text { OnOk result (AddsLines (run_text N.answer names.now self.old.run.lives)
             self.old.run.points point text.old text.new) }
     {
-        effects_go_on::<N>();
         self.effects.clear();
         self.run.feed(alloc, point, &mut self.effects)?;
-        put_effects(alloc, names, &mut self.topics, self.effects.as_slice(), text)
+        let effects = self.effects.as_slice();
+        put_effects(alloc, names, &mut self.topics, effects, text)
     }
 
     /// Appends the lines of what the nodes dropped, where they are wanted.

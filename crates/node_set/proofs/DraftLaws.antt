@@ -216,6 +216,7 @@ module _ {N S : Type 0} (spec : N → AnySpec) (state : N → S) (first : AnySpe
   stands_first life g n h none = by g.parents none where
     at : Sits life 0 (spec n)
     at = sits life 0 g n h
+
     by : (parents : List ℕ) → length parents ≡ 0 → IsNodeAt life 0 (any_ports (spec n)) (any_life (spec n)) (any_number (spec n)) parents
     by [] e = record { life_is = at.life_is; number_is = at.number_is; earlier = tt; some_parent = λ h. absurd (omega arith); ports_are = at.port }
     by (p ∷ ps) e = absurd (omega arith)
@@ -240,9 +241,10 @@ module _ {N S : Type 0} (spec : N → AnySpec) (state : N → S) (first : AnySpe
   planned_behind life number (g ∷ gs) (n ∷ ns) h shape =
       let fit : Bool = is_fit (length g.parents) g.spec in
       let lower : Bool = list_all (λ p. nat_lt p number) g.parents in
-      let here = first_of (fit && lower) (are_behind (number + 1) gs) shape in
-      (stands life number g n h.0 (first_of fit lower here) (second_of fit lower here),
-       planned_behind life (number + 1) gs ns h.1 (second_of (fit && lower) (are_behind (number + 1) gs) shape))
+      let here = first_of (fit && lower) (are_behind (number + 1) gs) shape in (
+        stands life number g n h.0 (first_of fit lower here) (second_of fit lower here),
+        planned_behind life (number + 1) gs ns h.1 (second_of (fit && lower) (are_behind (number + 1) gs) shape),
+      )
 
   -- the nodes of a graph are a plan
   pub planned : (life : ℕ) (graph : List (NodeSpec Tree)) (ns : List N) → Are life 0 graph ns → IsTrue (has_shape graph)

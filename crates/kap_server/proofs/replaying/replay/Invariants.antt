@@ -1,16 +1,25 @@
-use Rattle.std.proofs.Common.{◌≡◌, ◌-◌, ◌^◌, ◌≤◌, false, length}
-use Rattle.kap_server.specs.Lines.{text_of}
+use Rattle.std.proofs.Common.{◌≡◌, ◌-◌, ◌^◌, ◌≤◌, false, length, map}
+use Rattle.effect_text.specs.Lines.{events_of}
+use Rattle.task_run.specs.Lives.{effects_of}
+use Rattle.task_run.specs.Plans.{graph_of}
+use Rattle.topic_core.specs.Topics.{StandsFor}
 use Rattle.kap_server.specs.Replaying.{HasWritten}
+use Rattle.kap_server.specs.Runs.{run_text}
 use Rattle.kap_server.proofs.replaying.replay.Given as goal
 
--- the points so far are the first of the input, and their text is written or due
+-- the points so far are the first of the input, the run was fed them, and their text is written or due
 abbrev pub invariant-replaying : goal.invariant-replaying
 invariant-replaying g l =
     let source = g.S.Source in
     let sink = g.K.Sink in
+    let node = g.N.Node in
     record {
       not_spent : l.reader.spent ≡ false;
-      written : HasWritten (text_of l.id l.name) l.text l.reader (source.left l.initial.input) (source.left l.input) (sink.written l.initial.out) (sink.written l.out);
+      alive : l.telling.run.spent ≡ false;
+      lives : l.telling.run.lives ≡ map (graph_of node.spec) l.fn.plans.items;
+      fed : l.telling.run.points ≡ l.reader.given;
+      topics : StandsFor (events_of (effects_of node.answer l.telling.run.lives l.telling.run.points)) l.telling.topics;
+      written : HasWritten (run_text node.answer l.names.now l.telling.run.lives) l.text l.reader (source.left l.initial.input) (source.left l.input) (sink.written l.initial.out) (sink.written l.out);
       reads_later : source.faults l.initial.input ≤ source.faults l.input;
       writes_later : sink.faults l.initial.out ≤ sink.faults l.out;
     }
