@@ -10,7 +10,7 @@ use Rattle.kap_base.specs.declared.limits.TheConstants.{TIME_LIMIT}
 use Rattle.kap_base.proofs.TestLaws.{first_of, second_of}
 use Rattle.task_graph.specs.Sorts.{is_period, is_span}
 use Rattle.window_node.specs.Edges.{truncated}
-use Rattle.window_node.specs.Lists.{one_of}
+use Rattle.window_node.specs.Lists.{le_fact, one_of}
 use Rattle.window_node.specs.States.{is_edge}
 
 -- ---- times
@@ -43,3 +43,12 @@ duration_of n h =
 pub truncated_is : (time : ℤ) (n : ℕ) → pos 0 <ℤ pos n → trunc time (pos n) ≡ truncated time n
 truncated_is time zero h = absurd (omega (arith, ints))
 truncated_is time (suc n) h = refl
+
+-- ---- edges
+
+-- an edge that a point passed is a time
+pub edge_time : (edge time : ℤ) → IsTrue (is_edge edge) → edge ≤ℤ time → IsTrue (is_time time) → IsTrue (is_time edge)
+edge_time edge time low passed h =
+    let le = le_fact (negsuc 8999999999999999999) edge low in
+    let high = high_time time h in
+    time_between edge le (omega (arith, ints, high))

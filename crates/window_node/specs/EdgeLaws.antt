@@ -53,11 +53,10 @@ pub live_is : (w : EdgeWindow) (edge : ℤ) (p : PointValue) (before : List Poin
 unfolding next_edge
 live_is w edge p before =
     elim (int_le edge p.time) as (λ b. int_le edge p.time ≡ b
-    → cond b (filter (is_live w (following w p.time)) (filter (is_live w edge) before ++ p ∷ [])) (filter (is_live w edge) before ++ filter (is_live w edge) (p ∷ []))
+    → cond b (filter (is_live w (following w p.time)) (filter (is_live w edge) before) ++ filter (is_live w (following w p.time)) (p ∷ [])) (filter (is_live w edge) before ++ filter (is_live w edge) (p ∷ []))
     ≡ filter (is_live w (cond b (following w p.time) edge)) (before ++ p ∷ [])) [
       | true ↦ λ passed.
-          filter-append _ (filter (is_live w edge) before) (p ∷ [])
-          ∙ ap (λ l. l ++ filter (is_live w (following w p.time)) (p ∷ [])) (filter_twice _ _ (λ q live. live_before w edge p q passed live) before)
+          ap (λ l. l ++ filter (is_live w (following w p.time)) (p ∷ [])) (filter_twice _ _ (λ q live. live_before w edge p q passed live) before)
           ∙ sym (filter-append _ before (p ∷ []))
       | false ↦ λ passed. sym (filter-append _ before (p ∷ []))
     ] refl

@@ -86,7 +86,13 @@ opened w p = record { first = p.time; edge = first_edge w p.time; live = filter 
 -- the live points, with a point that has come
 abbrev pub still_live : EdgeWindow → ℤ → PointValue → List PointValue → List PointValue
 still_live w edge p live =
-    if int_le edge p.time then filter (is_live w (following w p.time)) (live ++ p ∷ []) else live ++ filter (is_live w edge) (p ∷ [])
+    if int_le edge p.time
+    then filter (is_live w (following w p.time)) live ++ filter (is_live w (following w p.time)) (p ∷ [])
+    else live ++ filter (is_live w edge) (p ∷ [])
+
+-- a further point that isn't before the edge
+abbrev pub passed : EdgeWindow → EdgeKept → PointValue → EdgeKept
+passed w k p = let next = following w p.time in record { first = k.first; edge = next; live = filter (is_live w next) k.live ++ filter (is_live w next) (p ∷ []) }
 
 -- a further point
 abbrev pub moved : EdgeWindow → EdgeKept → PointValue → EdgeKept

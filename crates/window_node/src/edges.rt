@@ -1,12 +1,13 @@
 //! Windows by time with edges.
 
-ghost use Rattle.std.specs.Prelude.{◌≡◌, ◌&&◌, ◌++◌, ◌∷◌, [], ℕ, List, Option, OnOk, IfOk, IsTrue, filter, int_le, int_lt, ◌-ℤ◌, ◌≤ℤ◌, pos};
+ghost use Rattle.std.specs.Prelude.{◌≡◌, ◌&&◌, ◌++◌, ◌∷◌, [], ℕ, List, Option, OnOk, IfOk, IsTrue, filter, int_le, int_lt, if◌then◌else◌, ◌+ℤ◌, ◌-ℤ◌, ◌<ℤ◌, ◌≤ℤ◌, pos};
 ghost use Rattle.kap_base.specs.Points.{is_time};
 ghost use Rattle.kap_base.specs.Times.{IsInReach};
 ghost use Rattle.state_code.specs.Laws.{option_spelled};
 ghost use Rattle.state_code.specs.Spelling.{FitsOption, read_option, spell_option};
+ghost use Rattle.window_node.specs.Batches.{batch_at};
 ghost use Rattle.window_node.specs.EdgeLaws.{edge_goes_on};
-ghost use Rattle.window_node.specs.Edges.{edge_kept, edge_says, edge_step, emitted, filled, first_edge, following, is_live, moved, opened, takes, truncated};
+ghost use Rattle.window_node.specs.Edges.{edge_kept, edge_says, edge_step, emitted, filled, first_edge, following, is_live, moved, opened, passed, takes, truncated};
 ghost use Rattle.window_node.specs.States.{FitsEdge, edge_spelled, is_edge, read_edge, spell_edge};
 
 use crate::batches::{frame_of, said_of};
@@ -83,6 +84,7 @@ impl Model for EdgeCell {
 fn truncated(time: i64, every: &Period) -> i64
     requires { IsInReach time }
     ensures value { result ≡ truncated time every.now }
+    ensures near { time <ℤ (result +ℤ pos every.now) }
 {
     trunc(time, nanos_of(every))
 }
@@ -166,6 +168,22 @@ fn opened(alloc: Global, window: &EdgeWindow, point: Point) -> Result<EdgeGroup,
     Ok(EdgeGroup { first, edge, live })
 }
 
+/// Copies a point into a batch, where that takes it.
+fn copy_into(
+    alloc: Global,
+    taken: bool,
+    point: &Point,
+    batch: &mut Points,
+) -> Result<(), NoMemory>
+    ensures { OnOk result
+        (batch.new ≡ batch.old ++ (if taken then point.now ∷ [] else [])) }
+{
+    if !taken {
+        return Ok(());
+    }
+    batch.push(point.copy(alloc)?)
+}
+
 /// Puts a live point into the edge's batch, where that takes it, and among the points that the next edge can take. It is copied
 /// where it goes to both.
 fn deal(
@@ -189,9 +207,7 @@ fn deal(
         }
         return Ok(());
     }
-    if taken {
-        batch.push(point.copy(alloc)?)?;
-    }
+    copy_into(alloc, taken, &point, batch)?;
     live.push(point)
 }
 
@@ -214,6 +230,18 @@ fn part(
     Ok((batch, live))
 }
 
+/// The end of the batch of an edge that a point of this time passed.
+#[tactic(auto, using(crate::proofs::RangeLaws::edge_time))]
+fn tmax_of(edge: i128, time: i64) -> i64
+    requires edge { IsTrue (is_edge edge) }
+    requires passed { edge ≤ℤ time }
+    requires time { IsTrue (is_time time) }
+    ensures same { result ≡ edge }
+    ensures time { IsTrue (is_time result) }
+{
+    edge as i64
+}
+
 /// Takes a point that isn't before the edge that waits, which it so emits.
 fn pass_edge(
     alloc: Global,
@@ -222,14 +250,16 @@ fn pass_edge(
     point: Point,
 ) -> Result<(EdgeGroup, Said), NoMemory>
     requires { group.edge ≤ℤ point.time }
-    ensures group { IfOk result (λ r. r.0 ≡ moved window.now group point) }
-    ensures said { IfOk result (λ r. r.1 ≡ emitted window.now group.edge point group.live) }
+    ensures group { IfOk result (λ r. r.0 ≡ passed window.now group point) }
+    ensures said { IfOk result (λ r. r.1
+        ≡ batch_at point group.edge (filter (takes window.now group.edge) group.live)) }
 {
     let EdgeGroup { first, edge, live } = group;
+    let tmax = tmax_of(edge, point.time);
     let next = window.following(point.time);
     let (batch, mut live) = part(alloc, window, edge, next, live)?;
     let frame = frame_of(alloc, &point)?;
-    let said = said_of(alloc, frame, edge as i64, batch);
+    let said = said_of(alloc, frame, tmax, batch);
     keep(window, next, &mut live, point)?;
     let group = EdgeGroup {
         first,
@@ -240,6 +270,7 @@ fn pass_edge(
 }
 
 /// Takes a further point of a group.
+#[tactic(auto, unfolding(crate::specs::Edges::next_edge))]
 fn go_on(
     alloc: Global,
     window: &EdgeWindow,
@@ -250,7 +281,8 @@ fn go_on(
     ensures said { IfOk result (λ r. r.1 ≡ emitted window.now group.edge point group.live) }
 {
     if group.edge <= i128::from(point.time) {
-        return pass_edge(alloc, window, group, point);
+        let (group, said) = pass_edge(alloc, window, group, point)?;
+        return Ok((group, said));
     }
     let EdgeGroup {
         first,

@@ -120,12 +120,19 @@ fn keep(window: &SlidingWindow, first: i64, live: &mut Points, point: Point) -> 
     Ok(())
 }
 
+/// Leaves the points near the greatest time.
+fn retain_near(window: &SlidingWindow, high: i64, items: &mut Vec<Point>)
+    ensures { items.new.items ≡ filter (is_near window.now high) items.old.items }
+{
+    items.retain(|point| window.is_near(i128::from(high), point.time));
+}
+
 /// The points near the greatest time.
 fn near_points(window: &SlidingWindow, high: i64, points: Points) -> Points
     ensures { result ≡ filter (is_near window.now high) points }
 {
     let mut items = points.into_items();
-    items.retain(|point| window.is_near(i128::from(high), point.time));
+    retain_near(window, high, &mut items);
     Points::from_items(items)
 }
 
