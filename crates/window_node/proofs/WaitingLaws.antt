@@ -21,7 +21,7 @@ unfolding next_edge
 waits_more w start t ts edge true e (inl h) = inr (record { before = []; time = t; behind = ts; parts = refl; emits = le_fact start t e; next = h.0; waits = h.1 })
 waits_more w start t ts edge false e (inl h) =
     let below : t <ℤ edge = subst (λ (z : ℤ). t <ℤ z) (sym h.0) (above_fact start t e) in
-    inl (h.0, All-cons _ t ts below h.1)
+    inl (h.0, All-cons (λ (x : ℤ). x <ℤ edge) t ts below h.1)
 waits_more w start t ts edge b e (inr s) = inr (record {
   before = t ∷ s.before;
   time = s.time;
@@ -34,7 +34,7 @@ waits_more w start t ts edge b e (inr s) = inr (record {
 
 waits : (w : EdgeWindow) (start : ℤ) (ts : List ℤ) → Waits w start ts (edge_behind w start ts)
 unfolding next_edge
-waits w start [] = inl (refl, All-nil _)
+waits w start [] = inl (refl, All-nil (λ (x : ℤ). x <ℤ start))
 waits w start (t ∷ ts) = waits_more w start t ts (edge_behind w start (t ∷ ts)) (int_le start t) refl (waits w (next_edge w start t) ts)
 
 pub edge_waits : (w : EdgeWindow) (first : PointValue) (others : List PointValue) → Waits w (first_edge w first.time) (times others) (edge_of w first others)
@@ -73,14 +73,14 @@ module _ (w : EdgeWindow) (some : 0 < w.every) where
   rises_along edge (t ∷ ts) = let one = (edge_rises edge t).0 in let rest = rises_along (next_edge w edge t) ts in omega (arith, ints, one, rest)
 
   all_before : (edge : ℤ) (ts : List ℤ) → All (λ t. t <ℤ edge_behind w edge ts) ts
-  all_before edge [] = All-nil _
+  all_before edge [] = All-nil (λ (x : ℤ). x <ℤ edge)
   all_before edge (t ∷ ts) =
       let one = (edge_rises edge t).1 in
       let rest = rises_along (next_edge w edge t) ts in
-      All-cons _ t ts (omega (arith, ints, one, rest)) (all_before (next_edge w edge t) ts)
+      All-cons (λ (x : ℤ). x <ℤ edge_behind w (next_edge w edge t) ts) t ts (omega (arith, ints, one, rest)) (all_before (next_edge w edge t) ts)
 
 pub points_before : (w : EdgeWindow) (first : PointValue) (others : List PointValue) → 0 < w.every → 0 < w.period → All (λ t. t <ℤ edge_of w first others) (times (first ∷ others))
 points_before w first others some long =
     let one = behind_first w first.time some long in
     let rest = rises_along w some (first_edge w first.time) (times others) in
-    All-cons _ first.time (times others) (omega (arith, ints, one, rest)) (all_before w some (first_edge w first.time) (times others))
+    All-cons (λ (x : ℤ). x <ℤ edge_of w first others) first.time (times others) (omega (arith, ints, one, rest)) (all_before w some (first_edge w first.time) (times others))
