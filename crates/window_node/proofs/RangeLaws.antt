@@ -1,12 +1,11 @@
 -- Times and durations in their ranges.
-use Rattle.std.proofs.Common.{◌≡◌, ℕ, zero, suc, ◌<◌, ◌≤◌, ◌==◌, ◌&&◌, Bool, true, false, cond, Option, Some, None, refl, ap, arith}
-use Rattle.std.specs.Prelude.{ℤ, pos, negsuc, ◌+ℤ◌, ◌-ℤ◌, ◌≤ℤ◌, ◌<ℤ◌, int_le, int_lt, IsTrue, nat_le, nat_lt, ◌*◌, ◌^◌}
+use Rattle.std.proofs.Common.{◌≡◌, ℕ, zero, suc, ◌<◌, ◌≤◌, true, refl, arith}
+use Rattle.std.specs.Prelude.{ℤ, pos, negsuc, ◌≤ℤ◌, ◌<ℤ◌, int_lt, IsTrue, nat_le}
 use Rattle.std.specs.Int.{int_max}
 use Rattle.std.proofs.lemmas.Int.{ints}
 use Rattle.std.proofs.lemmas.Bool.Decides.{nat_tests}
 use Rattle.kap_base.specs.Points.{is_time}
-use Rattle.kap_base.specs.Times.{IsDuration, IsInReach, trunc}
-use Rattle.kap_base.specs.declared.limits.TheConstants.{TIME_LIMIT}
+use Rattle.kap_base.specs.Times.{IsDuration, trunc}
 use Rattle.kap_base.proofs.TestLaws.{first_of, second_of}
 use Rattle.task_graph.specs.Sorts.{is_period, is_span}
 use Rattle.window_node.specs.Edges.{truncated}

@@ -1,5 +1,5 @@
 -- Which edge waits, and that all points so far are before it.
-use Rattle.std.proofs.Common.{◌≡◌, ℕ, zero, suc, ◌<◌, Bool, true, false, cond, List, [], ◌∷◌, ◌++◌, ◌⊎◌, inl, inr, refl, sym, ap, subst, ◌∙◌, arith}
+use Rattle.std.proofs.Common.{◌≡◌, ℕ, zero, suc, ◌<◌, Bool, true, false, cond, List, [], ◌∷◌, inl, inr, refl, sym, ap, subst, arith}
 use Rattle.std.specs.Prelude.{ℤ, pos, ◌+ℤ◌, ◌-ℤ◌, ◌≤ℤ◌, ◌<ℤ◌, int_le}
 use Rattle.std.specs.List.{All}
 use Rattle.std.proofs.lemmas.Int.{ints}
@@ -8,10 +8,10 @@ use Rattle.kap_base.specs.Points.{PointValue}
 use Rattle.kap_base.specs.Times.{trunc, year_one}
 use Rattle.window_node.specs.declared.edges.EdgeWindow.{EdgeWindow}
 use Rattle.window_node.specs.Batches.{times}
-use Rattle.window_node.specs.Edges.{truncated, following, filled, first_edge, next_edge, edge_behind, edge_of}
+use Rattle.window_node.specs.Edges.{truncated, following, first_edge, next_edge, edge_behind, edge_of}
 use Rattle.window_node.specs.EdgeLaws.{remainder_high}
 use Rattle.window_node.specs.Lists.{le_fact, above_fact, one_of}
-use Rattle.window_node.specs.Waiting.{IsSet, Waits}
+use Rattle.window_node.specs.Waiting.{Waits}
 
 -- ---- by which point it was set
 

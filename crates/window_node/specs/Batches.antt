@@ -1,5 +1,5 @@
 -- What a window says of a point.
-use Rattle.std.specs.Prelude.{ℕ, ℤ, Bool, if◌then◌else◌, List, [], ◌∷◌, map, length, drop, ◌-◌}
+use Rattle.std.specs.Prelude.{ℕ, ℤ, List, [], ◌∷◌, map, length, drop, ◌-◌}
 use Rattle.kap_base.specs.Points.{PointValue}
 use Rattle.kap_base.specs.Groups.{GroupValue, group_of}
 use Rattle.kap_base.specs.declared.items.Body.TheVariants as bodies

@@ -1,5 +1,5 @@
 -- What a window with edges keeps is what its definition asks of the whole list.
-use Rattle.std.specs.Prelude.{◌≡◌, ℕ, zero, suc, ◌+◌, ◌-◌, ◌*◌, ◌%◌, ◌<◌, Bool, true, false, cond, List, [], ◌∷◌, ◌++◌, map, filter, Option, Some, None, refl}
+use Rattle.std.specs.Prelude.{◌≡◌, ℕ, zero, suc, ◌%◌, ◌<◌, true, false, cond, List, [], ◌∷◌, ◌++◌, filter, Option, Some, refl}
 use Rattle.std.specs.Prelude.{ℤ, pos, negsuc, ◌+ℤ◌, ◌-ℤ◌, ◌≤ℤ◌, ◌<ℤ◌, int_le}
 use Rattle.std.proofs.Common.{sym, ap, ◌∙◌, arith}
 use Rattle.std.specs.Int.{int_rem_euclid}
@@ -12,7 +12,7 @@ use Rattle.node_core.specs.Laws.{filter-append}
 use Rattle.node_core.specs.Meaning.{Turn}
 use Rattle.window_node.specs.declared.edges.EdgeWindow.{EdgeWindow}
 use Rattle.window_node.specs.Batches.{points_in, times}
-use Rattle.window_node.specs.Edges.{truncated, following, first_edge, next_edge, edge_behind, edge_of, is_live, takes, emitted, edge_says, edges_say, EdgeKept, edge_kept, edges_kept, opened, moved, still_live, edge_step}
+use Rattle.window_node.specs.Edges.{truncated, following, first_edge, next_edge, edge_behind, edge_of, is_live, takes, emitted, edge_says, edges_say, EdgeKept, edge_kept, edges_kept, still_live, edge_step}
 use Rattle.window_node.specs.Lists.{le_fact, le_test, and_first, one_of, filter_twice, points_more}
 
 -- ---- truncated times

@@ -5,9 +5,6 @@ use Rattle.kap_base.specs.Points.{PointValue}
 use Rattle.kap_base.specs.declared.items.Body.{Body}
 use Rattle.kap_base.specs.declared.items.Body.TheVariants as bodies
 use Rattle.node_core.specs.declared.said.Said.{Said}
-use Rattle.window_node.specs.declared.edges.EdgeWindow.{EdgeWindow}
-use Rattle.window_node.specs.declared.sliding.SlidingWindow.{SlidingWindow}
-use Rattle.window_node.specs.declared.counted.CountedWindow.{CountedWindow}
 use Rattle.window_node.specs.Batches.{times}
 use Rattle.window_node.specs.Edges.{edges_say}
 use Rattle.window_node.specs.Sliding.{said_behind}

@@ -1,5 +1,5 @@
 -- What a window that slides keeps is what its definition asks of the whole list.
-use Rattle.std.specs.Prelude.{◌≡◌, ℕ, not, ◌||◌, Bool, true, false, cond, List, [], ◌∷◌, ◌++◌, filter, Option, Some, None, refl}
+use Rattle.std.specs.Prelude.{◌≡◌, ℕ, not, ◌||◌, Bool, true, false, cond, List, [], ◌∷◌, ◌++◌, filter, Option, Some, refl}
 use Rattle.std.specs.Prelude.{ℤ, pos, ◌+ℤ◌, ◌-ℤ◌, ◌≤ℤ◌, ◌<ℤ◌, int_le, int_lt}
 use Rattle.std.specs.Int.{int_max}
 use Rattle.std.specs.List.{fold}
@@ -12,7 +12,7 @@ use Rattle.node_core.specs.Laws.{filter-append}
 use Rattle.node_core.specs.Meaning.{Turn, silence}
 use Rattle.window_node.specs.declared.sliding.SlidingWindow.{SlidingWindow}
 use Rattle.window_node.specs.Batches.{points_in, times, batch_at}
-use Rattle.window_node.specs.Sliding.{greatest, is_near, is_due, slid, said_behind, sliding_says, reach, SlidingKept, points_kept, sliding_kept, started, still_near, slid_on, slid_turn, sliding_step}
+use Rattle.window_node.specs.Sliding.{greatest, is_near, is_due, slid, said_behind, sliding_says, reach, SlidingKept, points_kept, sliding_kept, still_near, sliding_step}
 use Rattle.window_node.specs.Lists.{le_fact, above_fact, above_test, lt_fact, lt_test, one_of, filter_twice, points_more}
 
 -- ---- the greatest time

@@ -169,12 +169,7 @@ fn opened(alloc: Global, window: &EdgeWindow, point: Point) -> Result<EdgeGroup,
 }
 
 /// Copies a point into a batch, where that takes it.
-fn copy_into(
-    alloc: Global,
-    taken: bool,
-    point: &Point,
-    batch: &mut Points,
-) -> Result<(), NoMemory>
+fn copy_into(alloc: Global, taken: bool, point: &Point, batch: &mut Points) -> Result<(), NoMemory>
     ensures { OnOk result
         (batch.new ≡ batch.old ++ (if taken then point.now ∷ [] else [])) }
 {

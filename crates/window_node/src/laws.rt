@@ -41,7 +41,6 @@ pub fn edges_are_set_by_points()
         → All (λ t. t <ℤ edge_of w first others) (times (first ∷ others)) }
 {}
 
-
 /// Examples of windows, by the times of their points.
 pub fn examples_of_windows()
     ensures on_the_edge { OnTheEdge }

@@ -170,7 +170,9 @@ fn go_on(
 {
     let high = greater(group.high, point.time);
     let SlidingGroup {
-        first, mut live, ..
+        first,
+        mut live,
+        ..
     } = group;
     if window.is_due(first, high) {
         let (live, said) = give(alloc, window, high, live, point)?;
