@@ -7,8 +7,8 @@ use Rattle.node_core.specs.Meaning.{Turn, silence}
 use Rattle.window_node.specs.declared.counted.CountedWindow.{CountedWindow}
 use Rattle.window_node.specs.Batches.{points_in, batch_at, last}
 
--- A batch is emitted at the point of this number, of which the first is 1: with m as everyCount at m, 2m, 3m and so on; and with
--- fillPeriod, where n is periodCount, at n, n + m, n + 2m and so on instead.
+-- A batch is emitted at the point of this number, of which the first is 1: with m as everyCount at m, 2m, 3m and so on;
+-- and with fillPeriod, where n is periodCount, at n, n + m, n + 2m and so on instead.
 abbrev pub is_due : CountedWindow → ℕ → Bool
 is_due w number =
     if w.fill_period then nat_le w.period_count number && ((number - w.period_count) % w.every_count == 0) else number % w.every_count == 0

@@ -27,7 +27,8 @@ filled w time = if w.align then truncated (time +ℤ pos w.period) w.every +ℤ 
 abbrev pub first_edge : EdgeWindow → ℤ → ℤ
 first_edge w time = if w.fill_period then filled w time else following w time
 
--- the edge that waits once a point of this time has come: an edge is emitted at the first later point that isn't before it
+-- the edge that waits once a point of this time has come: an edge is emitted at the first later point that isn't
+-- before it
 unfoldable pub next_edge : EdgeWindow → ℤ → ℤ → ℤ
 next_edge w edge time = if int_le edge time then following w time else edge
 

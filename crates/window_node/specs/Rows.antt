@@ -67,7 +67,8 @@ slides period fill_period before p = said_behind (record { period = seconds peri
 abbrev pub LatePoint : Type 0
 LatePoint = Gives (slides 10 false) (5 ∷ 20 ∷ 15 ∷ 3 ∷ []) (batch 5 (5 ∷ []) ∷ batch 20 (20 ∷ []) ∷ batch 20 (20 ∷ 15 ∷ []) ∷ batch 20 (20 ∷ 15 ∷ []) ∷ [])
 
--- with fillPeriod a batch is given once the greatest time is a period behind the first point, which isn't the least one here
+-- with fillPeriod a batch is given once the greatest time is a period behind the first point, which isn't the least one
+-- here
 abbrev pub FilledPeriod : Type 0
 FilledPeriod = Gives (slides 10 true) (5 ∷ 1 ∷ 12 ∷ 15 ∷ 14 ∷ []) (batch 15 (12 ∷ 15 ∷ []) ∷ batch 15 (12 ∷ 15 ∷ 14 ∷ []) ∷ [])
 

@@ -22,8 +22,8 @@ use task_graph::Period;
 /// The least edge, in nanoseconds from 1970-01-01T00:00:00Z on: the least time.
 const LEAST_EDGE: i128 = -9_000_000_000_000_000_000;
 
-/// A window by time whose batches are given at edges: at the first point that isn't before an edge, the points of the period
-/// before it.
+/// A window by time whose batches are given at edges: at the first point that isn't before an edge, the points of the
+/// period before it.
 #[derive(Debug, Drop)]
 pub struct EdgeWindow {
     /// How long before its edge a batch begins.
@@ -36,8 +36,8 @@ pub struct EdgeWindow {
     pub fill_period: bool,
 }
 
-/// What is kept of a group from its first point on: the time of that point, the edge that waits, which may pass 64 bits, and the
-/// points that this edge or a later one can take, in order.
+/// What is kept of a group from its first point on: the time of that point, the edge that waits, which may pass 64 bits,
+/// and the points that this edge or a later one can take, in order.
 #[derive(Drop)]
 pub struct EdgeGroup {
     first: i64,
@@ -179,8 +179,8 @@ fn copy_into(alloc: Global, taken: bool, point: &Point, batch: &mut Points) -> R
     batch.push(point.copy(alloc)?)
 }
 
-/// Puts a live point into the edge's batch, where that takes it, and among the points that the next edge can take. It is copied
-/// where it goes to both.
+/// Puts a live point into the edge's batch, where that takes it, and among the points that the next edge can take. It is
+/// copied where it goes to both.
 fn deal(
     alloc: Global,
     window: &EdgeWindow,

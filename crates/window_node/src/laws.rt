@@ -14,8 +14,8 @@ ghost use Rattle.window_node.specs.Waiting.{Waits};
 use crate::nodes::WindowNode;
 use node_core::Node;
 
-/// Of a window, in a life and with a number: what it answers is what it says of each group, stamped and numbered; that life and
-/// that number are its own; it has one port; and points are for it.
+/// Of a window, in a life and with a number: what it answers is what it says of each group, stamped and numbered; that
+/// life and that number are its own; it has one port; and points are for it.
 #[tactic(auto, using(crate::specs::Nodes::seen))]
 pub fn windows_answer_by_groups()
     ensures answer { (life node : ℕ) (kind : WindowKind)
@@ -31,8 +31,9 @@ pub fn windows_answer_by_groups()
         → ⟦<WindowNode as Node>⟧.takes (seat_of life node kind) ≡ is_point }
 {}
 
-/// The edge that waits behind points of a group is the first one while all later points are before it, or was set by the last
-/// point that wasn't before the edge that waited there. All points so far are before it, so that one point emits one edge.
+/// The edge that waits behind points of a group is the first one while all later points are before it, or was set by the
+/// last point that wasn't before the edge that waited there. All points so far are before it, so that one point emits one
+/// edge.
 pub fn edges_are_set_by_points()
     ensures waits { (w : EdgeWindow) (first : PointValue) (others : List PointValue)
         → Waits w (first_edge w first.time) (times others) (edge_of w first others) }

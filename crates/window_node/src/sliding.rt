@@ -19,7 +19,8 @@ use std::alloc::Global;
 use std::marker::Model;
 use task_graph::Period;
 
-/// A window by time without edges: at each point the points less than a period before the greatest time so far are given.
+/// A window by time without edges: at each point the points less than a period before the greatest time so far are
+/// given.
 #[derive(Debug, Drop)]
 pub struct SlidingWindow {
     /// How far back a batch reaches.
@@ -28,8 +29,8 @@ pub struct SlidingWindow {
     pub fill_period: bool,
 }
 
-/// What is kept of a group from its first point on: the time of that point, the greatest time, and the points that a later batch
-/// can take, in order.
+/// What is kept of a group from its first point on: the time of that point, the greatest time, and the points that a
+/// later batch can take, in order.
 #[derive(Drop)]
 pub struct SlidingGroup {
     first: i64,
@@ -145,7 +146,8 @@ fn give(
     point: Point,
 ) -> Result<(Points, Said), NoMemory>
     requires { IsTrue (is_time high) }
-    ensures live { IfOk result (λ r. r.0 ≡ filter (is_near window.now high) (points ++ point ∷ [])) }
+    ensures live { IfOk result (λ r. r.0
+        ≡ filter (is_near window.now high) (points ++ point ∷ [])) }
     ensures said { IfOk result (λ r. r.1
         ≡ batch_at point high (filter (is_near window.now high) (points ++ point ∷ []))) }
 {
