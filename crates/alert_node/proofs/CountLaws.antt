@@ -1,5 +1,5 @@
 -- The number that is kept of an expression or a reset is how often it was evaluated.
-use Rattle.std.proofs.Common.{◌≡◌, ℕ, ◌+◌, Bool, true, false, List, [], ◌∷◌, ◌++◌, refl, sym, ap, ◌∙◌, add-zero, zero-add, add_assoc, arith, if◌then◌else◌}
+use Rattle.std.proofs.Common.{◌≡◌, ℕ, ◌+◌, Bool, false, List, [], ◌∷◌, ◌++◌, refl, sym, ap, ◌∙◌, add-zero, zero-add, add_assoc, arith, if◌then◌else◌}
 use Rattle.std.specs.Prelude.{count_by, fold}
 use Rattle.std.proofs.lemmas.List.Sums.{sum_by-append}
 use Rattle.kap_base.specs.declared.items.Level.{Level}

@@ -1,12 +1,11 @@
 -- The default templates are what their texts are read as.
-use Rattle.std.proofs.Common.{◌≡◌, ℕ, zero, suc, ◌<◌, ◌≤◌, Bool, true, false, not, ◌&&◌, List, [], ◌∷◌, ◌++◌, length, Ok, refl, ap, ◌∙◌, sym, eq-eqb, arith}
+use Rattle.std.proofs.Common.{◌≡◌, ℕ, zero, suc, ◌<◌, ◌≤◌, Bool, true, false, not, ◌&&◌, List, [], ◌∷◌, ◌++◌, length, refl, ap, ◌∙◌, sym, eq-eqb, arith}
 use Rattle.std.specs.Prelude.{◌==◌, codes}
 use Rattle.std.specs.List.{list_all}
 use Rattle.std.specs.Str.Pattern.{LacksTextAt}
 use Rattle.msg_template.specs.declared.action.Action.TheVariants as actions
 use Rattle.msg_template.specs.declared.template.Part.TheVariants.{Words, Action}
-use Rattle.msg_template.specs.Actions.{action_at}
-use Rattle.msg_template.specs.Reading.{Cut, Lacks, OneAction, Reads, last_words, next_action, opening}
+use Rattle.msg_template.specs.Reading.{Cut, OneAction, Reads, last_words, next_action, opening}
 use Rattle.alert_node.specs.Events.{default_id, default_message}
 
 -- ---- marks

@@ -62,6 +62,10 @@ longest_front (suc n) whole = if is_utf8 (take (suc n) whole) then take (suc n) 
 abbrev pub cut : List ℕ → List ℕ
 cut whole = longest_front TEMPLATE_LIMIT whole
 
+-- the text of a template with these facts, within the limit
+unfoldable pub text_of : Facts → List Part → List ℕ
+text_of facts template = cut (whole_text facts template)
+
 -- what is known of a point at a level, and this id
 abbrev pub facts_of : Alert → Level → PointValue → List ℕ → Facts
 facts_of alert level p id =
@@ -69,11 +73,11 @@ facts_of alert level p id =
 
 -- the id of an event; it knows no id
 abbrev pub id_of : Alert → Level → PointValue → List ℕ
-id_of alert level p = cut (whole_text (facts_of alert level p []) alert.id)
+id_of alert level p = text_of (facts_of alert level p []) alert.id
 
 -- the message of an event; it knows the id as it was cut
 abbrev pub message_of : Alert → Level → PointValue → List ℕ
-message_of alert level p = cut (whole_text (facts_of alert level p (id_of alert level p)) alert.message)
+message_of alert level p = text_of (facts_of alert level p (id_of alert level p)) alert.message
 
 abbrev pub event_of : Alert → Level → PointValue → Event
 event_of alert level p =

@@ -1,5 +1,5 @@
 -- How the level of a group and its numbers are spelled: the level, and the numbers of the expressions and of the resets.
-use Rattle.std.specs.Prelude.{◌≡◌, ℕ, ◌<◌, ◌^◌, List, refl}
+use Rattle.std.specs.Prelude.{ℕ, ◌<◌, ◌^◌, List, refl}
 use Rattle.std.specs.Int.{w64}
 use Rattle.kap_base.specs.declared.items.Level.{Level}
 use Rattle.state_code.specs.Laws.{as_parts, pair_spelled, u64_spelled}

@@ -1,8 +1,7 @@
 -- The level of a group, and how often each expression and each reset was evaluated at its points.
-use Rattle.std.specs.Prelude.{ℕ, ◌+◌, Bool, true, false, List, [], ◌∷◌, ◌++◌, fold, Option, Some, None}
+use Rattle.std.specs.Prelude.{ℕ, ◌+◌, Bool, false, List, [], ◌∷◌, ◌++◌, fold, Option, Some, None}
 use Rattle.kap_base.specs.declared.items.Level.{Level}
 use Rattle.kap_base.specs.declared.items.Level.TheVariants.{Fine, Info, Warning, Critical}
-use Rattle.kap_base.specs.declared.value.Value.{Value}
 use Rattle.kap_base.specs.Points.{PointValue}
 use Rattle.lambda_count.specs.Outcomes.{is_true, value_or_none}
 use Rattle.lambda_eval.specs.Values.{val}

@@ -1,9 +1,8 @@
 //! What is said of a point at a level.
 
-ghost use Rattle.std.specs.Prelude.{◌≡◌, IfOk};
-ghost use Rattle.msg_template.specs.Filling.{whole_text};
+ghost use Rattle.std.specs.Prelude.{◌≡◌, [], IfOk};
 ghost use Rattle.alert_node.specs.Alerts.{said_at};
-ghost use Rattle.alert_node.specs.Events.{cut, event_of, is_fine, tells};
+ghost use Rattle.alert_node.specs.Events.{event_of, facts_of, is_fine, tells, text_of};
 ghost use Rattle.alert_node.specs.Levels.{same_level};
 
 use crate::alert::Alert;
@@ -38,16 +37,16 @@ fn tells(alert: &Alert, before: Level, now: Level) -> bool
     !(alert.no_recoveries && is_fine(now))
 }
 
-/// The text of a template with these facts, cut.
+/// The text of a template with these facts, within the limit.
 fn filled(alloc: Global, template: &Template, facts: &Facts) -> Result<Text, NoMemory>
-    ensures { IfOk result (λ text. text ≡ cut (whole_text facts.now template.now)) }
+    ensures { IfOk result (λ text. text ≡ text_of facts.now template.now) }
 {
     template.fill(alloc, facts)
 }
 
-/// The event that tells of a point at a level.
-fn event_of(alloc: Global, alert: &Alert, level: Level, point: Point) -> Result<Event, NoMemory>
-    ensures { IfOk result (λ event. event ≡ event_of alert.now level point) }
+/// What is known of a point at a level, with an empty id.
+fn facts_of(alloc: Global, alert: &Alert, level: Level, point: Point) -> Result<Facts, NoMemory>
+    ensures { IfOk result (λ facts. facts ≡ facts_of alert.now level point []) }
 {
     let group = group_of(alloc, &point)?;
     let id = Text::from_str(alloc, "")?;
@@ -59,7 +58,7 @@ fn event_of(alloc: Global, alert: &Alert, level: Level, point: Point) -> Result<
         time,
         ..
     } = point;
-    let mut facts = Facts {
+    Ok(Facts {
         id,
         name,
         task,
@@ -68,7 +67,14 @@ fn event_of(alloc: Global, alert: &Alert, level: Level, point: Point) -> Result<
         time,
         tags,
         fields,
-    };
+    })
+}
+
+/// The event that tells of a point at a level.
+fn event_of(alloc: Global, alert: &Alert, level: Level, point: Point) -> Result<Event, NoMemory>
+    ensures { IfOk result (λ event. event ≡ event_of alert.now level point) }
+{
+    let mut facts = facts_of(alloc, alert, level, point)?;
     facts.id = filled(alloc, &alert.id, &facts)?;
     let message = filled(alloc, &alert.message, &facts)?;
     let topic = alert.topic.copy(alloc)?;
@@ -76,7 +82,7 @@ fn event_of(alloc: Global, alert: &Alert, level: Level, point: Point) -> Result<
         topic,
         id: facts.id,
         level,
-        time,
+        time: facts.time,
         message,
     })
 }

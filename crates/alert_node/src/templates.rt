@@ -16,7 +16,8 @@ fn default_id(alloc: Global) -> Result<Template, NoMemory>
     match read_id(alloc, &text) {
         Ok(template) => Ok(template),
         Err(TemplateFault::NoMemory) => Err(NoMemory),
-        Err(_) => unreachable!(),
+        Err(TemplateFault::Action(_)) => unreachable!(),
+        Err(TemplateFault::Field(_)) => unreachable!(),
     }
 }
 
@@ -29,7 +30,8 @@ fn default_message(alloc: Global) -> Result<Template, NoMemory>
     match read(alloc, &text) {
         Ok(template) => Ok(template),
         Err(TemplateFault::NoMemory) => Err(NoMemory),
-        Err(_) => unreachable!(),
+        Err(TemplateFault::Action(_)) => unreachable!(),
+        Err(TemplateFault::Field(_)) => unreachable!(),
     }
 }
 
