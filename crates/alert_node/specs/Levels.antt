@@ -51,8 +51,8 @@ first_true truth (level ∷ levels) = if holds (truth (Expression level)) then S
 abbrev pub held : (Ask → Option Bool) → Level → Option Level
 held truth level = if fails (truth (Reset level)) then Some level else None
 
--- By the level of the group so far, the first of these that there is: the highest level above it whose expression is true; that
--- level, where its reset is there and isn't true; the highest level up to it whose expression is true; OK.
+-- By the level of the group so far, the first of these that there is: the highest level above it whose expression is
+-- true; that level, where its reset is there and isn't true; the highest level up to it whose expression is true; OK.
 abbrev pub level_of : (Ask → Option Bool) → Level → Level
 level_of truth current =
     unwrap_or (first_true truth (levels_above current)) (unwrap_or (held truth current) (unwrap_or (first_true truth (levels_up_to current)) Fine))

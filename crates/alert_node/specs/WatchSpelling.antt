@@ -1,4 +1,4 @@
--- How the level of a group and its numbers are spelled: the level, and the numbers of the expressions and of the resets.
+-- How the level of a group and its numbers are spelled: the level, the numbers of the expressions, those of the resets.
 use Rattle.std.specs.Prelude.{ℕ, ◌<◌, ◌^◌, List, refl}
 use Rattle.std.specs.Int.{w64}
 use Rattle.kap_base.specs.declared.items.Level.{Level}

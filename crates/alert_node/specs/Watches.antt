@@ -54,8 +54,8 @@ abbrev pub lambda_of : Alert → Ask → Option Lambda
 lambda_of alert (Expression level) = condition_of alert.expressions level
 lambda_of alert (Reset level) = condition_of alert.resets level
 
--- Whether a condition is true at a point, where it was evaluated so often before in the point's group. A condition that has a
--- fault there isn't true. None where there is no condition.
+-- Whether a condition is true at a point, where it was evaluated so often before in the point's group. A condition that
+-- has a fault there isn't true. None where there is no condition.
 abbrev pub truth_at : Option Lambda → ℕ → PointValue → Option Bool
 truth_at None k p = None
 truth_at (Some lambda) k p = Some (is_true (value_or_none (val lambda k p)))

@@ -15,8 +15,8 @@ ghost use Rattle.alert_node.specs.Watches.{count_of, evaluations, same_ask, watc
 use crate::node::AlertNode;
 use node_core::Node;
 
-/// Of an `alert`, in a life and with a number: what it answers is what it says of each group, stamped and numbered; that life
-/// and that number are its own; it has one port; and points are for it.
+/// Of an `alert`, in a life and with a number: what it answers is what it says of each group, stamped and numbered; that
+/// life and that number are its own; it has one port; and points are for it.
 pub fn alerts_answer_by_groups()
     ensures answer { (life node : ℕ) (alert : Alert)
         → ⟦<AlertNode as Node>⟧.answer (seat_of life node alert)
@@ -34,7 +34,8 @@ pub fn alerts_answer_by_groups()
 /// The number of an expression or a reset of a level above OK is how often it was evaluated at the group's points.
 pub fn counts_are_evaluations()
     ensures { (alert : Alert) (ask : Ask) (points : List Came) → is_fine (level_asked ask) ≡ false
-        → count_of (watch_in alert points) ask ≡ count_by (same_ask ask) (evaluations alert points) }
+        → count_of (watch_in alert points) ask
+        ≡ count_by (same_ask ask) (evaluations alert points) }
 {}
 
 /// A text is cut to its longest front of whole characters within the limit, and to no other text.

@@ -35,9 +35,9 @@ fn alert_of(
     })
 }
 
-/// The node `alert` that is given this, in its first state: in a life of the task of this id, and with its number and its name
-/// there, as 2 and `alert2`. The default topic and the templates name the task, and the default topic the node. `NoMemory`
-/// comes where an allocation fails.
+/// The node `alert` that is given this, in its first state: in a life of the task of this id, and with its number and its
+/// name there, as 2 and `alert2`. The default topic and the templates name the task, and the default topic the node.
+/// `NoMemory` comes where an allocation fails.
 pub fn build(
     alloc: Global,
     life: u32,
