@@ -1,0 +1,4 @@
+pub mod LevelLaws
+pub mod CountLaws
+pub mod CutLaws
+pub mod DefaultLaws

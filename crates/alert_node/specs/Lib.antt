@@ -1,0 +1,7 @@
+pub mod Levels
+pub mod Watches
+pub mod Asking
+pub mod Events
+pub mod Alerts
+pub mod AlertLaws
+pub mod WatchSpelling

@@ -1,0 +1,17 @@
+//! The node `alert`: each point has a level, and events tell of it.
+#![tactic(auto)]
+
+mod alert;
+mod events;
+mod laws;
+mod levels;
+mod node;
+mod sends;
+mod templates;
+mod watch;
+
+pub use alert::Alert;
+pub use laws::{alerts_answer_by_groups, counts_are_evaluations, texts_are_cut};
+pub use node::{AlertNode, build};
+pub use sends::send_alert_node;
+pub use watch::{Ask, Counts, Watch};
