@@ -3,3 +3,4 @@ pub mod CheckLaws
 pub mod PairLaws
 pub mod ReadyLaws
 pub mod TellLaws
+pub mod RunLaws

@@ -1,5 +1,5 @@
 -- Pairs are tasks, or the first that is none is none for one reason.
-use Rattle.std.proofs.Common.{◌≡◌, ℕ, ◌<◌, ◌≤◌, ◌+◌, ◌++◌, Bool, true, false, Option, None, Some, List, [], ◌∷◌, length, inl, inr, refl, sym, ap, ◌∙◌, subst, arith}
+use Rattle.std.proofs.Common.{◌≡◌, ℕ, ◌<◌, ◌≤◌, ◌+◌, ◌++◌, Bool, true, false, Option, None, Some, List, [], ◌∷◌, length, map, inl, inr, refl, sym, ap, ◌∙◌, subst, arith}
 use Rattle.std.specs.Prelude.{◌⊎◌, ◌≢◌, nat_le, nat_lt}
 use Rattle.std.proofs.lemmas.Bool.{false≢true}
 use Rattle.std.proofs.lemmas.Bool.Decides.{nat_tests}
@@ -13,7 +13,7 @@ use Rattle.kap_server.specs.declared.status.Status.{Status}
 use Rattle.kap_server.specs.declared.status.Status.TheVariants as statuses
 use Rattle.kap_server.specs.Pairs.{AreNoTasks, AreTasks, IsNoTask, IsTask, is_among}
 use Rattle.kap_server.specs.ReadingIn.{IsShort}
-use Rattle.kap_server.specs.Words.{Pair, pairs_of}
+use Rattle.kap_server.specs.Words.{Pair, are_pairs, pairs_of}
 
 -- ---- one pair
 
@@ -89,7 +89,7 @@ Meaning ids pairs = ((tasks : List Task) × AreTasks ids pairs tasks) ⊎ ((stat
 
 of_rest : (ids : List (List ℕ)) (pair : Pair) (pairs : List Pair) (task : Task) → IsTask ids pair task → Meaning (ids ++ pair.id ∷ []) pairs → Meaning ids (pair ∷ pairs)
 of_rest ids pair pairs task is (inl ts) = inl (task ∷ ts.0, (is, ts.1))
-of_rest ids pair pairs task is (inr n) = inr (n.0, inr (task, (is, n.1)))
+of_rest ids pair pairs task is (inr n) = inr (n.0, inr (task, is, n.1))
 
 of_first : (ids : List (List ℕ)) (pair : Pair) (pairs : List Pair) → OneMeaning ids pair → Meaning (ids ++ pair.id ∷ []) pairs → Meaning ids (pair ∷ pairs)
 of_first ids pair pairs (inl t) rest = of_rest ids pair pairs t.0 t.1 rest
@@ -171,3 +171,14 @@ more_than n k low high = by (nat_le 130 n) (nat_lt 64 k) refl refl where
 -- words that are more pairs than there may be
 pub many_words : (words : List (List ℕ)) → nat_le 130 (length words) ≡ nat_lt 64 (length (pairs_of words))
 many_words words = let h = words_of_pairs words in more_than (length words) (length (pairs_of words)) h.0 h.1
+
+-- one word, or none, is no pair
+pub one_word : {A : Type 0} (f : A → List ℕ) (words : List A) → 1 ≤ length words → length words < 2 → are_pairs (map f words) ≡ false
+one_word f [] some few = absurd (omega (arith, some))
+one_word f (x ∷ []) some few = refl
+one_word f (x ∷ y ∷ words) some few = absurd (omega (arith, few))
+
+pub no_pairs : {A : Type 0} (f : A → List ℕ) (words : List A) → length words < 2 → pairs_of (map f words) ≡ []
+no_pairs f [] few = refl
+no_pairs f (x ∷ []) few = refl
+no_pairs f (x ∷ y ∷ words) few = absurd (omega (arith, few))

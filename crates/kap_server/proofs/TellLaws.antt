@@ -13,6 +13,11 @@ use Rattle.kap_server.specs.Replaying.{AddsLines, Grows}
 use Rattle.kap_server.specs.Runs.{run_text}
 
 module _ {P : Type 0} (answer : P → Answer) (names : List TaskNames) (lives : List (List (Placed P))) where
+  -- of no points there is no text
+  pub text_none : run_text answer names lives [] ≡ []
+  unfolding text_behind
+  text_none = refl
+
   -- the effects of one point more
   abbrev next : List PointValue → PointValue → List Effect
   next points p = life_effects_with answer (suc (length points)) lives (points ++ p ∷ [])

@@ -31,7 +31,6 @@ pub(crate) struct Ready {
 }
 
 /// Whether a task has the id.
-#[tactic(auto, using(crate::proofs::ReadyLaws::among))]
 fn has_id(names: &[TaskNames], id: &str) -> bool
     ensures { result ≡ is_among id.now (ids_of names.now) }
 {

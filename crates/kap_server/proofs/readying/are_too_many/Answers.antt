@@ -5,4 +5,4 @@ use Rattle.kap_server.proofs.PairLaws.{many_words}
 use Rattle.kap_server.proofs.readying.are_too_many.Goals as goal
 
 pub returns : goal.returns
-returns c = ap (nat_le 130) (sym (length-map string_bytes c.args.words.now)) ∙ many_words (map string_bytes c.args.words.now)
+returns c = ap (nat_le 130) (sym (length-map c.args.words.now string_bytes)) ∙ many_words (map string_bytes c.args.words.now)

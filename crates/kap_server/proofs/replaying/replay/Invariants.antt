@@ -19,7 +19,7 @@ invariant-replaying g l =
       lives : l.telling.run.lives ≡ map (graph_of node.spec) l.fn.plans.items;
       fed : l.telling.run.points ≡ l.reader.given;
       topics : StandsFor (events_of (effects_of node.answer l.telling.run.lives l.telling.run.points)) l.telling.topics;
-      written : HasWritten (run_text node.answer l.names.now l.telling.run.lives) l.text l.reader (source.left l.initial.input) (source.left l.input) (sink.written l.initial.out) (sink.written l.out);
+      written : HasWritten (run_text node.answer l.names (map (graph_of node.spec) l.fn.plans.items)) l.text l.reader (source.left l.initial.input) (source.left l.input) (sink.written l.initial.out) (sink.written l.out);
       reads_later : source.faults l.initial.input ≤ source.faults l.input;
       writes_later : sink.faults l.initial.out ≤ sink.faults l.out;
     }

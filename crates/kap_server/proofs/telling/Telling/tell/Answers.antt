@@ -18,5 +18,5 @@ returns-clause-text g c =
     let on = effects_more node.answer node.life node.number g.met.N.Node.stamped lives in
     map_ok c.put_effects.result (λ added.
     adds_lines node.answer c.args.names.now lives on points c.args.point c.args.text.now c.put_effects.new.text
-    (rw (c.as_slice.ensures, c.in_ok-feed.ensures.effects, c.clear.ensures) at added))
+    (rw (c.as_slice-effects.ensures, c.in_ok-feed.ensures.effects, c.clear.ensures) at added))
     (c.put_effects.ensures.text (events_of (effects_of node.answer lives points)) c.requires.topics)

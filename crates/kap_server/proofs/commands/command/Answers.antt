@@ -1,0 +1,29 @@
+use Rattle.std.proofs.Common.{◌≡◌, ℕ, Bool, true, false, List, Some, None, map, length, inl, inr, sym, ◌∙◌, subst, arith}
+use Rattle.std.specs.Prelude.{nat_lt, string_bytes}
+use Rattle.std.proofs.lemmas.Bool.Decides.{nat_tests}
+use Rattle.kap_server.specs.Runs.{Ran}
+use Rattle.kap_server.specs.Words.{Pair, Replay, pairs_of, request_in}
+use Rattle.kap_server.proofs.CheckLaws.{check_answers}
+use Rattle.kap_server.proofs.RunLaws.{not_none, ran_not_many, ran_not_usage, ran_refused, ran_status, same_counts, same_pairs}
+use Rattle.kap_server.proofs.commands.command.Goals as goal
+
+pub returns-in-Some-Check-clause-check_status : goal.returns-in-Some-Check-clause-check_status
+returns-in-Some-Check-clause-check_status g c = λ text status asks told to.
+    check_answers (g.P.Patterns.refused c.check.new.pats) text c.check.result status (g.S.Source.left c.args.input.now) (g.S.Source.left c.check.new.input) (g.K.Sink.written c.args.out.now) (g.K.Sink.written c.check.new.out) c.check.ensures.checked told to
+
+pub returns-else-are_too_many-clause-usage : goal.returns-else-are_too_many-clause-usage
+returns-else-are_too_many-clause-usage g c =
+    let asked = c.request_in.ensures in
+    ?
+
+pub returns-else-are_too_many-clause-too_many : goal.returns-else-are_too_many-clause-too_many
+returns-else-are_too_many-clause-too_many g c = ?
+
+pub returns-else-are_too_many-clause-ran : goal.returns-else-are_too_many-clause-ran
+returns-else-are_too_many-clause-ran g c = ?
+
+pub returns-else-are_too_many-clause-status : goal.returns-else-are_too_many-clause-status
+returns-else-are_too_many-clause-status g c = ?
+
+pub returns-else-are_too_many-clause-refused : goal.returns-else-are_too_many-clause-refused
+returns-else-are_too_many-clause-refused g c = ?

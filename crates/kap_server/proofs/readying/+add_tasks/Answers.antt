@@ -1,0 +1,16 @@
+use Rattle.std.proofs.Common.{◌≡◌, Ok, Err}
+use Rattle.std.specs.Prelude.{Result, OnOk, string_bytes}
+use Rattle.kap_server.proofs.PairLaws.{no_pairs}
+use Rattle.kap_server.proofs.ReadyLaws.{adds_first, adds_none}
+use Rattle.kap_server.proofs.readying.+add_tasks.Goals as goal
+
+map_ok : {A E P Q : Type 0} (r : Result A E) → (P → Q) → OnOk r P → OnOk r Q
+map_ok (Ok x) f p = f p
+map_ok (Err e) f p = tt
+
+pub returns-in_default-clause-ok : goal.returns-in_default-clause-ok
+returns-in_default-clause-ok g t c = rw (no_pairs string_bytes c.args.words.now c.in_default.len_below) (adds_none _ _ _ _ _ _)
+
+pub returns-in_ok-add_task-in-len2-up-clause-ok : goal.returns-in_ok-add_task-in-len2-up-clause-ok
+returns-in_ok-add_task-in-len2-up-clause-ok g t c =
+    map_ok c.add_tasks.result (λ all. ?) c.add_tasks.ensures.ok
