@@ -1,5 +1,5 @@
 -- The names that nodes give their results.
-use Rattle.std.proofs.Common.{◌≡◌, ℕ, Bool, true, false, not, ◌&&◌, List, Result, Ok, Err, IfOk, IsTrue, IsUtf8, refl, subst, sym}
+use Rattle.std.proofs.Common.{◌≡◌, ℕ, Bool, true, false, not, ◌&&◌, List, Result, Ok, Err, IfOk, IsTrue, IsUtf8, subst, sym}
 use Rattle.std.specs.Str.{is_utf8}
 use Rattle.std.proofs.lemmas.Str.{is_utf8-from_IsUtf8}
 use Rattle.kap_base.specs.Texts.{backslash, ends_with, has_line_feed, is_empty, is_name}

@@ -8,7 +8,6 @@ use Rattle.std.proofs.Common.{ap, sym, ◌∙◌}
 use Rattle.kap_base.specs.Points.{PointValue}
 use Rattle.kap_base.specs.declared.value.Value.{Value}
 use Rattle.kap_base.specs.declared.value.Value.TheVariants.{Int, Bool as Truth, Str}
-use Rattle.node_core.specs.declared.said.Said.{Said}
 use Rattle.node_core.specs.Groups.{Came, GroupAnswer}
 use Rattle.node_core.specs.Meaning.{Turn}
 use Rattle.state_nodes.specs.Words.{last, last_push, passed_if}

@@ -1,5 +1,5 @@
 -- `difference`: by how much an integer is more than the one before.
-use Rattle.std.specs.Prelude.{◌≡◌, ℕ, ℤ, ◌-ℤ◌, List, [], ◌∷◌, ◌++◌, codes, Option, Some, None, refl}
+use Rattle.std.specs.Prelude.{◌≡◌, ℕ, ℤ, ◌-ℤ◌, List, [], ◌∷◌, ◌++◌, codes, Option, Some, None}
 use Rattle.std.specs.Int.{int_wrap, w64}
 use Rattle.std.proofs.Common.{ap, sym}
 use Rattle.kap_base.specs.Points.{PointValue}

@@ -1,5 +1,5 @@
 -- `elapsed`: how much time passed from one point with a field to the next.
-use Rattle.std.specs.Prelude.{◌≡◌, ℕ, ℤ, pos, ◌-ℤ◌, int_div, if◌then◌else◌, List, [], ◌∷◌, ◌++◌, codes, Option, Some, None, filter_map, refl}
+use Rattle.std.specs.Prelude.{◌≡◌, ℕ, ℤ, pos, ◌-ℤ◌, int_div, if◌then◌else◌, List, [], ◌∷◌, ◌++◌, codes, Option, Some, None, filter_map}
 use Rattle.std.specs.FinMap.{contains_key}
 use Rattle.std.proofs.Common.{ap, sym}
 use Rattle.kap_base.specs.Points.{PointValue}

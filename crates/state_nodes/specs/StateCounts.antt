@@ -1,7 +1,7 @@
 -- `stateCount`: at how many points in a row a condition is true.
 use Rattle.std.specs.Prelude.{◌≡◌, ℕ, ◌+◌, ℤ, pos, negsuc, Bool, true, false, List, [], ◌∷◌, ◌++◌, length, codes, Option, Some, None, filter_map, refl}
 use Rattle.std.specs.List.{enumerate_from, suffix_len}
-use Rattle.std.proofs.Common.{arith, ap, sym, ◌∙◌, append-nil, length-append, reverse}
+use Rattle.std.proofs.Common.{arith, ap, sym, ◌∙◌, append-nil, length-append}
 use Rattle.std.proofs.lemmas.List.{reverse-append}
 use Rattle.std.proofs.lemmas.List.Elements.{filter_map-append}
 use Rattle.kap_base.specs.Points.{PointValue}

@@ -2,7 +2,7 @@
 use Rattle.std.specs.Prelude.{◌≡◌, ◌&&◌, ℕ, ℤ, Bool, not, if◌then◌else◌, List, [], ◌∷◌, ◌++◌, Option, Some, None, filter_map, refl}
 use Rattle.std.specs.FinMap.{empty, get, insert}
 use Rattle.std.specs.List.{last_or}
-use Rattle.std.proofs.Common.{append-nil, ap, sym, ◌∙◌}
+use Rattle.std.proofs.Common.{append-nil, ap, ◌∙◌}
 use Rattle.std.proofs.lemmas.List.Elements.{filter_map-append}
 use Rattle.kap_base.specs.Points.{PointValue}
 use Rattle.kap_base.specs.Texts.{backslash, ends_with, has_line_feed, is_empty}

@@ -128,7 +128,7 @@ fn feed_change_detect(
 }
 
 impl Rule for ChangeDetect {
-    type Cell = Option<ItemList<Option<Value>>>;
+    type Cell = LastValues;
 
     ghost ports = { λ r. 1 };
 
@@ -140,7 +140,7 @@ impl Rule for ChangeDetect {
 
     ghost goes_on = { λ r. change_detect_goes_on r.names };
 
-    fn first(&self, alloc: Global) -> Option<ItemList<Option<Value>>> {
+    fn first(&self, alloc: Global) -> LastValues {
         let _ = alloc;
         None
     }
@@ -148,7 +148,7 @@ impl Rule for ChangeDetect {
     fn feed(
         &mut self,
         alloc: Global,
-        cell: &mut Option<ItemList<Option<Value>>>,
+        cell: &mut LastValues,
         port: u32,
         point: Point,
     ) -> Result<Said, NoMemory> {

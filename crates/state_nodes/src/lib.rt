@@ -20,4 +20,4 @@ pub use elapsed::Elapsed;
 pub use laws::{nodes_say_what_kinds_say, states_are_read_again, values_are_told_apart};
 pub use sends::send_state_node;
 pub use spec::StateSpec;
-pub use state_count::StateCount;
+pub use state_count::{Counts, StateCount};

@@ -18,6 +18,9 @@ pub struct StateCount {
     pub spec: StateCountSpec<Lambda>,
 }
 
+/// How often the condition was evaluated in a group, and at how many points in a row it was true.
+pub type Counts = (u64, u64);
+
 /// What a condition is, by its value: nothing where there is none, and false where it is no truth value.
 fn truth_of(value: Option<Value>) -> Option<bool>
     ensures { result ≡ truth_of value }
@@ -86,9 +89,6 @@ fn say_number(
     Ok(pass(alloc, with_number(point, name, number)?))
 }
 
-/// How often the condition was evaluated in a group, and at how many points in a row it was true.
-type Counts = (u64, u64);
-
 /// What `stateCount` says of a point.
 fn feed_state_count(
     alloc: Global,
@@ -111,7 +111,7 @@ fn feed_state_count(
 }
 
 impl Rule for StateCount {
-    type Cell = (u64, u64);
+    type Cell = Counts;
 
     ghost ports = { λ r. 1 };
 
@@ -123,7 +123,7 @@ impl Rule for StateCount {
 
     ghost goes_on = { λ r. state_count_goes_on r.spec };
 
-    fn first(&self, alloc: Global) -> (u64, u64) {
+    fn first(&self, alloc: Global) -> Counts {
         let _ = alloc;
         (0, 0)
     }
@@ -131,7 +131,7 @@ impl Rule for StateCount {
     fn feed(
         &mut self,
         alloc: Global,
-        cell: &mut (u64, u64),
+        cell: &mut Counts,
         port: u32,
         point: Point,
     ) -> Result<Said, NoMemory> {

@@ -2,7 +2,7 @@
 
 ghost use Rattle.std.specs.Prelude.{◌≡◌, IfOk, IsTrue};
 ghost use Rattle.kap_base.specs.Texts.{is_name};
-ghost use Rattle.state_nodes.specs.Words.{int_at, is_plain, passed, passed_if, result_name, with_number, with_number_alone};
+ghost use Rattle.state_nodes.specs.Words.{int_at, is_plain, passed, result_name, with_number, with_number_alone};
 
 use kap_base::{Body, Duplicate, Fields, NoMemory, Point, Text, Value};
 use node_core::Said;
@@ -14,17 +14,6 @@ pub(crate) fn pass(alloc: Global, point: Point) -> Said
     ensures { result ≡ passed point }
 {
     Said::of_body(alloc, Body::Point(point))
-}
-
-/// The point is given out where this is true; else nothing is said of it.
-pub(crate) fn pass_if(alloc: Global, holds: bool, point: Point) -> Said
-    ensures { result ≡ passed_if holds point }
-{
-    if holds {
-        pass(alloc, point)
-    } else {
-        Said::nothing(alloc)
-    }
 }
 
 /// The name of a result: the one that is given, or else the node's own.
