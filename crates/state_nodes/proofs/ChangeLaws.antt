@@ -1,0 +1,61 @@
+-- What stands at fields, and whether it still does.
+use Rattle.std.proofs.Common.{◌≡◌, ℕ, Bool, true, false, ◌&&◌, not, List, [], ◌∷◌, Option, Some, None, refl, ap, ◌↔◌, IsTrue}
+use Rattle.std.specs.Bool.{Decides}
+use Rattle.std.specs.Cmp.{booleans_Decides}
+use Rattle.std.proofs.lemmas.Bool.Decides.{Decides-int_eq}
+use Rattle.std.proofs.lemmas.Slice.Eq.{bytes_eq-Decides}
+use Rattle.kap_base.specs.Points.{PointValue}
+use Rattle.kap_base.specs.declared.value.Value.{Value}
+use Rattle.kap_base.specs.declared.value.Value.TheVariants.{Int, Bool as Truth, Str}
+use Rattle.state_nodes.specs.ChangeDetects.{are_still, is_change_from, is_same, is_same_value, value_at, values_at}
+
+-- a test behind a constructor
+decided : {A B : Type 0} (made : A → B) (a b : A) (r : Bool) → (made a ≡ made b → a ≡ b) → Decides r (a ≡ b) → Decides r (made a ≡ made b)
+decided made a b r back d = (λ e. ap made (d.0 e), λ e. d.1 (back e))
+
+values_decided : (a b : Value) → Decides (is_same_value a b) (a ≡ b)
+values_decided (Int a) (Int b) = decided Int a b (is_same_value (Int a) (Int b)) (λ e. cc) (Decides-int_eq a b)
+values_decided (Int a) (Truth b) = (λ e. absurd cc, λ e. absurd cc)
+values_decided (Int a) (Str b) = (λ e. absurd cc, λ e. absurd cc)
+values_decided (Truth a) (Int b) = (λ e. absurd cc, λ e. absurd cc)
+values_decided (Truth a) (Truth b) = decided Truth a b (is_same_value (Truth a) (Truth b)) (λ e. cc) (booleans_Decides a b)
+values_decided (Truth a) (Str b) = (λ e. absurd cc, λ e. absurd cc)
+values_decided (Str a) (Int b) = (λ e. absurd cc, λ e. absurd cc)
+values_decided (Str a) (Truth b) = (λ e. absurd cc, λ e. absurd cc)
+values_decided (Str a) (Str b) = decided Str a b (is_same_value (Str a) (Str b)) (λ e. cc) (bytes_eq-Decides a b)
+
+pub same_decided : (a b : Option Value) → Decides (is_same a b) (a ≡ b)
+same_decided None None = (λ e. refl, λ e. refl)
+same_decided None (Some b) = (λ e. absurd cc, λ e. absurd cc)
+same_decided (Some a) None = (λ e. absurd cc, λ e. absurd cc)
+same_decided (Some a) (Some b) = decided Some a b (is_same (Some a) (Some b)) (λ e. cc) (values_decided a b)
+
+pub same_exactly : (a b : Option Value) → IsTrue (is_same a b) ↔ (a ≡ b)
+same_exactly a b = same_decided a b
+
+left : (a b : Bool) → (a && b) ≡ true → a ≡ true
+left true b e = refl
+left false b e = absurd cc
+
+right : (a b : Bool) → (a && b) ≡ true → b ≡ true
+right true b e = e
+right false b e = absurd cc
+
+-- where all stand there still, they are what stands there
+pub still_are : (names : List (List ℕ)) (values : List (Option Value)) (p : PointValue) → are_still names values p ≡ true → values ≡ values_at names p
+still_are [] [] p e = refl
+still_are [] (v ∷ values) p e = absurd cc
+still_are (name ∷ names) [] p e = absurd cc
+still_are (name ∷ names) (v ∷ values) p e =
+    let here : v ≡ value_at p name = (same_decided v (value_at p name)).0 (left (is_same v (value_at p name)) (are_still names values p) e) in
+    let rest = still_are names values p (right (is_same v (value_at p name)) (are_still names values p) e) in
+    (λ i. here i ∷ rest i)
+
+not_not : (b : Bool) → not b ≡ false → b ≡ true
+not_not true e = refl
+not_not false e = absurd cc
+
+-- where nothing changes, what is kept is what stands there
+pub kept_is : (names : List (List ℕ)) (kept : Option (List (Option Value))) (p : PointValue) → is_change_from names kept p ≡ false → kept ≡ Some (values_at names p)
+kept_is names None p e = absurd cc
+kept_is names (Some values) p e = ap Some (still_are names values p (not_not (are_still names values p) e))

@@ -1,0 +1,77 @@
+-- What nodes say of a point, and what stands at the points of a group.
+use Rattle.std.specs.Prelude.{◌≡◌, ◌&&◌, ℕ, ℤ, Bool, not, if◌then◌else◌, List, [], ◌∷◌, ◌++◌, Option, Some, None, filter_map, refl}
+use Rattle.std.specs.FinMap.{empty, get, insert}
+use Rattle.std.specs.List.{last_or}
+use Rattle.std.proofs.Common.{append-nil, ap, ◌∙◌}
+use Rattle.std.proofs.lemmas.List.Elements.{filter_map-append}
+use Rattle.kap_base.specs.Points.{PointValue}
+use Rattle.kap_base.specs.Texts.{backslash, ends_with, has_line_feed, is_empty}
+use Rattle.kap_base.specs.declared.items.Body.TheVariants as bodies
+use Rattle.kap_base.specs.declared.value.Value.{Value}
+use Rattle.kap_base.specs.declared.value.Value.TheVariants.{Int}
+use Rattle.node_core.specs.declared.said.Said.{Said}
+use Rattle.node_core.specs.Groups.{Came}
+use Rattle.node_core.specs.Meaning.{silence}
+
+-- the point is given out
+abbrev pub passed : PointValue → Said
+passed p = record { bodies = bodies.Point p ∷ []; deeds = []; drops = 0 }
+
+-- where this is true; else nothing is said of it
+abbrev pub passed_if : Bool → PointValue → Said
+passed_if b p = if b then passed p else silence
+
+-- the name of a result: the one that is given, or else the node's own
+abbrev pub result_name : List ℕ → Option (List ℕ) → List ℕ
+result_name own None = own
+result_name own (Some name) = name
+
+-- a text that is a name, but for that it is UTF-8
+abbrev pub is_plain : List ℕ → Bool
+is_plain text = not (is_empty text) && not (ends_with backslash text) && not (has_line_feed text)
+
+-- the point with this number among its fields, in the place of a field of that name
+abbrev pub with_number : List ℕ → ℤ → PointValue → PointValue
+with_number name n p = record p { fields = insert p.fields name (Int n) }
+
+-- the point with this number as its one field
+abbrev pub with_number_alone : List ℕ → ℤ → PointValue → PointValue
+with_number_alone name n p = record p { fields = insert empty name (Int n) }
+
+-- the integer that a field holds, if it is there and holds one
+abbrev pub int_of : Option Value → Option ℤ
+int_of (Some (Int n)) = Some n
+int_of _ = None
+
+abbrev pub int_at : List ℕ → PointValue → Option ℤ
+int_at field p = int_of (get p.fields field)
+
+-- the integers that a field holds at points, in order
+abbrev pub ints_at : List ℕ → List Came → List ℤ
+ints_at field points = filter_map (λ c. int_at field c.1) points
+
+-- the last of a list
+abbrev pub last : {A : Type 0} → List A → Option A
+last xs = last_or None xs
+
+-- the later of two, where there is one
+abbrev pub latest : {A : Type 0} → Option A → Option A → Option A
+latest before None = before
+latest before (Some x) = Some x
+
+-- ---- laws
+
+last_or-push : {A : Type 0} (o : Option A) (xs : List A) (x : A) → last_or o (xs ++ x ∷ []) ≡ Some x
+last_or-push o [] x = refl
+last_or-push o (y ∷ xs) x = last_or-push (Some y) xs x
+
+pub last_push : {A : Type 0} (xs : List A) (x : A) → last (xs ++ x ∷ []) ≡ Some x
+last_push xs x = last_or-push None xs x
+
+last_one_more : {B : Type 0} (ys : List B) (o : Option B) → last (ys ++ filter_map (λ (p : Option B). p) (o ∷ [])) ≡ latest (last ys) o
+last_one_more ys None = ap last (append-nil ys)
+last_one_more ys (Some y) = last_push ys y
+
+-- the last of what stands at points, with one point more
+pub last_more : {A B : Type 0} (h : A → Option B) (xs : List A) (x : A) → last (filter_map h (xs ++ x ∷ [])) ≡ latest (last (filter_map h xs)) (h x)
+last_more h xs x = ap last (filter_map-append h xs (x ∷ [])) ∙ last_one_more (filter_map h xs) (h x)

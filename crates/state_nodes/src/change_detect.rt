@@ -1,0 +1,158 @@
+ghost use Rattle.std.specs.Prelude.{◌≡◌, IfOk, OnOk, Some};
+ghost use Rattle.std.specs.FinMap.{get};
+ghost use Rattle.state_nodes.specs.ChangeDetects.{are_still, change_detect_goes_on, change_detect_says, change_detect_step, is_change_from, is_same, is_same_value, last_values, values_at};
+ghost use Rattle.state_nodes.specs.Words.{passed_if};
+
+use crate::words::pass;
+use kap_base::{Duplicate, Fields, ItemList, Names, NoMemory, Point, Text, Value};
+use node_core::{Rule, Said};
+use std::alloc::Global;
+
+/// What `changeDetect` does (Kapacitor 1.6: change detect node): it passes a group's first point, and each one at which one of
+/// these fields has another kind or value than at the group's point before, or is at one of the two alone.
+#[derive(Debug, Drop)]
+pub struct ChangeDetect {
+    /// The fields.
+    pub names: Names,
+}
+
+/// What stands at the fields of a group's last point, in their order; nothing before the first point.
+pub type LastValues = Option<ItemList<Option<Value>>>;
+
+/// Whether the values are of one kind, and equal.
+fn is_same_value(one: &Value, other: &Value) -> bool
+    ensures { result ≡ is_same_value one.now other.now }
+{
+    match one {
+        Value::Int(a) => match other {
+            Value::Int(b) => *a == *b,
+            Value::Bool(_) => false,
+            Value::Str(_) => false,
+        },
+        Value::Bool(a) => match other {
+            Value::Bool(b) => *a == *b,
+            Value::Int(_) => false,
+            Value::Str(_) => false,
+        },
+        Value::Str(a) => match other {
+            Value::Str(b) => a == b,
+            Value::Int(_) => false,
+            Value::Bool(_) => false,
+        },
+    }
+}
+
+/// Whether this stands at a field still.
+fn is_still(fields: &Fields, name: &Text, kept: &Option<Value>) -> bool
+    ensures { result ≡ is_same kept.now (get fields.now name.now) }
+{
+    match fields.get(name) {
+        Some(value) => match kept {
+            Some(kept) => is_same_value(kept, value),
+            None => false,
+        },
+        None => kept.is_none(),
+    }
+}
+
+/// Whether each of these stands at its field still.
+fn are_still(names: &[Text], values: &[Option<Value>], point: &Point) -> bool
+    ensures { result ≡ are_still names.now values.now point.now }
+{
+    let mut names_left = names;
+    let mut values_left = values;
+    'comparing: while let Some((name, other_names)) = names_left.split_first() {
+        let Some((value, other_values)) = values_left.split_first() else {
+            return false;
+        };
+        if !is_still(&point.fields, name, value) {
+            return false;
+        }
+        names_left = other_names;
+        values_left = other_values;
+    }
+    values_left.is_empty()
+}
+
+/// Whether some of the fields differ from what is kept.
+fn is_change(names: &[Text], kept: &LastValues, point: &Point) -> bool
+    ensures { result ≡ is_change_from names.now kept.now point.now }
+{
+    match kept {
+        Some(values) => !are_still(names, values.as_slice(), point),
+        None => true,
+    }
+}
+
+/// What stands at a field, copied.
+fn value_at(alloc: Global, fields: &Fields, name: &Text) -> Result<Option<Value>, NoMemory>
+    ensures { IfOk result (λ value. value ≡ get fields.now name.now) }
+{
+    match fields.get(name) {
+        Some(value) => Ok(Some(value.copy(alloc)?)),
+        None => Ok(None),
+    }
+}
+
+/// What stands at the fields, copied.
+fn values_at(
+    alloc: Global,
+    names: &[Text],
+    point: &Point,
+) -> Result<ItemList<Option<Value>>, NoMemory>
+    ensures { IfOk result (λ values. values ≡ values_at names.now point.now) }
+{
+    let mut values = Vec::new(alloc);
+    'copying: for name in names {
+        values.push(value_at(alloc, &point.fields, name)?)?;
+    }
+    Ok(ItemList::from_items(values))
+}
+
+/// What `changeDetect` says of a point. Values are copied only where some change.
+fn feed_change_detect(
+    alloc: Global,
+    names: &[Text],
+    kept: &mut LastValues,
+    point: Point,
+) -> Result<Said, NoMemory>
+    ensures kept { OnOk result (kept.new ≡ Some (values_at names.now point)) }
+    ensures said { IfOk result (λ said. said
+        ≡ passed_if (is_change_from names.now kept.old point) point) }
+{
+    if !is_change(names, kept, &point) {
+        return Ok(Said::nothing(alloc));
+    }
+    *kept = Some(values_at(alloc, names, &point)?);
+    Ok(pass(alloc, point))
+}
+
+impl Rule for ChangeDetect {
+    type Cell = LastValues;
+
+    ghost ports = { λ r. 1 };
+
+    ghost answer = { λ r. change_detect_says r.names };
+
+    ghost kept = { λ r. last_values r.names };
+
+    ghost step = { λ r. change_detect_step r.names };
+
+    ghost goes_on = { λ r. change_detect_goes_on r.names };
+
+    fn first(&self, alloc: Global) -> LastValues {
+        let _ = alloc;
+        None
+    }
+
+    fn feed(
+        &mut self,
+        alloc: Global,
+        cell: &mut LastValues,
+        port: u32,
+        point: Point,
+    ) -> Result<Said, NoMemory> {
+        let _ = port;
+        feed_change_detect(alloc, self.names.as_slice(), cell, point)
+    }
+}
