@@ -1,7 +1,9 @@
 -- Pairs are tasks, or the first that is none is none for one reason.
-use Rattle.std.proofs.Common.{◌≡◌, ℕ, ◌<◌, ◌≤◌, ◌+◌, ◌++◌, Bool, true, false, Option, None, Some, List, [], ◌∷◌, length, map, inl, inr, refl, sym, ap, ◌∙◌, subst, arith}
+use Rattle.std.proofs.Common.{◌≡◌, ℕ, ◌<◌, ◌≤◌, ◌+◌, ◌++◌, Bool, true, false, Option, None, Some, List, [], ◌∷◌, ◌-◌, drop, get_or, length, map, take, inl, inr, refl, sym, ap, ◌∙◌, subst, arith}
 use Rattle.std.specs.Prelude.{◌⊎◌, ◌≢◌, nat_le, nat_lt}
+use Rattle.std.proofs.Math.Seq.{take-length}
 use Rattle.std.proofs.lemmas.Bool.{false≢true}
+use Rattle.std.proofs.lemmas.List.{length-drop}
 use Rattle.std.proofs.lemmas.Bool.Decides.{nat_tests}
 use Rattle.lambda_types.specs.Faults.{Refusal}
 use Rattle.tick_lexer.specs.declared.limits.TheConstants.{SCRIPT_LIMIT}
@@ -182,3 +184,17 @@ pub no_pairs : {A : Type 0} (f : A → List ℕ) (words : List A) → length wor
 no_pairs f [] few = refl
 no_pairs f (x ∷ []) few = refl
 no_pairs f (x ∷ y ∷ words) few = absurd (omega (arith, few))
+
+-- two words and further ones
+pair_then : {A : Type 0} (f : A → List ℕ) (words : List A) (x y : A) → 2 ≤ length words → x ≡ get_or words 0 x → y ≡ get_or words 1 y
+    → pairs_of (map f words) ≡ record { id = f x; script = f y } ∷ pairs_of (map f (drop 2 words))
+pair_then f [] x y some p q = absurd (omega (arith, some))
+pair_then f (a ∷ []) x y some p q = absurd (omega (arith, some))
+pair_then f (a ∷ b ∷ words) x y some p q = rw (p, q) refl
+
+rest_is : {A : Type 0} (words : List A) → take (length words - 2) (drop 2 words) ≡ drop 2 words
+rest_is words = ap (λ n. take n (drop 2 words)) (sym (length-drop 2 words)) ∙ take-length (drop 2 words)
+
+pub pair_first : {A : Type 0} (f : A → List ℕ) (words : List A) (x y : A) → 2 ≤ length words → x ≡ get_or words 0 x → y ≡ get_or words 1 y
+    → pairs_of (map f words) ≡ record { id = f x; script = f y } ∷ pairs_of (map f (take (length words - 2) (drop 2 words)))
+pair_first f words x y some p q = pair_then f words x y some p q ∙ ap (λ l. record { id = f x; script = f y } ∷ pairs_of (map f l)) (sym (rest_is words))

@@ -1,6 +1,7 @@
 -- What stands after a replay, and its statuses.
-use Rattle.std.proofs.Common.{◌≡◌, ℕ, Bool, true, false, Option, None, Some, List, [], ◌∷◌, map, inl, inr, refl, sym, ap, ◌∙◌, subst}
-use Rattle.std.specs.Prelude.{◌⊎◌, ◌≢◌}
+use Rattle.std.proofs.Common.{◌≡◌, ℕ, ◌<◌, ◌≤◌, arith, length, Bool, true, false, Option, None, Some, List, [], ◌∷◌, map, inl, inr, refl, sym, ap, ◌∙◌, subst}
+use Rattle.std.specs.Prelude.{◌⊎◌, ◌≢◌, nat_lt}
+use Rattle.std.proofs.lemmas.Bool.Decides.{nat_tests}
 use Rattle.std.specs.Io.KnownBytes.{Keeps}
 use Rattle.node_core.specs.Meaning.{Answer}
 use Rattle.node_set.specs.Nodes.{AnySpec}
@@ -145,12 +146,12 @@ module _ (answer : AnySpec → Answer) (refused : List ℕ) (counts : Bool) (pai
   no_replay text rest (inr e) h = subst (λ r. Replayed text rest r s t w v) e h
 
   pub ran_not_usage : R → result ≡ statuses.Usage → ⊥
-  ran_not_usage (inl r) e = no_replay _ _ (inl e) r.replayed
+  ran_not_usage (inl r) e = no_replay (run_text answer (task_names pairs r.tasks) r.lives) (run_rest answer counts (task_names pairs r.tasks) r.lives) (inl e) r.replayed
   ran_not_usage (inr (inl r)) e = (reason_of_none (refusal_of result refused) [] pairs result r.why).1 e
   ran_not_usage (inr (inr r)) e = let w = sym e ∙ r.why in absurd cc
 
   pub ran_not_many : R → result ≡ statuses.TooManyTasks → ⊥
-  ran_not_many (inl r) e = no_replay _ _ (inr e) r.replayed
+  ran_not_many (inl r) e = no_replay (run_text answer (task_names pairs r.tasks) r.lives) (run_rest answer counts (task_names pairs r.tasks) r.lives) (inr e) r.replayed
   ran_not_many (inr (inl r)) e = (reason_of_none (refusal_of result refused) [] pairs result r.why).2 e
   ran_not_many (inr (inr r)) e = let w = sym e ∙ r.why in absurd cc
 
@@ -164,3 +165,14 @@ same_pairs a b p q e = cc
 
 pub not_none : (a : Bool) (p : List Pair) → ◌≡◌ {A = Option Request} (Some (Replay a p)) None → ⊥
 not_none a p e = absurd cc
+
+pub ran_as_asked : (answer : AnySpec → Answer) (refused : List ℕ) (a b : Bool) (p q : List Pair) (result : Status) (s t w v : Option (List ℕ))
+    → ◌≡◌ {A = Option Request} (Some (Replay a p)) (Some (Replay b q)) → Ran answer refused a p result s t w v → Ran answer refused b q result s t w v
+ran_as_asked answer refused a b p q result s t w v e h =
+    subst (λ n. Ran answer refused n q result s t w v) (same_counts a b p q e) (subst (λ ps. Ran answer refused a ps result s t w v) (same_pairs a b p q e) h)
+
+pub few_or_many : (a b : Bool) (p q : List Pair) → ◌≡◌ {A = Option Request} (Some (Replay a p)) (Some (Replay b q)) → nat_lt 64 (length p) ≡ false → 64 < length q → ⊥
+few_or_many a b p q e few many =
+    let m : 64 < length p = subst (λ l. 64 < length l) (sym (same_pairs a b p q e)) many in
+    let n : length p ≤ 64 = grind (arith, nat_tests) in
+    omega (arith, m, n)

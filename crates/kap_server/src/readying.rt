@@ -1,7 +1,8 @@
 //! Tasks, made ready to run.
 
 ghost use Rattle.std.specs.Prelude.{◌≡◌, ◌≢◌, ◌+◌, ◌<◌, ◌^◌, map, true, IfErr, OnOk, length, nat_lt, string_bytes};
-ghost use Rattle.std.specs.List.{list_all};
+ghost use Rattle.std.specs.List.{list_all, list_any};
+ghost use Rattle.std.specs.Str.{bytes_eq};
 ghost use Rattle.kap_base.specs.Words.{HasRisen};
 ghost use Rattle.tick_compile.specs.Kinds.{is_built};
 ghost use Rattle.kap_server.specs.Pairs.{AreNoTasks, IsNoTask, is_among};
@@ -30,11 +31,25 @@ pub(crate) struct Ready {
     pub(crate) plans: Vec<LifePlan<AnyNode>>,
 }
 
-/// Whether a task has the id.
-fn has_id(names: &[TaskNames], id: &str) -> bool
+/// Whether this is a task's id.
+fn is_id_of(task: &TaskNames, id: &[u8]) -> bool
+    ensures { result ≡ bytes_eq id.now task.now.id }
+{
+    id == task.id.bytes()
+}
+
+/// Whether some task has the id.
+fn has_id(names: &[TaskNames], id: &[u8]) -> bool
+    ensures { result ≡ list_any (λ task. bytes_eq id.now task.id) names.now }
+{
+    names.iter().any(|task| is_id_of(task, id))
+}
+
+/// Whether the id was given before.
+fn is_given(names: &[TaskNames], id: &[u8]) -> bool
     ensures { result ≡ is_among id.now (ids_of names.now) }
 {
-    names.iter().any(|task| id.as_bytes() == task.id.bytes())
+    has_id(names, id)
 }
 
 /// Puts a task behind those that are ready, to run in this life.
@@ -79,7 +94,7 @@ fn add_task<P: Patterns>(
     if script.len() > SCRIPT_LIMIT {
         return Err(Status::TooLong);
     }
-    if has_id(&ready.names, id) {
+    if is_given(&ready.names, id.as_bytes()) {
         return Err(Status::Exists);
     }
     let task = compile(alloc, script.as_bytes(), pats)?;

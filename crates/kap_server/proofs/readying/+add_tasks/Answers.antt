@@ -1,6 +1,6 @@
 use Rattle.std.proofs.Common.{◌≡◌, Ok, Err}
 use Rattle.std.specs.Prelude.{Result, OnOk, string_bytes}
-use Rattle.kap_server.proofs.PairLaws.{no_pairs}
+use Rattle.kap_server.proofs.PairLaws.{no_pairs, pair_first}
 use Rattle.kap_server.proofs.ReadyLaws.{adds_first, adds_none}
 use Rattle.kap_server.proofs.readying.+add_tasks.Goals as goal
 
@@ -13,4 +13,8 @@ returns-in_default-clause-ok g t c = rw (no_pairs string_bytes c.args.words.now 
 
 pub returns-in_ok-add_task-in-len2-up-clause-ok : goal.returns-in_ok-add_task-in-len2-up-clause-ok
 returns-in_ok-add_task-in-len2-up-clause-ok g t c =
-    map_ok c.add_tasks.result (λ all. ?) c.add_tasks.ensures.ok
+    let one = rw (c.as_str.ensures.value, c.as_str-in-len2-up.ensures.value) at c.in_ok-add_task-in-len2-up.ensures.ok in
+    map_ok c.add_tasks.result (λ all.
+    rw (pair_first string_bytes c.args.words.now c.id-item.result c.script-item.result c.in-len2-up.len_at_least c.id-item.is c.script-item.is)
+    (adds_first _ _ _ c.args.life _ _ _ _ _ _ _ _ one all))
+    c.add_tasks.ensures.ok
