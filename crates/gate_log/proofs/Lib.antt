@@ -1,0 +1,7 @@
+mod Added
+mod Exact
+mod Fetching
+mod Filling
+mod Found
+mod Gate
+mod Run

@@ -1,0 +1,36 @@
+-- When each refusal of a log comes.
+use Rattle.std.specs.Prelude.{◌≡◌, ℕ, ◌≤◌, Result, IsTrue, IsErrOf}
+use Rattle.std.specs.declared.result.Result.TheVariants.{Ok, Err}
+use Rattle.kap_base.specs.Words.{HasRisen}
+use Rattle.gate_log.specs.declared.fault.LogFault.{LogFault}
+use Rattle.gate_log.specs.declared.fault.LogFault.TheVariants.{Header, Torn, DiskFault, Long, NoMemory}
+use Rattle.gate_log.specs.Logs.{LogState}
+
+-- Want of memory and a long body change nothing. A fault of the disk spends the log, and comes only where the count rose.
+abbrev pub AppendFault : {D : Type 0} → Result (Unit {0}) LogFault → D → D → LogState → LogState → Type 0 → Type 0
+AppendFault (Ok _) before after old new rose = Unit {0}
+AppendFault (Err DiskFault) before after old new rose = IsTrue new.spent × rose
+AppendFault (Err Long) before after old new rose = (after ≡ before) × (new ≡ old)
+AppendFault (Err NoMemory) before after old new rose = (after ≡ before) × (new ≡ old)
+AppendFault (Err Header) before after old new rose = ⊥
+AppendFault (Err (Torn offset)) before after old new rose = ⊥
+
+-- what a call that reads answers: a fault of the disk only where its count rose, and never `Long`
+pub record LogCause {T : Type 0} (before now : ℕ) (result : Result T LogFault) : Type 0 where
+  pub later : before ≤ now
+  pub failed : IsErrOf result DiskFault → HasRisen before now
+  pub not_long : IsErrOf result Long → ⊥
+
+-- the same of a call that reads records again, which never answers `Header`
+pub record BodyCause {T : Type 0} (before now : ℕ) (result : Result T LogFault) : Type 0 where
+  pub later : before ≤ now
+  pub failed : IsErrOf result DiskFault → HasRisen before now
+  pub not_long : IsErrOf result Long → ⊥
+  pub not_header : IsErrOf result Header → ⊥
+
+-- what a call that only writes answers: a fault of the disk only where its count rose, or want of memory
+abbrev pub DiskCause : {T : Type 0} → ℕ → ℕ → Result T LogFault → Type 0
+DiskCause before now (Ok _) = before ≤ now
+DiskCause before now (Err DiskFault) = HasRisen before now
+DiskCause before now (Err NoMemory) = before ≤ now
+DiskCause before now (Err _) = ⊥

@@ -1,0 +1,84 @@
+//! Reading a body back.
+
+ghost use Rattle.std.specs.Prelude.{◌≡◌, ◌<◌, ◌≤◌, ◌+◌, ◌^◌, ◌++◌, false, List, ℕ, length, IfOk, IfSome, IsTrue};
+ghost use Rattle.kap_io.specs.Moments.{Quiet};
+ghost use Rattle.gate_log.specs.Bodies.{IsLog, bytes_of};
+ghost use Rattle.gate_log.specs.Causes.{BodyCause};
+ghost use Rattle.gate_log.specs.Logs.{Rests};
+ghost use Rattle.gate_log.specs.Reading.{BodyAt, Fetched};
+
+use crate::fault::LogFault;
+use crate::log::Log;
+use crate::read::{fill, next_gate};
+use kap_base::Bytes;
+use kap_io::{Disk, Part};
+use std::alloc::Global;
+
+/// So many bytes from an offset on.
+fn fetch<D: Disk>(
+    alloc: Global,
+    disk: &mut D,
+    part: Part,
+    at: u64,
+    count: u64,
+) -> Result<Bytes, LogFault>
+    requires { at + count < 2 ^ 64 }
+    ensures fetched { IsTrue D.tells → at + count ≤ length (D.seen disk.old part)
+        → Fetched at count (D.seen disk.old part) result }
+    ensures quiet { IsTrue D.tells
+        → Quiet D.seen D.moment D.may_leave D.left_since disk.old disk.new }
+    ensures cause { BodyCause (D.faults disk.old) (D.faults disk.new) result }
+{
+    let mut bytes = vec![in alloc; 0; count as usize]?;
+    let filled = fill(disk, part, at, &mut bytes)?;
+    if filled < bytes.len() {
+        return Err(LogFault::Torn(at));
+    }
+    Ok(Bytes::from_items(bytes))
+}
+
+/// The body behind the gate at an offset, and the offset of the next gate; none at the closed gate.
+fn read_body<D: Disk>(
+    alloc: Global,
+    disk: &mut D,
+    part: Part,
+    at: u64,
+) -> Result<Option<(Bytes, u64)>, LogFault>
+    ensures found { IsTrue D.tells → (before after : List (List ℕ))
+        → IsLog (before ++ after) (D.seen disk.old part)
+        → at ≡ length (bytes_of before) → BodyAt result after at }
+    ensures rises { IfOk result (λ found. IfSome found (λ found. at < found.1)) }
+    ensures quiet { IsTrue D.tells
+        → Quiet D.seen D.moment D.may_leave D.left_since disk.old disk.new }
+    ensures cause { BodyCause (D.faults disk.old) (D.faults disk.new) result }
+{
+    let size = disk.size(part)?;
+    if size <= at {
+        return Err(LogFault::Torn(at));
+    }
+    match next_gate(disk, part, at, size)? {
+        None => Ok(None),
+        Some(next) => {
+            let body = fetch(alloc, disk, part, at + 5, next - (at + 5))?;
+            Ok(Some((body, next)))
+        }
+    }
+}
+
+impl Log {
+    /// The body behind the gate at an offset, and the offset of the next gate; `None` at the closed gate. `at` is a gate's offset.
+    /// `DiskFault` comes only where the disk's count of faults rose in this call, and `NoMemory` where memory ran out. `Torn` comes
+    /// only on a disk that doesn't tell what a read gives, where the record or the gate behind it isn't there.
+    pub fn body<D: Disk>(&self, disk: &mut D, at: u64) -> Result<Option<(Bytes, u64)>, LogFault>
+        requires { self.now.spent ≡ false }
+        ensures found { IsTrue D.tells → (before after : List (List ℕ))
+            → Rests (before ++ after) (D.seen disk.old) (D.may_leave disk.old) self.now
+            → at ≡ length (bytes_of before) → BodyAt result after at }
+        ensures rises { IfOk result (λ found. IfSome found (λ found. at < found.1)) }
+        ensures quiet { IsTrue D.tells
+            → Quiet D.seen D.moment D.may_leave D.left_since disk.old disk.new }
+        ensures cause { BodyCause (D.faults disk.old) (D.faults disk.new) result }
+    {
+        read_body(self.alloc, disk, self.part, at)
+    }
+}

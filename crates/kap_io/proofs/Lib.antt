@@ -1,0 +1,3 @@
+mod CrashLaws
+mod FileLaws
+mod MemDiskCalls

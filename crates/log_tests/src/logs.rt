@@ -1,0 +1,107 @@
+//! The bytes of a log and of a head, and that their calls find memory.
+
+use crate::calls::{add, holds, next_behind};
+use gate_log::{BODY_LIMIT, LogFault, make, make_head, open_log, read_head, switch};
+use kap_io::{Disk, DiskCall, DiskWork, MemDisk, Part};
+use std::alloc::Global;
+use std::test::Fail;
+
+/// A log of the record that enables the task `cpu`.
+const FILE: [u8; 22] = *b"KAPLOG01\xa5\x00\x00\x00\x08\x02\x00\x00\x00\x03cpu\x00";
+
+/// The last four calls are a write and a sync, twice.
+fn are_two_synced_writes(calls: &[DiskCall]) -> bool {
+    match calls {
+        [_, _, _, record, synced, gate, again] => {
+            matches!(record.work, DiskWork::Write { at: 9, .. })
+                && matches!(synced.work, DiskWork::Sync)
+                && matches!(gate.work, DiskWork::Write { at: 8, .. })
+                && matches!(again.work, DiskWork::Sync)
+        }
+        _ => false,
+    }
+}
+
+#[test]
+fn a_record_is_written_behind_its_gate(rt: HostRuntime) -> Result<(), Fail> {
+    let alloc = rt.alloc();
+    let mut disk = MemDisk::new(alloc, Vec::new(alloc));
+    let mut log = make(alloc, &mut disk, Part::Left)?;
+    add(&mut log, &mut disk, b"\x02\x00\x00\x00\x03cpu")?;
+    assert!(rt; are_two_synced_writes(disk.calls()));
+    assert!(rt; holds(&mut disk, Part::Left, &FILE)?);
+    assert_eq!(rt; log.end(), 21);
+    Ok(())
+}
+
+#[test]
+fn bodies_are_read_back(rt: HostRuntime) -> Result<(), Fail> {
+    let alloc = rt.alloc();
+    let mut disk = MemDisk::new(alloc, Vec::new(alloc));
+    let mut log = make(alloc, &mut disk, Part::Right)?;
+    add(&mut log, &mut disk, b"first")?;
+    add(&mut log, &mut disk, b"")?;
+
+    let again = open_log(alloc, &mut disk, Part::Right)?;
+    assert_eq!(rt; again.part(), Part::Right);
+    assert_eq!(rt; next_behind(&again, &mut disk, 8, b"first"), Ok(18));
+    assert_eq!(rt; next_behind(&again, &mut disk, 18, b""), Ok(23));
+    assert_eq!(rt; next_behind(&again, &mut disk, 23, b""), Ok(0));
+    Ok(())
+}
+
+/// Why these bytes are no log.
+fn refusal(alloc: Global, bytes: &[u8]) -> Result<Option<LogFault>, Fail> {
+    let mut disk = MemDisk::new(alloc, Vec::new(alloc));
+    disk.write_at(Part::Left, 0, bytes)?;
+    match open_log(alloc, &mut disk, Part::Left) {
+        Ok(_) => Ok(None),
+        Err(fault) => Ok(Some(fault)),
+    }
+}
+
+#[test]
+fn what_is_no_log_is_refused(rt: HostRuntime) -> Result<(), Fail> {
+    let cases: [(&[u8], Option<LogFault>); 7] = [
+        (b"", Some(LogFault::Header)),
+        (b"KAPLOG01", Some(LogFault::Header)),
+        (b"KAPLOG02\0", Some(LogFault::Header)),
+        (b"KAPLOG01\xa5\0\0", Some(LogFault::Torn(8))),
+        (b"KAPLOG01\xa5\0\0\0\x01x", Some(LogFault::Torn(8))),
+        (
+            b"KAPLOG01\xa5\0\0\0\x01x\xa5\0\0\0\x02x\0",
+            Some(LogFault::Torn(14)),
+        ),
+        (b"KAPLOG01\x01\xff", None),
+    ];
+    for (bytes, fault) in cases {
+        assert_eq!(rt; refusal(rt.alloc(), bytes)?, fault);
+    }
+    Ok(())
+}
+
+#[test]
+fn a_longer_body_is_refused(rt: HostRuntime) -> Result<(), Fail> {
+    let alloc = rt.alloc();
+    let mut disk = MemDisk::new(alloc, Vec::new(alloc));
+    let mut log = make(alloc, &mut disk, Part::Left)?;
+    let body = vec![in alloc; 7; BODY_LIMIT + 1]?;
+    assert_eq!(rt; add(&mut log, &mut disk, &body), Err(LogFault::Long));
+    assert_eq!(rt; disk.calls().len(), 3);
+    assert!(rt; !log.spent());
+    Ok(())
+}
+
+#[test]
+fn a_head_counts_its_open_gates(rt: HostRuntime) -> Result<(), Fail> {
+    let alloc = rt.alloc();
+    let mut disk = MemDisk::new(alloc, Vec::new(alloc));
+    assert_eq!(rt; read_head(&mut disk), Err(LogFault::Header));
+    make_head(&mut disk)?;
+    for run in 0..3 {
+        assert_eq!(rt; read_head(&mut disk), Ok(run));
+        switch(&mut disk, run)?;
+    }
+    assert!(rt; holds(&mut disk, Part::Head, b"KAPHEAD1\xa5\xa5\xa5\0")?);
+    Ok(())
+}
