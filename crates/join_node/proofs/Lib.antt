@@ -1,0 +1,4 @@
+pub mod FieldLaws
+pub mod CodeLaws
+pub mod LatestLaws
+pub mod OwnSetLaws

@@ -1,0 +1,23 @@
+//! The nodes that gather points of several parents: `union` and `join`.
+#![tactic(auto)]
+
+mod groups;
+mod joins;
+mod laws;
+mod nodes;
+mod queues;
+mod results;
+mod sends;
+mod spec;
+mod unions;
+
+pub use groups::{JoinCell, JoinGroup};
+pub use joins::Join;
+pub use laws::{
+    examples_of_joins, nodes_say_what_kinds_say, points_are_in_their_sets,
+    renamed_points_change_groups, sets_wait_at_the_greatest_time, states_are_read_again,
+};
+pub use nodes::{GatherNode, build};
+pub use sends::send_gather_node;
+pub use spec::GatherSpec;
+pub use unions::Union;

@@ -1,0 +1,14 @@
+-- what stands at a field of points
+pub mod Picks
+-- lists in the order of their values
+pub mod Ranks
+-- what each select gives of a batch's points
+pub mod Choices
+-- the points that these are given in
+pub mod Results
+-- what the code keeps of the points that it passed
+pub mod Steps
+-- the node of what a script hands to a select
+pub mod Nodes
+-- examples
+pub mod Rows

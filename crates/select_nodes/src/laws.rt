@@ -1,0 +1,85 @@
+//! What selects answer: laws, and no code.
+
+ghost use Rattle.std.specs.Prelude.{◌≡◌, ◌↔◌, ◌++◌, [], ◌∷◌, if◌then◌else◌, ℕ, IsTrue, List, Some};
+ghost use Rattle.std.specs.List.{list_any};
+ghost use Rattle.std.specs.List.Sorted.{IsSortedBy, IsStableBy};
+ghost use Rattle.kap_base.specs.Groups.{GroupValue, IsGroup, group_of};
+ghost use Rattle.kap_base.specs.declared.value.Value.{Value};
+ghost use Rattle.node_core.specs.Numbering.{stamped};
+ghost use Rattle.select_nodes.specs.Choices.{distinct, is_same};
+ghost use Rattle.select_nodes.specs.Nodes.{saying_of, seat_of};
+ghost use Rattle.select_nodes.specs.Picks.{PickValue, ReadingValue, first};
+ghost use Rattle.select_nodes.specs.Ranks.{IsFirst, by_rank, goes_before};
+ghost use Rattle.select_nodes.specs.Results.{IsNamed, is_batch, result_of};
+ghost use Rattle.select_nodes.specs.Rows.{BottomNine, Greatest, Kinds, Least, NoSum, TopThree, WrappedSpread, WrappedSum};
+ghost use Rattle.select_nodes.specs.declared.readings.Rank.{Rank};
+ghost use Rattle.task_graph.specs.declared.spec.SelectSpec.{SelectSpec};
+
+use crate::nodes::SelectNode;
+use node_core::Node;
+
+/// Of a select, in a life and with a number: what it answers is what it says of each batch by itself, stamped and
+/// numbered; that life and that number are its own; it has one port; and batches are for it.
+#[tactic(auto, using(crate::specs::Nodes::seen))]
+pub fn selects_answer_by_batches()
+    ensures answer { (life node : ℕ) (spec : SelectSpec)
+        → ⟦<SelectNode as Node>⟧.answer (seat_of life node spec)
+        ≡ stamped life node (saying_of spec) }
+    ensures life { (life node : ℕ) (spec : SelectSpec)
+        → ⟦<SelectNode as Node>⟧.life (seat_of life node spec) ≡ life }
+    ensures number { (life node : ℕ) (spec : SelectSpec)
+        → ⟦<SelectNode as Node>⟧.number (seat_of life node spec) ≡ node }
+    ensures ports { (life node : ℕ) (spec : SelectSpec)
+        → ⟦<SelectNode as Node>⟧.ports (seat_of life node spec) ≡ 1 }
+    ensures takes { (life node : ℕ) (spec : SelectSpec)
+        → ⟦<SelectNode as Node>⟧.takes (seat_of life node spec) ≡ is_batch }
+{}
+
+/// Readings by rank are sorted, and those of one number stand as they came; and they are the only list of which both
+/// hold.
+pub fn ranks_are_sorted()
+    ensures sorted { (rank : Rank) (rs : List ReadingValue)
+        → IsSortedBy (goes_before rank) (by_rank rank rs) }
+    ensures stable { (rank : Rank) (rs : List ReadingValue)
+        → IsStableBy (goes_before rank) rs (by_rank rank rs) }
+    ensures only { (rank : Rank) (rs sorted : List ReadingValue)
+        → IsSortedBy (goes_before rank) sorted → IsStableBy (goes_before rank) rs sorted
+        → sorted ≡ by_rank rank rs }
+{}
+
+/// The first reading by rank, which is the one of `min` and `max` and the first of `top` and `bottom`, goes before all
+/// that came earlier, and none that came later goes before it.
+pub fn first_goes_before_all()
+    ensures { (rank : Rank) (rs : List ReadingValue) (r : ReadingValue)
+        → first (by_rank rank rs) ≡ Some r → IsFirst (goes_before rank) rs r }
+{}
+
+/// A value that comes behind others is told, as the last one, exactly where none of them is the same.
+pub fn values_are_told_once()
+    ensures { (vs : List Value) (v : Value) → distinct (vs ++ v ∷ [])
+        ≡ distinct vs ++ (if list_any (is_same v) vs then [] else v ∷ []) }
+{}
+
+/// Values are the same exactly where they are of one kind and equal.
+pub fn values_are_told_apart()
+    ensures { (a b : Value) → IsTrue (is_same a b) ↔ (a ≡ b) }
+{}
+
+/// A result of a batch whose group has the batch's measurement, or none, is of that group.
+pub fn results_are_of_their_group()
+    ensures { (name : List ℕ) (group : GroupValue) (field : List ℕ) (pick : PickValue)
+        → IsGroup group → IsNamed name group.name
+        → group_of (result_of name group field pick) ≡ group }
+{}
+
+/// Examples of what selects choose.
+pub fn examples_of_selects()
+    ensures top_three { TopThree }
+    ensures bottom_nine { BottomNine }
+    ensures greatest { Greatest }
+    ensures least { Least }
+    ensures no_sum { NoSum }
+    ensures wrapped_sum { WrappedSum }
+    ensures wrapped_spread { WrappedSpread }
+    ensures kinds { Kinds }
+{}

@@ -1,0 +1,19 @@
+//! The nodes that choose of a batch (Kapacitor 1.6: InfluxQL nodes): `sum`, `count`, `min`, `max`, `first`, `last`,
+//! `spread`, `distinct`, `top` and `bottom`.
+#![tactic(auto)]
+
+mod choices;
+mod distinct;
+mod laws;
+mod nodes;
+mod picks;
+mod readings;
+mod results;
+mod sends;
+
+pub use laws::{
+    examples_of_selects, first_goes_before_all, ranks_are_sorted, results_are_of_their_group,
+    selects_answer_by_batches, values_are_told_apart, values_are_told_once,
+};
+pub use nodes::{SelectNode, Selection, build};
+pub use sends::send_select_node;
