@@ -1,55 +1,18 @@
 -- Tasks are made ready one after the other.
-use Rattle.std.proofs.Common.{◌≡◌, ℕ, ◌+◌, Bool, true, false, Option, None, Some, List, [], ◌∷◌, ◌++◌, map, inl, inr, refl, sym, ap, ◌∙◌, subst, append_assoc, append-nil}
-use Rattle.std.specs.Prelude.{◌||◌, is_some, IsTrue}
-use Rattle.std.specs.List.{list_all, list_any}
+use Rattle.std.proofs.Common.{◌≡◌, ℕ, ◌+◌, List, [], ◌∷◌, ◌++◌, map, refl, sym, ap, ◌∙◌, subst, append_assoc, append-nil}
+use Rattle.std.specs.Prelude.{◌||◌}
+use Rattle.std.specs.List.{list_any}
 use Rattle.std.specs.Str.{bytes_eq}
 use Rattle.std.proofs.lemmas.List.{map-append}
-use Rattle.kap_base.specs.Tree.{Tree}
-use Rattle.kap_base.proofs.TestLaws.{both, first_of, second_of}
-use Rattle.task_graph.specs.declared.spec.NodeSpec.{NodeSpec}
-use Rattle.task_graph.specs.declared.spec.Spec.{Spec}
-use Rattle.task_graph.specs.declared.spec.Spec.TheVariants.{Stream, From, Where, Eval, GroupBy, Log, Default, Delete, Shift, Sample, Window, Select, StateCount, ChangeDetect, Difference, CumulativeSum, Elapsed, Union, Join, Alert}
-use Rattle.tick_compile.specs.Kinds.{is_built}
 use Rattle.tick_compile.specs.declared.tasks.Task.{Task}
 use Rattle.task_run.specs.Plans.{AreFirstNodes, AreFirstStates, PlanValue, graph_of}
-use Rattle.node_set.specs.Nodes.{AnySpec, is_known}
-use Rattle.node_set.specs.Tasks.{are_known, nodes_from, with_first}
+use Rattle.node_set.specs.Tasks.{Planned}
+use Rattle.task_run.specs.Graphs.{Placed}
 use Rattle.effect_text.specs.declared.names.TaskNames.{TaskNames}
-use Rattle.kap_server.specs.Pairs.{AreTasks, IsTask, is_among, names_of, task_names}
-use Rattle.kap_server.specs.Readying.{AddsTask, AddsTasks, PutsTask, ids_of}
-use Rattle.kap_server.specs.Runs.{Nodes, lives_from}
+use Rattle.kap_server.specs.Pairs.{AreTasks, is_among, names_of, task_names}
+use Rattle.kap_server.specs.Readying.{AddsTask, AddsTasks, ids_of}
+use Rattle.kap_server.specs.Runs.{lives_from}
 use Rattle.kap_server.specs.Words.{Pair}
-
--- ---- what is compiled can be made
-
-built_known : (spec : Spec Tree) → is_built spec ≡ true → is_known spec ≡ true
-built_known (Stream dbrps) h = refl
-built_known (From from) h = refl
-built_known (Where condition) h = refl
-built_known (Eval eval) h = refl
-built_known (GroupBy group) h = refl
-built_known (Log log) h = refl
-built_known (Default settings) h = refl
-built_known (Delete settings) h = refl
-built_known (Shift by) h = refl
-built_known (Sample n) h = refl
-built_known (Window window) h = absurd cc
-built_known (Select select) h = absurd cc
-built_known (StateCount count) h = absurd cc
-built_known (ChangeDetect fields) h = absurd cc
-built_known (Difference field) h = absurd cc
-built_known (CumulativeSum field) h = absurd cc
-built_known (Elapsed elapsed) h = absurd cc
-built_known (Union rename) h = absurd cc
-built_known (Join join) h = absurd cc
-built_known (Alert alert) h = absurd cc
-
-pub all_known : (nodes : List (NodeSpec Tree)) → list_all (λ node. is_built node.spec) nodes ≡ true → are_known nodes ≡ true
-all_known [] h = refl
-all_known (node ∷ nodes) h =
-    both (is_known node.spec) (are_known nodes)
-    (built_known node.spec (first_of (is_built node.spec) (list_all (λ node. is_built node.spec) nodes) h))
-    (all_known nodes (second_of (is_built node.spec) (list_all (λ node. is_built node.spec) nodes) h))
 
 -- an id among those of tasks
 pub among : (id : List ℕ) (names : List TaskNames) → list_any (λ task. bytes_eq id task.id) names ≡ is_among id (ids_of names)
@@ -58,19 +21,17 @@ among id (task ∷ names) = ap (λ b. bytes_eq id task.id || b) (among id names)
 
 -- ---- task after task
 
-module _ {N S : Type 0} (spec : N → AnySpec) (state : N → S) (first : AnySpec → S) where
+module _ {N P S : Type 0} (spec : N → P) (state : N → S) (first : P → S) (planned : Planned P) where
   abbrev One : ℕ → Pair → List TaskNames → List TaskNames → List (PlanValue N) → List (PlanValue N) → Type 0
-  One = AddsTask spec state first
+  One = AddsTask spec state first planned
 
   abbrev All : ℕ → List Pair → List TaskNames → List TaskNames → List (PlanValue N) → List (PlanValue N) → Type 0
-  All = AddsTasks spec state first
+  All = AddsTasks spec state first planned
 
   pub adds_none : (life : ℕ) (names : List TaskNames) (plans : List (PlanValue N)) → All life [] names names plans plans
   adds_none life names plans = record {
     tasks = [];
-    lives = [];
     are = tt;
-    made = refl;
     names_are = sym (append-nil names);
     plans_are = sym (append-nil (map (graph_of spec) plans));
     begin = λ h. h;
@@ -87,16 +48,16 @@ module _ {N S : Type 0} (spec : N → AnySpec) (state : N → S) (first : AnySpe
       → One life pair n1 n2 p1 p2 → All (life + 1) pairs n2 n3 p2 p3 → All life (pair ∷ pairs) n1 n3 p1 p3
   adds_first life pair pairs n1 n2 n3 p1 p2 p3 one all =
       let plan = one.puts.plan in
+      let lives : List (List (Placed P)) = lives_from planned (life + 1) pairs all.tasks in
       let ids : ids_of n2 ≡ ids_of n1 ++ pair.id ∷ [] = ids_behind pair one.task n1 n2 one.puts.names_are in
       record {
         tasks = one.task ∷ all.tasks;
-        lives = graph_of spec plan ∷ all.lives;
         are = (one.is, subst (λ (l : List (List ℕ)). AreTasks l pairs all.tasks) ids all.are);
-        made = rw (one.puts.made, all.made) refl;
         names_are = all.names_are ∙ ap (λ (l : List TaskNames). l ++ task_names pairs all.tasks) one.puts.names_are
             ∙ append_assoc n1 (names_of pair one.task ∷ []) (task_names pairs all.tasks);
         plans_are = all.plans_are
-            ∙ ap (λ (l : List Nodes). l ++ all.lives) (ap (map (graph_of spec)) one.puts.plans_are ∙ map-append (graph_of spec) p1 (plan ∷ []))
-            ∙ append_assoc (map (graph_of spec) p1) (graph_of spec plan ∷ []) all.lives;
+            ∙ ap (λ (l : List (List (Placed P))). l ++ lives) (ap (map (graph_of spec)) one.puts.plans_are ∙ map-append (graph_of spec) p1 (plan ∷ []))
+            ∙ append_assoc (map (graph_of spec) p1) (graph_of spec plan ∷ []) lives
+            ∙ ap (λ (n : List (Placed P)). map (graph_of spec) p1 ++ n ∷ lives) one.puts.made;
         begin = λ h. all.begin (subst (AreFirstStates spec state first) (sym one.puts.plans_are) (begins_behind p1 plan h one.puts.begins));
       }

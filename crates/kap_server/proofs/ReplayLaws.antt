@@ -1,6 +1,5 @@
 -- A replay, point after point.
-use Rattle.std.proofs.Common.{◌≡◌, ℕ, ◌+◌, ◌≤◌, false, Option, None, Some, List, [], ◌∷◌, ◌++◌, length, take, inl, inr, refl, sym, ap, ◌∙◌, subst, append_assoc, append-nil, arith, length-append}
-use Rattle.std.specs.Prelude.{◌⊎◌, IsTrue}
+use Rattle.std.proofs.Common.{◌≡◌, ℕ, ◌+◌, false, Option, None, Some, List, [], ◌++◌, length, take, inl, inr, refl, sym, ap, ◌∙◌, subst, append_assoc, append-nil, arith, length-append}
 use Rattle.std.specs.Io.KnownBytes.{Appends, Keeps}
 use Rattle.std.proofs.KnownBytes.{Appends-nil, Appends-trans}
 use Rattle.std.proofs.lemmas.List.{take-append-le}
@@ -37,11 +36,6 @@ pub kept_none : (v x : Option (List ℕ)) (due : List ℕ) → Keeps v x → App
 kept_none None x due keeps = (0, omega arith, tt)
 kept_none (Some xs) None due keeps = absurd keeps
 kept_none (Some xs) (Some ys) due keeps = (0, omega arith, keeps ∙ sym (append-nil xs))
-
--- nothing was written yet
-pub nothing_yet : (text rest : TextOf) (s w : Option (List ℕ)) → WritesPrefix text rest s w w
-nothing_yet text rest None w = tt
-nothing_yet text rest (Some input) w = none_of w _
 
 module _ (text rest : TextOf) (none : text [] ≡ []) (grows : Grows text) where
   -- at the start nothing is due

@@ -1,10 +1,11 @@
 -- What stands after a replay, and its statuses.
-use Rattle.std.proofs.Common.{◌≡◌, ℕ, ◌<◌, ◌≤◌, arith, length, Bool, true, false, Option, None, Some, List, [], ◌∷◌, map, inl, inr, refl, sym, ap, ◌∙◌, subst}
+use Rattle.std.proofs.Common.{◌≡◌, ℕ, ◌<◌, ◌≤◌, arith, length, Bool, false, Option, None, Some, List, [], map, inl, inr, refl, sym, ◌∙◌, subst}
 use Rattle.std.specs.Prelude.{◌⊎◌, ◌≢◌, nat_lt}
 use Rattle.std.proofs.lemmas.Bool.Decides.{nat_tests}
 use Rattle.std.specs.Io.KnownBytes.{Keeps}
 use Rattle.node_core.specs.Meaning.{Answer}
-use Rattle.node_set.specs.Nodes.{AnySpec}
+use Rattle.node_set.specs.Tasks.{Planned}
+use Rattle.task_run.specs.Graphs.{Placed}
 use Rattle.recording_file.specs.Recording.{reading_of}
 use Rattle.lambda_types.specs.Faults.{is_pattern, refusal_of as type_refusal}
 use Rattle.lambda_types.specs.declared.fault.TypeFault.{TypeFault}
@@ -21,7 +22,7 @@ use Rattle.kap_server.specs.Command.{IsUnlessFailed}
 use Rattle.kap_server.specs.Pairs.{AreNoTasks, AreTasks, task_names}
 use Rattle.kap_server.specs.Readying.{AddsTasks, is_pattern_refused}
 use Rattle.kap_server.specs.Replaying.{Replayed, TextOf}
-use Rattle.kap_server.specs.Runs.{Nodes, Ran, RanOut, RefusesPairs, RunsTasks, refusal_of, run_rest, run_text}
+use Rattle.kap_server.specs.Runs.{Ran, RanOut, RefusesPairs, RunsTasks, lives_from, refusal_of, run_rest, run_text}
 use Rattle.kap_server.specs.Statuses.{status_at}
 use Rattle.kap_server.specs.Words.{Pair, Request, Replay}
 use Rattle.kap_server.proofs.PairLaws.{reason_of_none, same_status, tasks_or_none}
@@ -29,16 +30,14 @@ use Rattle.kap_server.proofs.ReplayLaws.{status_is}
 
 -- ---- from tasks that are ready
 
-pub runs_tasks : {N S : Type 0} (spec : N → AnySpec) (state : N → S) (first : AnySpec → S) (answer : AnySpec → Answer) (counts : Bool) (pairs : List Pair) (result : Status) (s t w v : Option (List ℕ))
-    (names : List TaskNames) (plans : List (PlanValue N)) → AddsTasks spec state first 1 pairs [] names [] plans
-    → Replayed (run_text answer names (map (graph_of spec) plans)) (run_rest answer counts names (map (graph_of spec) plans)) result s t w v → RunsTasks answer counts pairs result s t w v
-runs_tasks spec state first answer counts pairs result s t w v names plans adds replayed =
-    let R : List TaskNames → List Nodes → Type 0 = λ n l. Replayed (run_text answer n l) (run_rest answer counts n l) result s t w v in
+pub runs_tasks : {N P S : Type 0} (spec : N → P) (state : N → S) (first : P → S) (answer : P → Answer) (planned : Planned P) (counts : Bool) (pairs : List Pair) (result : Status) (s t w v : Option (List ℕ))
+    (names : List TaskNames) (plans : List (PlanValue N)) → AddsTasks spec state first planned 1 pairs [] names [] plans
+    → Replayed (run_text answer names (map (graph_of spec) plans)) (run_rest answer counts names (map (graph_of spec) plans)) result s t w v → RunsTasks answer planned counts pairs result s t w v
+runs_tasks {P = P} spec state first answer planned counts pairs result s t w v names plans adds replayed =
+    let R : List TaskNames → List (List (Placed P)) → Type 0 = λ n l. Replayed (run_text answer n l) (run_rest answer counts n l) result s t w v in
     record {
       tasks = adds.tasks;
-      lives = adds.lives;
       are = adds.are;
-      made = adds.made;
       replayed = subst (λ l. R (task_names pairs adds.tasks) l) adds.plans_are (subst (λ n. R n (map (graph_of spec) plans)) adds.names_are replayed);
     }
 
@@ -121,9 +120,9 @@ plain statuses.WriteFault text h = refl
 
 -- ---- statuses of replays
 
-module _ (answer : AnySpec → Answer) (refused : List ℕ) (counts : Bool) (pairs : List Pair) (result : Status) (s t w v : Option (List ℕ)) where
+module _ {P : Type 0} (answer : P → Answer) (planned : Planned P) (refused : List ℕ) (counts : Bool) (pairs : List Pair) (result : Status) (s t w v : Option (List ℕ)) where
   abbrev R : Type 0
-  R = Ran answer refused counts pairs result s t w v
+  R = Ran answer planned refused counts pairs result s t w v
 
   plain_why : RefusesPairs refused pairs result s t w v → is_pattern_refused result ≡ false → AreNoTasks None [] pairs result
   plain_why r h = subst (λ o. AreNoTasks o [] pairs result) (plain result refused h) r.why
@@ -131,7 +130,7 @@ module _ (answer : AnySpec → Answer) (refused : List ℕ) (counts : Bool) (pai
   pub ran_status : R → (tasks : List Task) (bytes : List ℕ) → AreTasks [] pairs tasks → s ≡ Some bytes → is_pattern_refused result ≡ false
       → IsUnlessFailed result (status_at (reading_of bytes).stop)
   ran_status (inl r) tasks bytes are is h =
-      status_is (run_text answer (task_names pairs r.tasks) r.lives) (run_rest answer counts (task_names pairs r.tasks) r.lives) result bytes s t w v r.replayed is
+      status_is (run_text answer (task_names pairs r.tasks) (lives_from planned 1 pairs r.tasks)) (run_rest answer counts (task_names pairs r.tasks) (lives_from planned 1 pairs r.tasks)) result bytes s t w v r.replayed is
   ran_status (inr (inl r)) tasks bytes are is h = absurd (tasks_or_none [] pairs tasks result are (plain_why r h))
   ran_status (inr (inr r)) tasks bytes are is h = inr (inl r.why)
 
@@ -146,12 +145,12 @@ module _ (answer : AnySpec → Answer) (refused : List ℕ) (counts : Bool) (pai
   no_replay text rest (inr e) h = subst (λ r. Replayed text rest r s t w v) e h
 
   pub ran_not_usage : R → result ≡ statuses.Usage → ⊥
-  ran_not_usage (inl r) e = no_replay (run_text answer (task_names pairs r.tasks) r.lives) (run_rest answer counts (task_names pairs r.tasks) r.lives) (inl e) r.replayed
+  ran_not_usage (inl r) e = no_replay (run_text answer (task_names pairs r.tasks) (lives_from planned 1 pairs r.tasks)) (run_rest answer counts (task_names pairs r.tasks) (lives_from planned 1 pairs r.tasks)) (inl e) r.replayed
   ran_not_usage (inr (inl r)) e = (reason_of_none (refusal_of result refused) [] pairs result r.why).1 e
   ran_not_usage (inr (inr r)) e = let w = sym e ∙ r.why in absurd cc
 
   pub ran_not_many : R → result ≡ statuses.TooManyTasks → ⊥
-  ran_not_many (inl r) e = no_replay (run_text answer (task_names pairs r.tasks) r.lives) (run_rest answer counts (task_names pairs r.tasks) r.lives) (inr e) r.replayed
+  ran_not_many (inl r) e = no_replay (run_text answer (task_names pairs r.tasks) (lives_from planned 1 pairs r.tasks)) (run_rest answer counts (task_names pairs r.tasks) (lives_from planned 1 pairs r.tasks)) (inr e) r.replayed
   ran_not_many (inr (inl r)) e = (reason_of_none (refusal_of result refused) [] pairs result r.why).2 e
   ran_not_many (inr (inr r)) e = let w = sym e ∙ r.why in absurd cc
 
@@ -166,10 +165,10 @@ same_pairs a b p q e = cc
 pub not_none : (a : Bool) (p : List Pair) → ◌≡◌ {A = Option Request} (Some (Replay a p)) None → ⊥
 not_none a p e = absurd cc
 
-pub ran_as_asked : (answer : AnySpec → Answer) (refused : List ℕ) (a b : Bool) (p q : List Pair) (result : Status) (s t w v : Option (List ℕ))
-    → ◌≡◌ {A = Option Request} (Some (Replay a p)) (Some (Replay b q)) → Ran answer refused a p result s t w v → Ran answer refused b q result s t w v
-ran_as_asked answer refused a b p q result s t w v e h =
-    subst (λ n. Ran answer refused n q result s t w v) (same_counts a b p q e) (subst (λ ps. Ran answer refused a ps result s t w v) (same_pairs a b p q e) h)
+pub ran_as_asked : {P : Type 0} (answer : P → Answer) (planned : Planned P) (refused : List ℕ) (a b : Bool) (p q : List Pair) (result : Status) (s t w v : Option (List ℕ))
+    → ◌≡◌ {A = Option Request} (Some (Replay a p)) (Some (Replay b q)) → Ran answer planned refused a p result s t w v → Ran answer planned refused b q result s t w v
+ran_as_asked answer planned refused a b p q result s t w v e h =
+    subst (λ n. Ran answer planned refused n q result s t w v) (same_counts a b p q e) (subst (λ ps. Ran answer planned refused a ps result s t w v) (same_pairs a b p q e) h)
 
 pub few_or_many : (a b : Bool) (p q : List Pair) → ◌≡◌ {A = Option Request} (Some (Replay a p)) (Some (Replay b q)) → nat_lt 64 (length p) ≡ false → 64 < length q → ⊥
 few_or_many a b p q e few many =

@@ -1,11 +1,9 @@
 -- What a replay of tasks writes.
-use Rattle.std.specs.Prelude.{◌≡◌, ◌⊎◌, ℕ, ◌+◌, Bool, ◌++◌, if◌then◌else◌, List, [], ◌∷◌, Option, None, Some}
+use Rattle.std.specs.Prelude.{◌≡◌, ◌⊎◌, ℕ, ◌+◌, Bool, ◌++◌, if◌then◌else◌, List, [], ◌∷◌, Option, None}
 use Rattle.std.specs.Io.KnownBytes.{Keeps}
-use Rattle.kap_base.specs.Points.{PointValue}
 use Rattle.lambda_types.specs.Faults.{Refusal}
 use Rattle.node_core.specs.Meaning.{Answer}
-use Rattle.node_set.specs.Nodes.{AnySpec}
-use Rattle.node_set.specs.Tasks.{nodes_from, with_first}
+use Rattle.node_set.specs.Tasks.{Planned, nodes_from}
 use Rattle.effect_text.specs.Lines.{dropped_text, text_of}
 use Rattle.effect_text.specs.declared.names.TaskNames.{TaskNames}
 use Rattle.task_run.specs.Graphs.{Placed}
@@ -18,14 +16,11 @@ use Rattle.kap_server.specs.Pairs.{AreTasks, AreNoTasks, task_names}
 use Rattle.kap_server.specs.Replaying.{IsWritten, Replayed, TextOf}
 use Rattle.kap_server.specs.Words.{Pair}
 
--- the nodes of a life
-abbrev pub Nodes : Type 0
-Nodes = List (Placed AnySpec)
-
--- the lives of tasks, numbered from here on
-abbrev pub lives_from : ℕ → List Task → Option (List Nodes)
-lives_from life [] = Some []
-lives_from life (task ∷ tasks) = with_first (nodes_from life 0 task.graph) (lives_from (life + 1) tasks)
+-- the lives of the tasks of pairs, numbered from here on
+abbrev pub lives_from : {P : Type 0} → Planned P → ℕ → List Pair → List Task → List (List (Placed P))
+lives_from planned life [] tasks = []
+lives_from planned life (pair ∷ pairs) [] = []
+lives_from planned life (pair ∷ pairs) (task ∷ tasks) = nodes_from planned pair.id life 0 task.graph ∷ lives_from planned (life + 1) pairs tasks
 
 module _ {P : Type 0} (answer : P → Answer) where
   -- the text of what the nodes of lives do on points
@@ -37,12 +32,10 @@ module _ {P : Type 0} (answer : P → Answer) where
   run_rest counts names lives points = if counts then dropped_text names (dropped_of answer lives points) else []
 
 -- the pairs are tasks, which run in lives numbered from 1, and their text was written, as the status says
-pub record RunsTasks (answer : AnySpec → Answer) (counts : Bool) (pairs : List Pair) (result : Status) (s t w v : Option (List ℕ)) : Type 0 where
+pub record RunsTasks {P : Type 0} (answer : P → Answer) (planned : Planned P) (counts : Bool) (pairs : List Pair) (result : Status) (s t w v : Option (List ℕ)) : Type 0 where
   pub tasks : List Task
-  pub lives : List Nodes
   pub are : AreTasks [] pairs tasks
-  pub made : lives_from 1 tasks ≡ Some lives
-  pub replayed : Replayed (run_text answer (task_names pairs tasks) lives) (run_rest answer counts (task_names pairs tasks) lives) result s t w v
+  pub replayed : Replayed (run_text answer (task_names pairs tasks) (lives_from planned 1 pairs tasks)) (run_rest answer counts (task_names pairs tasks) (lives_from planned 1 pairs tasks)) result s t w v
 
 -- the refused pattern of which a status speaks, if it speaks of one, by the text that was refused last
 abbrev pub refusal_of : Status → List ℕ → Option Refusal
@@ -63,9 +56,9 @@ pub record RanOut (result : Status) (s t w v : Option (List ℕ)) : Type 0 where
 
 -- What stands after a replay, where s and t are what was left of the input before and after, w and v what was written, and
 -- `refused` is the pattern that was refused last.
-abbrev pub Ran : (AnySpec → Answer) → List ℕ → Bool → List Pair → Status → Option (List ℕ) → Option (List ℕ) → Option (List ℕ) → Option (List ℕ) → Type 0
-Ran answer refused counts pairs result s t w v =
-    RunsTasks answer counts pairs result s t w v ⊎ (RefusesPairs refused pairs result s t w v ⊎ RanOut result s t w v)
+abbrev pub Ran : {P : Type 0} → (P → Answer) → Planned P → List ℕ → Bool → List Pair → Status → Option (List ℕ) → Option (List ℕ) → Option (List ℕ) → Option (List ℕ) → Type 0
+Ran answer planned refused counts pairs result s t w v =
+    RunsTasks answer planned counts pairs result s t w v ⊎ (RefusesPairs refused pairs result s t w v ⊎ RanOut result s t w v)
 
 -- what is due and the rest behind it were written, or the output failed, or memory ran out and nothing was written
 abbrev pub EndsWritten : Status → Option (List ℕ) → Option (List ℕ) → List ℕ → List ℕ → ℕ → ℕ → Type 0

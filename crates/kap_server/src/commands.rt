@@ -1,9 +1,9 @@
 //! The commands by their words.
 
-ghost use Rattle.std.specs.Prelude.{◌≡◌, ◌⊎◌, ◌≤◌, [], false, true, ℕ, Bool, List, None, Some, length, map, nat_lt, string_bytes};
+ghost use Rattle.std.specs.Prelude.{◌≡◌, ◌⊎◌, ◌≤◌, [], false, true, ℕ, Bool, List, None, Some, length, map, string_bytes};
 ghost use Rattle.std.specs.Io.KnownBytes.{Keeps};
 ghost use Rattle.kap_base.specs.Words.{HasRisen};
-ghost use Rattle.node_core.specs.Meaning.{Answer};
+ghost use Rattle.node_set.specs.Nodes.{node_spec};
 ghost use Rattle.recording_file.specs.Reading.{HasEnded};
 ghost use Rattle.recording_file.specs.Recording.{reading_of};
 ghost use Rattle.tick_compile.specs.declared.tasks.Task.{Task};
@@ -24,11 +24,11 @@ use crate::words::{Request, request_in};
 use kap_io::{Sink, Source};
 use lambda_types::Patterns;
 use node_core::Node;
-use node_set::AnyNode;
+use node_set::{AnyNode, ScriptNode};
 use std::alloc::Global;
 
 /// Replays the recording that the input gives, for the tasks of these words.
-fn replay_pairs<S: Source, K: Sink, P: Patterns>(
+fn replay_pairs<S: Source, K: Sink, P: Patterns, N: ScriptNode>(
     alloc: Global,
     counts: bool,
     words: &[String],
@@ -37,7 +37,7 @@ fn replay_pairs<S: Source, K: Sink, P: Patterns>(
     pats: &mut P,
 ) -> Status
     requires { length (pairs_of (map string_bytes words.now)) ≤ TASK_LIMIT }
-    ensures ran { Ran ⟦<AnyNode as Node>⟧.answer (P.refused pats.new) counts
+    ensures ran { Ran N.answer N.planned (P.refused pats.new) counts
         (pairs_of (map string_bytes words.now)) result
         (S.left input.old) (S.left input.new) (K.written out.old) (K.written out.new) }
     ensures read { result ≡ Status.Ok → HasEnded (S.left input.old) (S.left input.new) }
@@ -48,7 +48,7 @@ fn replay_pairs<S: Source, K: Sink, P: Patterns>(
     ensures rose { is_pattern_refused result ≡ true
         → HasRisen (P.refusals pats.old) (P.refusals pats.new) }
 {
-    let mut ready = Ready {
+    let mut ready: Ready<N> = Ready {
         names: Vec::new(alloc),
         plans: Vec::new(alloc),
     };
@@ -91,14 +91,14 @@ pub fn command<S: Source, K: Sink, P: Patterns>(
         → Checked (P.refused pats.new) result (S.left input.old) (S.left input.new)
         (K.written out.old) (K.written out.new) }
     // Its status is that of the text that the input gives, unless memory ran out or a device failed.
-    ensures check_status { (text : List ℕ) (status : Status) → AsksToCheck (map string_bytes words.now)
-        → S.left input.old ≡ Some text → ChecksTo (refusal_of result (P.refused pats.new)) text status
-        → IsUnlessFailed result status }
+    ensures check_status { (text : List ℕ) (status : Status)
+        → AsksToCheck (map string_bytes words.now) → S.left input.old ≡ Some text
+        → ChecksTo (refusal_of result (P.refused pats.new)) text status → IsUnlessFailed result status }
     // Of a replay the text of what the nodes give for the points is written, as the status says; or the first pair that
     // is no task is refused, before anything is read or written.
     ensures ran { (counts : Bool) (pairs : List Pair)
         → AsksToReplay (map string_bytes words.now) counts pairs
-        → Ran ⟦<AnyNode as Node>⟧.answer (P.refused pats.new) counts pairs result
+        → Ran ⟦<AnyNode as Node>⟧.answer node_spec (P.refused pats.new) counts pairs result
         (S.left input.old) (S.left input.new) (K.written out.old) (K.written out.new) }
     // Of tasks its status is Ok where the input is a recording, and else that of its first fault, unless memory ran out, a
     // device failed, or a pattern was refused.
@@ -128,7 +128,7 @@ pub fn command<S: Source, K: Sink, P: Patterns>(
             if are_too_many(words) {
                 return Status::TooManyTasks;
             }
-            replay_pairs(alloc, counts, words, input, out, pats)
+            replay_pairs::<S, K, P, AnyNode>(alloc, counts, words, input, out, pats)
         }
     }
 }

@@ -1,10 +1,9 @@
 //! Tasks, made ready to run.
 
 ghost use Rattle.std.specs.Prelude.{◌≡◌, ◌≢◌, ◌+◌, ◌<◌, ◌^◌, map, true, IfErr, OnOk, length, nat_lt, string_bytes};
-ghost use Rattle.std.specs.List.{list_all, list_any};
+ghost use Rattle.std.specs.List.{list_any};
 ghost use Rattle.std.specs.Str.{bytes_eq};
 ghost use Rattle.kap_base.specs.Words.{HasRisen};
-ghost use Rattle.tick_compile.specs.Kinds.{is_built};
 ghost use Rattle.kap_server.specs.Pairs.{AreNoTasks, IsNoTask, is_among};
 ghost use Rattle.kap_server.specs.Readying.{AddsTask, AddsTasks, PutsTask, ids_of, is_pattern_refused};
 ghost use Rattle.kap_server.specs.Runs.{refusal_of};
@@ -15,7 +14,7 @@ use effect_text::TaskNames;
 use kap_base::{NoMemory, Text};
 use lambda_types::Patterns;
 use node_core::Node;
-use node_set::{AnyNode, TaskPlan, plan_task};
+use node_set::{ScriptNode, TaskPlan, plan_task};
 use std::alloc::Global;
 use task_run::LifePlan;
 use tick_compile::{Task, compile};
@@ -26,9 +25,9 @@ pub(crate) const TASK_LIMIT: usize = 64;
 
 /// Tasks that are ready to run: the names by which lines tell of them, and their lives.
 #[derive(Drop)]
-pub(crate) struct Ready {
+pub(crate) struct Ready<N: Node> {
     pub(crate) names: Vec<TaskNames>,
-    pub(crate) plans: Vec<LifePlan<AnyNode>>,
+    pub(crate) plans: Vec<LifePlan<N>>,
 }
 
 /// Whether this is a task's id.
@@ -53,36 +52,35 @@ fn is_given(names: &[TaskNames], id: &[u8]) -> bool
 }
 
 /// Puts a task behind those that are ready, to run in this life.
-fn put_task(
+fn put_task<N: ScriptNode>(
     alloc: Global,
     life: u32,
     id: &str,
     task: Task,
-    ready: &mut Ready,
+    ready: &mut Ready<N>,
 ) -> Result<(), NoMemory>
-    requires { list_all (λ node. is_built node.spec) task.graph ≡ true }
-    ensures { OnOk result (PutsTask ⟦<AnyNode as Node>⟧.spec ⟦<AnyNode as Node>⟧.state
-        ⟦<AnyNode as Node>⟧.first life id.now task ready.old.names.items ready.new.names.items
+    ensures { OnOk result (PutsTask N.spec N.state N.first N.planned life id.now task
+        ready.old.names.items ready.new.names.items
         ready.old.plans.items ready.new.plans.items) }
 {
-    let TaskPlan { plan, names } = plan_task(alloc, life, task.graph)?;
     let id = Text::from_str(alloc, id)?;
+    let TaskPlan { plan, names } = plan_task(alloc, &id, life, task.graph)?;
     ready.names.push(TaskNames { id, nodes: names })?;
     ready.plans.push(plan)?;
     Ok(())
 }
 
 /// Makes the task of an id and a script ready, to run in this life behind the others.
-fn add_task<P: Patterns>(
+fn add_task<P: Patterns, N: ScriptNode>(
     alloc: Global,
     life: u32,
     id: &str,
     script: &str,
-    ready: &mut Ready,
+    ready: &mut Ready<N>,
     pats: &mut P,
 ) -> Result<(), Status>
-    ensures ok { OnOk result (AddsTask ⟦<AnyNode as Node>⟧.spec ⟦<AnyNode as Node>⟧.state
-        ⟦<AnyNode as Node>⟧.first life (record { id = id.now; script = script.now })
+    ensures ok { OnOk result (AddsTask N.spec N.state N.first N.planned life
+        (record { id = id.now; script = script.now })
         ready.old.names.items ready.new.names.items ready.old.plans.items ready.new.plans.items) }
     ensures err { IfErr result (λ s. s ≢ Status.NoMemory
         → IsNoTask (refusal_of s (P.refused pats.new)) (ids_of ready.old.names.items)
@@ -104,16 +102,16 @@ fn add_task<P: Patterns>(
 
 /// Makes the tasks of ids, each with a script behind it, ready, to run in lives from this one on behind the others. An `Err` is that
 /// of the first that is no task.
-pub(crate) fn add_tasks<P: Patterns>(
+pub(crate) fn add_tasks<P: Patterns, N: ScriptNode>(
     alloc: Global,
     life: u32,
     words: &[String],
-    ready: &mut Ready,
+    ready: &mut Ready<N>,
     pats: &mut P,
 ) -> Result<(), Status>
     requires { life + length words.now < 2 ^ 32 }
-    ensures ok { OnOk result (AddsTasks ⟦<AnyNode as Node>⟧.spec ⟦<AnyNode as Node>⟧.state
-        ⟦<AnyNode as Node>⟧.first life (pairs_of (map string_bytes words.now))
+    ensures ok { OnOk result (AddsTasks N.spec N.state N.first N.planned life
+        (pairs_of (map string_bytes words.now))
         ready.old.names.items ready.new.names.items ready.old.plans.items ready.new.plans.items) }
     ensures err { IfErr result (λ s. s ≢ Status.NoMemory
         → AreNoTasks (refusal_of s (P.refused pats.new)) (ids_of ready.old.names.items)

@@ -27,7 +27,9 @@ PLACE is `-`. Commands:
   SCRIPT    the task's script, a TICKscript of at most 65,536 bytes
 
 A replay has at most 64 tasks. A task's nodes are of these kinds: stream, from, where, eval, groupBy, log, default,
-delete, shift and sample. Other kinds of Kapacitor 1.6 are refused as NoKind.
+delete, shift, sample, window, sum, count, min, max, first, last, spread, distinct, top, bottom, stateCount,
+changeDetect, difference, cumulativeSum, elapsed, union, join and alert. Other kinds of Kapacitor 1.6 are refused as
+NoKind.
 
 A recording has three lines a point: the database, the retention policy, and the point in InfluxDB's line protocol.
 Database and policy are UTF-8 of at most 65,536 bytes. Numbers of fields are whole, from -9223372036854775808i to
@@ -37,10 +39,11 @@ Database and policy are UTF-8 of at most 65,536 bytes. Numbers of fields are who
 An example:
 
   printf 'd\\nr\\ncpu,host=a idle=7i 5\\n' |
-    kapd - replay t \"stream|from().measurement('cpu').where(lambda: \\\"idle\\\" < 10)|log()\"
+    kapd - replay t \"stream|from().measurement('cpu')|alert().crit(lambda: \\\"idle\\\" < 10)\"
 
-A line of the output is `out ID NODE POINT`, or with --counts `dropped ID NODE NUMBER`; NODE is a kind and the node's
-number in its task.
+A line of the output is `out ID NODE POINT` for a point that a log passes, `alert NUMBER TOPIC EVENT OLD->NEW TIME
+MESSAGE` for a change of level, or with --counts `dropped ID NODE NUMBER`. NODE is a kind and the node's number in its
+task; changes are numbered from 1 over all tasks. An alert's topic is `main:ID:NODE` unless its script names one.
 
 The exit status, and what standard error says behind `kapd: `:
 

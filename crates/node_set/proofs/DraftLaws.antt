@@ -1,14 +1,12 @@
 -- Nodes that were made for those of a graph are what is planned of a task.
 use Rattle.std.proofs.Common.{◌≡◌, ℕ, ◌+◌, ◌<◌, ◌≤◌, Bool, true, false, Option, None, Some, List, [], ◌∷◌, ◌++◌, length, map, refl, sym, ap, ◌∙◌, subst, append_assoc, append-nil, arith}
-use Rattle.std.specs.Prelude.{◌&&◌, IsTrue, if◌then◌else◌, is_some, max, nat_eq, nat_le, nat_lt, zip}
+use Rattle.std.specs.Prelude.{◌&&◌, IsTrue, if◌then◌else◌, nat_eq, nat_le, nat_lt, zip}
 use Rattle.std.specs.List.{list_all}
 use Rattle.std.proofs.lemmas.Bool.Decides.{nat_tests}
 use Rattle.kap_base.specs.Tree.{Tree}
 use Rattle.kap_base.proofs.TestLaws.{first_of, second_of}
-use Rattle.node_core.specs.Both.{either}
-use Rattle.node_core.specs.declared.both.Both.TheVariants.{One, Other}
 use Rattle.task_graph.specs.Edges.{is_stream}
-use Rattle.task_graph.specs.Graphs.{IsGraph, are_behind, fault_from, has_shape, is_fit, node_fault}
+use Rattle.task_graph.specs.Graphs.{IsGraph, are_behind, are_different, fault_from, has_shape, is_fit, node_fault}
 use Rattle.task_graph.specs.Graphs.{first as earlier}
 use Rattle.task_graph.specs.declared.graph.GraphFault.{GraphFault}
 use Rattle.task_graph.specs.declared.graph.GraphFault.TheVariants.{TooManyNodes}
@@ -16,99 +14,40 @@ use Rattle.task_graph.specs.declared.graph.TheConstants.{NODE_LIMIT}
 use Rattle.task_graph.specs.declared.spec.NodeSpec.{NodeSpec}
 use Rattle.task_graph.specs.declared.spec.Spec.{Spec}
 use Rattle.task_graph.specs.declared.spec.Spec.TheVariants.{Stream, From, Where, Eval, GroupBy, Log, Default, Delete, Shift, Sample, Window, Select, StateCount, ChangeDetect, Difference, CumulativeSum, Elapsed, Union, Join, Alert}
-use Rattle.task_run.specs.Graphs.{Placed}
 use Rattle.task_run.specs.Plans.{AreBelow, AreFirstNodes, AreNodesFrom, IsNodeAt, IsPlan, PlanValue, graph_of}
-use Rattle.basic_nodes.specs.declared.spec.BasicSpec.{BasicSpec}
-use Rattle.basic_nodes.specs.declared.spec.BasicSpec.TheVariants as basic
-use Rattle.basic_nodes.specs.Nodes.{kind_of, lives, numbers, port}
-use Rattle.basic_nodes.specs.Nodes.{seat_of as basic_seat}
 use Rattle.node_set.specs.Drafts.{AddsNodes, AreNodesOf, DraftValue, IsNodeOf}
-use Rattle.node_set.specs.Nodes.{AnySpec, any_spec, is_known}
-use Rattle.node_set.specs.Tasks.{nodes_from}
+use Rattle.node_set.specs.Tasks.{Planned, Sits, nodes_from}
 
--- ---- where a node sits
+-- ---- parents
 
-abbrev pub any_life : AnySpec → ℕ
-any_life = either (either (λ s. s.life) (λ s. s.life)) (λ s. s.life)
+is_some_one : (n : ℕ) → IsTrue (nat_eq n 1) → 0 < n
+is_some_one n h = grind (arith, nat_tests)
 
-abbrev pub any_number : AnySpec → ℕ
-any_number = either (either (λ s. s.node) (λ s. s.node)) (λ s. s.node)
+is_some : (n : ℕ) → IsTrue (nat_lt 0 n) → 0 < n
+is_some n h = grind (arith, nat_tests)
 
-abbrev pub any_ports : AnySpec → ℕ
-any_ports = either (either (λ s. 1) (λ s. 1)) (λ s. 1)
-
--- the node sits in this life with this number, and has one port
-pub record Sits (life number : ℕ) (spec : AnySpec) : Type 0 where
-  pub life_is : any_life spec ≡ life
-  pub number_is : any_number spec ≡ number
-  pub port : any_ports spec ≡ 1
-
-abbrev WhereKnown : (AnySpec → Type 0) → Option AnySpec → Type 0
-WhereKnown P None = Unit {0}
-WhereKnown P (Some spec) = P spec
-
-known_is : (P : AnySpec → Type 0) (o : Option AnySpec) (spec : AnySpec) → o ≡ Some spec → WhereKnown P o → P spec
-known_is P o spec is h = subst (WhereKnown P) is h
-
-basic_sits : (life number : ℕ) (spec : BasicSpec) → Sits life number (One (basic_seat life number (kind_of spec)))
-basic_sits life number spec = record {
-  life_is = lives life number (kind_of spec);
-  number_is = numbers life number (kind_of spec);
-  port = port life number (kind_of spec);
-}
-
-each_sits : (life number : ℕ) (spec : Spec Tree) → WhereKnown (Sits life number) (any_spec life number spec)
-each_sits life number (Stream dbrps) = basic_sits life number (basic.Stream dbrps)
-each_sits life number (From from) = basic_sits life number (basic.From from)
-each_sits life number (Where condition) = basic_sits life number (basic.Where condition)
-each_sits life number (Eval eval) = record { life_is = refl; number_is = refl; port = refl }
-each_sits life number (GroupBy group) = basic_sits life number (basic.GroupBy group)
-each_sits life number (Log log) = basic_sits life number (basic.Log log)
-each_sits life number (Default settings) = basic_sits life number (basic.Default settings)
-each_sits life number (Delete settings) = basic_sits life number (basic.Delete settings)
-each_sits life number (Shift by) = basic_sits life number (basic.Shift by)
-each_sits life number (Sample n) = basic_sits life number (basic.Sample n)
-each_sits life number (Window window) = tt
-each_sits life number (Select select) = tt
-each_sits life number (StateCount count) = tt
-each_sits life number (ChangeDetect fields) = tt
-each_sits life number (Difference field) = tt
-each_sits life number (CumulativeSum field) = tt
-each_sits life number (Elapsed elapsed) = tt
-each_sits life number (Union rename) = tt
-each_sits life number (Join join) = tt
-each_sits life number (Alert alert) = tt
-
--- ---- one parent
-
-is_one : (n : ℕ) → IsTrue (nat_eq n 1) → n ≡ 1
-is_one n h = grind (arith, nat_tests)
-
--- a known node that fits so many parents has one
-abbrev OneParent : ℕ → Spec Tree → AnySpec → Type 0
-OneParent n spec at = IsTrue (is_fit n spec) → n ≡ 1
-
-each_has_one : (life number n : ℕ) (spec : Spec Tree) → WhereKnown (OneParent n spec) (any_spec life number spec)
-each_has_one life number n (Stream dbrps) = is_one n
-each_has_one life number n (From from) = is_one n
-each_has_one life number n (Where condition) = is_one n
-each_has_one life number n (Eval eval) = λ h. is_one n (first_of (nat_eq n 1) (nat_lt 0 (length eval.results)) h)
-each_has_one life number n (GroupBy group) = is_one n
-each_has_one life number n (Log log) = is_one n
-each_has_one life number n (Default settings) = is_one n
-each_has_one life number n (Delete settings) = is_one n
-each_has_one life number n (Shift by) = is_one n
-each_has_one life number n (Sample k) = is_one n
-each_has_one life number n (Window window) = tt
-each_has_one life number n (Select select) = tt
-each_has_one life number n (StateCount count) = tt
-each_has_one life number n (ChangeDetect fields) = tt
-each_has_one life number n (Difference field) = tt
-each_has_one life number n (CumulativeSum field) = tt
-each_has_one life number n (Elapsed elapsed) = tt
-each_has_one life number n (Union rename) = tt
-each_has_one life number n (Join join) = tt
-each_has_one life number n (Alert alert) = tt
+-- what fits has a parent
+some_parent : (n : ℕ) (spec : Spec Tree) → IsTrue (is_fit n spec) → 0 < n
+some_parent n (Stream dbrps) = is_some_one n
+some_parent n (From from) = is_some_one n
+some_parent n (Where condition) = is_some_one n
+some_parent n (Eval eval) = λ h. is_some_one n (first_of (nat_eq n 1) (nat_lt 0 (length eval.results)) h)
+some_parent n (GroupBy group) = is_some_one n
+some_parent n (Log log) = is_some_one n
+some_parent n (Default settings) = is_some_one n
+some_parent n (Delete settings) = is_some_one n
+some_parent n (Shift by) = is_some_one n
+some_parent n (Sample k) = is_some_one n
+some_parent n (Window window) = is_some_one n
+some_parent n (Select select) = is_some_one n
+some_parent n (StateCount count) = is_some_one n
+some_parent n (ChangeDetect fields) = is_some_one n
+some_parent n (Difference field) = is_some_one n
+some_parent n (CumulativeSum field) = is_some_one n
+some_parent n (Elapsed elapsed) = is_some_one n
+some_parent n (Union rename) = is_some n
+some_parent n (Join join) = λ h. is_some n (first_of (nat_lt 0 n) (nat_eq (length join.prefixes) n) (first_of (nat_lt 0 n && nat_eq (length join.prefixes) n) (are_different join.prefixes) h))
+some_parent n (Alert alert) = is_some_one n
 
 below : (number : ℕ) (parents : List ℕ) → IsTrue (list_all (λ p. nat_lt p number) parents) → AreBelow number parents
 below number [] h = tt
@@ -143,12 +82,12 @@ few_from all number (node ∷ nodes) le h =
 pub few : (graph : List (NodeSpec Tree)) → IsGraph graph → 0 + length graph ≤ NODE_LIMIT
 few graph h = few_from graph 0 graph (omega arith) h.faultless
 
-module _ {N S : Type 0} (spec : N → AnySpec) (state : N → S) (first : AnySpec → S) where
+module _ {N P S : Type 0} (spec : N → P) (state : N → S) (first : P → S) (planned : Planned P) (task : List ℕ) where
   abbrev Are : ℕ → ℕ → List (NodeSpec Tree) → List N → Type 0
-  Are = AreNodesOf spec state first
+  Are = AreNodesOf spec state first planned task
 
   abbrev Adds : ℕ → ℕ → List (NodeSpec Tree) → DraftValue N → DraftValue N → Type 0
-  Adds = AddsNodes spec state first
+  Adds = AddsNodes spec state first planned task
 
   -- ---- adding nodes
 
@@ -156,7 +95,7 @@ module _ {N S : Type 0} (spec : N → AnySpec) (state : N → S) (first : AnySpe
   record IsOne (life number : ℕ) (node : NodeSpec Tree) (ns : List N) : Type 0 where
     pub n : N
     pub is : ns ≡ n ∷ []
-    pub of : IsNodeOf spec state first life number node n
+    pub of : IsNodeOf spec state first planned task life number node n
 
   one : (life number : ℕ) (node : NodeSpec Tree) (ns : List N) → Are life number (node ∷ []) ns → IsOne life number node ns
   one life number node [] h = absurd h
@@ -191,7 +130,7 @@ module _ {N S : Type 0} (spec : N → AnySpec) (state : N → S) (first : AnySpe
   -- ---- what was added is the graph
 
   pub are_graph : (life number : ℕ) (graph : List (NodeSpec Tree)) (ns : List N) → Are life number graph ns
-      → nodes_from life number graph ≡ Some (map (λ (p : N × List ℕ). record { spec = spec p.0; parents = p.1 }) (zip ns (map (λ n. n.parents) graph)))
+      → map (λ (p : N × List ℕ). record { spec = spec p.0; parents = p.1 }) (zip ns (map (λ n. n.parents) graph)) ≡ nodes_from planned task life number graph
   are_graph life number [] [] h = refl
   are_graph life number [] (n ∷ ns) h = absurd h
   are_graph life number (g ∷ gs) [] h = absurd h
@@ -201,64 +140,66 @@ module _ {N S : Type 0} (spec : N → AnySpec) (state : N → S) (first : AnySpe
   begin life number [] [] h = tt
   begin life number [] (n ∷ ns) h = absurd h
   begin life number (g ∷ gs) [] h = absurd h
-  begin life number (g ∷ gs) (n ∷ ns) h = (h.0.begins, begin life (number + 1) gs ns h.1)
+  begin life number (g ∷ gs) (n ∷ ns) h = (h.0.begins ∙ ap first (sym h.0.made), begin life (number + 1) gs ns h.1)
 
   -- ---- and a plan
 
-  abbrev Planned : ℕ → ℕ → List N → List (List ℕ) → Type 0
-  Planned = AreNodesFrom spec any_ports any_life any_number
+  module _ (ports life_of number_of : P → ℕ) (all_sit : (task : List ℕ) (life number : ℕ) (g : NodeSpec Tree) → Sits ports life_of number_of life number (length g.parents) g.spec (planned task life number g)) where
+    abbrev PlannedFrom : ℕ → ℕ → List N → List (List ℕ) → Type 0
+    PlannedFrom = AreNodesFrom spec ports life_of number_of
 
-  sits : (life number : ℕ) (g : NodeSpec Tree) (n : N) → IsNodeOf spec state first life number g n → Sits life number (spec n)
-  sits life number g n h = known_is (Sits life number) (any_spec life number g.spec) (spec n) h.made (each_sits life number g.spec)
+    sits : (life number : ℕ) (g : NodeSpec Tree) (n : N) → IsNodeOf spec state first planned task life number g n → Sits ports life_of number_of life number (length g.parents) g.spec (spec n)
+    sits life number g n h = subst (Sits ports life_of number_of life number (length g.parents) g.spec) (sym h.made) (all_sit task life number g)
 
-  -- the stream has no parent
-  stands_first : (life : ℕ) (g : NodeSpec Tree) (n : N) → IsNodeOf spec state first life 0 g n → length g.parents ≡ 0 → IsNodeAt life 0 (any_ports (spec n)) (any_life (spec n)) (any_number (spec n)) g.parents
-  stands_first life g n h none = by g.parents none where
-    at : Sits life 0 (spec n)
-    at = sits life 0 g n h
+    -- the stream has no parent
+    stands_first : (life : ℕ) (g : NodeSpec Tree) (n : N) → IsNodeOf spec state first planned task life 0 g n → IsTrue (is_stream g.spec) → length g.parents ≡ 0
+        → IsNodeAt life 0 (ports (spec n)) (life_of (spec n)) (number_of (spec n)) g.parents
+    stands_first life g n h stream none = by g.parents none where
+      at : Sits ports life_of number_of life 0 (length g.parents) g.spec (spec n)
+      at = sits life 0 g n h
 
-    by : (parents : List ℕ) → length parents ≡ 0 → IsNodeAt life 0 (any_ports (spec n)) (any_life (spec n)) (any_number (spec n)) parents
-    by [] e = record { life_is = at.life_is; number_is = at.number_is; earlier = tt; some_parent = λ h. absurd (omega arith); ports_are = at.port }
-    by (p ∷ ps) e = absurd (omega arith)
+      by : (parents : List ℕ) → length parents ≡ 0 → IsNodeAt life 0 (ports (spec n)) (life_of (spec n)) (number_of (spec n)) parents
+      by [] e = record { life_is = at.life_is; number_is = at.number_is; earlier = tt; some_parent = λ h. absurd (omega arith); ports_are = at.stream_port stream }
+      by (p ∷ ps) e = absurd (omega arith)
 
-  stands : (life number : ℕ) (g : NodeSpec Tree) (n : N) → IsNodeOf spec state first life number g n → IsTrue (is_fit (length g.parents) g.spec)
-      → IsTrue (list_all (λ p. nat_lt p number) g.parents) → IsNodeAt life number (any_ports (spec n)) (any_life (spec n)) (any_number (spec n)) g.parents
-  stands life number g n h fit lower =
-      let at = sits life number g n h in
-      let is : length g.parents ≡ 1 = known_is (OneParent (length g.parents) g.spec) (any_spec life number g.spec) (spec n) h.made (each_has_one life number (length g.parents) g.spec) fit in
-      record {
-        life_is = at.life_is;
-        number_is = at.number_is;
-        earlier = below number g.parents lower;
-        some_parent = λ h. omega arith;
-        ports_are = at.port ∙ ap (max 1) (sym is);
-      }
+    stands : (life number : ℕ) (g : NodeSpec Tree) (n : N) → IsNodeOf spec state first planned task life number g n → IsTrue (is_fit (length g.parents) g.spec)
+        → IsTrue (list_all (λ p. nat_lt p number) g.parents) → IsNodeAt life number (ports (spec n)) (life_of (spec n)) (number_of (spec n)) g.parents
+    stands life number g n h fit lower =
+        let at = sits life number g n h in
+        let some : 0 < length g.parents = some_parent (length g.parents) g.spec fit in
+        record {
+          life_is = at.life_is;
+          number_is = at.number_is;
+          earlier = below number g.parents lower;
+          some_parent = λ h. some;
+          ports_are = at.ports_are fit;
+        }
 
-  planned_behind : (life number : ℕ) (graph : List (NodeSpec Tree)) (ns : List N) → Are life number graph ns → IsTrue (are_behind number graph) → Planned life number ns (map (λ n. n.parents) graph)
-  planned_behind life number [] [] h shape = tt
-  planned_behind life number [] (n ∷ ns) h shape = absurd h
-  planned_behind life number (g ∷ gs) [] h shape = absurd h
-  planned_behind life number (g ∷ gs) (n ∷ ns) h shape =
-      let fit : Bool = is_fit (length g.parents) g.spec in
-      let lower : Bool = list_all (λ p. nat_lt p number) g.parents in
-      let here = first_of (fit && lower) (are_behind (number + 1) gs) shape in (
-        stands life number g n h.0 (first_of fit lower here) (second_of fit lower here),
-        planned_behind life (number + 1) gs ns h.1 (second_of (fit && lower) (are_behind (number + 1) gs) shape),
-      )
+    planned_behind : (life number : ℕ) (graph : List (NodeSpec Tree)) (ns : List N) → Are life number graph ns → IsTrue (are_behind number graph) → PlannedFrom life number ns (map (λ n. n.parents) graph)
+    planned_behind life number [] [] h shape = tt
+    planned_behind life number [] (n ∷ ns) h shape = absurd h
+    planned_behind life number (g ∷ gs) [] h shape = absurd h
+    planned_behind life number (g ∷ gs) (n ∷ ns) h shape =
+        let fit : Bool = is_fit (length g.parents) g.spec in
+        let lower : Bool = list_all (λ p. nat_lt p number) g.parents in
+        let here = first_of (fit && lower) (are_behind (number + 1) gs) shape in (
+          stands life number g n h.0 (first_of fit lower here) (second_of fit lower here),
+          planned_behind life (number + 1) gs ns h.1 (second_of (fit && lower) (are_behind (number + 1) gs) shape),
+        )
 
-  -- the nodes of a graph are a plan
-  pub planned : (life : ℕ) (graph : List (NodeSpec Tree)) (ns : List N) → Are life 0 graph ns → IsTrue (has_shape graph)
-      → IsPlan spec any_ports any_life any_number (record { life = life; nodes = ns; parents = map (λ n. n.parents) graph })
-  planned life [] ns h shape = absurd cc
-  planned life (g ∷ gs) [] h shape = absurd h
-  planned life (g ∷ gs) (n ∷ ns) h shape =
-      let stream : Bool = is_stream g.spec in
-      let alone : Bool = nat_eq (length g.parents) 0 in
-      let none : IsTrue alone = second_of stream alone (first_of (stream && alone) (are_behind 1 gs) shape) in
-      record {
-        some_node = omega arith;
-        nodes = (stands_first life g n h.0 (grind (arith, nat_tests)), planned_behind life 1 gs ns h.1 (second_of (stream && alone) (are_behind 1 gs) shape));
-      }
+    -- the nodes of a graph are a plan
+    pub plan_stands : (life : ℕ) (graph : List (NodeSpec Tree)) (ns : List N) → Are life 0 graph ns → IsTrue (has_shape graph)
+        → IsPlan spec ports life_of number_of (record { life = life; nodes = ns; parents = map (λ n. n.parents) graph })
+    plan_stands life [] ns h shape = absurd cc
+    plan_stands life (g ∷ gs) [] h shape = absurd h
+    plan_stands life (g ∷ gs) (n ∷ ns) h shape =
+        let stream : Bool = is_stream g.spec in
+        let alone : Bool = nat_eq (length g.parents) 0 in
+        let none : IsTrue alone = second_of stream alone (first_of (stream && alone) (are_behind 1 gs) shape) in
+        record {
+          some_node = omega arith;
+          nodes = (stands_first life g n h.0 (first_of stream alone (first_of (stream && alone) (are_behind 1 gs) shape)) (grind (arith, nat_tests)), planned_behind life 1 gs ns h.1 (second_of (stream && alone) (are_behind 1 gs) shape));
+        }
 
   -- ---- the whole graph
 
@@ -270,11 +211,13 @@ module _ {N S : Type 0} (spec : N → AnySpec) (state : N → S) (first : AnySpe
     abbrev plan_of : DraftValue N → PlanValue N
     plan_of d = record { life = life; nodes = d.nodes; parents = d.parents }
 
-    pub whole_nodes : nodes_from life 0 graph ≡ Some (graph_of spec (plan_of d))
+    pub whole_nodes : graph_of spec (plan_of d) ≡ nodes_from planned task life 0 graph
     whole_nodes = rw (adds.nodes_are, adds.parents_are) (are_graph life 0 graph adds.added adds.are)
 
     pub whole_begin : AreFirstNodes spec state first d.nodes
     whole_begin = rw adds.nodes_are (begin life 0 graph adds.added adds.are)
 
-    pub whole_plan : IsGraph graph → IsPlan spec any_ports any_life any_number (plan_of d)
-    whole_plan h = rw (adds.nodes_are, adds.parents_are) (planned life graph adds.added adds.are h.shape)
+    pub whole_plan : (ports life_of number_of : P → ℕ)
+        → ((task : List ℕ) (life number : ℕ) (g : NodeSpec Tree) → Sits ports life_of number_of life number (length g.parents) g.spec (planned task life number g))
+        → IsGraph graph → IsPlan spec ports life_of number_of (plan_of d)
+    whole_plan ports life_of number_of all_sit h = rw (adds.nodes_are, adds.parents_are) (plan_stands ports life_of number_of all_sit life graph adds.added adds.are h.shape)

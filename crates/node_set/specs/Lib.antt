@@ -1,3 +1,4 @@
 pub mod Nodes
 pub mod Tasks
+pub mod Seats
 pub mod Drafts

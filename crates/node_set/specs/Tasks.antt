@@ -1,26 +1,31 @@
 -- The nodes of a task.
-use Rattle.std.specs.Prelude.{ℕ, ◌+◌, Bool, List, [], ◌∷◌, Option, Some, None, option_map}
-use Rattle.std.specs.List.{list_all}
+use Rattle.std.specs.Prelude.{◌≡◌, ℕ, ◌+◌, List, [], ◌∷◌, IsTrue, max}
 use Rattle.kap_base.specs.Tree.{Tree}
+use Rattle.task_graph.specs.Edges.{is_stream}
+use Rattle.task_graph.specs.Graphs.{is_fit}
 use Rattle.task_graph.specs.declared.spec.NodeSpec.{NodeSpec}
+use Rattle.task_graph.specs.declared.spec.Spec.{Spec}
 use Rattle.task_run.specs.Graphs.{Placed}
-use Rattle.node_set.specs.Nodes.{AnySpec, any_spec, is_known}
 
--- an item before others, where all are there
-abbrev pub with_first : {A : Type 0} → Option A → Option (List A) → Option (List A)
-with_first None rest = None
-with_first (Some first) None = None
-with_first (Some first) (Some rest) = Some (first ∷ rest)
+-- what a node is that a script makes: in a task of this id, in a life of it, and with a number there
+abbrev pub Planned : Type 0 → Type 0
+Planned P = List ℕ → ℕ → ℕ → NodeSpec Tree → P
 
--- the node that a script's node is, in a life and with a number, and its parents
-abbrev pub placed : ℕ → ℕ → NodeSpec Tree → Option (Placed AnySpec)
-placed life number node = option_map (λ spec. record { spec = spec; parents = node.parents }) (any_spec life number node.spec)
+module _ {P : Type 0} (planned : Planned P) where
+  -- the node that a script's node is, and its parents
+  abbrev pub placed : List ℕ → ℕ → ℕ → NodeSpec Tree → Placed P
+  placed task life number node = record { spec = planned task life number node; parents = node.parents }
 
--- the nodes that a script's nodes are, in a life and numbered from here on, where all are of kinds that can be made
-abbrev pub nodes_from : ℕ → ℕ → List (NodeSpec Tree) → Option (List (Placed AnySpec))
-nodes_from life number [] = Some []
-nodes_from life number (node ∷ nodes) = with_first (placed life number node) (nodes_from life (number + 1) nodes)
+  -- the nodes that a script's nodes are, in a task of this id, in a life of it and numbered there from here on
+  abbrev pub nodes_from : List ℕ → ℕ → ℕ → List (NodeSpec Tree) → List (Placed P)
+  nodes_from task life number [] = []
+  nodes_from task life number (node ∷ nodes) = placed task life number node ∷ nodes_from task life (number + 1) nodes
 
--- the nodes are of kinds that can be made
-abbrev pub are_known : List (NodeSpec Tree) → Bool
-are_known nodes = list_all (λ node. is_known node.spec) nodes
+module _ {P : Type 0} (ports life_of number_of : P → ℕ) where
+  -- The node of what a script hands to one with so many parents sits in this life with this number, and has a port for each of the
+  -- parents, where it fits them; the stream has one.
+  pub record Sits (life number parents : ℕ) (spec : Spec Tree) (at : P) : Type 0 where
+    pub life_is : life_of at ≡ life
+    pub number_is : number_of at ≡ number
+    pub ports_are : IsTrue (is_fit parents spec) → ports at ≡ max 1 parents
+    pub stream_port : IsTrue (is_stream spec) → ports at ≡ 1

@@ -1,14 +1,11 @@
 //! Nodes that are made one after the other.
 
-ghost use Rattle.std.specs.Prelude.{◌≡◌, ◌∷◌, [], ◌+◌, ◌≤◌, OnOk, IsTrue, length};
+ghost use Rattle.std.specs.Prelude.{◌≡◌, ◌∷◌, [], ◌+◌, ◌≤◌, OnOk, length};
 ghost use Rattle.task_graph.specs.declared.graph.TheConstants.{NODE_LIMIT};
 ghost use Rattle.node_set.specs.Drafts.{AddsNodes};
-ghost use Rattle.node_set.specs.Nodes.{is_known};
-ghost use Rattle.node_set.specs.Tasks.{are_known};
 
-use crate::any::{AnyNode, any_node};
+use crate::script_node::ScriptNode;
 use kap_base::{NoMemory, Text};
-use node_core::Node;
 use std::alloc::Global;
 use std::marker::Model;
 use std::vec::IntoIter;
@@ -48,47 +45,47 @@ impl<N: Drop> Draft<N> {
     }
 }
 
-/// Adds the node of a script with this number.
-fn add_node(
+/// Adds the node of a script with this number, in a life of the task of this id.
+fn add_node<N: ScriptNode>(
     alloc: Global,
+    task: &Text,
     life: u32,
     number: u32,
     node: NodeSpec,
-    draft: &mut Draft<AnyNode>,
+    draft: &mut Draft<N>,
 ) -> Result<(), NoMemory>
-    requires { IsTrue (is_known node.spec) }
-    ensures { OnOk result (AddsNodes ⟦<AnyNode as Node>⟧.spec ⟦<AnyNode as Node>⟧.state
-        ⟦<AnyNode as Node>⟧.first life number (node ∷ []) draft.old draft.new) }
+    ensures { OnOk result (AddsNodes N.spec N.state N.first N.planned task.now life number
+        (node ∷ []) draft.old draft.new) }
 {
     let NodeSpec {
         name,
         spec,
         parents,
     } = node;
-    let made = any_node(alloc, life, number, spec)?;
+    let made = N::of_script(alloc, task, life, number, &name, &parents, spec)?;
     draft.nodes.push(made)?;
     draft.parents.push(parents)?;
     draft.names.push(name)?;
     Ok(())
 }
 
-/// Adds the nodes of a script, numbered from here on.
-pub(crate) fn add_nodes(
+/// Adds the nodes of a script, numbered from here on, in a life of the task of this id.
+pub(crate) fn add_nodes<N: ScriptNode>(
     alloc: Global,
+    task: &Text,
     life: u32,
     number: u32,
     mut nodes: IntoIter<NodeSpec>,
-    draft: &mut Draft<AnyNode>,
+    draft: &mut Draft<N>,
 ) -> Result<(), NoMemory>
-    requires known { IsTrue (are_known nodes.rest.items) }
-    requires few { number + length nodes.rest.items ≤ NODE_LIMIT }
-    ensures { OnOk result (AddsNodes ⟦<AnyNode as Node>⟧.spec ⟦<AnyNode as Node>⟧.state
-        ⟦<AnyNode as Node>⟧.first life number nodes.rest.items draft.old draft.new) }
+    requires { number + length nodes.rest.items ≤ NODE_LIMIT }
+    ensures { OnOk result (AddsNodes N.spec N.state N.first N.planned task.now life number
+        nodes.rest.items draft.old draft.new) }
 {
     match nodes.next() {
         Some(node) => {
-            add_node(alloc, life, number, node, draft)?;
-            add_nodes(alloc, life, number + 1, nodes, draft)
+            add_node(alloc, task, life, number, node, draft)?;
+            add_nodes(alloc, task, life, number + 1, nodes, draft)
         }
         None => Ok(()),
     }

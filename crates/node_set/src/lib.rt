@@ -3,7 +3,9 @@
 
 mod any;
 mod drafts;
+mod script_node;
 mod tasks;
 
 pub use any::{AnyNode, any_node};
+pub use script_node::ScriptNode;
 pub use tasks::{TaskPlan, plan_task};

@@ -1,12 +1,12 @@
 //! What is planned of a task.
 
-ghost use Rattle.std.specs.Prelude.{◌≡◌, map, IfOk, IsTrue, Some};
+ghost use Rattle.std.specs.Prelude.{◌≡◌, map, IfOk};
 ghost use Rattle.task_run.specs.Plans.{AreFirstNodes, graph_of};
-ghost use Rattle.node_set.specs.Tasks.{are_known, nodes_from};
+ghost use Rattle.node_set.specs.Tasks.{nodes_from};
 
-use crate::any::AnyNode;
 use crate::drafts::{Draft, add_nodes};
-use kap_base::{ItemList, Names, NoMemory};
+use crate::script_node::ScriptNode;
+use kap_base::{ItemList, Names, NoMemory, Text};
 use node_core::Node;
 use std::alloc::Global;
 use task_graph::Graph;
@@ -14,26 +14,29 @@ use task_run::LifePlan;
 
 /// What is planned of a task: its life, and the names of its nodes, by their numbers.
 #[derive(Drop)]
-pub struct TaskPlan {
+pub struct TaskPlan<N: Node> {
     /// Its life, whose nodes are in their first states.
-    pub plan: LifePlan<AnyNode>,
+    pub plan: LifePlan<N>,
     /// The names of its nodes.
     pub names: Names,
 }
 
-/// What is planned of a task with this graph, which runs in this life. Its nodes are of kinds that can be made. `NoMemory` comes
-/// where an allocation fails.
-pub fn plan_task(alloc: Global, life: u32, graph: Graph) -> Result<TaskPlan, NoMemory>
-    requires { IsTrue (are_known graph) }
-    ensures nodes { IfOk result (λ task. nodes_from life 0 graph
-        ≡ Some (graph_of ⟦<AnyNode as Node>⟧.spec task.plan)) }
-    ensures begin { IfOk result (λ task. AreFirstNodes ⟦<AnyNode as Node>⟧.spec
-        ⟦<AnyNode as Node>⟧.state ⟦<AnyNode as Node>⟧.first task.plan.nodes) }
-    ensures names { IfOk result (λ task. task.names ≡ map (λ node. node.name) graph) }
+/// What is planned of the task of this id, with this graph, which runs in this life.
+/// `NoMemory` comes where an allocation fails.
+pub fn plan_task<N: ScriptNode>(
+    alloc: Global,
+    task: &Text,
+    life: u32,
+    graph: Graph,
+) -> Result<TaskPlan<N>, NoMemory>
+    ensures nodes { IfOk result (λ made. graph_of N.spec made.plan
+        ≡ nodes_from N.planned task.now life 0 graph) }
+    ensures begin { IfOk result (λ made. AreFirstNodes N.spec N.state N.first made.plan.nodes) }
+    ensures names { IfOk result (λ made. made.names ≡ map (λ node. node.name) graph) }
 {
     let specs = graph.into_specs().into_items();
     let mut draft = Draft::new(alloc);
-    add_nodes(alloc, life, 0, specs.into_iter(), &mut draft)?;
+    add_nodes(alloc, task, life, 0, specs.into_iter(), &mut draft)?;
     let Draft {
         nodes,
         parents,

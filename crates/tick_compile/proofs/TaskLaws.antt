@@ -1,5 +1,5 @@
 -- Compiling as its calls make it, and the shape of what a bound script's nodes are read as.
-use Rattle.std.proofs.Common.{◌≡◌, ◌≢◌, ◌&&◌, ◌<◌, ◌+◌, ℕ, zero, suc, Bool, true, false, cond, List, [], ◌∷◌, ◌++◌, length, map, Option, Some, None, Result, Ok, Err, refl, sym, ap, ◌∙◌, subst, nat_lt, arith, length-append}
+use Rattle.std.proofs.Common.{◌≡◌, ◌&&◌, ◌<◌, ◌+◌, ℕ, zero, suc, Bool, true, false, cond, List, [], ◌∷◌, ◌++◌, length, map, Result, Ok, Err, refl, sym, ap, ◌∙◌, subst, nat_lt, arith, length-append}
 use Rattle.std.specs.Prelude.{IfOk, IsTrue, take}
 use Rattle.std.specs.List.{list_all}
 use Rattle.std.proofs.lemmas.Bool.Decides.{nat_tests}
@@ -10,22 +10,17 @@ use Rattle.task_graph.specs.declared.spec.NodeSpec.{NodeSpec}
 use Rattle.task_graph.specs.declared.spec.Spec.{Spec}
 use Rattle.task_graph.specs.declared.spec.Spec.TheVariants.{Stream}
 use Rattle.task_graph.specs.Edges.{takes_nodes}
-use Rattle.task_graph.specs.Graphs.{are_behind, first_graph_fault, has_shape, is_fit}
+use Rattle.task_graph.specs.Graphs.{are_behind, has_shape, is_fit}
 use Rattle.tick_vars.specs.Nodes.{ArgTree, LitArg, StarArg, LambdaArg, NodeArg, NodeTree, BoundTree}
 use Rattle.tick_vars.specs.Binding.{stream_node}
 use Rattle.tick_vars.specs.Law.{AllSettled, IsSettled, NodesSettled}
 use Rattle.tick_compile.specs.declared.given.Node.{Node}
 use Rattle.tick_compile.specs.declared.node_fault.NodeFault.{NodeFault}
-use Rattle.tick_compile.specs.Kinds.{is_built, spec_of}
+use Rattle.tick_compile.specs.Kinds.{spec_of}
 use Rattle.tick_compile.proofs.KindLaws.{IsRight, spec_right}
-use Rattle.tick_compile.specs.Nodes.{node_name, node_spec, nodes_above, nodes_in, other_node, parents_of, specs_from, stream_spec}
+use Rattle.tick_compile.specs.Nodes.{node_name, node_spec, nodes_above, nodes_in, parents_of, specs_from, stream_spec}
 use Rattle.tick_compile.specs.Rows.{no_props}
-use Rattle.lambda_types.specs.Faults.{Refusal}
-use Rattle.tick_compile.specs.declared.script_fault.ScriptFault.{ScriptFault}
-use Rattle.tick_compile.specs.declared.script_fault.ScriptFault.TheVariants.{NoFrom}
-use Rattle.tick_compile.specs.declared.tasks.Task.{Task}
-use Rattle.tick_compile.specs.Typing.{given_of, node_of, type_fault}
-use Rattle.tick_compile.specs.Tasks.{compiled, has_from, raised, typed, well_joined}
+use Rattle.tick_compile.specs.Typing.{given_of, node_of}
 
 bind_ok : {A B E : Type 0} (r : Result A E) (f : A → Result B E) (y : B) → (r >>= f) ≡ Ok y → (x : A) × (r ≡ Ok x) × (f x ≡ Ok y)
 bind_ok (Ok x) f y e = (x, refl, e)
@@ -95,7 +90,7 @@ node_behind dbrps number node spec some parent args is =
     let above : list_all (λ p. nat_lt p number) (nodes_above (node_of node)) ≡ true = both_true (nat_lt node.parent number) _ first (args_below number node.args args) in
     let all = fewer_below (λ p. nat_lt p number) (takes_nodes spec.spec) node.parent (nodes_in (map given_of node.args)) above in
     subst (λ (ps : List ℕ). (is_fit (length ps) spec.spec && list_all (λ p. nat_lt p number) ps) ≡ true) (sym known.parents)
-    (both_true (is_fit (length (parents_of spec.spec (nodes_above (node_of node)))) spec.spec) _ known.stands.0 all)
+    (both_true (is_fit (length (parents_of spec.spec (nodes_above (node_of node)))) spec.spec) _ known.stands all)
 
 all_shaped : (dbrps : List Dbrp) (count : ℕ) (nodes : List NodeTree) (read : List (NodeSpec Tree)) (number : ℕ) → length read ≡ number → 0 < number → has_shape read ≡ true → NodesSettled count number nodes
     → (specs : List (NodeSpec Tree)) → specs_from dbrps read (map node_of nodes) ≡ Ok specs → has_shape specs ≡ true
@@ -124,51 +119,3 @@ settled_shape bind settled specs is =
     let parts = bind_ok (node_spec bind.dbrps 0 (node_of (record stream_node { props = settled.props }))) (λ spec. specs_from bind.dbrps ([] ++ spec ∷ []) (map node_of settled.others)) specs whole in
     let first = stream_shape bind.dbrps (node_of (record stream_node { props = settled.props })) parts.0 parts.1 in
     all_shaped bind.dbrps (length bind.nodes) settled.others (parts.0 ∷ []) 1 refl (omega arith) first settled.settled specs parts.2
-
--- ---- each node is of a built kind
-
-abbrev built : NodeSpec Tree → Bool
-built node = is_built node.spec
-
-built_node : (dbrps : List Dbrp) (n : ℕ) (node : Node Tree) (spec : NodeSpec Tree) → node_spec dbrps n node ≡ Ok spec → built spec ≡ true
-built_node dbrps zero node spec is =
-    let outer = bind_ok (stream_spec dbrps node) _ spec is in
-    let inner = bind_ok (no_props node.props) _ outer.0 outer.1 in
-    let same : Stream dbrps ≡ outer.0 = cc (inner.2) in
-    let made : record { name = node_name node.kind 0; spec = outer.0; parents = [] } ≡ spec = cc (outer.2) in
-    subst (λ (s : NodeSpec Tree). built s ≡ true) made (subst (λ (k : Spec Tree). is_built k ≡ true) same refl)
-built_node dbrps (suc n) node spec is = (other dbrps (suc n) node spec (omega arith) is).stands.1
-
-one_more : (test : NodeSpec Tree → Bool) (read : List (NodeSpec Tree)) (x : NodeSpec Tree) → list_all test read ≡ true → test x ≡ true → list_all test (read ++ x ∷ []) ≡ true
-one_more test [] x all more = both_true (test x) true more refl
-one_more test (y ∷ read) x all more =
-    both_true (test y) _ (first_true (test y) (list_all test read) all) (one_more test read x (second_true (test y) (list_all test read) all) more)
-
-all_built : (dbrps : List Dbrp) (nodes : List (Node Tree)) (read specs : List (NodeSpec Tree)) → list_all built read ≡ true → specs_from dbrps read nodes ≡ Ok specs → list_all built specs ≡ true
-all_built dbrps [] read specs so_far is = let same : read ≡ specs = cc in subst (λ (s : List (NodeSpec Tree)). list_all built s ≡ true) same so_far
-all_built dbrps (node ∷ nodes) read specs so_far is =
-    let parts = bind_ok (node_spec dbrps (length read) node) (λ spec. specs_from dbrps (read ++ spec ∷ []) nodes) specs is in
-    all_built dbrps nodes (read ++ parts.0 ∷ []) specs (one_more built read parts.0 so_far (built_node dbrps (length read) node parts.0 parts.1)) parts.2
-
-raised_ok : {A : Type 0} (r : Result A NodeFault) (x : A) → raised r ≡ Ok x → r ≡ Ok x
-raised_ok (Ok y) x is = cc
-raised_ok (Err f) x is = absurd cc
-
-kept_if : {A E : Type 0} (b : Bool) (x y : A) (e : E) → cond b (Ok x) (Err e) ≡ Ok y → x ≡ y
-kept_if true x y e is = cc
-kept_if false x y e is = absurd cc
-
--- the nodes of a task are of built kinds
-pub compiled_built : (refused : Option Refusal) (bind : BoundTree) (nodes : List (NodeSpec Tree)) → compiled refused bind ≡ Ok nodes → list_all (λ node. is_built node.spec) nodes ≡ true
-compiled_built refused bind nodes is =
-    let read = bind_ok (raised (specs_from bind.dbrps [] (map node_of bind.nodes))) _ nodes is in
-    let types = bind_ok (typed (type_fault refused bind.nodes)) _ nodes read.2 in
-    let joined = bind_ok (well_joined (first_graph_fault read.0)) _ nodes types.2 in
-    let same : read.0 ≡ nodes = kept_if (has_from read.0) read.0 nodes NoFrom joined.2 in
-    subst (λ (s : List (NodeSpec Tree)). list_all built s ≡ true) same
-    (all_built bind.dbrps (map node_of bind.nodes) [] read.0 refl (raised_ok (specs_from bind.dbrps [] (map node_of bind.nodes)) read.0 read.1))
-
--- the same of an answer
-pub answer_built : (r : Result Task ScriptFault) (bind : BoundTree) → IfOk r (λ task. compiled None bind ≡ Ok task.graph) → IfOk r (λ task. list_all (λ node. is_built node.spec) task.graph ≡ true)
-answer_built (Ok task) bind is = compiled_built None bind task.graph is
-answer_built (Err fault) bind is = tt

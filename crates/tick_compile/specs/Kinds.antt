@@ -1,14 +1,23 @@
 -- The kinds of nodes that a script can make, by their names, and what each is given.
-use Rattle.std.specs.Prelude.{ℕ, Bool, true, false, if◌then◌else◌, List, Option, Some, None, Result, Err, codes, bytes_eq}
+use Rattle.std.specs.Prelude.{ℕ, if◌then◌else◌, List, Option, Some, None, Result, Err, codes, bytes_eq, option_map}
+use Rattle.std.specs.Option.{option_or}
 use Rattle.task_graph.specs.declared.spec.Spec.{Spec}
-use Rattle.task_graph.specs.declared.spec.Spec.TheVariants as specs
 use Rattle.tick_compile.specs.declared.node_fault.NodeFault.{NodeFault}
 use Rattle.tick_compile.specs.declared.node_fault.NodeFault.TheVariants.{NoKind}
 use Rattle.tick_compile.specs.declared.given.Node.{Node}
 use Rattle.tick_compile.specs.declared.kind.Kind.{Kind}
-use Rattle.tick_compile.specs.declared.kind.Kind.TheVariants.{From, Where, Eval, GroupBy, Log, Default, Delete, Shift, Sample}
+use Rattle.tick_compile.specs.declared.kind.Kind.TheVariants.{From, Where, Eval, GroupBy, Log, Default, Delete, Shift, Sample, Window, Alert, Union, Join, State, Select, Rank}
 use Rattle.tick_compile.specs.Filters.{from_spec, sample_spec, where_spec}
 use Rattle.tick_compile.specs.Changes.{default_spec, delete_spec, eval_spec, group_by_spec, log_spec, shift_spec}
+use Rattle.tick_compile.specs.States.{state_named, state_spec}
+use Rattle.tick_compile.specs.Windows.{window_spec}
+use Rattle.tick_compile.specs.Alerts.{alert_spec}
+use Rattle.tick_compile.specs.Selects.{rank_named, rank_spec, select_named, select_spec}
+use Rattle.tick_compile.specs.Joins.{join_spec, union_spec}
+
+-- the kind of a name, where it is one of many alike
+abbrev pub family_named : List ℕ → Option Kind
+family_named name = option_or (option_map State (state_named name)) (option_or (option_map Select (select_named name)) (option_map Rank (rank_named name)))
 
 -- the kind of a name
 abbrev pub kind_named : List ℕ → Option Kind
@@ -21,7 +30,11 @@ kind_named name =
     if bytes_eq name (codes "default") then Some Default else (
     if bytes_eq name (codes "delete") then Some Delete else (
     if bytes_eq name (codes "shift") then Some Shift else (
-    if bytes_eq name (codes "sample") then Some Sample else None))))))))
+    if bytes_eq name (codes "sample") then Some Sample else (
+    if bytes_eq name (codes "window") then Some Window else (
+    if bytes_eq name (codes "alert") then Some Alert else (
+    if bytes_eq name (codes "union") then Some Union else (
+    if bytes_eq name (codes "join") then Some Join else family_named name))))))))))))
 
 -- what a node of a kind is given, or its first fault: of its arguments, of its properties in the order of the script, or of the whole
 abbrev pub spec_by : {L : Type 0} → Option Kind → Node L → Result (Spec L) NodeFault
@@ -35,20 +48,13 @@ spec_by (Some Default) node = default_spec node
 spec_by (Some Delete) node = delete_spec node
 spec_by (Some Shift) node = shift_spec node
 spec_by (Some Sample) node = sample_spec node
+spec_by (Some Window) node = window_spec node
+spec_by (Some Alert) node = alert_spec node
+spec_by (Some Union) node = union_spec node
+spec_by (Some Join) node = join_spec node
+spec_by (Some (State kind)) node = state_spec kind node
+spec_by (Some (Select select)) node = select_spec select node
+spec_by (Some (Rank rank)) node = rank_spec rank node
 
 abbrev pub spec_of : {L : Type 0} → Node L → Result (Spec L) NodeFault
 spec_of node = spec_by (kind_named node.kind) node
-
--- of a kind that the run can build
-abbrev pub is_built : {L : Type 0} → Spec L → Bool
-is_built (specs.Stream dbrps) = true
-is_built (specs.From from) = true
-is_built (specs.Where l) = true
-is_built (specs.Eval eval) = true
-is_built (specs.GroupBy group) = true
-is_built (specs.Log log) = true
-is_built (specs.Default settings) = true
-is_built (specs.Delete settings) = true
-is_built (specs.Shift d) = true
-is_built (specs.Sample n) = true
-is_built other = false

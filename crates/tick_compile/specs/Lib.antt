@@ -4,6 +4,12 @@ pub mod Rows
 pub mod Sorts
 pub mod Filters
 pub mod Changes
+pub mod States
+pub mod Windows
+pub mod Templates
+pub mod Alerts
+pub mod Selects
+pub mod Joins
 pub mod Kinds
 pub mod Nodes
 pub mod Typing

@@ -5,12 +5,17 @@ ghost use Rattle.kap_base.specs.Words.{Answers};
 ghost use Rattle.tick_compile.specs.Kinds.{spec_by, spec_of};
 ghost use Rattle.tick_compile.specs.Nodes.{node_name, node_spec, nodes_above, nodes_in, other_node, parents_of, specs_from, stream_node, stream_spec};
 
+use crate::alerts::alert_spec;
 use crate::changes::{default_spec, delete_spec, eval_spec, group_by_spec, log_spec, shift_spec};
 use crate::filters::{from_spec, sample_spec, where_spec};
 use crate::given::{Given, Node};
+use crate::joins::{join_spec, union_spec};
 use crate::kind::{Kind, kind_named};
 use crate::node_fault::NodeFault;
 use crate::props::no_props;
+use crate::selects::{rank_spec, select_spec};
+use crate::states::state_spec;
+use crate::windows::window_spec;
 use itoa::Buffer;
 use kap_base::{Dbrp, Dbrps, Duplicate, ItemList, NoMemory, Text};
 use std::alloc::Global;
@@ -30,6 +35,13 @@ fn spec_by<L: Drop>(alloc: Global, kind: Kind, node: Node<L>) -> Result<Spec<L>,
         Kind::Delete => delete_spec(alloc, node),
         Kind::Shift => shift_spec(alloc, node),
         Kind::Sample => sample_spec(alloc, node),
+        Kind::Window => window_spec(alloc, node),
+        Kind::Alert => alert_spec(alloc, node),
+        Kind::Union => union_spec(alloc, node),
+        Kind::Join => join_spec(alloc, node),
+        Kind::State(kind) => state_spec(alloc, kind, node),
+        Kind::Select(select) => select_spec(alloc, select, node),
+        Kind::Rank(rank) => rank_spec(alloc, rank, node),
     }
 }
 

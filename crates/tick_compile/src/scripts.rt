@@ -1,14 +1,12 @@
 //! Texts, compiled to tasks.
 
 ghost use Rattle.std.specs.Prelude.{◌≡◌, ◌≢◌, ◌≤◌, true, false, length, IfErr, IfOk, None};
-ghost use Rattle.std.specs.List.{list_all};
 ghost use Rattle.kap_base.specs.Words.{HasRisen};
 ghost use Rattle.lambda_types.specs.Builds.{AtMostOneMore};
 ghost use Rattle.tick_lexer.specs.declared.limits.TheConstants.{SCRIPT_LIMIT};
 ghost use Rattle.tick_parser.specs.Trees.{script_tree};
 ghost use Rattle.tick_vars.specs.Law.{IsSettled};
 ghost use Rattle.tick_vars.specs.Nodes.{bound_tree};
-ghost use Rattle.tick_compile.specs.Kinds.{is_built};
 ghost use Rattle.tick_compile.specs.Scripts.{Accepts, Binds, IsMisread, Parses, Refuses};
 ghost use Rattle.tick_compile.specs.Tasks.{is_refusal, refusal_in};
 
@@ -65,11 +63,10 @@ fn bound_of(alloc: Global, text: &[u8]) -> Result<Bound, ScriptFault>
 /// The task of a script's text (Kapacitor 1.6 TICKscript language and node reference), or its first fault, in the order that
 /// `ScriptFault` tells. It takes texts of at most 65,536 bytes. `Lambda` with `Pattern` comes only where the count of refusals of
 /// `pats` rose in this call, at the place of the pattern whose text was refused last; a task is given only where no pattern was
-/// refused. Each node of it is of a kind that the run can build. `NoMemory` comes where an allocation fails.
+/// refused. `NoMemory` comes where an allocation fails.
 pub fn compile<P: Patterns>(alloc: Global, text: &[u8], pats: &mut P) -> Result<Task, ScriptFault>
     requires { length text.now ≤ SCRIPT_LIMIT }
     ensures task { IfOk result (λ task. Accepts None text.now task) }
-    ensures built { IfOk result (λ task. list_all (λ node. is_built node.spec) task.graph ≡ true) }
     ensures fault { IfErr result (λ f. f ≢ ScriptFault.NoMemory →
         Refuses (refusal_in f (P.refused pats.new)) text.now f) }
     ensures kept { IfOk result (λ task. P.refusals pats.new ≡ P.refusals pats.old) }

@@ -1,8 +1,5 @@
-use Rattle.std.proofs.Common.{◌≡◌, ℕ, Bool, true, false, List, Some, None, map, length, inl, inr, sym, ◌∙◌, subst, arith}
-use Rattle.std.specs.Prelude.{nat_lt, string_bytes}
-use Rattle.std.proofs.lemmas.Bool.Decides.{nat_tests}
-use Rattle.kap_server.specs.Runs.{Ran}
-use Rattle.kap_server.specs.Words.{Pair, Replay, pairs_of, request_in}
+use Rattle.std.proofs.Common.{false, sym, ◌∙◌}
+use Rattle.kap_server.specs.Words.{request_in}
 use Rattle.kap_server.proofs.CheckLaws.{check_answers}
 use Rattle.kap_server.proofs.RunLaws.{few_or_many, not_none, ran_as_asked, ran_not_many, ran_not_usage, ran_refused, ran_status}
 use Rattle.kap_server.proofs.commands.command.Goals as goal
@@ -15,7 +12,7 @@ pub returns-else-are_too_many-clause-usage : goal.returns-else-are_too_many-clau
 returns-else-are_too_many-clause-usage g c =
     let asked = rw (c.in-Some-Replay.is, c.in-Some-Replay.field-0-is) at c.request_in.ensures in
     record {
-      only = λ e. absurd (ran_not_usage _ _ _ _ c.replay_pairs.result _ _ _ _ c.replay_pairs.ensures.ran e);
+      only = λ e. absurd (ran_not_usage _ _ _ _ _ c.replay_pairs.result _ _ _ _ c.replay_pairs.ensures.ran e);
       always = λ none. absurd (not_none _ _ (asked ∙ none));
     }
 
@@ -23,23 +20,23 @@ pub returns-else-are_too_many-clause-too_many : goal.returns-else-are_too_many-c
 returns-else-are_too_many-clause-too_many g c =
     let asked = rw (c.in-Some-Replay.is, c.in-Some-Replay.field-0-is) at c.request_in.ensures in
     record {
-      only = λ e. absurd (ran_not_many _ _ _ _ c.replay_pairs.result _ _ _ _ c.replay_pairs.ensures.ran e);
+      only = λ e. absurd (ran_not_many _ _ _ _ _ c.replay_pairs.result _ _ _ _ c.replay_pairs.ensures.ran e);
       always = λ asks. absurd (few_or_many _ _ _ _ (asked ∙ asks.asks) (sym c.are_too_many.ensures ∙ c.if-are_too_many.false) asks.many);
     }
 
 pub returns-else-are_too_many-clause-ran : goal.returns-else-are_too_many-clause-ran
 returns-else-are_too_many-clause-ran g c =
     let asked = rw (c.in-Some-Replay.is, c.in-Some-Replay.field-0-is) at c.request_in.ensures in
-    λ counts pairs asks. ran_as_asked _ _ _ _ _ _ c.replay_pairs.result _ _ _ _ (asked ∙ asks.asks) c.replay_pairs.ensures.ran
+    λ counts pairs asks. ran_as_asked _ _ _ _ _ _ _ c.replay_pairs.result _ _ _ _ (asked ∙ asks.asks) c.replay_pairs.ensures.ran
 
 pub returns-else-are_too_many-clause-status : goal.returns-else-are_too_many-clause-status
 returns-else-are_too_many-clause-status g c =
     let asked = rw (c.in-Some-Replay.is, c.in-Some-Replay.field-0-is) at c.request_in.ensures in
     λ counts pairs tasks bytes asks are told plain.
-    ran_status _ _ _ _ c.replay_pairs.result _ _ _ _ (ran_as_asked _ _ _ counts _ pairs c.replay_pairs.result _ _ _ _ (asked ∙ asks.asks) c.replay_pairs.ensures.ran) tasks bytes are told plain
+    ran_status _ _ _ _ _ c.replay_pairs.result _ _ _ _ (ran_as_asked _ _ _ _ counts _ pairs c.replay_pairs.result _ _ _ _ (asked ∙ asks.asks) c.replay_pairs.ensures.ran) tasks bytes are told plain
 
 pub returns-else-are_too_many-clause-refused : goal.returns-else-are_too_many-clause-refused
 returns-else-are_too_many-clause-refused g c =
     let asked = rw (c.in-Some-Replay.is, c.in-Some-Replay.field-0-is) at c.request_in.ensures in
     λ counts pairs status asks none plain.
-    ran_refused _ _ _ _ c.replay_pairs.result _ _ _ _ (ran_as_asked _ _ _ counts _ pairs c.replay_pairs.result _ _ _ _ (asked ∙ asks.asks) c.replay_pairs.ensures.ran) status none plain
+    ran_refused _ _ _ _ _ c.replay_pairs.result _ _ _ _ (ran_as_asked _ _ _ _ counts _ pairs c.replay_pairs.result _ _ _ _ (asked ∙ asks.asks) c.replay_pairs.ensures.ran) status none plain

@@ -17,7 +17,7 @@ pub returns-in-Ok-clause-ran : goal.returns-in-Ok-clause-ran
 returns-in-Ok-clause-ran g c =
     let adds = rw (c.new.ensures.items, c.new-2.ensures.items) at c.in-Ok.ensures.ok in
     let replayed = rw c.deref.ensures.value at c.replay.ensures.replayed in
-    inl (runs_tasks _ _ _ _ c.args.counts _ c.replay.result _ _ _ _ _ _ adds replayed)
+    inl (runs_tasks _ _ _ _ _ c.args.counts _ c.replay.result _ _ _ _ _ _ adds replayed)
 
 pub returns-in-Err-clause-ran : goal.returns-in-Err-clause-ran
 returns-in-Err-clause-ran g c =

@@ -2,20 +2,20 @@ use Rattle.std.proofs.Common.{◌≡◌, sym, ◌∙◌}
 use Rattle.node_set.proofs.DraftLaws.{few, whole_begin, whole_nodes, whole_plan}
 use Rattle.node_set.proofs.tasks.plan_task.Goals as goal
 
-pub add_nodes-requires-clause-few : goal.add_nodes-requires-clause-few
-add_nodes-requires-clause-few c = rw (c.into_iter.ensures.rest, c.into_items-specs.ensures, c.into_specs.ensures.same) (few c.args.graph c.into_specs.ensures.graph)
+pub add_nodes-requires : goal.add_nodes-requires
+add_nodes-requires g c = rw (c.into_iter.ensures.rest, c.into_items-specs.ensures, c.into_specs.ensures.same) (few c.args.graph c.into_specs.ensures.graph)
 
 pub invariant_of-result : goal.invariant_of-result
-invariant_of-result c =
+invariant_of-result g c =
     let adds = rw (c.into_iter.ensures.rest, c.into_items-specs.ensures, c.into_specs.ensures.same, c.new-draft.ensures, ← c.draft.view_is) at c.in_ok-add_nodes.ensures in
-    rw (c.from_items.ensures, c.from_items-2.ensures) (whole_plan _ _ _ c.args.life c.args.graph _ adds c.into_specs.ensures.graph)
+    rw (c.from_items.ensures, c.from_items-2.ensures) (whole_plan _ _ _ _ _ c.args.life c.args.graph _ adds _ _ _ g.met.N.ScriptNode.sits c.into_specs.ensures.graph)
 
 pub returns-clause-nodes : goal.returns-clause-nodes
-returns-clause-nodes c =
+returns-clause-nodes g c =
     let adds = rw (c.into_iter.ensures.rest, c.into_items-specs.ensures, c.into_specs.ensures.same, c.new-draft.ensures, ← c.draft.view_is) at c.in_ok-add_nodes.ensures in
-    rw (c.from_items.ensures, c.from_items-2.ensures) (whole_nodes _ _ _ c.args.life c.args.graph _ adds)
+    rw (c.from_items.ensures, c.from_items-2.ensures) (whole_nodes _ _ _ _ _ c.args.life c.args.graph _ adds)
 
 pub returns-clause-begin : goal.returns-clause-begin
-returns-clause-begin c =
+returns-clause-begin g c =
     let adds = rw (c.into_iter.ensures.rest, c.into_items-specs.ensures, c.into_specs.ensures.same, c.new-draft.ensures, ← c.draft.view_is) at c.in_ok-add_nodes.ensures in
-    rw c.from_items.ensures (whole_begin _ _ _ c.args.life c.args.graph _ adds)
+    rw c.from_items.ensures (whole_begin _ _ _ _ _ c.args.life c.args.graph _ adds)

@@ -1,0 +1,194 @@
+//! `alert`.
+
+ghost use Rattle.std.specs.Prelude.{◌≡◌};
+ghost use Rattle.kap_base.specs.Words.{Answers};
+ghost use Rattle.tick_compile.specs.Alerts.{alert_sets, alert_spec, is_handler, level_rows, no_alert, no_conditions, other_rows, reset_rows};
+ghost use Rattle.tick_compile.specs.Rows.{has_row, set_by};
+
+use crate::given::{Node, Setting};
+use crate::node_fault::NodeFault;
+use crate::props::{Props, set_all};
+use crate::readers::{lambda, nothing, one};
+use crate::templates::template;
+use kap_base::Text;
+use std::alloc::Global;
+use task_graph::{AlertSpec, Conditions, Spec};
+
+/// Whether a property is a handler that an alert has in Kapacitor, and not here.
+fn is_handler(name: &Text) -> bool
+    ensures { result ≡ is_handler name.now }
+{
+    let name = name.bytes();
+    name == b"email".as_slice()
+        || name == b"slack".as_slice()
+        || name == b"pagerDuty".as_slice()
+        || name == b"post".as_slice()
+        || name == b"tcp".as_slice()
+        || name == b"exec".as_slice()
+        || name == b"telegram".as_slice()
+        || name == b"victorOps".as_slice()
+        || name == b"opsGenie".as_slice()
+        || name == b"hipChat".as_slice()
+        || name == b"sensu".as_slice()
+        || name == b"snmpTrap".as_slice()
+}
+
+/// Whether a property is the condition of a level.
+fn is_level<L>(prop: &Setting<L>) -> bool
+    ensures { result ≡ has_row (level_rows {L = L}) prop.now.name }
+{
+    let name = prop.name.bytes();
+    name == b"info".as_slice() || name == b"warn".as_slice() || name == b"crit".as_slice()
+}
+
+/// Whether a property is the condition of leaving a level.
+fn is_reset<L>(prop: &Setting<L>) -> bool
+    ensures { result ≡ has_row (reset_rows {L = L}) prop.now.name }
+{
+    let name = prop.name.bytes();
+    name == b"infoReset".as_slice()
+        || name == b"warnReset".as_slice()
+        || name == b"critReset".as_slice()
+}
+
+/// The condition of a level more.
+fn set_level<L: Drop>(mut alert: AlertSpec<L>, prop: Setting<L>) -> Result<AlertSpec<L>, NodeFault>
+    ensures { Answers NodeFault.NoMemory result (set_by level_rows alert prop) }
+{
+    let Setting { name, args, at } = prop;
+    let name = name.bytes();
+    if name == b"info".as_slice() {
+        alert.levels.info = Some(lambda(args, at)?);
+        return Ok(alert);
+    }
+    if name == b"warn".as_slice() {
+        alert.levels.warn = Some(lambda(args, at)?);
+        return Ok(alert);
+    }
+    if name == b"crit".as_slice() {
+        alert.levels.crit = Some(lambda(args, at)?);
+        return Ok(alert);
+    }
+    Err(NodeFault::Property(at))
+}
+
+/// The condition of leaving a level more.
+fn set_reset<L: Drop>(mut alert: AlertSpec<L>, prop: Setting<L>) -> Result<AlertSpec<L>, NodeFault>
+    ensures { Answers NodeFault.NoMemory result (set_by reset_rows alert prop) }
+{
+    let Setting { name, args, at } = prop;
+    let name = name.bytes();
+    if name == b"infoReset".as_slice() {
+        alert.resets.info = Some(lambda(args, at)?);
+        return Ok(alert);
+    }
+    if name == b"warnReset".as_slice() {
+        alert.resets.warn = Some(lambda(args, at)?);
+        return Ok(alert);
+    }
+    if name == b"critReset".as_slice() {
+        alert.resets.crit = Some(lambda(args, at)?);
+        return Ok(alert);
+    }
+    Err(NodeFault::Property(at))
+}
+
+/// One more of the other properties.
+fn set_other<L: Drop>(
+    alloc: Global,
+    mut alert: AlertSpec<L>,
+    prop: Setting<L>,
+) -> Result<AlertSpec<L>, NodeFault>
+    ensures { Answers NodeFault.NoMemory result (set_by other_rows alert prop) }
+{
+    let Setting { name, args, at } = prop;
+    let name = name.bytes();
+    if name == b"id".as_slice() {
+        alert.id = Some(template(alloc, true, args, at)?);
+        return Ok(alert);
+    }
+    if name == b"message".as_slice() {
+        alert.message = Some(template(alloc, false, args, at)?);
+        return Ok(alert);
+    }
+    if name == b"topic".as_slice() {
+        alert.topic = Some(one(alloc, args, at)?);
+        return Ok(alert);
+    }
+    if name == b"log".as_slice() {
+        alert.path = Some(one(alloc, args, at)?);
+        return Ok(alert);
+    }
+    if name == b"stateChangesOnly".as_slice() {
+        nothing(args, at)?;
+        alert.state_changes_only = true;
+        return Ok(alert);
+    }
+    if name == b"noRecoveries".as_slice() {
+        nothing(args, at)?;
+        alert.no_recoveries = true;
+        return Ok(alert);
+    }
+    Err(NodeFault::Property(at))
+}
+
+impl<L: Drop> Props<L> for AlertSpec<L> {
+    ghost sets = { alert_sets };
+
+    #[tactic(auto, using(crate::proofs::RowLaws::set_by_front, crate::proofs::RowLaws::set_by_behind))]
+    fn set(self, alloc: Global, prop: Setting<L>) -> Result<AlertSpec<L>, NodeFault>
+        ensures { Answers NodeFault.NoMemory result (alert_sets self prop) }
+    {
+        if is_handler(&prop.name) {
+            return Err(NodeFault::Handler(prop.at));
+        }
+        if is_level(&prop) {
+            return set_level(self, prop);
+        }
+        if is_reset(&prop) {
+            return set_reset(self, prop);
+        }
+        set_other(alloc, self, prop)
+    }
+}
+
+/// No condition.
+fn no_conditions<L>() -> Conditions<L>
+    ensures { result ≡ no_conditions }
+{
+    Conditions {
+        info: None,
+        warn: None,
+        crit: None,
+    }
+}
+
+/// No property of `alert`.
+fn no_alert<L>() -> AlertSpec<L>
+    ensures { result ≡ no_alert }
+{
+    AlertSpec {
+        levels: no_conditions(),
+        resets: no_conditions(),
+        id: None,
+        message: None,
+        topic: None,
+        path: None,
+        state_changes_only: false,
+        no_recoveries: false,
+    }
+}
+
+/// `alert()`.
+pub(crate) fn alert_spec<L: Drop>(alloc: Global, node: Node<L>) -> Result<Spec<L>, NodeFault>
+    ensures { Answers NodeFault.NoMemory result (alert_spec node) }
+{
+    let Node {
+        args,
+        props,
+        at,
+        ..
+    } = node;
+    nothing(args, at)?;
+    Ok(Spec::Alert(set_all(alloc, props, no_alert())?))
+}
