@@ -67,8 +67,8 @@ fn replay_pairs<S: Source, K: Sink, P: Patterns, N: ScriptNode>(
 ///   bytes.
 /// - `replay [--counts] ID SCRIPT [ID SCRIPT]..`, where each ID names a task (1 to 64 ASCII letters, digits, `_`, `-` and `.`; the
 ///   first doesn't begin with `--`), and SCRIPT is the task's script: it reads a recording from the input, and writes the lines of
-///   the points that the tasks log, in order of the points that caused them, then of the tasks, then of their nodes; behind
-///   them, with `--counts`, how many points each node dropped. There are at most 64 tasks.
+///   the points that the tasks log and of the changes of level of their alerts, in order of the points that caused them, then of
+///   the tasks, then of their nodes; behind them, with `--counts`, how many points each node dropped. There are at most 64 tasks.
 pub fn command<S: Source, K: Sink, P: Patterns>(
     alloc: Global,
     words: &[String],
