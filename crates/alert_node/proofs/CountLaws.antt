@@ -12,7 +12,7 @@ use Rattle.alert_node.specs.declared.watch.Counts.{Counts}
 use Rattle.alert_node.specs.declared.watch.Watch.{Watch}
 use Rattle.alert_node.specs.Asking.{level_asked}
 use Rattle.alert_node.specs.Events.{is_fine}
-use Rattle.alert_node.specs.Levels.{same_level}
+use Rattle.kap_base.specs.Levels.{same_level}
 use Rattle.alert_node.specs.Watches.{count_of, counted, evaluated_at, evaluations, evaluations_behind, number_of, one_more, same_ask, unwatched, watch_in, watched}
 
 -- 1 where it holds

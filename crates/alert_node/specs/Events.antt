@@ -13,7 +13,7 @@ use Rattle.msg_template.specs.declared.template.Part.TheVariants.{Words, Action}
 use Rattle.msg_template.specs.declared.template.TheConstants.{TEMPLATE_LIMIT}
 use Rattle.msg_template.specs.Filling.{whole_text}
 use Rattle.alert_node.specs.declared.alert.Alert.{Alert}
-use Rattle.alert_node.specs.Levels.{same_level}
+use Rattle.kap_base.specs.Levels.{same_level}
 
 -- ---- which events there are
 

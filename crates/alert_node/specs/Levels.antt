@@ -1,22 +1,12 @@
 -- The level of a point, by the level of its group before it, and what is evaluated for it.
-use Rattle.std.specs.Prelude.{ℕ, ◌==◌, Bool, false, not, nat_lt, nat_le, if◌then◌else◌, List, [], ◌∷◌, ◌++◌, map, filter, Option, Some, None, unwrap_or}
+use Rattle.std.specs.Prelude.{Bool, false, not, nat_lt, nat_le, if◌then◌else◌, List, [], ◌∷◌, ◌++◌, map, filter, Option, Some, None, unwrap_or}
+use Rattle.kap_base.specs.Levels.{level_rank}
 use Rattle.kap_base.specs.declared.items.Level.{Level}
 use Rattle.kap_base.specs.declared.items.Level.TheVariants.{Fine, Info, Warning, Critical}
 use Rattle.alert_node.specs.declared.watch.Ask.{Ask}
 use Rattle.alert_node.specs.declared.watch.Ask.TheVariants.{Expression, Reset}
 
 -- ---- levels
-
--- how bad a level is
-abbrev pub level_rank : Level → ℕ
-level_rank Fine = 0
-level_rank Info = 1
-level_rank Warning = 2
-level_rank Critical = 3
-
--- the two are one level
-abbrev pub same_level : Level → Level → Bool
-same_level one other = level_rank one == level_rank other
 
 -- the levels above OK, from the highest down
 abbrev pub levels_down : List Level

@@ -13,7 +13,8 @@ use Rattle.alert_node.specs.declared.watch.Ask.{Ask}
 use Rattle.alert_node.specs.declared.watch.Ask.TheVariants.{Expression, Reset}
 use Rattle.alert_node.specs.declared.watch.Counts.{Counts}
 use Rattle.alert_node.specs.declared.watch.Watch.{Watch}
-use Rattle.alert_node.specs.Levels.{asks_at, evaluated, level_of, same_level}
+use Rattle.kap_base.specs.Levels.{same_level}
+use Rattle.alert_node.specs.Levels.{asks_at, evaluated, level_of}
 
 -- ---- numbers
 

@@ -3,7 +3,6 @@
 ghost use Rattle.std.specs.Prelude.{◌≡◌, [], IfOk};
 ghost use Rattle.alert_node.specs.Alerts.{said_at};
 ghost use Rattle.alert_node.specs.Events.{event_of, facts_of, is_fine, tells, text_of};
-ghost use Rattle.alert_node.specs.Levels.{same_level};
 
 use crate::alert::Alert;
 use kap_base::{Duplicate, Event, Level, NoMemory, Point, Text, What, group_of};
@@ -17,13 +16,6 @@ fn is_fine(level: Level) -> bool
     matches!(level, Level::Fine)
 }
 
-/// Whether the two levels are one.
-fn same_level(one: Level, other: Level) -> bool
-    ensures { result ≡ same_level one other }
-{
-    one == other
-}
-
 /// Whether an event tells of a point at a level, behind a point of its group at a level.
 fn tells(alert: &Alert, before: Level, now: Level) -> bool
     ensures { result ≡ tells alert.now before now }
@@ -31,7 +23,7 @@ fn tells(alert: &Alert, before: Level, now: Level) -> bool
     if is_fine(before) && is_fine(now) {
         return false;
     }
-    if alert.state_changes_only && same_level(before, now) {
+    if alert.state_changes_only && before.is_same(now) {
         return false;
     }
     !(alert.no_recoveries && is_fine(now))

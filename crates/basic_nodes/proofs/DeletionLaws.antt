@@ -11,7 +11,8 @@ use Rattle.kap_base.specs.declared.value.Value.{Value}
 use Rattle.kap_base.specs.Maps.{KeyMap, byte_order}
 use Rattle.kap_base.specs.Points.{IsPoint, PointValue, are_dimensions, rises}
 use Rattle.kap_base.proofs.ManyLaws.{rises_not, rises_step}
-use Rattle.kap_base.proofs.RetainLaws.{all_left, both, entries-retained, first, second}
+use Rattle.kap_base.proofs.RetainLaws.{all_left, entries-retained}
+use Rattle.kap_base.proofs.TestLaws.{both, first_of, second_of}
 
 -- names as keys at which nothing stands
 keyed : List (List ℕ) → List (List ℕ × Unit {0})
@@ -49,7 +50,7 @@ rises_left p names h =
 dims_left : (p : List ℕ → Bool) (names : List (List ℕ)) → IsTrue (are_dimensions names) → IsTrue (are_dimensions (filter p names))
 dims_left p names h =
     both (rises (filter p names)) (list_all is_utf8 (filter p names))
-    (rises_left p names (first (rises names) (list_all is_utf8 names) h)) (all_left is_utf8 p names (second (rises names) (list_all is_utf8 names) h))
+    (rises_left p names (first_of (rises names) (list_all is_utf8 names) h)) (all_left is_utf8 p names (second_of (rises names) (list_all is_utf8 names) h))
 
 -- a point with what is left, which is some field at least
 pub left_fits : (p : PointValue) (f t : List ℕ → Bool) (fields : KeyMap Value) (tags : KeyMap (List ℕ)) (dims : List (List ℕ)) → fields ≡ retain_keys p.fields f → tags ≡ retain_keys p.tags t

@@ -1,5 +1,5 @@
 -- A point with one more tag is a point.
-use Rattle.std.proofs.Common.{ℕ, Bool, true, false, List, [], ◌∷◌, refl}
+use Rattle.std.proofs.Common.{ℕ, Bool, true, List, [], ◌∷◌, refl}
 use Rattle.std.specs.Prelude.{◌&&◌, IsTrue}
 use Rattle.std.specs.List.{list_all}
 use Rattle.std.specs.FinMap.{entries, entries-insert, insert, put}
@@ -9,18 +9,7 @@ use Rattle.std.proofs.lemmas.Cmp.{nat_list_cmp_total}
 use Rattle.kap_base.specs.Maps.{byte_order}
 use Rattle.kap_base.specs.Points.{IsPoint, PointValue}
 use Rattle.kap_base.specs.Texts.{is_name}
-
-both : (a b : Bool) → IsTrue a → IsTrue b → IsTrue (a && b)
-both true b e f = f
-both false b e f = absurd cc
-
-first : (a b : Bool) → IsTrue (a && b) → IsTrue a
-first true b e = refl
-first false b e = absurd cc
-
-second : (a b : Bool) → IsTrue (a && b) → IsTrue b
-second true b e = e
-second false b e = absurd cc
+use Rattle.kap_base.proofs.TestLaws.{both, first_of, second_of}
 
 -- a name and a value of a tag
 abbrev is_tag : List ℕ × List ℕ → Bool
@@ -29,11 +18,11 @@ is_tag e = is_name e.0 && is_name e.1
 tags-put : (k v : List ℕ) (es : List (List ℕ × List ℕ)) → IsTrue (is_name k) → IsTrue (is_name v) → IsTrue (list_all is_tag es) → IsTrue (list_all is_tag (put byte_order k v es))
 tags-put k v [] hk hv hs = both (is_tag (k, v)) true (both (is_name k) (is_name v) hk hv) refl
 tags-put k v (e ∷ es) hk hv hs =
-    let here = first (is_tag e) (list_all is_tag es) hs in
-    let rest = second (is_tag e) (list_all is_tag es) hs in
+    let here = first_of (is_tag e) (list_all is_tag es) hs in
+    let rest = second_of (is_tag e) (list_all is_tag es) hs in
     elim (byte_order k e.0) as (λ o. IsTrue (list_all is_tag (by_order o ((k, v) ∷ e ∷ es) ((e.0, v) ∷ es) (e ∷ put byte_order k v es)))) [
       | Less ↦ both (is_tag (k, v)) (list_all is_tag (e ∷ es)) (both (is_name k) (is_name v) hk hv) hs
-      | Equal ↦ both (is_tag (e.0, v)) (list_all is_tag es) (both (is_name e.0) (is_name v) (first (is_name e.0) (is_name e.1) here) hv) rest
+      | Equal ↦ both (is_tag (e.0, v)) (list_all is_tag es) (both (is_name e.0) (is_name v) (first_of (is_name e.0) (is_name e.1) here) hv) rest
       | Greater ↦ both (is_tag e) (list_all is_tag (put byte_order k v es)) here (tags-put k v es hk hv rest)
     ]
 

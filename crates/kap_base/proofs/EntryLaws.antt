@@ -1,16 +1,19 @@
 -- A map that is made of a list: what holds of each entry of the list holds of each of its entries, and a map is made of its own.
-use Rattle.std.proofs.Common.{◌≡◌, ℕ, ◌+◌, ◌<◌, ◌≤◌, Bool, true, false, cond, ◌&&◌, List, [], ◌∷◌, length, refl, sym, ap, ◌∙◌, arith}
-use Rattle.std.specs.Prelude.{nat_lt}
+use Rattle.std.proofs.Common.{◌≡◌, ℕ, ◌+◌, ◌<◌, ◌≤◌, Bool, true, false, cond, ◌&&◌, List, [], ◌∷◌, Some, length, refl, sym, ap, ◌∙◌, subst, arith}
+use Rattle.std.specs.Prelude.{IsTrue, nat_lt}
 use Rattle.std.specs.List.{list_all}
 use Rattle.std.specs.declared.cmp.Ordering.TheVariants.{Less, Equal, Greater}
-use Rattle.std.specs.Ordering.{nat_cmp}
+use Rattle.std.specs.Ordering.{eq_by_cmp, nat_cmp}
 use Rattle.std.specs.Cmp.Lexicographic.{slice_cmp}
-use Rattle.std.specs.FinMap.{put, entries, empty, insert, len, contains_key, entries-insert, entries_sorted, from_sorted, entries-from_sorted, same_entries_map, len-entries, len-empty, len-insert}
+use Rattle.std.specs.FinMap.{put, entries, empty, insert, len, contains_key, entries-insert, entries_sorted, from_sorted, entries-from_sorted, same_entries_map, len-entries, len-empty, len-insert, find, get, get-entries}
 use Rattle.std.specs.FinMap.Entries.{by_order}
 use Rattle.std.proofs.lemmas.Bool.Decides.{nat_tests}
 use Rattle.std.proofs.lemmas.Cmp.{nat_list_cmp_total}
 use Rattle.std.proofs.lemmas.List.{nil_from_length}
 use Rattle.kap_base.specs.Maps.{KeyMap, with_entries, byte_order}
+use Rattle.kap_base.specs.Points.{are_fields, is_value}
+use Rattle.kap_base.specs.Texts.{is_name}
+use Rattle.kap_base.specs.declared.value.Value.{Value}
 use Rattle.kap_base.proofs.ManyLaws.{rising}
 use Rattle.kap_base.proofs.TestLaws.{first_of, second_of, both}
 
@@ -65,3 +68,16 @@ module _ {V : Type 0} where
   -- a map is made of its entries
   pub with_own_entries : (m : KeyMap V) → with_entries empty (entries m) ≡ m
   with_own_entries m = sym (rising (entries m) (entries_sorted m)) ∙ same_entries_map (from_sorted (entries m)) m (entries-from_sorted byte_order (entries m) (entries_sorted m))
+
+-- what stands under a key passes the test that each entry passes
+pub found_passes : {X : Type 0} (f : List ℕ → Bool) (g : X → Bool) (q : List ℕ) (es : List (List ℕ × X)) (v : X) → list_all (λ e. f e.0 && g e.1) es ≡ true → find byte_order q es ≡ Some v → g v ≡ true
+found_passes f g q [] v all is = absurd cc
+found_passes {X} f g q (e ∷ es) v all is = go (eq_by_cmp byte_order q e.0) is (found_passes f g q es v (second_of (f e.0 && g e.1) _ all))
+  where
+    go : (t : Bool) → cond t (Some e.1) (find byte_order q es) ≡ Some v → (find byte_order q es ≡ Some v → g v ≡ true) → g v ≡ true
+    go true h more = let same : e.1 ≡ v = cc in subst (λ (x : X). g x ≡ true) same (second_of (f e.0) (g e.1) (first_of (f e.0 && g e.1) _ all))
+    go false h more = more h
+
+-- what stands at a field is a value
+pub field_is_value : (m : KeyMap Value) (q : List ℕ) (v : Value) → IsTrue (are_fields m) → get m q ≡ Some v → IsTrue (is_value v)
+field_is_value m q v all is = found_passes is_name is_value q (entries m) v all (sym (get-entries m q) ∙ is)

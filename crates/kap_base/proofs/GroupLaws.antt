@@ -12,18 +12,7 @@ use Rattle.kap_base.specs.Maps.{KeyMap, byte_order}
 use Rattle.kap_base.specs.Texts.{is_empty, is_name, is_measurement}
 use Rattle.kap_base.specs.Points.{PointValue, IsPoint}
 use Rattle.kap_base.specs.Groups.{IsGroup, group_of, tag_value, is_tag_value, are_tag_values}
-
-first : (a b : Bool) → IsTrue (a && b) → IsTrue a
-first true b e = refl
-first false b e = absurd cc
-
-second : (a b : Bool) → IsTrue (a && b) → IsTrue b
-second true b e = e
-second false b e = absurd cc
-
-both : (a b : Bool) → IsTrue a → IsTrue b → IsTrue (a && b)
-both true b p q = q
-both false b p q = absurd cc
+use Rattle.kap_base.proofs.TestLaws.{both, first_of, second_of}
 
 or_second : (a b : Bool) → IsTrue b → IsTrue (a || b)
 or_second true b e = refl
@@ -44,9 +33,9 @@ found_fits dim (e ∷ es) h =
     elim (eq_by_cmp byte_order dim e.0) as (λ b. eq_by_cmp byte_order dim e.0 ≡ b → IsTrue (is_tag_value dim (unwrap_or (cond b (Some e.1) (find byte_order dim es)) []))) [
       | true ↦ λ t.
           let same : dim ≡ e.0 = slice_cmp-IsAntisymmetric nat_cmp-IsAntisymmetric dim e.0 (equal _ t) in
-          let names = first (is_name e.0 && is_name e.1) (are_names es) h in
+          let names = first_of (is_name e.0 && is_name e.1) (are_names es) h in
           or_second (is_empty e.1) (is_name dim && is_name e.1) (rw same names)
-      | false ↦ λ t. found_fits dim es (second (is_name e.0 && is_name e.1) (are_names es) h)
+      | false ↦ λ t. found_fits dim es (second_of (is_name e.0 && is_name e.1) (are_names es) h)
     ] refl
 
 values_fit : (tags : KeyMap (List ℕ)) (dims : List (List ℕ)) → IsTrue (are_names (entries tags)) → IsTrue (are_tag_values dims (map (tag_value tags) dims))

@@ -1,5 +1,5 @@
 -- A point with one more field is a point.
-use Rattle.std.proofs.Common.{ℕ, ◌<◌, Bool, true, false, List, [], ◌∷◌, length, refl, arith}
+use Rattle.std.proofs.Common.{ℕ, ◌<◌, Bool, true, List, [], ◌∷◌, length, refl, arith}
 use Rattle.std.specs.Prelude.{◌&&◌, nat_lt, IsTrue}
 use Rattle.std.specs.List.{list_all}
 use Rattle.std.specs.FinMap.{entries, insert, len, len-entries, entries-insert, put}
@@ -11,6 +11,7 @@ use Rattle.kap_base.specs.Maps.{KeyMap, byte_order}
 use Rattle.kap_base.specs.Points.{PointValue, IsPoint, is_value}
 use Rattle.kap_base.specs.Texts.{is_name}
 use Rattle.kap_base.specs.declared.value.Value.{Value}
+use Rattle.kap_base.proofs.TestLaws.{both, first_of, second_of}
 
 abbrev pub Entry : Type 0
 Entry = List ℕ × Value
@@ -22,26 +23,14 @@ is_field e = is_name e.0 && is_value e.1
 abbrev pub AreFields : List Entry → Type 0
 AreFields es = IsTrue (list_all is_field es)
 
-both : (a b : Bool) → IsTrue a → IsTrue b → IsTrue (a && b)
-both true b p q = q
-both false b p q = absurd cc
-
-first : (a b : Bool) → IsTrue (a && b) → IsTrue a
-first true b e = refl
-first false b e = absurd cc
-
-second : (a b : Bool) → IsTrue (a && b) → IsTrue b
-second true b e = e
-second false b e = absurd cc
-
 fields-put : (k : List ℕ) (v : Value) (es : List Entry) → IsTrue (is_field (k, v)) → AreFields es → AreFields (put byte_order k v es)
 fields-put k v [] h hs = both (is_field (k, v)) true h refl
 fields-put k v (e ∷ es) h hs =
-    let here = first (is_field e) (list_all is_field es) hs in
-    let rest = second (is_field e) (list_all is_field es) hs in
+    let here = first_of (is_field e) (list_all is_field es) hs in
+    let rest = second_of (is_field e) (list_all is_field es) hs in
     elim (byte_order k e.0) as (λ o. AreFields (by_order o ((k, v) ∷ e ∷ es) ((e.0, v) ∷ es) (e ∷ put byte_order k v es))) [
       | Less ↦ both (is_field (k, v)) (list_all is_field (e ∷ es)) h hs
-      | Equal ↦ both (is_field (e.0, v)) (list_all is_field es) (both (is_name e.0) (is_value v) (first (is_name e.0) (is_value e.1) here) (second (is_name k) (is_value v) h)) rest
+      | Equal ↦ both (is_field (e.0, v)) (list_all is_field es) (both (is_name e.0) (is_value v) (first_of (is_name e.0) (is_value e.1) here) (second_of (is_name k) (is_value v) h)) rest
       | Greater ↦ both (is_field e) (list_all is_field (put byte_order k v es)) here (fields-put k v es h rest)
     ]
 

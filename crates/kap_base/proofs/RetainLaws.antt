@@ -8,6 +8,7 @@ use Rattle.std.specs.FinMap.Entries.{find-where_key, is_sorted-where_key, where_
 use Rattle.std.proofs.lemmas.Cmp.{nat_list_cmp_total}
 use Rattle.kap_base.specs.Maps.{KeyMap, byte_order, with_entries}
 use Rattle.kap_base.proofs.ManyLaws.{rising}
+use Rattle.kap_base.proofs.TestLaws.{both, first_of, second_of}
 
 -- texts that tie are equal
 alike : (p : List ℕ → Bool) (q x : List ℕ) → byte_order q x ≡ Equal → p x ≡ p q
@@ -44,23 +45,11 @@ module _ {X : Type 0} (p : List ℕ → Bool) where
 
 -- ---- tests of what is left
 
-pub both : (a b : Bool) → IsTrue a → IsTrue b → IsTrue (a && b)
-both true b e f = f
-both false b e f = absurd cc
-
-pub first : (a b : Bool) → IsTrue (a && b) → IsTrue a
-first true b e = refl
-first false b e = absurd cc
-
-pub second : (a b : Bool) → IsTrue (a && b) → IsTrue b
-second true b e = e
-second false b e = absurd cc
-
 pub all_left : {A : Type 0} (t p : A → Bool) (xs : List A) → IsTrue (list_all t xs) → IsTrue (list_all t (filter p xs))
 all_left t p [] h = refl
 all_left t p (x ∷ xs) h =
-    let rest = all_left t p xs (second (t x) (list_all t xs) h) in
+    let rest = all_left t p xs (second_of (t x) (list_all t xs) h) in
     elim (p x) as (λ b. IsTrue (list_all t (cond b (x ∷ filter p xs) (filter p xs)))) [
-      | true ↦ both (t x) (list_all t (filter p xs)) (first (t x) (list_all t xs) h) rest
+      | true ↦ both (t x) (list_all t (filter p xs)) (first_of (t x) (list_all t xs) h) rest
       | false ↦ rest
     ]

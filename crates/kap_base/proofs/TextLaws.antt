@@ -1,5 +1,5 @@
 -- What is known of each text and of each number.
-use Rattle.std.proofs.Common.{◌≡◌, ℕ, ◌<◌, ◌^◌, true, List, arith, ℤ, pos, negsuc}
+use Rattle.std.proofs.Common.{◌≡◌, ℕ, ◌<◌, ◌^◌, Bool, true, false, not, ◌&&◌, List, Result, Ok, Err, IfOk, IsTrue, arith, ℤ, pos, negsuc, subst, sym}
 use Rattle.std.specs.Prelude.{IsUtf8}
 use Rattle.std.specs.Int.{w64}
 use mir.Val.{SFits}
@@ -7,6 +7,8 @@ use Rattle.std.proofs.lemmas.Bool.Decides.{nat_tests}
 use Rattle.std.specs.Str.{is_utf8}
 use Rattle.std.proofs.lemmas.Str.{is_utf8-from_IsUtf8}
 use Rattle.kap_base.specs.Points.{is_value}
+use Rattle.kap_base.specs.Texts.{backslash, ends_with, has_line_feed, is_empty, is_name, is_plain}
+use Rattle.kap_base.specs.declared.memory.NoMemory.{NoMemory}
 use Rattle.kap_base.specs.declared.value.Value.TheVariants as values
 
 pub text_is_utf8 : (text : List ℕ) → IsUtf8 text → is_utf8 text ≡ true
@@ -15,3 +17,18 @@ text_is_utf8 text utf8 = is_utf8-from_IsUtf8 text utf8
 pub number_fits : (z : ℤ) → SFits w64 z → is_value (values.Int z) ≡ true
 number_fits (pos n) fits = let lt : n < 2 ^ 63 = fits.sfits in grind (arith, nat_tests)
 number_fits (negsuc n) fits = let lt : n < 2 ^ 63 = fits.sfits in grind (arith, nat_tests)
+
+with_utf8 : (a b c : Bool) → ((a && b) && c) ≡ true → (u : Bool) → u ≡ true → ((a && b) && (c && u)) ≡ true
+with_utf8 true true true e u h = h
+with_utf8 true true false e u h = absurd cc
+with_utf8 true false c e u h = absurd cc
+with_utf8 false b c e u h = absurd cc
+
+plain_is_name : (text : List ℕ) → IsTrue (is_plain text) → IsUtf8 text → IsTrue (is_name text)
+plain_is_name text plain utf8 =
+    with_utf8 (not (is_empty text)) (not (ends_with backslash text)) (not (has_line_feed text)) plain (is_utf8 text) (is_utf8-from_IsUtf8 text utf8)
+
+-- a text that was made of a plain one is a name
+pub own_is_name : (own : List ℕ) (r : Result (List ℕ) NoMemory) → IsTrue (is_plain own) → IfOk r (λ t. t ≡ own) → IfOk r (λ t. IsUtf8 t) → IfOk r (λ t. IsTrue (is_name t))
+own_is_name own (Err e) plain same utf8 = tt
+own_is_name own (Ok t) plain same utf8 = plain_is_name t (subst (λ (l : List ℕ). IsTrue (is_plain l)) (sym same) plain) utf8

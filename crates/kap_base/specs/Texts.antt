@@ -40,6 +40,10 @@ is_line bytes = not (has_line_feed bytes) && is_utf8 bytes
 abbrev pub is_name : List ℕ → Bool
 is_name bytes = not (is_empty bytes) && not (ends_with backslash bytes) && is_line bytes
 
+-- a text that is a name, but for that it is UTF-8
+abbrev pub is_plain : List ℕ → Bool
+is_plain bytes = not (is_empty bytes) && not (ends_with backslash bytes) && not (has_line_feed bytes)
+
 -- a name that can be a measurement: a line that begins with a number sign is a comment
 abbrev pub is_measurement : List ℕ → Bool
 is_measurement bytes = not (begins_with number_sign bytes) && is_name bytes

@@ -48,6 +48,24 @@ impl Duplicate for Item {
     }
 }
 
+/// What goes over an edge of a graph: an item, or a barrier behind all items with stamps up to its own.
+#[derive(Debug, PartialEq, Eq, Drop)]
+pub enum Msg {
+    /// An item.
+    Item(Item),
+    /// A barrier.
+    Barrier(Stamp),
+}
+
+impl Duplicate for Msg {
+    fn copy(&self, alloc: Global) -> Result<Msg, NoMemory> {
+        match self {
+            Msg::Item(item) => Ok(Msg::Item(item.copy(alloc)?)),
+            Msg::Barrier(stamp) => Ok(Msg::Barrier(*stamp)),
+        }
+    }
+}
+
 /// The level of an alert (Kapacitor 1.6: alert node), in rising order.
 #[derive(Clone, Copy, Debug, PartialEq, Eq, PartialOrd, Ord)]
 pub enum Level {
@@ -63,7 +81,7 @@ pub enum Level {
 
 impl Level {
     ghost use Rattle.std.specs.Prelude.{◌≡◌};
-    ghost use Rattle.kap_base.specs.Levels.{level_name};
+    ghost use Rattle.kap_base.specs.Levels.{level_name, same_level};
 
     /// The word that it is printed as.
     pub fn name(&self) -> &'static str
@@ -75,6 +93,13 @@ impl Level {
             Level::Warning => "WARNING",
             Level::Critical => "CRITICAL",
         }
+    }
+
+    /// Whether the two levels are one.
+    pub fn is_same(self, other: Level) -> bool
+        ensures { result ≡ same_level self other }
+    {
+        self == other
     }
 }
 

@@ -25,7 +25,7 @@ pub use expr::{Expr, Exprs, Lit, Op};
 pub use fun::{Fun, TimePart};
 pub use groups::{Batch, Group, group_of};
 pub use item_list::ItemList;
-pub use items::{Body, Effect, Event, Item, Level, Stamp, What};
+pub use items::{Body, Effect, Event, Item, Level, Msg, Stamp, What};
 pub use key_map::KeyMap;
 pub use limits::TIME_LIMIT;
 pub use memory::NoMemory;

@@ -1,6 +1,6 @@
 -- An optional `-` and digits are what std's `parse` reads where no `+` stands in front.
 use Rattle.std.proofs.Common.{◌≡◌, ℕ, ◌<◌, Bool, true, false, cond, List, [], ◌∷◌, length, drop, None, Some, Result, Ok, Err, refl, sym, ap, arith, ℤ, pos, neg_ℤ, w64}
-use Rattle.std.specs.Prelude.{◌==◌, ◌&&◌, slice_index, nat_lt, FitsSigned}
+use Rattle.std.specs.Prelude.{◌==◌, slice_index, nat_lt, FitsSigned}
 use Rattle.std.specs.Char.{digit_value, is_ascii_digit}
 use Rattle.std.specs.Result.{OkIff, result_ok}
 use Rattle.std.specs.Str.{all_ascii_digits}
@@ -8,6 +8,7 @@ use Rattle.std.specs.Str.Parse.{AllDigits, IsNumeral, ParsesSigned, starts_with_
 use Rattle.std.proofs.lemmas.Bool.Decides.{nat_tests}
 use Rattle.std.proofs.lemmas.Int.{ints}
 use Rattle.lambda_fns.specs.Numbers.{are_digits, within_64_bits, number_in}
+use Rattle.kap_base.proofs.TestLaws.{first_of, second_of}
 
 digit_test : (c : ℕ) → digit_value c < 10 → is_ascii_digit c ≡ true
 digit_test c h = grind (arith, nat_tests)
@@ -18,14 +19,6 @@ digit_fact c h = grind (arith, nat_tests)
 digits_test : (ds : List ℕ) → AllDigits 10 ds → all_ascii_digits ds ≡ true
 digits_test [] all = refl
 digits_test (c ∷ cs) all = rw (digit_test c all.0, digits_test cs all.1) refl
-
-first_of : (a b : Bool) → (a && b) ≡ true → a ≡ true
-first_of true b e = refl
-first_of false b e = absurd cc
-
-second_of : (a b : Bool) → (a && b) ≡ true → b ≡ true
-second_of true b e = e
-second_of false b e = absurd cc
 
 digits_fact : (ds : List ℕ) → all_ascii_digits ds ≡ true → AllDigits 10 ds
 digits_fact [] e = tt

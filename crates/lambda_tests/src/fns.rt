@@ -1,11 +1,8 @@
-//! Functions of values: that their calls find memory, and the longest text that one makes.
-
-ghost use Rattle.std.specs.Prelude.{IsTrue};
-ghost use Rattle.kap_base.specs.Points.{is_time};
+//! Functions of values: that their calls find memory.
 
 use crate::fns::Arg::{N, S, T};
-use kap_base::{Fun, NoMemory, Text, TimePart, Value};
-use lambda_fns::{EvalFault, TEXT_LIMIT, call, time_part};
+use kap_base::{Fun, NoMemory, Text, Value};
+use lambda_fns::{EvalFault, call};
 use std::alloc::Global;
 use std::test::Fail;
 
@@ -91,49 +88,6 @@ fn functions_have_these_values_or_faults(rt: HostRuntime) -> Result<(), Fail> {
     for (fun, args, want) in FAULTS {
         let fault = called(alloc, *fun, args)?.err().ok_or("no fault")?;
         assert_eq!(rt; fault, *want, "{fun:?} of {args:?}");
-    }
-    Ok(())
-}
-
-#[test]
-fn a_text_is_made_of_65_536_bytes_at_most(rt: HostRuntime) -> Result<(), Fail> {
-    let alloc = rt.alloc();
-    assert_eq!(rt; TEXT_LIMIT, 65_536);
-    let mut text = String::new(alloc);
-    for _ in 0..32_768 {
-        text.push('a')?;
-    }
-    let text = Text::from_string(text);
-    for (to, fits) in [("bb", true), ("bbb", false)] {
-        let from = Text::from_str(alloc, "a")?;
-        let args = [
-            Value::Str(Text::from_str(alloc, text.as_str())?),
-            Value::Str(from),
-            Value::Str(Text::from_str(alloc, to)?),
-            Value::Int(-1),
-        ];
-        let answer = call(alloc, Fun::StrReplace, &args, 7);
-        match answer {
-            Ok(Value::Str(made)) => assert!(rt; fits && made.bytes().len() == 65_536),
-            Err(fault) => assert!(rt; !fits && fault == EvalFault::Range(7)),
-            Ok(_) => return Err("no text".into()),
-        }
-    }
-    Ok(())
-}
-
-#[test]
-fn a_time_has_parts(rt: HostRuntime) -> Result<(), Fail> {
-    for (part, want) in [
-        (TimePart::UnixNano, -1),
-        (TimePart::Minute, 59),
-        (TimePart::Hour, 23),
-        (TimePart::Weekday, 3),
-        (TimePart::Day, 31),
-        (TimePart::Month, 12),
-        (TimePart::Year, 1969),
-    ] {
-        assert_eq!(rt; time_part(part, -1)?, want, "{part:?}");
     }
     Ok(())
 }

@@ -4,8 +4,8 @@
 #[cfg(test)]
 mod fns;
 #[cfg(test)]
-mod scripts;
+mod patterns;
 #[cfg(test)]
-mod types;
+mod scripts;
 #[cfg(test)]
 mod values;

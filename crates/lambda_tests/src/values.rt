@@ -6,6 +6,7 @@ ghost use Rattle.kap_base.specs.Texts.{has_line_feed};
 use crate::scripts::{BEFORE, lambda};
 use kap_base::{Duplicate, NoMemory, Point, Text, Value};
 use lambda_eval::{EvalFault, value, value_of_all};
+use lambda_types::send_lambda;
 use line_points::{Mode, read_line};
 use std::alloc::Global;
 use std::process::Abort;
@@ -120,47 +121,15 @@ fn lambdas_have_these_values_or_faults(rt: HostRuntime) -> Result<(), Fail> {
     Ok(())
 }
 
-/// Conditions, the point, and the value of all joined by `AND` at place 19.
-const JOINED: [(&[&str], &str, &str); 6] = [
-    (&[], "m a=1i 0", "TRUE"),
-    (&["\"a\""], "m a=1i 0", "1"),
-    (
-        &["\"a\" > 0", "\"b\" > 0", "count() == 1"],
-        "m a=1i,b=1i 0",
-        "TRUE",
-    ),
-    (
-        &["\"a\" > 0", "\"b\" > 0", "\"z\" > 0"],
-        "m a=1i,b=0i 0",
-        "FALSE",
-    ),
-    (&["\"a\" > 0", "\"z\" > 0"], "m a=1i 0", "Missing at 0"),
-    (&["\"a\" > 0", "\"b\""], "m a=1i,b=1i 0", "Kind at 3"),
-];
-
-#[test]
-fn conditions_are_joined_by_and(rt: HostRuntime) -> Result<(), Fail> {
-    let alloc = rt.alloc();
-    for (written, line, want) in JOINED {
-        let mut lambdas = Vec::new(alloc);
-        for one in written {
-            lambdas.push(lambda(alloc, *one)?)?;
-        }
-        let point = point(&rt, alloc, line)?;
-        let answer = value_of_all(alloc, &mut lambdas, 19, 0, &point);
-        assert_eq!(rt; show(alloc, &answer)?.as_str(), want, "{line}");
-    }
-    Ok(())
-}
-
 #[test]
 fn ten_thousand_conditions_need_no_stack(rt: HostRuntime) -> Result<(), Fail> {
     let alloc = rt.alloc();
     let one = lambda(alloc, "\"a\" > 0")?;
     let mut lambdas = Vec::new(alloc);
     for _ in 0..10_000 {
-        lambdas.push(one.copy(alloc)?)?;
+        lambdas.push(send_lambda(one.copy(alloc)?))?;
     }
+    drop(one);
     let point = point(&rt, alloc, "m a=1i 0")?;
     let answer = value_of_all(alloc, &mut lambdas, 0, 0, &point);
     assert_eq!(rt; show(alloc, &answer)?.as_str(), "TRUE");

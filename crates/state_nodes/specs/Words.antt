@@ -1,11 +1,10 @@
 -- What nodes say of a point, and what stands at the points of a group.
-use Rattle.std.specs.Prelude.{◌≡◌, ◌&&◌, ℕ, ℤ, Bool, not, if◌then◌else◌, List, [], ◌∷◌, ◌++◌, Option, Some, None, filter_map, refl}
+use Rattle.std.specs.Prelude.{◌≡◌, ℕ, ℤ, Bool, if◌then◌else◌, List, [], ◌∷◌, ◌++◌, Option, Some, None, filter_map, refl}
 use Rattle.std.specs.FinMap.{empty, get, insert}
 use Rattle.std.specs.List.{last_or}
 use Rattle.std.proofs.Common.{append-nil, ap, ◌∙◌}
 use Rattle.std.proofs.lemmas.List.Elements.{filter_map-append}
 use Rattle.kap_base.specs.Points.{PointValue}
-use Rattle.kap_base.specs.Texts.{backslash, ends_with, has_line_feed, is_empty}
 use Rattle.kap_base.specs.declared.items.Body.TheVariants as bodies
 use Rattle.kap_base.specs.declared.value.Value.{Value}
 use Rattle.kap_base.specs.declared.value.Value.TheVariants.{Int}
@@ -25,10 +24,6 @@ passed_if b p = if b then passed p else silence
 abbrev pub result_name : List ℕ → Option (List ℕ) → List ℕ
 result_name own None = own
 result_name own (Some name) = name
-
--- a text that is a name, but for that it is UTF-8
-abbrev pub is_plain : List ℕ → Bool
-is_plain text = not (is_empty text) && not (ends_with backslash text) && not (has_line_feed text)
 
 -- the point with this number among its fields, in the place of a field of that name
 abbrev pub with_number : List ℕ → ℤ → PointValue → PointValue

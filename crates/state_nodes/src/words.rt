@@ -1,8 +1,8 @@
 //! What nodes say of a point, and what stands at one.
 
 ghost use Rattle.std.specs.Prelude.{◌≡◌, IfOk, IsTrue};
-ghost use Rattle.kap_base.specs.Texts.{is_name};
-ghost use Rattle.state_nodes.specs.Words.{int_at, is_plain, passed, result_name, with_number, with_number_alone};
+ghost use Rattle.kap_base.specs.Texts.{is_name, is_plain};
+ghost use Rattle.state_nodes.specs.Words.{int_at, passed, result_name, with_number, with_number_alone};
 
 use kap_base::{Body, Duplicate, Fields, NoMemory, Point, Text, Value};
 use node_core::Said;

@@ -13,7 +13,8 @@ use Rattle.kap_base.specs.declared.items.Event.{Event}
 use Rattle.kap_base.specs.declared.memory.NoMemory.{NoMemory}
 use Rattle.kap_base.specs.Maps.{KeyMap, byte_order}
 use Rattle.topic_core.specs.declared.transition.Transition.{Transition}
-use Rattle.topic_core.specs.Topics.{same_level, same_text, is_of, last_level, change, changes, transition, numbered, Trans, TopicsValue, level_at, level_before, put_level, StandsFor, answer, kept_after}
+use Rattle.kap_base.specs.Levels.{same_level}
+use Rattle.topic_core.specs.Topics.{same_text, is_of, last_level, change, changes, transition, numbered, Trans, TopicsValue, level_at, level_before, put_level, StandsFor, answer, kept_after}
 
 -- ---- lists
 

@@ -1,27 +1,17 @@
 -- The transitions of a list of events, and what is kept of the events so far.
-use Rattle.std.specs.Prelude.{◌≡◌, ℕ, ◌+◌, ◌-◌, ◌^◌, min, Bool, ◌&&◌, ◌==◌, nat_lt, if◌then◌else◌, List, [], ◌∷◌, ◌++◌, length, Option, Some, None, option_map, unwrap_or, is_some}
+use Rattle.std.specs.Prelude.{◌≡◌, ℕ, ◌+◌, ◌-◌, ◌^◌, min, Bool, ◌&&◌, nat_lt, if◌then◌else◌, List, [], ◌∷◌, ◌++◌, length, Option, Some, None, option_map, unwrap_or, is_some}
 use Rattle.std.specs.FinMap.{get, contains_key, insert, empty, entries}
 use Rattle.std.specs.List.{list_any}
 use Rattle.std.specs.Option.{option_map_or}
 use Rattle.std.specs.Ordering.{eq_by_cmp}
 use Rattle.kap_base.specs.declared.items.Level.{Level}
-use Rattle.kap_base.specs.declared.items.Level.TheVariants.{Fine, Info, Warning, Critical}
+use Rattle.kap_base.specs.declared.items.Level.TheVariants.{Fine}
+use Rattle.kap_base.specs.Levels.{level_rank, same_level}
 use Rattle.kap_base.specs.declared.items.Event.{Event}
 use Rattle.kap_base.specs.Maps.{KeyMap, byte_order}
 use Rattle.topic_core.specs.declared.transition.Transition.{Transition}
 
 -- ---- levels
-
--- how bad a level is
-abbrev pub level_rank : Level → ℕ
-level_rank Fine = 0
-level_rank Info = 1
-level_rank Warning = 2
-level_rank Critical = 3
-
--- the two are one level
-abbrev pub same_level : Level → Level → Bool
-same_level one other = level_rank one == level_rank other
 
 -- the worse of two levels
 abbrev pub worse_level : Level → Level → Level

@@ -6,7 +6,7 @@ ghost use Rattle.std.specs.Option.{option_copied};
 ghost use Rattle.kap_base.specs.Maps.{byte_order};
 ghost use Rattle.kap_base.specs.Places.{StandsAt, WouldStandAt};
 ghost use Rattle.kap_base.specs.declared.items.Level.{Level};
-ghost use Rattle.topic_core.specs.Topics.{greatest_level, level_before, put_level, same_level, topic_level, worse_level};
+ghost use Rattle.topic_core.specs.Topics.{greatest_level, level_before, put_level, topic_level, worse_level};
 
 use kap_base::{KeyMap, Level, NoMemory, Text};
 use std::alloc::Global;
@@ -75,13 +75,6 @@ fn put(
             Ok(())
         }
     }
-}
-
-/// Whether the two levels are one.
-pub fn same_level(one: Level, other: Level) -> bool
-    ensures { result ≡ same_level one other }
-{
-    one == other
 }
 
 fn worse(one: Level, other: Level) -> Level

@@ -6,7 +6,7 @@ ghost use Rattle.std.specs.Option.{option_to_list};
 ghost use Rattle.kap_base.specs.declared.items.Event.{Event};
 ghost use Rattle.topic_core.specs.Topics.{StandsFor, Trans, answer, kept_after, topic_level, transition};
 
-use crate::levels::{Levels, same_level};
+use crate::levels::Levels;
 use crate::transition::Transition;
 use kap_base::{Duplicate, Event, Level, NoMemory, Text};
 use std::alloc::Global;
@@ -85,7 +85,7 @@ impl Topics {
         ensures err { OnErr result (self.new ≡ self.old) }
     {
         let old_level = self.levels.level(&event.topic, &event.id);
-        if same_level(old_level, event.level) {
+        if old_level.is_same(event.level) {
             return Ok(None);
         }
         let number = self.count.saturating_add(1);

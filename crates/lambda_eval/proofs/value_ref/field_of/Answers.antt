@@ -1,5 +1,5 @@
 use Rattle.std.proofs.Common.{sym}
-use Rattle.lambda_eval.proofs.PointLaws.{field_is_value}
+use Rattle.kap_base.proofs.EntryLaws.{field_is_value}
 use Rattle.lambda_eval.proofs.value_ref.field_of.Goals as goal
 
 pub returns-in-Some-clause-field : goal.returns-in-Some-clause-field

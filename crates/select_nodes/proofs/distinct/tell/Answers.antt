@@ -9,7 +9,7 @@ use Rattle.select_nodes.specs.Choices.{at_end}
 use Rattle.select_nodes.specs.Picks.{PickValue}
 use Rattle.select_nodes.specs.Steps.{Told}
 use Rattle.select_nodes.proofs.DistinctLaws.{told_again, told_new}
-use Rattle.select_nodes.proofs.ResultLaws.{field_is_value}
+use Rattle.kap_base.proofs.EntryLaws.{field_is_value}
 use Rattle.select_nodes.proofs.distinct.tell.Goals as goal
 
 pub invariant_of-push : goal.invariant_of-push

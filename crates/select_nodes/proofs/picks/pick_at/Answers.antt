@@ -1,5 +1,5 @@
 use Rattle.std.proofs.Common.{rules, sym}
-use Rattle.select_nodes.proofs.ResultLaws.{field_is_value}
+use Rattle.kap_base.proofs.EntryLaws.{field_is_value}
 use Rattle.select_nodes.proofs.picks.pick_at.Goals as goal
 
 pub invariant_of-result : goal.invariant_of-result

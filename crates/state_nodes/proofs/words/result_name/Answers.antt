@@ -1,4 +1,4 @@
-use Rattle.state_nodes.proofs.NameLaws.{own_is_name}
+use Rattle.kap_base.proofs.TextLaws.{own_is_name}
 use Rattle.state_nodes.proofs.words.result_name.Goals as goal
 
 pub returns-in-None-clause-name : goal.returns-in-None-clause-name
