@@ -5,7 +5,7 @@ ghost use Rattle.kap_base.specs.Texts.{has_line_feed};
 
 use kap_base::{
     Duplicate, Expr, Exprs, Fields, ItemList, KeyMap, Lit, Op, Point, SharedExpr, SharedText, Text,
-    Value,
+    Value, round, trunc,
 };
 use line_points::{Mode, read_line};
 use std::alloc::Global;
@@ -94,5 +94,39 @@ fn expressions_are_copied_and_shared(rt: HostRuntime) -> Result<(), Fail> {
     assert!(rt; send(name.copy(alloc)?) == name);
     let points = ItemList::from_items(Vec::from_array(alloc, [send(point(&rt)?)])?);
     assert_eq!(rt; points.len(), 1);
+    Ok(())
+}
+
+/// Seconds in nanoseconds.
+const SECOND: i64 = 1_000_000_000;
+
+#[test]
+fn times_are_cut_and_rounded(rt: HostRuntime) -> Result<(), Fail> {
+    // The year 1 begins on a Monday, and 1970 on a Thursday.
+    assert_eq!(rt; trunc(0, 604_800 * SECOND), -259_200 * SECOND);
+    assert_eq!(rt; round(0, 604_800 * SECOND), -259_200 * SECOND);
+    assert_eq!(rt; round(86_400 * SECOND, 604_800 * SECOND), 345_600 * SECOND);
+    assert_eq!(rt; trunc(-1, 60 * SECOND), -60 * SECOND);
+    assert_eq!(rt;
+        trunc(-9_000_000_000_000_000_000, 1),
+        -9_000_000_000_000_000_000
+    );
+    assert_eq!(rt;
+        trunc(-9_000_000_000_000_000_000, 200_000_000_000_000_000),
+        -9_135_596_800_000_000_000
+    );
+    assert_eq!(rt;
+        trunc(9_200_000_000_000_000_000, 200_000_000_000_000_000),
+        9_064_403_200_000_000_000
+    );
+    assert_eq!(rt;
+        round(9_000_000_000_000_000_000, 200_000_000_000_000_000),
+        9_064_403_200_000_000_000
+    );
+    assert_eq!(rt; round(4, 10), 0);
+    assert_eq!(rt; round(5, 10), 10);
+    assert_eq!(rt; round(-5, 10), 0);
+    assert_eq!(rt; round(-6, 10), -10);
+    assert_eq!(rt; round(2, 3), 3);
     Ok(())
 }
