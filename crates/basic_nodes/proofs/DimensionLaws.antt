@@ -1,10 +1,12 @@
 -- The keys of a map can be the dimensions of a point.
 use Rattle.std.proofs.Common.{◌≡◌, ℕ, Bool, true, false, cond, ◌||◌, T, List, [], ◌∷◌, ◌++◌, map, refl, sym, ◌∙◌, IsUtf8}
-use Rattle.std.specs.Prelude.{◌&&◌, IsTrue, Option, Some, bytes_eq, is_some}
+use Rattle.std.specs.Prelude.{◌&&◌, IsTrue, Option, Some, None, bytes_eq, is_some}
 use Rattle.std.specs.List.{list_all, list_any}
 use Rattle.std.specs.Str.{is_utf8}
-use Rattle.std.specs.Ordering.{eq_by_cmp, is_lt}
-use Rattle.std.specs.FinMap.{contains_key, contains_key-keys, empty, entries, entries_sorted, get, get-empty, get-insert, insert, is_sorted, keys}
+use Rattle.std.specs.Ordering.{eq_by_cmp, is_eq, is_lt}
+use Rattle.std.specs.declared.cmp.Ordering.{Ordering}
+use Rattle.std.specs.declared.cmp.Ordering.TheVariants.{Less, Equal, Greater}
+use Rattle.std.specs.FinMap.{contains_key, contains_key-keys, empty, entries, entries_sorted, get, get-empty, get-insert, get_tied, insert, is_sorted, keys, nat_cmp-IsAntisymmetric, same_map, slice_cmp-IsAntisymmetric}
 use Rattle.std.specs.FinMap.Entries.{below_all}
 use Rattle.std.proofs.lemmas.List.Folds.{list_all-append}
 use Rattle.std.proofs.lemmas.Str.{is_utf8-from_IsUtf8}
@@ -86,3 +88,30 @@ in_order_same text names =
     ∙ rw (get-empty byte_order text) (any_alike text names)
 
 pub ruleset ordered = (in_order_rises, in_order_same)
+
+-- ---- a map that is made key by key
+
+one_more : (m : KeyMap (Unit {0})) (names : List (List ℕ)) (name : List ℕ)
+    → with_entries m (map (λ n. (n, tt)) (names ++ name ∷ [])) ≡ insert (with_entries m (map (λ n. (n, tt)) names)) name tt
+one_more m [] name = refl
+one_more m (n ∷ names) name = one_more (insert m n tt) names name
+
+pub map_of_more : (names : List (List ℕ)) (name : List ℕ) → map_of (names ++ name ∷ []) ≡ insert (map_of names) name tt
+map_of_more names name = one_more empty names name
+
+is_equal : (o : Ordering) → is_eq o ≡ true → o ≡ Equal
+is_equal Less e = absurd cc
+is_equal Equal e = refl
+is_equal Greater e = absurd cc
+
+there : (o : Option (Unit {0})) → is_some o ≡ true → Some tt ≡ o
+there (Some u) e = refl
+there None e = absurd cc
+
+-- a key that is there changes nothing
+pub key_stays : (m : KeyMap (Unit {0})) (k : List ℕ) → contains_key m k ≡ true → insert m k tt ≡ m
+key_stays m k in_m = same_map (slice_cmp-IsAntisymmetric nat_cmp-IsAntisymmetric) (insert m k tt) m (λ q. get-insert nat_list_cmp_total m k tt q ∙ at q (eq_by_cmp byte_order q k) refl)
+  where
+    at : (q : List ℕ) (b : Bool) → eq_by_cmp byte_order q k ≡ b → cond b (Some tt) (get m q) ≡ get m q
+    at q true e = there (get m k) in_m ∙ get_tied nat_list_cmp_total m q k (is_equal (byte_order q k) e)
+    at q false e = refl

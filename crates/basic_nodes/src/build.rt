@@ -10,7 +10,7 @@ use crate::group_kind::GroupKind;
 use crate::point_kind::PointKind;
 use crate::selection::{Conditions, Selection};
 use crate::spec::BasicSpec;
-use kap_base::{ItemList, Names, NoMemory};
+use kap_base::{ItemList, NoMemory};
 use lambda_types::Lambda;
 use node_core::{Alone, Both, Grouped, Node, Numbered, Seat};
 use std::alloc::Global;
@@ -45,7 +45,7 @@ fn grouping_of(alloc: Global, dims: Dims) -> Result<Grouping, NoMemory>
     ensures { IfOk result (λ grouping. grouping ≡ grouping_of dims) }
 {
     match dims {
-        Dims::Names(names) => Ok(Grouping::By(Dimensions::from_names(alloc, &names)?)),
+        Dims::Names(names) => Ok(Grouping::By(Dimensions::from_names(alloc, names.as_slice())?)),
         Dims::All => Ok(Grouping::ByAll),
     }
 }
@@ -87,8 +87,8 @@ fn deletion_of(alloc: Global, settings: ItemList<DeleteSetting>) -> Result<Delet
         }
     }
     Ok(Deletion {
-        fields: Names::from_items(fields),
-        tags: Names::from_items(tags),
+        fields: ItemList::from_items(fields),
+        tags: ItemList::from_items(tags),
     })
 }
 

@@ -6,17 +6,18 @@ ghost use Rattle.std.specs.FinMap.{retain_keys};
 ghost use Rattle.basic_nodes.specs.Deletions.{delete_says, is_left, without};
 
 use crate::words::pass;
-use kap_base::{Duplicate, KeyMap, Names, NoMemory, Point, Text};
+use kap_base::{Duplicate, KeyMap, Names, NoMemory, Point, SharedText, Text};
 use node_core::Said;
 use std::alloc::Global;
+use task_graph::SharedNames;
 
 /// `delete` (Kapacitor 1.6: delete node): what it takes away of each point.
 #[derive(Debug, Drop)]
 pub struct Deletion {
     /// The names of fields.
-    pub fields: Names,
+    pub fields: SharedNames,
     /// The names of tags, which go from the dimensions too.
-    pub tags: Names,
+    pub tags: SharedNames,
 }
 
 fn is_same(name: &Text, other: &Text) -> bool
@@ -26,14 +27,14 @@ fn is_same(name: &Text, other: &Text) -> bool
 }
 
 /// Whether the name is one of these.
-fn is_among(names: &[Text], name: &Text) -> bool
+fn is_among(names: &[SharedText], name: &Text) -> bool
     ensures { result ≡ list_any (bytes_eq name.now) names.now }
 {
-    names.iter().any(|other| is_same(name, other))
+    names.iter().any(|other| is_same(name, other.text()))
 }
 
 /// Whether the name is none of these.
-fn is_left(taken: &[Text], name: &Text) -> bool
+fn is_left(taken: &[SharedText], name: &Text) -> bool
     ensures { result ≡ is_left taken.now name.now }
 {
     !is_among(taken, name)
@@ -42,7 +43,7 @@ fn is_left(taken: &[Text], name: &Text) -> bool
 /// The entries whose keys are none of these.
 fn entries_left<V: Duplicate + Drop>(
     alloc: Global,
-    taken: &[Text],
+    taken: &[SharedText],
     entries: &[(Text, V)],
 ) -> Result<Vec<(Text, V)>, NoMemory>
     ensures { IfOk result (λ left. left.items ≡ filter (λ e. is_left taken.now e.0) entries.now) }
@@ -57,7 +58,7 @@ fn entries_left<V: Duplicate + Drop>(
 }
 
 /// Whether all keys of entries are none of these.
-fn all_left<V>(taken: &[Text], entries: &[(Text, V)]) -> bool
+fn all_left<V>(taken: &[SharedText], entries: &[(Text, V)]) -> bool
     ensures { result ≡ list_all (λ e. is_left taken.now e.0) entries.now }
 {
     entries.iter().all(|entry| is_left(taken, &entry.0))
@@ -66,7 +67,7 @@ fn all_left<V>(taken: &[Text], entries: &[(Text, V)]) -> bool
 /// The map without these keys. One that has none of them stays.
 fn left<V: Duplicate + Drop>(
     alloc: Global,
-    taken: &Names,
+    taken: &SharedNames,
     keyed: KeyMap<V>,
 ) -> Result<KeyMap<V>, NoMemory>
     ensures { IfOk result (λ left. left ≡ retain_keys keyed (is_left taken.now)) }
@@ -80,7 +81,7 @@ fn left<V: Duplicate + Drop>(
 }
 
 /// The names that are none of these.
-fn names_left(alloc: Global, taken: &Names, names: Names) -> Result<Names, NoMemory>
+fn names_left(alloc: Global, taken: &SharedNames, names: Names) -> Result<Names, NoMemory>
     ensures { IfOk result (λ left. left ≡ filter (is_left taken.now) names) }
 {
     let mut left = Vec::new(alloc);

@@ -1,14 +1,14 @@
 //! By what points are grouped.
 
-ghost use Rattle.std.specs.Prelude.{◌≡◌, IfOk, IsTrue, map};
-ghost use Rattle.std.specs.FinMap.{keys};
+ghost use Rattle.std.specs.Prelude.{◌≡◌, IfOk, OnOk, IsTrue, map};
+ghost use Rattle.std.specs.FinMap.{insert, keys};
 ghost use Rattle.std.specs.List.{list_all};
 ghost use Rattle.std.specs.Str.{is_utf8};
 ghost use Rattle.kap_base.specs.Points.{are_dimensions};
 ghost use Rattle.basic_nodes.specs.Dimensions.{dims_of, group_by_says, grouped, in_order, map_of};
 
 use crate::words::pass;
-use kap_base::{Duplicate, KeyMap, Names, NoMemory, Point, Text};
+use kap_base::{Duplicate, KeyMap, Names, NoMemory, Point, SharedText, Text};
 use node_core::Said;
 use std::alloc::Global;
 use std::marker::Model;
@@ -70,23 +70,34 @@ fn key_names<V: Drop>(alloc: Global, keyed: &KeyMap<V>) -> Result<Names, NoMemor
     Ok(Names::from_items(names))
 }
 
-/// A map that has these keys.
-fn map_of(alloc: Global, names: &[Text]) -> Result<KeyMap<()>, NoMemory>
+/// Adds a key, unless it is there.
+fn put_key(alloc: Global, keyed: &mut KeyMap<()>, name: &Text) -> Result<(), NoMemory>
+    ensures { OnOk result (keyed.new ≡ insert keyed.old name.now tt) }
+{
+    if keyed.contains_key(name) {
+        return Ok(());
+    }
+    keyed.insert(name.copy(alloc)?, ())?;
+    Ok(())
+}
+
+/// A map that has these keys. Each text is copied once, however often it is given.
+fn map_of(alloc: Global, names: &[SharedText]) -> Result<KeyMap<()>, NoMemory>
     ensures { IfOk result (λ keyed. keyed ≡ map_of names.now) }
 {
-    let mut entries = Vec::new(alloc);
+    let mut keyed = KeyMap::new(alloc);
     'adding: for name in names {
-        entries.push((name.copy(alloc)?, ()))?;
+        put_key(alloc, &mut keyed, name.text())?;
     }
-    KeyMap::from_entries(alloc, entries)
+    Ok(keyed)
 }
 
 impl Dimensions {
     /// These names in byte order, each once.
-    pub fn from_names(alloc: Global, names: &Names) -> Result<Dimensions, NoMemory>
+    pub fn from_names(alloc: Global, names: &[SharedText]) -> Result<Dimensions, NoMemory>
         ensures { IfOk result (λ dims. dims ≡ in_order names.now) }
     {
-        let keyed = map_of(alloc, names.as_slice())?;
+        let keyed = map_of(alloc, names)?;
         Ok(Dimensions {
             names: key_names(alloc, &keyed)?,
         })

@@ -5,7 +5,7 @@ ghost use Rattle.std.specs.FinMap as map;
 ghost use Rattle.std.specs.List.{list_all, list_any};
 ghost use Rattle.eval_node.specs.Evals.{is_kept};
 
-use kap_base::{Duplicate, Fields, NoMemory, Text, Value};
+use kap_base::{Duplicate, Fields, NoMemory, SharedText, Text, Value};
 use lambda_types::Lambda;
 use std::alloc::Global;
 use task_graph::{EvalResult, Keep};
@@ -18,10 +18,10 @@ fn is_result(results: &[EvalResult<Lambda>], name: &Text) -> bool
 }
 
 /// Whether it is one of these names.
-fn is_among(names: &[Text], name: &Text) -> bool
+fn is_among(names: &[SharedText], name: &Text) -> bool
     ensures { result ≡ list_any (λ n. bytes_eq n name.now) names.now }
 {
-    names.iter().any(|n| n == name)
+    names.iter().any(|n| n.text() == name)
 }
 
 /// Whether a field of this name is kept.

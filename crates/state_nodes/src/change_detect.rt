@@ -4,16 +4,17 @@ ghost use Rattle.state_nodes.specs.ChangeDetects.{are_still, change_detect_goes_
 ghost use Rattle.state_nodes.specs.Words.{passed_if};
 
 use crate::words::pass;
-use kap_base::{Duplicate, Fields, ItemList, Names, NoMemory, Point, Text, Value};
+use kap_base::{Duplicate, Fields, ItemList, NoMemory, Point, SharedText, Text, Value};
 use node_core::{Rule, Said};
 use std::alloc::Global;
+use task_graph::SharedNames;
 
 /// What `changeDetect` does (Kapacitor 1.6: change detect node): it passes a group's first point, and each one at which one of
 /// these fields has another kind or value than at the group's point before, or is at one of the two alone.
 #[derive(Debug, Drop)]
 pub struct ChangeDetect {
     /// The fields.
-    pub names: Names,
+    pub names: SharedNames,
 }
 
 /// What stands at the fields of a group's last point, in their order; nothing before the first point.
@@ -56,7 +57,7 @@ fn is_still(fields: &Fields, name: &Text, kept: &Option<Value>) -> bool
 }
 
 /// Whether each of these stands at its field still.
-fn are_still(names: &[Text], values: &[Option<Value>], point: &Point) -> bool
+fn are_still(names: &[SharedText], values: &[Option<Value>], point: &Point) -> bool
     ensures { result ≡ are_still names.now values.now point.now }
 {
     let mut names_left = names;
@@ -65,7 +66,7 @@ fn are_still(names: &[Text], values: &[Option<Value>], point: &Point) -> bool
         let Some((value, other_values)) = values_left.split_first() else {
             return false;
         };
-        if !is_still(&point.fields, name, value) {
+        if !is_still(&point.fields, name.text(), value) {
             return false;
         }
         names_left = other_names;
@@ -75,7 +76,7 @@ fn are_still(names: &[Text], values: &[Option<Value>], point: &Point) -> bool
 }
 
 /// Whether some of the fields differ from what is kept.
-fn is_change(names: &[Text], kept: &LastValues, point: &Point) -> bool
+fn is_change(names: &[SharedText], kept: &LastValues, point: &Point) -> bool
     ensures { result ≡ is_change_from names.now kept.now point.now }
 {
     match kept {
@@ -97,14 +98,14 @@ fn value_at(alloc: Global, fields: &Fields, name: &Text) -> Result<Option<Value>
 /// What stands at the fields, copied.
 fn values_at(
     alloc: Global,
-    names: &[Text],
+    names: &[SharedText],
     point: &Point,
 ) -> Result<ItemList<Option<Value>>, NoMemory>
     ensures { IfOk result (λ values. values ≡ values_at names.now point.now) }
 {
     let mut values = Vec::new(alloc);
     'copying: for name in names {
-        values.push(value_at(alloc, &point.fields, name)?)?;
+        values.push(value_at(alloc, &point.fields, name.text())?)?;
     }
     Ok(ItemList::from_items(values))
 }
@@ -112,7 +113,7 @@ fn values_at(
 /// What `changeDetect` says of a point. Values are copied only where some change.
 fn feed_change_detect(
     alloc: Global,
-    names: &[Text],
+    names: &[SharedText],
     kept: &mut LastValues,
     point: Point,
 ) -> Result<Said, NoMemory>

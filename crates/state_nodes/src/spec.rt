@@ -1,6 +1,5 @@
-use kap_base::Names;
 use lambda_types::Lambda;
-use task_graph::{ElapsedSpec, FieldSpec, StateCountSpec};
+use task_graph::{ElapsedSpec, FieldSpec, SharedNames, StateCountSpec};
 
 /// What a script hands to a node of these kinds (Kapacitor 1.6 node reference).
 #[derive(Drop)]
@@ -8,7 +7,7 @@ pub enum StateSpec {
     /// `stateCount`.
     StateCount(StateCountSpec<Lambda>),
     /// `changeDetect`, with its fields.
-    ChangeDetect(Names),
+    ChangeDetect(SharedNames),
     /// `difference`.
     Difference(FieldSpec),
     /// `cumulativeSum`.

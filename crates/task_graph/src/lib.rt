@@ -14,5 +14,5 @@ pub use sorts::{
 pub use spec::{
     AlertSpec, Conditions, DefaultSetting, DefaultValue, DeleteSetting, Dims, ElapsedSpec,
     EvalResult, EvalSpec, FieldSpec, Fill, FromSpec, GroupBySpec, Ids, JoinSpec, Keep, LogSpec,
-    NodeSpec, NodeSpecs, Select, SelectSpec, Spec, StateCountSpec, WindowSpec,
+    NodeSpec, NodeSpecs, Select, SelectSpec, SharedNames, Spec, StateCountSpec, WindowSpec,
 };

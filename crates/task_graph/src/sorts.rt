@@ -4,7 +4,7 @@ ghost use Rattle.std.specs.Prelude.{◌≡◌, IsTrue};
 ghost use Rattle.kap_base.specs.Texts.{is_line, is_measurement, is_name};
 ghost use Rattle.task_graph.specs.Sorts.{is_count, is_period, is_span, is_unit, tested, tested_number};
 
-use kap_base::Text;
+use kap_base::{SharedText, Text};
 use std::marker::Model;
 
 /// The longest duration of a script, in nanoseconds.
@@ -17,7 +17,7 @@ pub const UNIT_LIMIT: u64 = 1_000;
 /// backslash.
 #[derive(Debug, Drop)]
 pub struct Name {
-    text: Text,
+    text: SharedText,
 }
 
 impl Model for Name {
@@ -33,10 +33,10 @@ impl Model for Name {
 
 impl Name {
     /// The name of a text that can be one.
-    pub fn from_text(text: Text) -> Option<Name>
+    pub fn from_text(text: SharedText) -> Option<Name>
         ensures { result ≡ tested is_name text }
     {
-        if text.is_name() {
+        if text.text().is_name() {
             Some(Name { text })
         } else {
             None
@@ -48,22 +48,14 @@ impl Name {
         ensures same { result.now ≡ self.now }
         ensures name { IsTrue (is_name self.now) }
     {
-        &self.text
-    }
-
-    /// Its text, moved out.
-    pub fn into_text(self) -> Text
-        ensures same { result ≡ self }
-        ensures name { IsTrue (is_name self) }
-    {
-        self.text
+        self.text.text()
     }
 }
 
 /// A text that can be a measurement: a name that doesn't begin with `#`.
 #[derive(Debug, Drop)]
 pub struct Measurement {
-    text: Text,
+    text: SharedText,
 }
 
 impl Model for Measurement {
@@ -79,10 +71,10 @@ impl Model for Measurement {
 
 impl Measurement {
     /// The measurement of a text that can be one.
-    pub fn from_text(text: Text) -> Option<Measurement>
+    pub fn from_text(text: SharedText) -> Option<Measurement>
         ensures { result ≡ tested is_measurement text }
     {
-        if text.is_measurement() {
+        if text.text().is_measurement() {
             Some(Measurement { text })
         } else {
             None
@@ -94,22 +86,14 @@ impl Measurement {
         ensures same { result.now ≡ self.now }
         ensures measurement { IsTrue (is_measurement self.now) }
     {
-        &self.text
-    }
-
-    /// Its text, moved out.
-    pub fn into_text(self) -> Text
-        ensures same { result ≡ self }
-        ensures measurement { IsTrue (is_measurement self) }
-    {
-        self.text
+        self.text.text()
     }
 }
 
 /// A text without a line feed, which may be empty.
 #[derive(Debug, Drop)]
 pub struct Line {
-    text: Text,
+    text: SharedText,
 }
 
 impl Model for Line {
@@ -125,10 +109,10 @@ impl Model for Line {
 
 impl Line {
     /// The line of a text that is one.
-    pub fn from_text(text: Text) -> Option<Line>
+    pub fn from_text(text: SharedText) -> Option<Line>
         ensures { result ≡ tested is_line text }
     {
-        if text.is_line() {
+        if text.text().is_line() {
             Some(Line { text })
         } else {
             None
@@ -140,15 +124,7 @@ impl Line {
         ensures same { result.now ≡ self.now }
         ensures line { IsTrue (is_line self.now) }
     {
-        &self.text
-    }
-
-    /// Its text, moved out.
-    pub fn into_text(self) -> Text
-        ensures same { result ≡ self }
-        ensures line { IsTrue (is_line self) }
-    {
-        self.text
+        self.text.text()
     }
 }
 

@@ -1,18 +1,21 @@
 //! What each kind of node is given (Kapacitor 1.6 node reference). `L` is the type of its lambdas.
 
 use crate::sorts::{Count, ElapsedUnit, Line, Measurement, Name, Period, Span};
-use kap_base::{Dbrps, ItemList, Names, Text};
+use kap_base::{Dbrps, ItemList, SharedText, Text};
 use lambda_types::Lambda;
 use msg_template::Template;
 
 /// The numbers of nodes.
 pub type Ids = ItemList<u32>;
 
+/// Texts of a script, which it may use many times.
+pub type SharedNames = ItemList<SharedText>;
+
 /// The dimensions that a node sets.
 #[derive(Debug, Drop)]
 pub enum Dims {
     /// The tags of these names, as the script has them.
-    Names(Names),
+    Names(SharedNames),
     /// Each tag of the point.
     All,
 }
@@ -42,7 +45,7 @@ pub enum Keep {
     /// All fields and results.
     All,
     /// Those of these names that are there.
-    Names(Names),
+    Names(SharedNames),
 }
 
 /// `eval(l..)`: lambdas in order, each with the name of its result.
@@ -105,9 +108,9 @@ pub enum DefaultSetting {
 #[derive(Debug, Drop)]
 pub enum DeleteSetting {
     /// `.field`: the field of this name goes.
-    Field(Text),
+    Field(SharedText),
     /// `.tag`: the tag of this name goes, from the dimensions too.
-    Tag(Text),
+    Tag(SharedText),
 }
 
 /// `window()`, in its two forms.
@@ -290,7 +293,7 @@ pub enum Spec<L = Lambda> {
     /// `stateCount`.
     StateCount(StateCountSpec<L>),
     /// `changeDetect`, with its fields.
-    ChangeDetect(Names),
+    ChangeDetect(SharedNames),
     /// `difference`.
     Difference(FieldSpec),
     /// `cumulativeSum`.

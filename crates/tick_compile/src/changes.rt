@@ -9,10 +9,11 @@ use crate::given::{Node, Setting};
 use crate::node_fault::NodeFault;
 use crate::props::{Props, no_props, set_all};
 use crate::readers::{all, dimensions, lambdas, nothing, one, pair};
-use kap_base::{ItemList, Names, NoMemory};
+use kap_base::{ItemList, NoMemory};
 use std::alloc::Global;
 use task_graph::{
-    DefaultSetting, DeleteSetting, EvalResult, EvalSpec, GroupBySpec, Keep, LogSpec, Name, Spec,
+    DefaultSetting, DeleteSetting, EvalResult, EvalSpec, GroupBySpec, Keep, LogSpec, Name,
+    SharedNames, Spec,
 };
 
 /// The properties of `eval`.
@@ -23,7 +24,7 @@ pub(crate) struct EvalProps {
 }
 
 /// What is kept of the fields.
-fn kept(names: Names) -> Keep
+fn kept(names: SharedNames) -> Keep
     ensures { result ≡ kept names }
 {
     if names.len() == 0 {

@@ -9,7 +9,7 @@ use crate::given::{Node, Setting};
 use crate::node_fault::NodeFault;
 use crate::props::{Props, no_props, set_all};
 use crate::readers::{dimensions, lambda, nothing, one};
-use kap_base::{ItemList, Names};
+use kap_base::ItemList;
 use std::alloc::Global;
 use task_graph::{Dims, FromSpec, Spec};
 
@@ -66,7 +66,7 @@ pub(crate) fn from_spec<L: Drop>(alloc: Global, node: Node<L>) -> Result<Spec<L>
         retention_policy: None,
         measurement: None,
         conditions: ItemList::new(alloc),
-        dims: Dims::Names(Names::new(alloc)),
+        dims: Dims::Names(ItemList::new(alloc)),
         by_measurement: false,
     };
     Ok(Spec::From(set_all(alloc, props, first)?))

@@ -5,7 +5,7 @@ ghost use Rattle.tick_compile.specs.Sorts.{as_count, as_default, as_duration, as
 ghost use Rattle.tick_compile.specs.declared.given.Given.{Given};
 
 use crate::given::Given;
-use kap_base::{Duplicate, Lit, NoMemory, Text};
+use kap_base::{Duplicate, Lit, NoMemory, SharedText, Text};
 use std::alloc::Global;
 use task_graph::{Count, DefaultValue, ElapsedUnit, Fill, Line, Measurement, Name, Period, Span};
 
@@ -35,14 +35,29 @@ impl<L: Drop> Sort<L> for Text {
     }
 }
 
+impl<L: Drop> Sort<L> for SharedText {
+    ghost sort = { as_text };
+
+    fn of_given(alloc: Global, given: Given<L>) -> Result<Option<SharedText>, NoMemory>
+        ensures { IfOk result (λ found. found ≡ as_text given) }
+    {
+        let _ = alloc;
+        match given {
+            Given::Lit(Lit::Str(text)) => Ok(Some(text)),
+            _ => Ok(None),
+        }
+    }
+}
+
 impl<L: Drop> Sort<L> for Name {
     ghost sort = { as_name };
 
     fn of_given(alloc: Global, given: Given<L>) -> Result<Option<Name>, NoMemory>
         ensures { IfOk result (λ found. found ≡ as_name given) }
     {
+        let _ = alloc;
         match given {
-            Given::Lit(Lit::Str(text)) => Ok(Name::from_text(text.text().copy(alloc)?)),
+            Given::Lit(Lit::Str(text)) => Ok(Name::from_text(text)),
             _ => Ok(None),
         }
     }
@@ -54,8 +69,9 @@ impl<L: Drop> Sort<L> for Measurement {
     fn of_given(alloc: Global, given: Given<L>) -> Result<Option<Measurement>, NoMemory>
         ensures { IfOk result (λ found. found ≡ as_measurement given) }
     {
+        let _ = alloc;
         match given {
-            Given::Lit(Lit::Str(text)) => Ok(Measurement::from_text(text.text().copy(alloc)?)),
+            Given::Lit(Lit::Str(text)) => Ok(Measurement::from_text(text)),
             _ => Ok(None),
         }
     }
@@ -67,8 +83,9 @@ impl<L: Drop> Sort<L> for Line {
     fn of_given(alloc: Global, given: Given<L>) -> Result<Option<Line>, NoMemory>
         ensures { IfOk result (λ found. found ≡ as_line given) }
     {
+        let _ = alloc;
         match given {
-            Given::Lit(Lit::Str(text)) => Ok(Line::from_text(text.text().copy(alloc)?)),
+            Given::Lit(Lit::Str(text)) => Ok(Line::from_text(text)),
             _ => Ok(None),
         }
     }
@@ -150,10 +167,11 @@ impl<L: Drop> Sort<L> for DefaultValue {
     fn of_given(alloc: Global, given: Given<L>) -> Result<Option<DefaultValue>, NoMemory>
         ensures { IfOk result (λ found. found ≡ as_default given) }
     {
+        let _ = alloc;
         match given {
             Given::Lit(Lit::Int(number)) => Ok(Some(DefaultValue::Int(number))),
             Given::Lit(Lit::Bool(truth)) => Ok(Some(DefaultValue::Bool(truth))),
-            Given::Lit(Lit::Str(text)) => match Line::from_text(text.text().copy(alloc)?) {
+            Given::Lit(Lit::Str(text)) => match Line::from_text(text) {
                 Some(line) => Ok(Some(DefaultValue::Str(line))),
                 None => Ok(None),
             },
