@@ -1,4 +1,5 @@
 mod ActionLaws
 mod ReadLaws
 mod FillLaws
+mod SpellLaws
 mod UniqueLaws

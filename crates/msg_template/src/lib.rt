@@ -14,6 +14,6 @@ mod template;
 pub use action::Action;
 pub use facts::Facts;
 pub use fault::TemplateFault;
-pub use law::one_meaning;
+pub use law::{one_meaning, parts_are_spelled};
 pub use reading::{read, read_id};
 pub use template::{Part, TEMPLATE_LIMIT, Template};
