@@ -6,7 +6,7 @@ use Rattle.kap_base.specs.Words.{HasRisen}
 use Rattle.kap_io.specs.Pieces.{AppendsPrefix}
 use Rattle.recording_file.specs.declared.fault.RecFault.TheVariants as faults
 use Rattle.recording_file.specs.Reading.{ReaderState, HasRead, BeginsWith}
-use Rattle.recording_file.specs.Recording.{Reading, Stop, Ended, Faulty, Undecided, reading_of, reading_so_far}
+use Rattle.recording_file.specs.Recording.{Stop, Ended, Faulty, Undecided, reading_of, reading_so_far}
 use Rattle.kap_server.specs.declared.status.Status.{Status}
 use Rattle.kap_server.specs.declared.status.Status.TheVariants.{Ok, Usage, Script, Line, Truncated, Exists, TooManyTasks, TooLong, NoMemory, ReadFault, WriteFault}
 

@@ -1,7 +1,7 @@
 -- A text that is read as parts is their spelling.
-use Rattle.std.proofs.Common.{◌≡◌, ℕ, suc, ◌+◌, ◌<◌, Bool, true, false, cond, List, [], ◌∷◌, ◌++◌, length, take, drop, get_or, Option, Some, None, Result, Ok, Err, replicate, refl, sym, ap, subst, ◌∙◌, append-nil, append_assoc, arith, ◌&&◌}
+use Rattle.std.proofs.Common.{◌≡◌, ℕ, suc, ◌+◌, ◌<◌, Bool, true, false, cond, List, [], ◌∷◌, ◌++◌, length, take, drop, get_or, Option, Some, None, Result, Ok, Err, refl, sym, ap, subst, ◌∙◌, append-nil, append_assoc, arith, ◌&&◌}
 use Rattle.std.specs.Prelude.{bytes_eq, codes, ◌==◌, nat_lt}
-use Rattle.std.specs.List.{before_first, after_first, position_or_len, list_all}
+use Rattle.std.specs.List.{before_first, after_first, position_or_len}
 use Rattle.std.specs.Option.{option_map_or}
 use Rattle.std.proofs.lemmas.Bool.{eqb-true}
 use Rattle.std.proofs.lemmas.Bool.Decides.{nat_tests}
@@ -16,7 +16,7 @@ use Rattle.msg_template.specs.declared.template.Part.TheVariants as parts
 use Rattle.msg_template.specs.declared.fault.TemplateFault.{TemplateFault}
 use Rattle.msg_template.specs.declared.fault.TemplateFault.TheVariants as faults
 use Rattle.msg_template.specs.Actions.{action_at, action_of_words, are_spaces, cut_at_quote, dotted, ends_name, indexed, is_allowed, is_identifier, is_quote, listed, named, of_key, without_spaces}
-use Rattle.msg_template.specs.Reading.{Cut, OneAction, opening, closing, words, Reads, last_words, next_action}
+use Rattle.msg_template.specs.Reading.{opening, closing, words, Reads, last_words, next_action}
 use Rattle.msg_template.specs.Spellings.{SpellsAction, Spells, action_text, keyed, no_part, action_part, spaces, word_part}
 
 -- ---- spaces

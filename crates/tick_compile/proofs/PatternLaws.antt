@@ -16,7 +16,6 @@ use Rattle.task_graph.specs.Graphs.{first_graph_fault}
 use Rattle.tick_vars.specs.Nodes.{ArgTree, LitArg, StarArg, LambdaArg, NodeArg, BoundTree, NodeTree, PropTree}
 use Rattle.tick_compile.specs.declared.node_fault.NodeFault.{NodeFault}
 use Rattle.tick_compile.specs.declared.node_fault.NodeFault.TheVariants as nodes
-use Rattle.tick_compile.specs.declared.script_fault.ScriptFault.{ScriptFault}
 use Rattle.tick_compile.specs.declared.script_fault.ScriptFault.TheVariants.{Lambda, NoFrom}
 use Rattle.tick_compile.specs.Nodes.{specs_from}
 use Rattle.tick_compile.specs.Scripts.{IsRefusedAt, Refuses}

@@ -1,8 +1,7 @@
 -- A table that is two tables, one behind the other.
-use Rattle.std.proofs.Common.{◌≡◌, Bool, true, false, cond, List, [], ◌∷◌, ◌++◌, Result, refl}
+use Rattle.std.proofs.Common.{◌≡◌, Bool, true, false, cond, List, [], ◌∷◌, ◌++◌, refl}
 use Rattle.std.specs.Prelude.{◌||◌, bytes_eq}
 use Rattle.tick_compile.specs.declared.given.Setting.{Setting}
-use Rattle.tick_compile.specs.declared.node_fault.NodeFault.{NodeFault}
 use Rattle.tick_compile.specs.Rows.{Row, has_row, set_by}
 
 module _ {L S : Type 0} (more : List (Row L S)) (so_far : S) (prop : Setting L) where

@@ -27,7 +27,7 @@ use Rattle.tick_vars.specs.Binding.{bound_of}
 use Rattle.tick_compile.specs.declared.script_fault.ScriptFault.{ScriptFault}
 use Rattle.tick_compile.specs.declared.script_fault.ScriptFault.TheVariants.{NotUtf8, Lex, Parse, Name, NoKind, Property, Argument, Handler, Template, Lambda, Graph, NoFrom, NoMemory}
 use Rattle.tick_compile.specs.declared.tasks.Task.{Task}
-use Rattle.tick_compile.specs.Scripts.{Accepts, Binds, IsMisread, IsMiswritten, Parses, Refuses}
+use Rattle.tick_compile.specs.Scripts.{Accepts, Binds, IsMisread, Parses, Refuses}
 use Rattle.tick_compile.specs.Tasks.{compiled}
 
 -- a text has the tokens of one script

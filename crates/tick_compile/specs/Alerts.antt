@@ -1,5 +1,5 @@
 -- alert: its properties.
-use Rattle.std.specs.Prelude.{ℕ, Bool, true, false, if◌then◌else◌, List, [], ◌∷◌, ◌++◌, Option, Some, None, Result, Ok, Err, codes, bytes_eq}
+use Rattle.std.specs.Prelude.{ℕ, Bool, true, false, if◌then◌else◌, List, [], ◌∷◌, ◌++◌, Some, None, Result, Ok, Err, codes, bytes_eq}
 use Rattle.std.specs.List.{list_any}
 use Rattle.kap_base.specs.Words.{◌>>=◌}
 use Rattle.msg_template.specs.declared.template.Part.{Part}
@@ -14,7 +14,7 @@ use Rattle.tick_compile.specs.declared.given.Setting.{Setting}
 use Rattle.tick_compile.specs.Words.{needed}
 use Rattle.tick_compile.specs.Sorts.{as_lambda, as_text, nothing, one}
 use Rattle.tick_compile.specs.Templates.{template_given}
-use Rattle.tick_compile.specs.Rows.{Row, all_set, has_row, row, set_by}
+use Rattle.tick_compile.specs.Rows.{Row, all_set, row, set_by}
 
 -- the conditions of the levels
 abbrev pub level_rows : {L : Type 0} → List (Row L (AlertSpec L))

@@ -1,5 +1,5 @@
 -- eval, groupBy, log, default, delete and shift: their arguments and properties, and what is asked of the whole.
-use Rattle.std.specs.Prelude.{◌&&◌, ℕ, true, false, nat_eq, nat_lt, List, [], ◌∷◌, ◌++◌, length, Option, Some, None, Result, Ok, codes}
+use Rattle.std.specs.Prelude.{◌&&◌, ℕ, true, false, nat_eq, nat_lt, List, [], ◌∷◌, ◌++◌, length, Some, None, Result, Ok, codes}
 use Rattle.kap_base.specs.Words.{◌>>=◌}
 use Rattle.task_graph.specs.declared.spec.DefaultSetting.{DefaultSetting}
 use Rattle.task_graph.specs.declared.spec.DefaultSetting.TheVariants as defaults

@@ -1,5 +1,5 @@
 -- from, where and sample: their arguments and properties.
-use Rattle.std.specs.Prelude.{ℕ, true, false, List, [], ◌∷◌, ◌++◌, Option, Some, None, Result, Ok, codes}
+use Rattle.std.specs.Prelude.{true, false, List, [], ◌∷◌, ◌++◌, Some, None, Result, Ok, codes}
 use Rattle.kap_base.specs.Words.{◌>>=◌}
 use Rattle.task_graph.specs.declared.spec.Dims.TheVariants as dims
 use Rattle.task_graph.specs.declared.spec.FromSpec.{FromSpec}

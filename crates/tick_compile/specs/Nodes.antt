@@ -1,5 +1,5 @@
 -- A task's nodes, from those of its script.
-use Rattle.std.specs.Prelude.{ℕ, zero, suc, List, [], ◌∷◌, ◌++◌, if◌then◌else◌, length, take, Result, Ok, Err}
+use Rattle.std.specs.Prelude.{ℕ, zero, suc, List, [], ◌∷◌, ◌++◌, if◌then◌else◌, length, take, Result, Ok}
 use Rattle.std.specs.Fmt.{decimal}
 use Rattle.kap_base.specs.declared.dbrp.Dbrp.{Dbrp}
 use Rattle.kap_base.specs.Words.{◌>>=◌}

@@ -1,5 +1,5 @@
 -- What lambdas a script's nodes take, and the first fault of their types; nodes without the places of what they are given.
-use Rattle.std.specs.Prelude.{◌≡◌, ◌≢◌, ◌&&◌, ℕ, Bool, true, not, if◌then◌else◌, List, [], ◌∷◌, map, Option, Some, None, Result, Ok, Err, codes, bytes_eq}
+use Rattle.std.specs.Prelude.{◌≡◌, ◌&&◌, ℕ, Bool, not, if◌then◌else◌, List, [], ◌∷◌, map, Option, Some, None, Result, Ok, Err, codes, bytes_eq}
 use Rattle.kap_base.specs.Tree.{Tree}
 use Rattle.lambda_types.specs.Builds.{AtMostOneMore}
 use Rattle.lambda_types.specs.Faults.{FailsBy, IsCounted, Refusal, first, first_fault}

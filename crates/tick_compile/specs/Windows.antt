@@ -1,5 +1,5 @@
 -- window: its properties, and its two forms.
-use Rattle.std.specs.Prelude.{◌||◌, ℕ, Bool, true, false, if◌then◌else◌, List, [], ◌∷◌, Option, Some, None, Result, codes, is_some, option_map, unwrap_or}
+use Rattle.std.specs.Prelude.{◌||◌, Bool, true, false, if◌then◌else◌, List, [], ◌∷◌, Option, Some, None, Result, codes, is_some, option_map, unwrap_or}
 use Rattle.kap_base.specs.Words.{◌>>=◌}
 use Rattle.task_graph.specs.declared.spec.Spec.{Spec}
 use Rattle.task_graph.specs.declared.spec.Spec.TheVariants as specs

@@ -1,5 +1,4 @@
-use Rattle.std.proofs.Common.{false, sym, ◌∙◌}
-use Rattle.kap_server.specs.Words.{request_in}
+use Rattle.std.proofs.Common.{sym, ◌∙◌}
 use Rattle.kap_server.proofs.CheckLaws.{check_answers}
 use Rattle.kap_server.proofs.RunLaws.{few_or_many, not_none, ran_as_asked, ran_not_many, ran_not_usage, ran_refused, ran_status}
 use Rattle.kap_server.proofs.commands.command.Goals as goal

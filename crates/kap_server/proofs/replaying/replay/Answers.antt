@@ -1,4 +1,4 @@
-use Rattle.std.proofs.Common.{◌≡◌, List, [], ◌∷◌, ◌++◌, refl, arith, sym, ap, ◌∙◌, map}
+use Rattle.std.proofs.Common.{[], ◌∷◌, ◌++◌, refl, arith, sym, ap, ◌∙◌, map}
 use Rattle.recording_file.specs.Reading.{Gives, GaveAll}
 use Rattle.task_run.specs.PointLaws.{effects_more}
 use Rattle.task_run.specs.Plans.{graph_of}

@@ -1,6 +1,6 @@
 use Rattle.std.proofs.Common.{◌≡◌, [], sym, ◌∙◌}
 use Rattle.std.proofs.lemmas.List.{nil_from_length}
-use Rattle.node_set.proofs.DraftLaws.{adds_none, adds_first}
+use Rattle.node_set.proofs.DraftLaws.{adds_none}
 use Rattle.node_set.proofs.drafts.+add_nodes.Goals as goal
 
 pub returns-in-None : goal.returns-in-None

@@ -1,4 +1,3 @@
-use Rattle.std.proofs.Common.{◌≡◌, sym, ◌∙◌}
 use Rattle.node_set.proofs.DraftLaws.{few, whole_begin, whole_nodes, whole_plan}
 use Rattle.node_set.proofs.tasks.plan_task.Goals as goal
 

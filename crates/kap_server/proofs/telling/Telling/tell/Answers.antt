@@ -1,4 +1,4 @@
-use Rattle.std.proofs.Common.{◌≡◌, Ok, Err}
+use Rattle.std.proofs.Common.{Ok, Err}
 use Rattle.std.specs.Prelude.{Result, OnOk}
 use Rattle.effect_text.specs.Lines.{events_of}
 use Rattle.task_run.specs.Lives.{effects_of}
