@@ -17,7 +17,7 @@ use Rattle.msg_template.specs.declared.fault.TemplateFault.{TemplateFault}
 use Rattle.msg_template.specs.declared.fault.TemplateFault.TheVariants as faults
 use Rattle.msg_template.specs.Actions.{action_at, action_of_words, are_spaces, cut_at_quote, dotted, ends_name, indexed, is_allowed, is_identifier, is_quote, listed, named, of_key, without_spaces}
 use Rattle.msg_template.specs.Reading.{opening, closing, words, Reads, last_words, next_action}
-use Rattle.msg_template.specs.Spellings.{SpellsAction, Spells, action_text, keyed, no_part, action_part, spaces, word_part}
+use Rattle.msg_template.specs.Spellings.{SpellsAction, Spells, action_spelling, keyed, no_part, action_part, spaces, word_part}
 
 -- ---- spaces
 
@@ -49,7 +49,7 @@ spaced (b ∷ bytes) = go (spaced bytes) (b == 32) refl
 
 -- ---- a dot and a name
 
-named_text : (name : List ℕ) (action : Action) → named name ≡ Some action → 46 ∷ name ≡ action_text action
+named_text : (name : List ℕ) (action : Action) → named name ≡ Some action → 46 ∷ name ≡ action_spelling action
 named_text name action e = id (bytes_eq name (codes "ID")) refl e
   where
     is : (text : List ℕ) → bytes_eq name text ≡ true → name ≡ text
@@ -58,60 +58,60 @@ named_text name action e = id (bytes_eq name (codes "ID")) refl e
     some : (a : Action) → Some a ≡ Some action → a ≡ action
     some a h = cc
 
-    time : (t : Bool) → bytes_eq name (codes "Time") ≡ t → cond t (Some actions.Time) None ≡ Some action → 46 ∷ name ≡ action_text action
-    time true t h = ap (λ (l : List ℕ). 46 ∷ l) (is (codes "Time") t) ∙ ap action_text (some actions.Time h)
+    time : (t : Bool) → bytes_eq name (codes "Time") ≡ t → cond t (Some actions.Time) None ≡ Some action → 46 ∷ name ≡ action_spelling action
+    time true t h = ap (λ (l : List ℕ). 46 ∷ l) (is (codes "Time") t) ∙ ap action_spelling (some actions.Time h)
     time false t h = absurd cc
 
     after_level : Option Action
     after_level = cond (bytes_eq name (codes "Time")) (Some actions.Time) None
 
-    level : (t : Bool) → bytes_eq name (codes "Level") ≡ t → cond t (Some actions.Level) after_level ≡ Some action → 46 ∷ name ≡ action_text action
-    level true t h = ap (λ (l : List ℕ). 46 ∷ l) (is (codes "Level") t) ∙ ap action_text (some actions.Level h)
+    level : (t : Bool) → bytes_eq name (codes "Level") ≡ t → cond t (Some actions.Level) after_level ≡ Some action → 46 ∷ name ≡ action_spelling action
+    level true t h = ap (λ (l : List ℕ). 46 ∷ l) (is (codes "Level") t) ∙ ap action_spelling (some actions.Level h)
     level false t h = time (bytes_eq name (codes "Time")) refl h
 
     after_group : Option Action
     after_group = cond (bytes_eq name (codes "Level")) (Some actions.Level) after_level
 
-    group : (t : Bool) → bytes_eq name (codes "Group") ≡ t → cond t (Some actions.Group) after_group ≡ Some action → 46 ∷ name ≡ action_text action
-    group true t h = ap (λ (l : List ℕ). 46 ∷ l) (is (codes "Group") t) ∙ ap action_text (some actions.Group h)
+    group : (t : Bool) → bytes_eq name (codes "Group") ≡ t → cond t (Some actions.Group) after_group ≡ Some action → 46 ∷ name ≡ action_spelling action
+    group true t h = ap (λ (l : List ℕ). 46 ∷ l) (is (codes "Group") t) ∙ ap action_spelling (some actions.Group h)
     group false t h = level (bytes_eq name (codes "Level")) refl h
 
     after_task : Option Action
     after_task = cond (bytes_eq name (codes "Group")) (Some actions.Group) after_group
 
-    task : (t : Bool) → bytes_eq name (codes "TaskName") ≡ t → cond t (Some actions.TaskName) after_task ≡ Some action → 46 ∷ name ≡ action_text action
-    task true t h = ap (λ (l : List ℕ). 46 ∷ l) (is (codes "TaskName") t) ∙ ap action_text (some actions.TaskName h)
+    task : (t : Bool) → bytes_eq name (codes "TaskName") ≡ t → cond t (Some actions.TaskName) after_task ≡ Some action → 46 ∷ name ≡ action_spelling action
+    task true t h = ap (λ (l : List ℕ). 46 ∷ l) (is (codes "TaskName") t) ∙ ap action_spelling (some actions.TaskName h)
     task false t h = group (bytes_eq name (codes "Group")) refl h
 
     after_name : Option Action
     after_name = cond (bytes_eq name (codes "TaskName")) (Some actions.TaskName) after_task
 
-    own : (t : Bool) → bytes_eq name (codes "Name") ≡ t → cond t (Some actions.Name) after_name ≡ Some action → 46 ∷ name ≡ action_text action
-    own true t h = ap (λ (l : List ℕ). 46 ∷ l) (is (codes "Name") t) ∙ ap action_text (some actions.Name h)
+    own : (t : Bool) → bytes_eq name (codes "Name") ≡ t → cond t (Some actions.Name) after_name ≡ Some action → 46 ∷ name ≡ action_spelling action
+    own true t h = ap (λ (l : List ℕ). 46 ∷ l) (is (codes "Name") t) ∙ ap action_spelling (some actions.Name h)
     own false t h = task (bytes_eq name (codes "TaskName")) refl h
 
     after_id : Option Action
     after_id = cond (bytes_eq name (codes "Name")) (Some actions.Name) after_name
 
-    id : (t : Bool) → bytes_eq name (codes "ID") ≡ t → cond t (Some actions.Id) after_id ≡ Some action → 46 ∷ name ≡ action_text action
-    id true t h = ap (λ (l : List ℕ). 46 ∷ l) (is (codes "ID") t) ∙ ap action_text (some actions.Id h)
+    id : (t : Bool) → bytes_eq name (codes "ID") ≡ t → cond t (Some actions.Id) after_id ≡ Some action → 46 ∷ name ≡ action_spelling action
+    id true t h = ap (λ (l : List ℕ). 46 ∷ l) (is (codes "ID") t) ∙ ap action_spelling (some actions.Id h)
     id false t h = own (bytes_eq name (codes "Name")) refl h
 
 module _ (of_id : Bool) (at : ℕ) (action : Action) where
   abbrev wrong : Result Action TemplateFault
   wrong = Err (faults.Action at)
 
-  listed_text : (name : List ℕ) → listed of_id at name ≡ Ok action → 46 ∷ name ≡ action_text action
+  listed_text : (name : List ℕ) → listed of_id at name ≡ Ok action → 46 ∷ name ≡ action_spelling action
   listed_text name h = go (named name) refl h
     where
-      go : (o : Option Action) → named name ≡ o → option_map_or (λ a. cond (is_allowed of_id a) (Ok a) (Err (faults.Field at))) o (Err (faults.Field at)) ≡ Ok action → 46 ∷ name ≡ action_text action
+      go : (o : Option Action) → named name ≡ o → option_map_or (λ a. cond (is_allowed of_id a) (Ok a) (Err (faults.Field at))) o (Err (faults.Field at)) ≡ Ok action → 46 ∷ name ≡ action_spelling action
       go None e h = absurd cc
       go (Some a) e h = named_text name action (e ∙ ap (λ (b : Action). Some b) (guard_ok (is_allowed of_id a) (faults.Field at) a action h).1)
 
   -- how many spaces stand behind the name
   record Dotted (bytes : List ℕ) : Type 0 where
     count : ℕ
-    is : 46 ∷ bytes ≡ action_text action ++ spaces count
+    is : 46 ∷ bytes ≡ action_spelling action ++ spaces count
 
   dotted_text : (bytes : List ℕ) → dotted of_id at bytes ≡ Ok action → Dotted bytes
   dotted_text bytes h =
@@ -121,20 +121,20 @@ module _ (of_id : Bool) (at : ℕ) (action : Action) where
       record {
         count = length (drop n bytes);
         is = ap (λ (l : List ℕ). 46 ∷ l) (sym (take-append-drop n bytes)) ∙ ap (λ (l : List ℕ). l ++ drop n bytes) (listed_text (take n bytes) told.1)
-            ∙ ap (λ (l : List ℕ). action_text action ++ l) behind;
+            ∙ ap (λ (l : List ℕ). action_spelling action ++ l) behind;
       }
 
   -- ---- words and a key between quotes
 
-  key_text : (words key : List ℕ) → of_key at words key ≡ Ok action → keyed words key ≡ action_text action
+  key_text : (words key : List ℕ) → of_key at words key ≡ Ok action → keyed words key ≡ action_spelling action
   key_text words key h = tags (bytes_eq words (codes "index .Tags ")) refl h
     where
-      fields : (t : Bool) → bytes_eq words (codes "index .Fields ") ≡ t → cond t (Ok (actions.Field key)) wrong ≡ Ok action → keyed words key ≡ action_text action
-      fields true t h = ap (λ (l : List ℕ). keyed l key) ((bytes_eq-Decides words (codes "index .Fields ")).0 t) ∙ ap action_text (ok_is (actions.Field key) action h)
+      fields : (t : Bool) → bytes_eq words (codes "index .Fields ") ≡ t → cond t (Ok (actions.Field key)) wrong ≡ Ok action → keyed words key ≡ action_spelling action
+      fields true t h = ap (λ (l : List ℕ). keyed l key) ((bytes_eq-Decides words (codes "index .Fields ")).0 t) ∙ ap action_spelling (ok_is (actions.Field key) action h)
       fields false t h = absurd cc
 
-      tags : (t : Bool) → bytes_eq words (codes "index .Tags ") ≡ t → cond t (Ok (actions.Tag key)) (cond (bytes_eq words (codes "index .Fields ")) (Ok (actions.Field key)) wrong) ≡ Ok action → keyed words key ≡ action_text action
-      tags true t h = ap (λ (l : List ℕ). keyed l key) ((bytes_eq-Decides words (codes "index .Tags ")).0 t) ∙ ap action_text (ok_is (actions.Tag key) action h)
+      tags : (t : Bool) → bytes_eq words (codes "index .Tags ") ≡ t → cond t (Ok (actions.Tag key)) (cond (bytes_eq words (codes "index .Fields ")) (Ok (actions.Field key)) wrong) ≡ Ok action → keyed words key ≡ action_spelling action
+      tags true t h = ap (λ (l : List ℕ). keyed l key) ((bytes_eq-Decides words (codes "index .Tags ")).0 t) ∙ ap action_spelling (ok_is (actions.Tag key) action h)
       tags false t h = fields (bytes_eq words (codes "index .Fields ")) refl h
 
   quoted : (bytes : List ℕ) (p : List ℕ × List ℕ) → cut_at_quote bytes ≡ Some p → bytes ≡ p.0 ++ (34 ∷ p.1)
@@ -169,7 +169,7 @@ module _ (of_id : Bool) (at : ℕ) (action : Action) where
             behind = length q.1;
             is = is ∙ ap (λ (l : List ℕ). p.0 ++ (34 ∷ l)) (quoted p.1 q e) ∙ ap (λ (l : List ℕ). l ++ tail) s.is ∙ append_assoc (spaces s.count) (without_spaces p.0) tail
                 ∙ ap (λ (l : List ℕ). spaces s.count ++ l) (sym (keyed_more (without_spaces p.0) q.0 q.1) ∙ ap (λ (l : List ℕ). l ++ q.1) key
-                ∙ ap (λ (l : List ℕ). action_text action ++ l) (all_spaces q.1 told.0));
+                ∙ ap (λ (l : List ℕ). action_spelling action ++ l) (all_spaces q.1 told.0));
           }
 
       go : (o : Option (List ℕ × List ℕ)) → cut_at_quote body ≡ o

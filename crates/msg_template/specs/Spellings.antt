@@ -11,15 +11,15 @@ abbrev pub keyed : List ℕ → List ℕ → List ℕ
 keyed words key = words ++ (34 ∷ (key ++ (34 ∷ [])))
 
 -- an action, without spaces around it
-abbrev pub action_text : Action → List ℕ
-action_text actions.Id = codes ".ID"
-action_text actions.Name = codes ".Name"
-action_text actions.TaskName = codes ".TaskName"
-action_text actions.Group = codes ".Group"
-action_text actions.Level = codes ".Level"
-action_text actions.Time = codes ".Time"
-action_text (actions.Tag key) = keyed (codes "index .Tags ") key
-action_text (actions.Field key) = keyed (codes "index .Fields ") key
+abbrev pub action_spelling : Action → List ℕ
+action_spelling actions.Id = codes ".ID"
+action_spelling actions.Name = codes ".Name"
+action_spelling actions.TaskName = codes ".TaskName"
+action_spelling actions.Group = codes ".Group"
+action_spelling actions.Level = codes ".Level"
+action_spelling actions.Time = codes ".Time"
+action_spelling (actions.Tag key) = keyed (codes "index .Tags ") key
+action_spelling (actions.Field key) = keyed (codes "index .Fields ") key
 
 abbrev pub spaces : ℕ → List ℕ
 spaces n = replicate n 32
@@ -28,7 +28,7 @@ spaces n = replicate n 32
 pub record SpellsAction (action : Action) (body : List ℕ) : Type 0 where
   pub before : ℕ
   pub behind : ℕ
-  pub is : body ≡ spaces before ++ (action_text action ++ spaces behind)
+  pub is : body ≡ spaces before ++ (action_spelling action ++ spaces behind)
 
 -- the text is that of the parts: words as they are, and actions between `{{` and `}}`
 pub data Spells : List ℕ → List Part → Type 0 where
