@@ -1,6 +1,8 @@
-ghost use Rattle.std.specs.Prelude.{◌≡◌, ◌++◌, [], OnOk};
+ghost use Rattle.std.specs.Prelude.{◌≡◌, ◌++◌, [], ◌∷◌, OnOk, nat_eq};
 ghost use Rattle.std.specs.Ordering.{nat_cmp};
-ghost use Rattle.std.specs.Cmp.Lexicographic.{slice_cmp};
+ghost use Rattle.std.specs.Cmp.{partial_equiv_from_equiv};
+ghost use Rattle.std.specs.Cmp.Lexicographic.{bytes_decides, nat_list_eq_equiv, pointwise, slice_cmp};
+ghost use Rattle.std.proofs.Common.{ap};
 ghost use Rattle.kap_base.specs.Groups.{tag_value};
 ghost use Rattle.node_core.specs.Keys.{group_key, dim_part, ended};
 ghost use Rattle.state_code.specs.Laws.{bytes_spelled};
@@ -10,6 +12,7 @@ use kap_base::{Bytes, Duplicate, NoMemory, Point, Tags, Text};
 use state_code::{CodeFault, Cursor, Spelled, put_bytes};
 use std::alloc::Global;
 use std::cmp::Ordering;
+use std::hash::{Hash, Hasher};
 use std::marker::Model;
 
 /// The group of a point, as one text: points have one key exactly where they are of one group.
@@ -98,6 +101,31 @@ impl Key {
         ensures { result ≡ slice_cmp nat_cmp self.now other.now }
     {
         self.bytes().cmp(&other.bytes())
+    }
+}
+
+impl PartialEq for Key {
+    ghost eq = { λ x y. pointwise nat_eq x y };
+
+    ghost laws = { partial_equiv_from_equiv nat_list_eq_equiv };
+
+    fn eq(&self, other: &Key) -> bool {
+        self.bytes() == other.bytes()
+    }
+}
+
+impl Eq for Key {
+    ghost laws = { nat_list_eq_equiv };
+}
+
+/// Its bytes in one piece.
+impl Hash for Key {
+    ghost hash_input = { λ k. k ∷ [] };
+
+    ghost respects_eq = { λ x y same. ap (λ k. k ∷ []) ((bytes_decides x y).0 same) };
+
+    fn hash<H: Hasher>(&self, state: &mut H) {
+        state.write(self.bytes());
     }
 }
 

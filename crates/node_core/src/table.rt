@@ -1,32 +1,38 @@
-ghost use Rattle.std.specs.Prelude.{◌≡◌, ◌<◌, ℕ, List, Option, [], IsTrue, IfOk, IfErr, OnOk, OnErr};
+ghost use Rattle.std.specs.Prelude.{◌≡◌, ◌++◌, ◌<◌, [], IfOk, IsTrue, OnOk, OnErr, length, map as each, take};
 ghost use Rattle.std.specs.FinMap as map;
+ghost use Rattle.std.specs.Map.Iter.{deref_pair};
 ghost use Rattle.kap_base.specs.Maps.{byte_order, is_below};
-ghost use Rattle.kap_base.specs.Places.{StandsAt, WouldStandAt};
 ghost use Rattle.node_core.specs.Groups.{turn_of};
 ghost use Rattle.node_core.specs.Keys.{group_key};
 ghost use Rattle.node_core.specs.Places.{IsCellOf};
 ghost use Rattle.state_code.specs.Laws.{bytes_spelled};
 ghost use Rattle.state_code.specs.Maps.{FitsMap, spell_map, read_map, map_spelled};
-ghost use Rattle.state_code.specs.Spelling.{FitsBytes, spell_bytes, read_bytes};
+ghost use Rattle.state_code.specs.Spelling.{FitsBytes, FitsList, FitsPair, spell_bytes, spell_list, spell_pair, read_bytes};
 
 use crate::key::Key;
 use crate::rule::Rule;
 use crate::said::Said;
+use indexmap::IndexMap;
 use kap_base::{Bytes, Duplicate, ItemList, NoMemory, Point};
-use state_code::{CodeFault, Cursor, Spelled, put_items};
+use state_code::{CodeFault, Cursor, Spelled, put_u32};
 use std::alloc::Global;
+use std::hash::{BuildHasherDefault, DefaultHasher};
 use std::marker::Model;
 
+/// The cells by their keys, in the order in which their groups came.
+type Cells<C> = IndexMap<Key, C, BuildHasherDefault<DefaultHasher>>;
+
 /// What is kept of each group, under the group's key. Contracts see a map in byte order of the keys.
+///
+/// A cell is found by the hash of its key, which is SipHash-1-3 under a fixed key.
 #[derive(Drop)]
 pub struct Table<C> {
-    cells: Vec<(Key, C)>,
+    cells: Cells<C>,
     /// Room for the key that is looked up.
     looked_up: Key,
 }
 
 impl<C> Model for Table<C> {
-    ghost use Rattle.std.specs.Prelude.{IsTrue};
     ghost use Rattle.std.specs.FinMap as map;
     ghost use Rattle.std.specs.Ordering.{nat_cmp};
     ghost use Rattle.std.specs.Cmp.Lexicographic.{slice_cmp};
@@ -36,9 +42,7 @@ impl<C> Model for Table<C> {
 
     ghost coded = { map.code (coded_list coded_ℕ) C.code };
 
-    ghost view = { λ t. map.from_sorted t.cells.items };
-
-    ghost invariant = { λ t. IsTrue (map.is_sorted (slice_cmp nat_cmp) t.cells.items) };
+    ghost view = { λ t. map.from_entries t.cells.entries };
 }
 
 impl<C: Drop> Table<C> {
@@ -47,7 +51,7 @@ impl<C: Drop> Table<C> {
         ensures { result ≡ map.empty }
     {
         Table {
-            cells: Vec::new(alloc),
+            cells: IndexMap::with_hasher(alloc, BuildHasherDefault::new()),
             looked_up: Key::new(alloc),
         }
     }
@@ -58,45 +62,67 @@ impl<C: Drop> Table<C> {
     {
         self.cells.len()
     }
-
-    /// The keys of the groups and their cells, in byte order of the keys.
-    pub fn cells(&self) -> &[(Key, C)]
-        ensures { result.now ≡ map.entries self.now }
-    {
-        &self.cells
-    }
-}
-
-/// Where the key's cell is, or where it would go.
-fn search<C>(cells: &[(Key, C)], key: &Key) -> Result<usize, usize>
-    requires { IsTrue (map.is_sorted byte_order cells.now) }
-    ensures stands { IfOk result (StandsAt key.now cells.now) }
-    ensures absent { IfErr result (WouldStandAt key.now cells.now) }
-{
-    cells.binary_search_by(|cell| cell.0.cmp(key))
 }
 
 /// Where the key's cell is; a key that has none gets the first one.
 fn cell_at<R: Rule>(
     rule: &R,
     alloc: Global,
-    cells: &mut Vec<(Key, R::Cell)>,
+    cells: &mut Cells<R::Cell>,
     key: &Key,
 ) -> Result<usize, NoMemory>
-    requires { IsTrue (map.is_sorted byte_order cells.old.items) }
     ensures ok { IfOk result
-        (IsCellOf cells.old.items cells.new.items key.now (R.kept rule.now [])) }
-    ensures err { OnErr result (cells.new.items ≡ cells.old.items) }
+        (IsCellOf cells.old.entries cells.new.entries key.now (R.kept rule.now [])) }
+    ensures err { OnErr result (cells.new.entries ≡ cells.old.entries) }
 {
-    match search(cells, key) {
-        Ok(at) => Ok(at),
-        Err(at) => {
-            let first = rule.first(alloc);
+    match cells.get_index_of(key) {
+        Some(at) => Ok(at),
+        None => {
+            let at = cells.len();
             let key = key.copy(alloc)?;
-            cells.insert(at, (key, first))?;
+            cells.insert(key, rule.first(alloc))?;
             Ok(at)
         }
     }
+}
+
+/// The keys and their cells, in byte order of the keys.
+fn in_byte_order<C>(cells: &Cells<C>) -> Result<Vec<(&Key, &C)>, NoMemory>
+    ensures { IfOk result (λ order. each deref_pair order.items
+        ≡ map.entries (map.from_entries {R = byte_order} cells.now.entries)) }
+{
+    let mut order: Vec<(&Key, &C)> = cells.iter().collect(*cells.allocator())?;
+    order.sort_unstable_by(|one, other| one.0.cmp(other.0));
+    Ok(order)
+}
+
+/// Appends the number of cells as a `u32`, and each cell's key and then the cell.
+fn put_cells<C: Spelled>(cells: &[(&Key, &C)], to: &mut Bytes) -> Result<(), NoMemory>
+    ensures bytes { OnOk result (to.new ≡ to.old
+        ++ spell_list (spell_pair spell_bytes C.spell) (each deref_pair cells.now)) }
+    ensures fits { OnOk result
+        (FitsList (FitsPair FitsBytes C.fits) (each deref_pair cells.now)) }
+    ensures before { take (length to.old) to.new ≡ to.old }
+{
+    let Ok(count) = u32::try_from(cells.len()) else {
+        return Err(NoMemory);
+    };
+    put_u32(to, count)?;
+    'putting: for pair in cells {
+        put_cell(pair.0, pair.1, to)?;
+    }
+    Ok(())
+}
+
+/// Appends a key and then its cell.
+fn put_cell<C: Spelled>(key: &Key, cell: &C, to: &mut Bytes) -> Result<(), NoMemory>
+    ensures bytes { OnOk result (to.new ≡ to.old
+        ++ spell_pair spell_bytes C.spell (key.now, cell.now)) }
+    ensures fits { OnOk result (FitsPair FitsBytes C.fits (key.now, cell.now)) }
+    ensures before { take (length to.old) to.new ≡ to.old }
+{
+    key.append_spelling(to)?;
+    cell.append_spelling(to)
 }
 
 /// Whether the keys rise.
@@ -123,6 +149,15 @@ fn is_below<C>(key: &Key, others: &[(Key, C)]) -> bool
     }
 }
 
+/// The cells by their keys, which rise.
+fn by_key<C: Drop>(alloc: Global, cells: Vec<(Key, C)>) -> Result<Cells<C>, NoMemory>
+    requires { IsTrue (map.is_sorted byte_order cells.items) }
+    ensures { IfOk result
+        (λ m. map.from_entries {R = byte_order} m.entries ≡ map.from_sorted cells.items) }
+{
+    Ok(cells.into_iter().collect(alloc)?)
+}
+
 /// The number of groups as a `u32`, and in byte order of the keys each group's key and then its cell.
 impl<C: Spelled + Drop> Spelled for Table<C> {
     ghost fits = { FitsMap FitsBytes C.fits };
@@ -134,7 +169,7 @@ impl<C: Spelled + Drop> Spelled for Table<C> {
     ghost spelled = { map_spelled byte_order bytes_spelled C.spelled };
 
     fn append_spelling(&self, to: &mut Bytes) -> Result<(), NoMemory> {
-        put_items(self.cells(), to)
+        put_cells(&in_byte_order(&self.cells)?, to)
     }
 
     fn read_spelling(alloc: Global, from: &mut Cursor) -> Result<Table<C>, CodeFault> {
@@ -143,7 +178,7 @@ impl<C: Spelled + Drop> Spelled for Table<C> {
             return Err(CodeFault::At(from.offset()));
         }
         Ok(Table {
-            cells,
+            cells: by_key(alloc, cells)?,
             looked_up: Key::new(alloc),
         })
     }
@@ -167,5 +202,5 @@ pub(crate) fn feed_cell<R: Rule>(
     table.looked_up.become_key_of(&point)?;
     let at = cell_at(rule, alloc, &mut table.cells, &table.looked_up)?;
     let cell = &mut table.cells[at];
-    rule.feed(alloc, &mut cell.1, port, point)
+    rule.feed(alloc, cell, port, point)
 }
