@@ -1,8 +1,8 @@
 //! A log and a head whose call is stopped at each of its device calls, and what a crash then leaves.
 
-use crate::calls::{add, holds, next_behind};
-use gate_log::{LogFault, make, make_head, open_log, read_head, switch};
-use kap_io::{Disk, MemDisk, Part, Pick};
+use crate::calls::{add, next_behind};
+use gate_log::{make, make_head, open_log, read_head, switch};
+use kap_io::{MemDisk, Part, Pick};
 use std::alloc::Global;
 use std::test::Fail;
 
@@ -85,48 +85,6 @@ fn a_switch_is_all_or_nothing(rt: HostRuntime) -> Result<(), Fail> {
             let found = read_head(&mut disk.crashed(*pick)?);
             assert_eq!(rt; found, Ok(*want), "stopped behind {calls}, {pick:?}");
         }
-    }
-    Ok(())
-}
-
-/// What an append answers whose disk fails at this call alone, and how long the log then is.
-fn failed_once(alloc: Global, call: u64) -> Result<(Result<(), LogFault>, u64), Fail> {
-    let mut fails = Vec::new(alloc);
-    fails.push(call)?;
-    let mut disk = MemDisk::new(alloc, fails);
-    let mut log = make(alloc, &mut disk, Part::Left)?;
-    let added = add(&mut log, &mut disk, b"body");
-    let again = open_log(alloc, &mut disk, Part::Left)?;
-    Ok((added, again.end()))
-}
-
-#[test]
-fn a_call_that_fails_is_a_disk_fault(rt: HostRuntime) -> Result<(), Fail> {
-    for (call, end) in [(4, 8), (5, 8), (6, 8), (7, 17)] {
-        let found = failed_once(rt.alloc(), call)?;
-        assert_eq!(rt; found, (Err(LogFault::DiskFault), end));
-    }
-    Ok(())
-}
-
-#[test]
-fn a_crash_fills_what_was_written_since_the_sync(rt: HostRuntime) -> Result<(), Fail> {
-    let alloc = rt.alloc();
-    let mut disk = MemDisk::new(alloc, Vec::new(alloc));
-    disk.write_at(Part::Left, 0, b"abcdef")?;
-    disk.sync(Part::Left)?;
-    disk.write_at(Part::Left, 2, b"XY")?;
-    disk.write_at(Part::Left, 8, b"Z")?;
-    disk.cut(Part::Right, 2)?;
-    let cases: [(Pick, &[u8], &[u8]); 3] = [
-        (Pick::Old, b"abcdef", b""),
-        (Pick::New, b"abXYef\0\0Z", b"\0\0"),
-        (Pick::Fill(b'?'), b"ab??ef\0\0?", b"\0\0"),
-    ];
-    for (pick, left, right) in cases {
-        let mut crashed = disk.crashed(pick)?;
-        assert!(rt; holds(&mut crashed, Part::Left, left)?, "{pick:?}");
-        assert!(rt; holds(&mut crashed, Part::Right, right)?, "{pick:?}");
     }
     Ok(())
 }

@@ -1,7 +1,7 @@
 //! The bytes of a log and of a head, and that their calls find memory.
 
 use crate::calls::{add, holds, next_behind};
-use gate_log::{BODY_LIMIT, LogFault, make, make_head, open_log, read_head, switch};
+use gate_log::{LogFault, make, make_head, open_log, read_head, switch};
 use kap_io::{Disk, DiskCall, DiskWork, MemDisk, Part};
 use std::alloc::Global;
 use std::test::Fail;
@@ -47,48 +47,6 @@ fn bodies_are_read_back(rt: HostRuntime) -> Result<(), Fail> {
     assert_eq!(rt; next_behind(&again, &mut disk, 8, b"first"), Ok(18));
     assert_eq!(rt; next_behind(&again, &mut disk, 18, b""), Ok(23));
     assert_eq!(rt; next_behind(&again, &mut disk, 23, b""), Ok(0));
-    Ok(())
-}
-
-/// Why these bytes are no log.
-fn refusal(alloc: Global, bytes: &[u8]) -> Result<Option<LogFault>, Fail> {
-    let mut disk = MemDisk::new(alloc, Vec::new(alloc));
-    disk.write_at(Part::Left, 0, bytes)?;
-    match open_log(alloc, &mut disk, Part::Left) {
-        Ok(_) => Ok(None),
-        Err(fault) => Ok(Some(fault)),
-    }
-}
-
-#[test]
-fn what_is_no_log_is_refused(rt: HostRuntime) -> Result<(), Fail> {
-    let cases: [(&[u8], Option<LogFault>); 7] = [
-        (b"", Some(LogFault::Header)),
-        (b"KAPLOG01", Some(LogFault::Header)),
-        (b"KAPLOG02\0", Some(LogFault::Header)),
-        (b"KAPLOG01\xa5\0\0", Some(LogFault::Torn(8))),
-        (b"KAPLOG01\xa5\0\0\0\x01x", Some(LogFault::Torn(8))),
-        (
-            b"KAPLOG01\xa5\0\0\0\x01x\xa5\0\0\0\x02x\0",
-            Some(LogFault::Torn(14)),
-        ),
-        (b"KAPLOG01\x01\xff", None),
-    ];
-    for (bytes, fault) in cases {
-        assert_eq!(rt; refusal(rt.alloc(), bytes)?, fault);
-    }
-    Ok(())
-}
-
-#[test]
-fn a_longer_body_is_refused(rt: HostRuntime) -> Result<(), Fail> {
-    let alloc = rt.alloc();
-    let mut disk = MemDisk::new(alloc, Vec::new(alloc));
-    let mut log = make(alloc, &mut disk, Part::Left)?;
-    let body = vec![in alloc; 7; BODY_LIMIT + 1]?;
-    assert_eq!(rt; add(&mut log, &mut disk, &body), Err(LogFault::Long));
-    assert_eq!(rt; disk.calls().len(), 3);
-    assert!(rt; !log.spent());
     Ok(())
 }
 
