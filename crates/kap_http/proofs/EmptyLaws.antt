@@ -1,8 +1,8 @@
 -- A whole head has an empty line behind a line feed.
-use Rattle.std.proofs.Common.{◌≡◌, ℕ, ◌+◌, Bool, true, false, ◌||◌, List, [], ◌∷◌, ◌++◌, map, refl, sym, ap, ◌∙◌, append_assoc}
+use Rattle.std.proofs.Common.{◌≡◌, ℕ, zero, suc, ◌+◌, ◌-◌, ◌==◌, Bool, true, false, ◌&&◌, ◌||◌, List, [], ◌∷◌, ◌++◌, take, drop, map, refl, sym, ap, ◌∙◌, append_assoc, arith}
 use Rattle.httparse.specs.Grammar.{LineEnd, crlf, lf, print_end, print_blank, RequestHead, print_request, HasNoRequest}
 use Rattle.httparse.proofs.GrammarLemmas.{cons-append}
-use Rattle.kap_http.specs.Lines.{has_empty_line}
+use Rattle.kap_http.specs.Lines.{begins_empty, has_empty_line}
 use Rattle.kap_http.proofs.CutLaws.{joined}
 use Rattle.kap_http.proofs.RoomLaws.{head_is, head_lines, first_line, field_line}
 
@@ -40,3 +40,29 @@ pub no_head : (bytes : List ℕ) → has_empty_line bytes ≡ false → HasNoReq
 no_head bytes none h rest reads =
     let there = ap has_empty_line reads.1 ∙ head_has h rest in
     absurd cc
+
+-- an empty line is seen in two bytes
+begins_seen : (n : ℕ) (bytes : List ℕ) → begins_empty (take (suc (suc n)) bytes) ≡ begins_empty bytes
+begins_seen n [] = refl
+begins_seen n (b ∷ []) = refl
+begins_seen n (b ∷ c ∷ bytes) = refl
+
+both_fail : (t v : Bool) → (t || v) ≡ false → (t ≡ false) × (v ≡ false)
+both_fail true v e = absurd cc
+both_fail false v e = (refl, e)
+
+-- where none was seen, one stands in what is new and the two bytes before it, or nowhere
+seen_none : (n : ℕ) (bytes : List ℕ) → has_empty_line (take (suc (suc n)) bytes) ≡ false → has_empty_line (drop n bytes) ≡ has_empty_line bytes
+seen_none zero bytes none = refl
+seen_none (suc n) [] none = refl
+seen_none (suc n) (b ∷ bytes) none =
+    let parts = both_fail (b == 10 && begins_empty (take (suc (suc n)) bytes)) (has_empty_line (take (suc (suc n)) bytes)) none in
+    let here : (b == 10 && begins_empty bytes) ≡ false = rw (begins_seen n bytes) at parts.0 in
+    rw here (seen_none n bytes parts.1)
+
+pub line_behind : (bytes : List ℕ) (seen : ℕ) → has_empty_line (take seen bytes) ≡ false → has_empty_line (drop (seen - 2) bytes) ≡ has_empty_line bytes
+line_behind bytes zero none = refl
+line_behind bytes (suc zero) none = refl
+line_behind bytes (suc (suc n)) none =
+    let back : suc (suc n) - 2 ≡ n = omega arith in
+    rw back (seen_none n bytes none)

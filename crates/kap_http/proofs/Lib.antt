@@ -9,3 +9,7 @@ pub mod EmptyLaws
 pub mod OneLaws
 pub mod StreamLaws
 pub mod SizeLaws
+pub mod QueryLaws
+pub mod NameLaws
+pub mod BodyLaws
+pub mod RefusalLaws

@@ -38,7 +38,7 @@ len_within limit fields size e = by_refused (list_any (shows signs.Transfer) fie
     by_refused true e = absurd cc
     by_refused false e = by_len (length_of (lengths fields)) e
 
-limit_most : (target : List ℕ) → limit_of target ≤ 8388608
+pub limit_most : (target : List ℕ) → limit_of target ≤ 8388608
 limit_most target = elim (leads_to_write (way_of (path_of target))) as (λ t. (if t then 8388608 else 1048576) ≤ 8388608) [ true ↦ omega arith | false ↦ omega arith ]
 
 -- the request that is made, and the size of its body

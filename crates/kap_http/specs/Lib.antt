@@ -6,3 +6,9 @@ pub mod Reading
 pub mod Requests
 pub mod Replied
 pub mod Replies
+pub mod Refusals
+pub mod Queries
+pub mod Asked
+pub mod Bodies
+pub mod Routes
+pub mod Served

@@ -21,10 +21,10 @@ unfoldable pub request_of : List ℕ → List ℕ → ℕ → List Pair → ℕ 
 request_of method target minor fields len rest = do
   size ← body_len (limit_of target) fields
   Ok (
-    if nat_le size (length rest)
-    then Some (record { method = method; target = target; last = is_last minor fields; body = take size rest }, len + size)
-    else None
-  )
+      if nat_le size (length rest)
+      then Some (record { method = method; target = target; last = is_last minor fields; body = take size rest }, len + size)
+      else None
+      )
 
 -- what a whole head gives, with the bytes behind it
 abbrev pub head_gives : RequestHead → List ℕ → Result (Option (RequestValue × ℕ)) HttpFault

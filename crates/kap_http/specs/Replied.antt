@@ -19,6 +19,10 @@ is_status status = list_any (λ s. status == s) statuses
 abbrev pub is_bare : ℕ → Bool
 is_bare status = status == 204 || status == 503
 
+-- a reply of this status refuses
+abbrev pub refuses : ℕ → Bool
+refuses status = is_status status && not (status == 200) && not (status == 204)
+
 -- what holds of each reply: it is of such a status, and has no body at 204 and 503
 pub record IsReply (reply : ReplyValue) : Type 0 where
   pub status : IsTrue (is_status reply.status)

@@ -46,6 +46,11 @@ error_body cause = codes "{\"error\":\"" ++ cause ++ codes "\"}"
 abbrev pub out_of_memory : Bool → ReplyValue
 out_of_memory last = record { status = 503; body = []; last = last }
 
+-- the reply of a status that refuses, for this cause; at 503 there is no body
+abbrev pub error_reply : ℕ → List ℕ → ReplyValue
+error_reply status cause =
+    if status == 503 then out_of_memory false else record { status = status; body = error_body cause; last = false }
+
 -- the reply to bytes that hold no request; it is the last
 abbrev pub fault_reply : HttpFault → ReplyValue
 fault_reply faults.Bad = record { status = 400; body = error_body (codes "bad request"); last = true }

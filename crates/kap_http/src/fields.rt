@@ -52,10 +52,7 @@ pub fn any_shows(sign: Sign, buffer: &[u8], headers: &[HeaderSpan]) -> bool
 }
 
 /// The value of the one field that gives the length of the body; `Bad` where there are more.
-fn length_field<'b>(
-    buffer: &'b [u8],
-    headers: &[HeaderSpan],
-) -> Result<Option<&'b [u8]>, HttpFault>
+fn length_field<'b>(buffer: &'b [u8], headers: &[HeaderSpan]) -> Result<Option<&'b [u8]>, HttpFault>
     requires { All (IsHeaderWithin (length buffer.now)) headers.now }
     ensures found { IfOk result (λ o. lengths (map (header_bytes buffer.now) headers.now) ≡ option_to_list (option_map (λ v. v.now) o)) }
     ensures fault { IfErr result (λ f. f ≡ HttpFault.Bad) }

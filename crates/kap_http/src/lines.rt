@@ -1,6 +1,6 @@
 //! The lines of a head.
 
-ghost use Rattle.std.specs.Prelude.{◌≡◌, false, option_map};
+ghost use Rattle.std.specs.Prelude.{◌≡◌, ◌≤◌, false, length, option_map, take};
 ghost use Rattle.httparse.specs.Grammar.{HasNoRequest};
 ghost use Rattle.kap_http.specs.Lines.{begins_empty, behind_feed, behind_lines, has_empty_line, has_more_lines, skip_newlines};
 
@@ -65,6 +65,7 @@ fn begins_empty(bytes: &[u8]) -> bool
     }
 }
 
+/// Whether an empty line stands behind some line feed.
 fn holds_empty_line(bytes: &[u8]) -> bool
     ensures { result ≡ has_empty_line bytes.now }
 {
@@ -78,12 +79,26 @@ fn holds_empty_line(bytes: &[u8]) -> bool
     false
 }
 
+/// The same of bytes whose front has none, by what is new and the two bytes before it.
+#[tactic(auto, using(crate::proofs::EmptyLaws::line_behind))]
+fn empty_line_behind(bytes: &[u8], seen: usize) -> bool
+    requires within { seen ≤ length bytes.now }
+    requires none { has_empty_line (take seen bytes.now) ≡ false }
+    ensures { result ≡ has_empty_line bytes.now }
+{
+    let (_, new) = bytes.split_at(seen.saturating_sub(2));
+    holds_empty_line(new)
+}
+
 /// Whether an empty line stands behind some line feed. Where none does, no whole head stands in the bytes: who reads a head that
-/// comes in many pieces looks for it in what is new, and reads once it is there, or 16,384 bytes are.
+/// comes in many pieces looks for it, and reads once it is there, or 16,384 bytes are. The first `seen` bytes are known to have
+/// none, so that each byte is looked at once.
 #[tactic(auto, using(crate::proofs::EmptyLaws::no_head))]
-pub fn has_empty_line(bytes: &[u8]) -> bool
+pub fn has_empty_line(bytes: &[u8], seen: usize) -> bool
+    requires within { seen ≤ length bytes.now }
+    requires none { has_empty_line (take seen bytes.now) ≡ false }
     ensures line { result ≡ has_empty_line bytes.now }
     ensures none { result ≡ false → HasNoRequest bytes.now }
 {
-    holds_empty_line(bytes)
+    empty_line_behind(bytes, seen)
 }

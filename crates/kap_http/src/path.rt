@@ -1,6 +1,6 @@
 //! Targets: their path, part by part, and where it leads.
 
-ghost use Rattle.std.specs.Prelude.{◌≡◌, ◌≤◌, IsSome, IsTrue, bytes_eq, codes, length, option_map, position};
+ghost use Rattle.std.specs.Prelude.{◌≡◌, ◌≤◌, IfSome, bytes_eq, codes, length, option_map, position};
 ghost use Rattle.std.specs.List.{list_any, position_or_len};
 ghost use Rattle.percent_encoding.specs.Percent.{percent_decode};
 ghost use Rattle.kap_http.specs.Paths.{all_or_one, is_only, is_question, is_slash, leads_to_write, limit_of, only_part, path_of, query_of, strip, strip_both, tasks_or_topics, under_version, way_of};
@@ -9,7 +9,7 @@ use percent_encoding::percent_decode;
 
 /// Where a path leads.
 #[derive(Clone, Copy, Debug, PartialEq, Eq)]
-pub enum Place {
+pub(crate) enum Place {
     /// `/kapacitor/v1/ping`.
     Ping,
     /// `/kapacitor/v1/write`, and `/write`.
@@ -70,7 +70,8 @@ fn part_len(path: &[u8]) -> usize
 
 /// The path behind its first part, where that is the word.
 fn strip<'a>(path: &'a [u8], word: &[u8]) -> Option<&'a [u8]>
-    ensures { option_map (λ rest. rest.now) result ≡ strip word.now path.now }
+    ensures rest { option_map (λ rest. rest.now) result ≡ strip word.now path.now }
+    ensures len { IfSome result (λ rest. length rest.now ≤ length path.now) }
 {
     let Some((b'/', rest)) = path.split_first() else {
         return None;
@@ -85,7 +86,8 @@ fn strip<'a>(path: &'a [u8], word: &[u8]) -> Option<&'a [u8]>
 
 /// The path behind two parts, where those are the words.
 fn strip_both<'a>(path: &'a [u8], first: &[u8], second: &[u8]) -> Option<&'a [u8]>
-    ensures { option_map (λ rest. rest.now) result ≡ strip_both first.now second.now path.now }
+    ensures rest { option_map (λ rest. rest.now) result ≡ strip_both first.now second.now path.now }
+    ensures len { IfSome result (λ rest. length rest.now ≤ length path.now) }
 {
     let rest = strip(path, first)?;
     strip(rest, second)
@@ -103,21 +105,19 @@ fn is_only(path: &[u8], word: &[u8]) -> bool
 
 /// The one part of a path, which may be empty, with its escapes.
 fn only_part(path: &[u8]) -> Option<&[u8]>
-    ensures { option_map (λ part. part.now) result ≡ only_part path.now }
+    ensures part { option_map (λ part. part.now) result ≡ only_part path.now }
+    ensures len { IfSome result (λ part. length part.now ≤ length path.now) }
 {
     let Some((b'/', part)) = path.split_first() else {
         return None;
     };
-    if has_slash(part) {
-        None
-    } else {
-        Some(part)
-    }
+    if has_slash(part) { None } else { Some(part) }
 }
 
 /// A list of all, or the one of a name.
 fn all_or_one(path: &[u8], all: Place, one: Place) -> Option<(Place, &[u8])>
-    ensures { option_map (λ w. (w.0, w.1.now)) result ≡ all_or_one all one path.now }
+    ensures way { option_map (λ w. (w.0, w.1.now)) result ≡ all_or_one all one path.now }
+    ensures len { IfSome result (λ w. length w.1.now ≤ length path.now) }
 {
     if path.is_empty() {
         return Some((all, path));
@@ -127,9 +127,10 @@ fn all_or_one(path: &[u8], all: Place, one: Place) -> Option<(Place, &[u8])>
 }
 
 fn tasks_or_topics(path: &[u8]) -> Option<(Place, &[u8])>
-    ensures { option_map (λ w. (w.0, w.1.now)) result
+    ensures way { option_map (λ w. (w.0, w.1.now)) result
         ≡ tasks_or_topics (strip (codes "tasks") path.now)
-            (strip_both (codes "alerts") (codes "topics") path.now) }
+        (strip_both (codes "alerts") (codes "topics") path.now) }
+    ensures len { IfSome result (λ w. length w.1.now ≤ length path.now) }
 {
     if let Some(rest) = strip(path, b"tasks") {
         return all_or_one(rest, Place::Tasks, Place::Task);
@@ -140,7 +141,8 @@ fn tasks_or_topics(path: &[u8]) -> Option<(Place, &[u8])>
 
 /// Where the path leads behind `/kapacitor/v1`.
 fn under_version(path: &[u8]) -> Option<(Place, &[u8])>
-    ensures { option_map (λ w. (w.0, w.1.now)) result ≡ under_version path.now }
+    ensures way { option_map (λ w. (w.0, w.1.now)) result ≡ under_version path.now }
+    ensures len { IfSome result (λ w. length w.1.now ≤ length path.now) }
 {
     if is_only(path, b"ping") {
         return Some((Place::Ping, b""));
@@ -154,7 +156,8 @@ fn under_version(path: &[u8]) -> Option<(Place, &[u8])>
 /// Where a path leads, and the part that names a task or a topic there, with its escapes; it is empty elsewhere.
 #[tactic(auto, unfolding(crate::specs::Paths::way_of))]
 pub(crate) fn way_of(path: &[u8]) -> Option<(Place, &[u8])>
-    ensures { option_map (λ w. (w.0, w.1.now)) result ≡ way_of path.now }
+    ensures way { option_map (λ w. (w.0, w.1.now)) result ≡ way_of path.now }
+    ensures len { IfSome result (λ w. length w.1.now ≤ length path.now) }
 {
     if is_only(path, b"write") {
         return Some((Place::Write, b""));
@@ -166,7 +169,8 @@ pub(crate) fn way_of(path: &[u8]) -> Option<(Place, &[u8])>
 /// The path of a target: what stands before its first question mark.
 #[tactic(auto, using(crate::proofs::PlaceLaws::none_place))]
 pub(crate) fn path_of(target: &[u8]) -> &[u8]
-    ensures { result.now ≡ path_of target.now }
+    ensures path { result.now ≡ path_of target.now }
+    ensures len { length result.now ≤ length target.now }
 {
     match question_place(target) {
         Some(at) => &target[..at],
@@ -177,7 +181,8 @@ pub(crate) fn path_of(target: &[u8]) -> &[u8]
 /// The query of a target: what stands behind its first question mark.
 #[tactic(auto, using(crate::proofs::PlaceLaws::none_place))]
 pub(crate) fn query_of(target: &[u8]) -> &[u8]
-    ensures { result.now ≡ query_of target.now }
+    ensures query { result.now ≡ query_of target.now }
+    ensures len { length result.now ≤ length target.now }
 {
     match question_place(target) {
         Some(at) => &target[at + 1..],

@@ -54,7 +54,11 @@ fn make(
     requires short { length target.now ≤ 16384 }
     requires small { length body.now ≤ limit_of target.now }
     ensures { IfOk result (λ r. r ≡ record {
-        method = method.now; target = target.now; last = last; body = body.now }) }
+      method = method.now;
+      target = target.now;
+      last = last;
+      body = body.now;
+    }) }
 {
     Ok(Request {
         method: text_of(alloc, method)?,
@@ -89,7 +93,7 @@ fn request(
     requires short { length buffer.now ≤ 16384 }
     ensures { Answers HttpFault.NoMemory result
         (request_of (span_bytes buffer.now spans.method) (span_bytes buffer.now spans.path)
-            spans.version (map (header_bytes buffer.now) headers.now) spans.len rest.now) }
+        spans.version (map (header_bytes buffer.now) headers.now) spans.len rest.now) }
 {
     let target = spans.path.of(buffer);
     let size = body_len(buffer, headers, limit_of(target))?;
@@ -115,10 +119,7 @@ fn front_of(bytes: &[u8]) -> &[u8]
     front
 }
 
-fn first_request(
-    alloc: Global,
-    bytes: &[u8],
-) -> Result<Option<(Request, usize)>, HttpFault>
+fn first_request(alloc: Global, bytes: &[u8]) -> Result<Option<(Request, usize)>, HttpFault>
     ensures { result ≢ Err HttpFault.NoMemory → Gives bytes.now result }
 {
     let front = front_of(bytes);
@@ -149,10 +150,7 @@ fn first_request(
 /// `Bad` comes exactly where no head of at most 64 fields can come of the first 16,384 bytes; or where a whole head has a
 /// `Transfer-Encoding`, a `Content-Encoding` other than `identity`, more than one `Content-Length`, or one that isn't digits.
 /// `Large` comes exactly where none of these holds and the length is above the limit of the path. A refusal changes nothing.
-pub fn read_request(
-    alloc: Global,
-    bytes: &[u8],
-) -> Result<Option<(Request, usize)>, HttpFault>
+pub fn read_request(alloc: Global, bytes: &[u8]) -> Result<Option<(Request, usize)>, HttpFault>
     ensures gives { result ≢ Err HttpFault.NoMemory → Gives bytes.now result }
     ensures within { IfOk result (λ o. IfSome o
         (λ x. (0 < x.1) × (x.1 ≤ length bytes.now))) }

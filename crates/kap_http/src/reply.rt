@@ -82,11 +82,7 @@ fn add_fields(text: &mut Bytes, status: u16, len: usize) -> Result<(), NoMemory>
 fn last_text(last: bool) -> &'static [u8]
     ensures { result.now ≡ last_text last }
 {
-    if last {
-        b"Connection: close\r\n"
-    } else {
-        b""
-    }
+    if last { b"Connection: close\r\n" } else { b"" }
 }
 
 /// The bytes of a reply.
