@@ -12,13 +12,10 @@ use Rattle.kap_http.specs.declared.fault.HttpFault.TheVariants as faults
 use Rattle.kap_http.specs.Requested.{RequestValue}
 use Rattle.kap_http.specs.Fields.{Pair, body_len}
 use Rattle.kap_http.specs.Paths.{limit_of}
-use Rattle.kap_http.specs.Reading.{request_of, head_gives, HasHead, CanBeHead, Waits, IsTooLong, IsBad, Gives, is_last}
+use Rattle.kap_http.specs.Reading.{Given, request_from, request_of, head_gives, HasHead, CanBeHead, Waits, IsTooLong, IsBad, Gives, is_last}
 use Rattle.kap_base.specs.Words.{◌>>=◌}
 use Rattle.kap_http.proofs.CutLaws.{joined}
 use Rattle.kap_http.proofs.RoomLaws.{head_is, first_line, field_line}
-
-abbrev Given : Type 0
-Given = Result (Option (RequestValue × ℕ)) HttpFault
 
 -- ---- a small head and what excludes it
 
@@ -85,17 +82,14 @@ size_stays len size make rest more x e = by_test (nat_le size (length rest)) ref
         rw (test, take-append-le size rest more le) e
 
 -- the request that a head makes of its body
-abbrev pub made_of : List ℕ → List ℕ → ℕ → List Pair → List ℕ → RequestValue
-made_of method target minor fields body = record { method = method; target = target; last = is_last minor fields; body = body }
-
 pub request_stays : (method target : List ℕ) (minor : ℕ) (fields : List Pair) (len : ℕ) (rest more : List ℕ) (x : RequestValue × ℕ)
     → request_of method target minor fields len rest ≡ Ok (Some x) → request_of method target minor fields len (rest ++ more) ≡ Ok (Some x)
 unfolding request_of
 request_stays method target minor fields len rest more x e = by_size (body_len (limit_of target) fields) e
   where
-    by_size : (b : Result ℕ HttpFault) → (b >>= λ size. with_size len (made_of method target minor fields) size rest) ≡ Ok (Some x)
-        → (b >>= λ size. with_size len (made_of method target minor fields) size (rest ++ more)) ≡ Ok (Some x)
-    by_size (Ok size) e = size_stays len size (made_of method target minor fields) rest more x e
+    by_size : (b : Result ℕ HttpFault) → (b >>= λ size. with_size len (request_from method target minor fields) size rest) ≡ Ok (Some x)
+        → (b >>= λ size. with_size len (request_from method target minor fields) size (rest ++ more)) ≡ Ok (Some x)
+    by_size (Ok size) e = size_stays len size (request_from method target minor fields) rest more x e
     by_size (Err f) e = absurd cc
 
 pub fault_stays : (method target : List ℕ) (minor : ℕ) (fields : List Pair) (len : ℕ) (rest more : List ℕ) (f : HttpFault)
@@ -103,8 +97,8 @@ pub fault_stays : (method target : List ℕ) (minor : ℕ) (fields : List Pair) 
 unfolding request_of
 fault_stays method target minor fields len rest more f e = by_size (body_len (limit_of target) fields) e
   where
-    by_size : (b : Result ℕ HttpFault) → (b >>= λ size. with_size len (made_of method target minor fields) size rest) ≡ Err f
-        → (b >>= λ size. with_size len (made_of method target minor fields) size (rest ++ more)) ≡ Err f
+    by_size : (b : Result ℕ HttpFault) → (b >>= λ size. with_size len (request_from method target minor fields) size rest) ≡ Err f
+        → (b >>= λ size. with_size len (request_from method target minor fields) size (rest ++ more)) ≡ Err f
     by_size (Ok size) e = absurd cc
     by_size (Err g) e = e
 
@@ -114,11 +108,11 @@ unfolding request_of
 request_fits method target minor fields len rest r n e = by_size (body_len (limit_of target) fields) e
   where
     by_test : (size : ℕ) (t : Bool) → nat_le size (length rest) ≡ t
-        → ◌≡◌ {A = Given} (Ok (if t then Some (made_of method target minor fields (take size rest), len + size) else None)) (Ok (Some (r, n))) → (len ≤ n) × (n ≤ len + length rest)
+        → ◌≡◌ {A = Given} (Ok (if t then Some (request_from method target minor fields (take size rest), len + size) else None)) (Ok (Some (r, n))) → (len ≤ n) × (n ≤ len + length rest)
     by_test size false t e = absurd cc
-    by_test size true t e = let pair : ◌≡◌ {A = RequestValue × ℕ} (made_of method target minor fields (take size rest), len + size) (r, n) = cc in let is : len + size ≡ n = ap (λ (p : RequestValue × ℕ). p.1) pair in let le : size ≤ length rest = leb-true size (length rest) t in (omega arith, omega arith)
+    by_test size true t e = let pair : ◌≡◌ {A = RequestValue × ℕ} (request_from method target minor fields (take size rest), len + size) (r, n) = cc in let is : len + size ≡ n = ap (λ (p : RequestValue × ℕ). p.1) pair in let le : size ≤ length rest = leb-true size (length rest) t in (omega arith, omega arith)
 
-    by_size : (b : Result ℕ HttpFault) → (b >>= λ size. with_size len (made_of method target minor fields) size rest) ≡ Ok (Some (r, n)) → (len ≤ n) × (n ≤ len + length rest)
+    by_size : (b : Result ℕ HttpFault) → (b >>= λ size. with_size len (request_from method target minor fields) size rest) ≡ Ok (Some (r, n)) → (len ≤ n) × (n ≤ len + length rest)
     by_size (Ok size) e = by_test size (nat_le size (length rest)) refl e
     by_size (Err f) e = absurd cc
 

@@ -13,14 +13,11 @@ use Rattle.kap_http.specs.Requested.{RequestValue}
 use Rattle.kap_http.specs.Fields.{Pair, shows, body_len, length_of, lengths, within}
 use Rattle.kap_http.specs.Paths.{limit_of, leads_to_write, way_of, path_of}
 use Rattle.kap_http.specs.Requested.{IsRequest}
-use Rattle.kap_http.specs.Reading.{request_of, Gives, HasHead}
-use Rattle.kap_http.proofs.OneLaws.{with_size, made_of}
+use Rattle.kap_http.specs.Reading.{Given, request_from, request_of, Gives, HasHead}
+use Rattle.kap_http.proofs.OneLaws.{with_size}
 use Rattle.kap_http.specs.declared.fields.Sign.TheVariants as signs
 use Rattle.kap_http.proofs.CutLaws.{joined}
 use Rattle.kap_http.proofs.RoomLaws.{head_is, before_feed, field_line}
-
-abbrev Read : Type 0
-Read = Result (Option (RequestValue × ℕ)) HttpFault
 
 pub len_within : (limit : ℕ) (fields : List Pair) (size : ℕ) → body_len limit fields ≡ Ok size → size ≤ limit
 unfolding body_len
@@ -46,7 +43,7 @@ pub record Made (method target : List ℕ) (minor : ℕ) (fields : List Pair) (r
   pub size : ℕ
   pub within : size ≤ limit_of target
   pub there : size ≤ length rest
-  pub is : made_of method target minor fields (take size rest) ≡ r
+  pub is : request_from method target minor fields (take size rest) ≡ r
 
 made : (method target : List ℕ) (minor : ℕ) (fields : List Pair) (len : ℕ) (rest : List ℕ) (r : RequestValue) (n : ℕ)
     → request_of method target minor fields len rest ≡ Ok (Some (r, n)) → Made method target minor fields rest r
@@ -54,13 +51,13 @@ unfolding request_of
 made method target minor fields len rest r n e = by_size (body_len (limit_of target) fields) refl e
   where
     by_test : (size : ℕ) (t : Bool) → size ≤ limit_of target → nat_le size (length rest) ≡ t
-        → ◌≡◌ {A = Read} (Ok (if t then Some (made_of method target minor fields (take size rest), len + size) else None)) (Ok (Some (r, n))) → Made method target minor fields rest r
+        → ◌≡◌ {A = Given} (Ok (if t then Some (request_from method target minor fields (take size rest), len + size) else None)) (Ok (Some (r, n))) → Made method target minor fields rest r
     by_test size false le t e = absurd cc
     by_test size true le t e =
-        let pair : ◌≡◌ {A = RequestValue × ℕ} (made_of method target minor fields (take size rest), len + size) (r, n) = cc in
+        let pair : ◌≡◌ {A = RequestValue × ℕ} (request_from method target minor fields (take size rest), len + size) (r, n) = cc in
         record { size = size; within = le; there = leb-true size (length rest) t; is = ap (λ (p : RequestValue × ℕ). p.0) pair }
 
-    by_size : (b : Result ℕ HttpFault) → body_len (limit_of target) fields ≡ b → (b >>= λ size. with_size len (made_of method target minor fields) size rest) ≡ Ok (Some (r, n)) → Made method target minor fields rest r
+    by_size : (b : Result ℕ HttpFault) → body_len (limit_of target) fields ≡ b → (b >>= λ size. with_size len (request_from method target minor fields) size rest) ≡ Ok (Some (r, n)) → Made method target minor fields rest r
     by_size (Ok size) is e = by_test size (nat_le size (length rest)) (len_within (limit_of target) fields size is) refl e
     by_size (Err f) is e = absurd cc
 
@@ -69,11 +66,11 @@ unfolding request_of
 missing method target minor fields len rest e = by_size (body_len (limit_of target) fields) refl e
   where
     by_test : (size : ℕ) (t : Bool) → size ≤ limit_of target → nat_le size (length rest) ≡ t
-        → ◌≡◌ {A = Read} (Ok (if t then Some (made_of method target minor fields (take size rest), len + size) else None)) (Ok None) → length rest < 8388608
+        → ◌≡◌ {A = Given} (Ok (if t then Some (request_from method target minor fields (take size rest), len + size) else None)) (Ok None) → length rest < 8388608
     by_test size true le t e = absurd cc
     by_test size false le t e = let lt : length rest < size = leb-false size (length rest) t in omega (arith, limit_most target)
 
-    by_size : (b : Result ℕ HttpFault) → body_len (limit_of target) fields ≡ b → (b >>= λ size. with_size len (made_of method target minor fields) size rest) ≡ Ok None → length rest < 8388608
+    by_size : (b : Result ℕ HttpFault) → body_len (limit_of target) fields ≡ b → (b >>= λ size. with_size len (request_from method target minor fields) size rest) ≡ Ok None → length rest < 8388608
     by_size (Ok size) is e = by_test size (nat_le size (length rest)) (len_within (limit_of target) fields size is) refl e
     by_size (Err f) is e = absurd cc
 

@@ -15,20 +15,30 @@ use Rattle.kap_http.specs.Paths.{limit_of}
 abbrev pub is_last : ℕ → List Pair → Bool
 is_last minor fields = minor == 0 || list_any (shows signs.Close) fields
 
--- The request of a head's method, target, minor version and fields, and of the bytes behind it, with its length, where the head
--- has len bytes; None where the body isn't whole.
-unfoldable pub request_of : List ℕ → List ℕ → ℕ → List Pair → ℕ → List ℕ → Result (Option (RequestValue × ℕ)) HttpFault
+-- what reading gives: a request and its length, or None where more bytes are waited for
+abbrev pub Given : Type 0
+Given = Result (Option (RequestValue × ℕ)) HttpFault
+
+-- the request of these parts and of the bytes behind a head
+abbrev pub request_from : List ℕ → List ℕ → ℕ → List Pair → List ℕ → RequestValue
+request_from method target minor fields body =
+    record { method = method; target = target; last = is_last minor fields; body = body }
+
+-- The request of a head's method, target, minor version and fields, and of the bytes behind it, with its length,
+-- where the head has len bytes; None where the body isn't whole.
+unfoldable pub request_of : List ℕ → List ℕ → ℕ → List Pair → ℕ → List ℕ → Given
 request_of method target minor fields len rest = do
   size ← body_len (limit_of target) fields
   Ok (
       if nat_le size (length rest)
-      then Some (record { method = method; target = target; last = is_last minor fields; body = take size rest }, len + size)
+      then Some (request_from method target minor fields (take size rest), len + size)
       else None
       )
 
 -- what a whole head gives, with the bytes behind it
-abbrev pub head_gives : RequestHead → List ℕ → Result (Option (RequestValue × ℕ)) HttpFault
-head_gives head rest = request_of head.method head.target head.minor (map name_and_value head.fields) (length (print_request head)) rest
+abbrev pub head_gives : RequestHead → List ℕ → Given
+head_gives head rest =
+    request_of head.method head.target head.minor (map name_and_value head.fields) (length (print_request head)) rest
 
 -- a head within the limits stands at the front
 pub record HasHead (bytes : List ℕ) (head : RequestHead) (rest : List ℕ) : Type 0 where
@@ -62,8 +72,8 @@ pub record IsTooLong (bytes : List ℕ) : Type 0 where
 abbrev pub IsBad : List ℕ → Type 0
 IsBad bytes = RequestOverflows 64 (take 16384 bytes) ⊎ IsTooLong bytes
 
--- what the bytes give: the answer of a whole head, None where they wait for more of it, Bad where no head can come of them
-abbrev pub Gives : List ℕ → Result (Option (RequestValue × ℕ)) HttpFault → Type 0
+-- what the bytes give: the answer of a whole head, None where they wait for more of it, Bad where no head can come
+abbrev pub Gives : List ℕ → Given → Type 0
 Gives bytes answer =
     ((head : RequestHead) × (rest : List ℕ) × HasHead bytes head rest × (answer ≡ head_gives head rest))
     ⊎ ((Waits bytes × (answer ≡ Ok None)) ⊎ (IsBad bytes × (answer ≡ Err faults.Bad)))

@@ -54,9 +54,11 @@ pub fn any_shows(sign: Sign, buffer: &[u8], headers: &[HeaderSpan]) -> bool
 /// The value of the one field that gives the length of the body; `Bad` where there are more.
 fn length_field<'b>(buffer: &'b [u8], headers: &[HeaderSpan]) -> Result<Option<&'b [u8]>, HttpFault>
     requires { All (IsHeaderWithin (length buffer.now)) headers.now }
-    ensures found { IfOk result (λ o. lengths (map (header_bytes buffer.now) headers.now) ≡ option_to_list (option_map (λ v. v.now) o)) }
+    ensures found { IfOk result (λ o. lengths (map (header_bytes buffer.now) headers.now)
+        ≡ option_to_list (option_map (λ v. v.now) o)) }
     ensures fault { IfErr result (λ f. f ≡ HttpFault.Bad) }
-    ensures twice { IfErr result (λ _. length_of (lengths (map (header_bytes buffer.now) headers.now)) ≡ Err HttpFault.Bad) }
+    ensures twice { IfErr result (λ _.
+        length_of (lengths (map (header_bytes buffer.now) headers.now)) ≡ Err HttpFault.Bad) }
 {
     let mut rest = headers;
     let mut found = None;
@@ -122,7 +124,8 @@ fn read_length(value: &[u8], limit: u64) -> Result<u64, HttpFault>
 
 fn is_refused(buffer: &[u8], headers: &[HeaderSpan]) -> bool
     requires { All (IsHeaderWithin (length buffer.now)) headers.now }
-    ensures { result ≡ (list_any (shows Sign.Transfer) (map (header_bytes buffer.now) headers.now) || list_any (shows Sign.Encoded) (map (header_bytes buffer.now) headers.now)) }
+    ensures { result ≡ (list_any (shows Sign.Transfer) (map (header_bytes buffer.now) headers.now)
+        || list_any (shows Sign.Encoded) (map (header_bytes buffer.now) headers.now)) }
 {
     any_shows(Sign::Transfer, buffer, headers) || any_shows(Sign::Encoded, buffer, headers)
 }

@@ -90,9 +90,9 @@ fn empty_line_behind(bytes: &[u8], seen: usize) -> bool
     holds_empty_line(new)
 }
 
-/// Whether an empty line stands behind some line feed. Where none does, no whole head stands in the bytes: who reads a head that
-/// comes in many pieces looks for it, and reads once it is there, or 16,384 bytes are. The first `seen` bytes are known to have
-/// none, so that each byte is looked at once.
+/// Whether an empty line stands behind some line feed. Where none does, no whole head stands in the bytes: who reads
+/// a head that comes in many pieces looks for it, and reads once it is there, or 16,384 bytes are. The first `seen`
+/// bytes are known to have none, so that each byte is looked at once.
 #[tactic(auto, using(crate::proofs::EmptyLaws::no_head))]
 pub fn has_empty_line(bytes: &[u8], seen: usize) -> bool
     requires within { seen ≤ length bytes.now }

@@ -143,13 +143,15 @@ fn first_request(alloc: Global, bytes: &[u8]) -> Result<Option<(Request, usize)>
     }
 }
 
-/// The first request that stands at the front of the bytes, and its length. `None` comes exactly in two cases: fewer than 16,384
-/// bytes are given, no whole head stands in them and some bytes behind them make a head of at most 64 fields; or a head without
-/// fault is whole and its body isn't. Heads are those of httparse, which alone says whether bytes that end inside a target can go on.
+/// The first request that stands at the front of the bytes, and its length. `None` comes exactly in two cases: fewer
+/// than 16,384 bytes are given, no whole head stands in them and some bytes behind them make a head of at most 64
+/// fields; or a head without fault is whole and its body isn't. Heads are those of httparse, which alone says whether
+/// bytes that end inside a target can go on.
 ///
-/// `Bad` comes exactly where no head of at most 64 fields can come of the first 16,384 bytes; or where a whole head has a
-/// `Transfer-Encoding`, a `Content-Encoding` other than `identity`, more than one `Content-Length`, or one that isn't digits.
-/// `Large` comes exactly where none of these holds and the length is above the limit of the path. A refusal changes nothing.
+/// `Bad` comes exactly where no head of at most 64 fields can come of the first 16,384 bytes; or where a whole head
+/// has a `Transfer-Encoding`, a `Content-Encoding` other than `identity`, more than one `Content-Length`, or one that
+/// isn't digits. `Large` comes exactly where none of these holds and the length is above the limit of the path. A
+/// refusal changes nothing.
 pub fn read_request(alloc: Global, bytes: &[u8]) -> Result<Option<(Request, usize)>, HttpFault>
     ensures gives { result ≢ Err HttpFault.NoMemory → Gives bytes.now result }
     ensures within { IfOk result (λ o. IfSome o

@@ -1,8 +1,8 @@
 use kap_base::{Bytes, Text};
 use std::marker::Model;
 
-/// A request (RFC 9112). Its body is within the limit of its path, 8 MiB where points are written and 1 MiB elsewhere, and its
-/// target has at most 16,384 bytes.
+/// A request (RFC 9112). Its body is within the limit of its path, 8 MiB where points are written and 1 MiB
+/// elsewhere, and its target has at most 16,384 bytes.
 #[derive(Debug, PartialEq, Eq, Drop)]
 pub struct Request {
     /// The method, whose letters have their case.

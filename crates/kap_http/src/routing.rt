@@ -212,10 +212,10 @@ fn asked(alloc: Global, request: &Request) -> Result<Ask, Refusal>
     }
 }
 
-/// What a request asks, or the reply to one that is refused: 404 for a path that leads nowhere, then 405 for another method than
-/// its path takes, then 400 and 404 for what stands in its target and its body, in the order of `Asked`; 503 where memory runs out.
-/// Query values and path parts are decoded (URL Standard: percent-decoding, `application/x-www-form-urlencoded`), a `+` being a
-/// space in a query alone; bodies are read by serde_json.
+/// What a request asks, or the reply to one that is refused: 404 for a path that leads nowhere, then 405 for another
+/// method than its path takes, then 400 and 404 for what stands in its target and its body, in the order of `Asked`;
+/// 503 where memory runs out. Query values and path parts are decoded (URL Standard: percent-decoding,
+/// `application/x-www-form-urlencoded`), a `+` being a space in a query alone; bodies are read by serde_json.
 pub fn route(alloc: Global, request: &Request) -> Result<Ask, Reply>
     ensures { Answers (out_of_memory false) result (replied (asked request.now)) }
 {
