@@ -1,4 +1,5 @@
 pub mod PlaceLaws
+pub mod WalkLaws
 pub mod NumberLaws
 pub mod FieldLaws
 pub mod LineLaws

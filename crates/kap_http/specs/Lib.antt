@@ -1,6 +1,7 @@
 pub mod Lines
 pub mod Fields
 pub mod Paths
+pub mod Walks
 pub mod Requested
 pub mod Reading
 pub mod Requests

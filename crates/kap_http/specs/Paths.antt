@@ -1,13 +1,16 @@
 -- Targets: their path, part by part, and where it leads.
-use Rattle.std.specs.Prelude.{ℕ, ◌+◌, Bool, true, false, not, ◌||◌, ◌&&◌, ◌==◌, List, [], ◌∷◌, take, drop, Option, Some, None, option_map, option_and_then, codes, bytes_eq, if◌then◌else◌}
-use Rattle.std.specs.List.{list_any, position_or_len, before_first}
-use Rattle.kap_base.specs.Texts.{is_empty}
+use Rattle.std.specs.Prelude.{ℕ, ◌+◌, Bool, true, false, ◌==◌, List, [], ◌∷◌, drop, Option, Some, None, option_and_then, codes, bytes_eq, if◌then◌else◌}
+use Rattle.std.specs.List.{position_or_len, before_first}
+use Rattle.form_urlencoded.specs.Form.{split}
 use Rattle.percent_encoding.specs.Percent.{percent_decode}
 use Rattle.kap_http.specs.declared.path.Place.{Place}
 use Rattle.kap_http.specs.declared.path.Place.TheVariants as places
 
+abbrev pub slash : ℕ
+slash = 47
+
 abbrev pub is_slash : ℕ → Bool
-is_slash b = b == 47
+is_slash b = b == slash
 
 abbrev pub is_question : ℕ → Bool
 is_question b = b == 63
@@ -20,69 +23,64 @@ path_of target = before_first is_question target
 abbrev pub query_of : List ℕ → List ℕ
 query_of target = drop (position_or_len is_question target + 1) target
 
--- the first part of what stands behind a slash, with its escapes replaced; there a `+` is itself
-abbrev pub part : List ℕ → List ℕ
-part bytes = percent_decode (take (position_or_len is_slash bytes) bytes)
+-- The parts of a path, with their escapes: `/a/%62/` has `a`, `%62` and an empty one. A path that doesn't begin with a
+-- slash has none.
+abbrev pub parts_of : List ℕ → List (List ℕ)
+parts_of [] = []
+parts_of (b ∷ bytes) = if is_slash b then split slash bytes else []
 
--- what stands behind the first part
-abbrev pub behind_part : List ℕ → List ℕ
-behind_part bytes = drop (position_or_len is_slash bytes) bytes
+-- the part is the word, once its escapes are replaced; a `+` is itself
+abbrev pub is_part : List ℕ → List ℕ → Bool
+is_part word part = bytes_eq (percent_decode part) word
 
--- the path behind its first part, where that is the word
-abbrev pub strip : List ℕ → List ℕ → Option (List ℕ)
-strip word [] = None
-strip word (b ∷ bytes) = if is_slash b && bytes_eq (part bytes) word then Some (behind_part bytes) else None
+-- the parts behind the first one, where that is the word
+abbrev pub behind : List ℕ → List (List ℕ) → Option (List (List ℕ))
+behind word [] = None
+behind word (part ∷ parts) = if is_part word part then Some parts else None
 
--- the same of a path that may be none
-abbrev pub strip_next : List ℕ → Option (List ℕ) → Option (List ℕ)
-strip_next word None = None
-strip_next word (Some path) = strip word path
-
--- the path behind two parts, where those are the words
-abbrev pub strip_both : List ℕ → List ℕ → List ℕ → Option (List ℕ)
-strip_both first second path = strip_next second (strip first path)
-
--- nothing is left
-abbrev pub is_all : Option (List ℕ) → Bool
-is_all None = false
-is_all (Some rest) = is_empty rest
-
--- the path is the word alone
-abbrev pub is_only : List ℕ → List ℕ → Bool
-is_only word path = is_all (strip word path)
-
--- the one part of a path, which may be empty, with its escapes
-abbrev pub only_part : List ℕ → Option (List ℕ)
-only_part [] = None
-only_part (b ∷ bytes) = if is_slash b && not (list_any is_slash bytes) then Some bytes else None
+-- the parts behind two words
+abbrev pub behind_both : List ℕ → List ℕ → List (List ℕ) → Option (List (List ℕ))
+behind_both first second parts = option_and_then (behind second) (behind first parts)
 
 -- where a path leads, and the part that names a task or a topic there, with its escapes
 abbrev pub Way : Type 0
 Way = Place × List ℕ
 
--- a list of all, or the one of this name
-abbrev pub all_or_one : Place → Place → List ℕ → Option Way
+-- the way from what is found, or else the other way
+abbrev pub choose : {A : Type 0} → Option A → (A → Option Way) → Option Way → Option Way
+choose None way other = other
+choose (Some found) way other = way found
+
+-- a place with nothing behind it
+abbrev pub only : Place → List (List ℕ) → Option Way
+only place [] = Some (place, [])
+only place (part ∷ parts) = None
+
+-- the place of all with nothing behind it, or of the one that the part behind it names
+abbrev pub all_or_one : Place → Place → List (List ℕ) → Option Way
 all_or_one all one [] = Some (all, [])
-all_or_one all one (b ∷ path) = option_map (λ name. (one, name)) (only_part (b ∷ path))
+all_or_one all one (part ∷ []) = Some (one, part)
+all_or_one all one (part ∷ other ∷ parts) = None
 
--- behind `/kapacitor/v1/tasks` and `/kapacitor/v1/alerts/topics`
-abbrev pub tasks_or_topics : Option (List ℕ) → Option (List ℕ) → Option Way
-tasks_or_topics (Some path) topics = all_or_one places.Tasks places.Task path
-tasks_or_topics None (Some path) = all_or_one places.Topics places.Topic path
-tasks_or_topics None None = None
+-- where the parts behind `/kapacitor/v1` lead
+abbrev pub under_version : List (List ℕ) → Option Way
+under_version parts =
+    choose (behind (codes "ping") parts) (only places.Ping)
+    (choose (behind (codes "write") parts) (only places.Write)
+    (choose (behind (codes "tasks") parts) (all_or_one places.Tasks places.Task)
+    (choose (behind_both (codes "alerts") (codes "topics") parts) (all_or_one places.Topics places.Topic)
+    None)))
 
--- behind `/kapacitor/v1`
-abbrev pub under_version : List ℕ → Option Way
-under_version path =
-    if is_only (codes "ping") path then Some (places.Ping, [])
-    else if is_only (codes "write") path then Some (places.Write, [])
-    else tasks_or_topics (strip (codes "tasks") path) (strip_both (codes "alerts") (codes "topics") path)
+-- where parts lead
+abbrev pub way_by : List (List ℕ) → Option Way
+way_by parts =
+    choose (behind (codes "write") parts) (only places.Write)
+    (choose (behind_both (codes "kapacitor") (codes "v1") parts) under_version
+    None)
 
 -- where a path leads
 unfoldable pub way_of : List ℕ → Option Way
-way_of path =
-    if is_only (codes "write") path then Some (places.Write, [])
-    else option_and_then under_version (strip_both (codes "kapacitor") (codes "v1") path)
+way_of path = way_by (parts_of path)
 
 -- points are written there
 abbrev pub leads_to_write : Option Way → Bool

@@ -1,9 +1,10 @@
 //! Targets: their path, part by part, and where it leads.
 
-ghost use Rattle.std.specs.Prelude.{◌≡◌, ◌≤◌, IfSome, bytes_eq, codes, length, option_map, position};
+ghost use Rattle.std.specs.Prelude.{◌≡◌, ◌≤◌, IfSome, length, option_map, position};
 ghost use Rattle.std.specs.List.{list_any, position_or_len};
 ghost use Rattle.percent_encoding.specs.Percent.{percent_decode};
-ghost use Rattle.kap_http.specs.Paths.{all_or_one, is_only, is_question, is_slash, leads_to_write, limit_of, only_part, path_of, query_of, strip, strip_both, tasks_or_topics, under_version, way_of};
+ghost use Rattle.kap_http.specs.Paths.{is_part, is_question, is_slash, leads_to_write, limit_of, path_of, query_of, way_of};
+ghost use Rattle.kap_http.specs.Walks.{ends, ends_or_one, only_part, strip, strip_both, walk, walk_version};
 
 use percent_encoding::percent_decode;
 
@@ -26,7 +27,7 @@ pub(crate) enum Place {
 
 /// Whether the bytes, with their escapes replaced, are the word.
 fn decodes_to(bytes: &[u8], word: &[u8]) -> bool
-    ensures { result ≡ bytes_eq (percent_decode bytes.now) word.now }
+    ensures { result ≡ is_part word.now bytes.now }
 {
     let mut left = word;
     'bytes: for byte in percent_decode(bytes) {
@@ -86,24 +87,27 @@ fn strip<'a>(path: &'a [u8], word: &[u8]) -> Option<&'a [u8]>
 
 /// The path behind two parts, where those are the words.
 fn strip_both<'a>(path: &'a [u8], first: &[u8], second: &[u8]) -> Option<&'a [u8]>
-    ensures rest { option_map (λ rest. rest.now) result ≡ strip_both first.now second.now path.now }
+    ensures rest { option_map (λ rest. rest.now) result
+        ≡ strip_both first.now second.now path.now }
     ensures len { IfSome result (λ rest. length rest.now ≤ length path.now) }
 {
     let rest = strip(path, first)?;
     strip(rest, second)
 }
 
-/// Whether the path is the word alone.
-fn is_only(path: &[u8], word: &[u8]) -> bool
-    ensures { result ≡ is_only word.now path.now }
+/// A place, where nothing is behind it.
+fn ends(path: &[u8], place: Place) -> Option<(Place, &[u8])>
+    ensures way { option_map (λ w. (w.0, w.1.now)) result ≡ ends place path.now }
+    ensures len { IfSome result (λ w. length w.1.now ≤ length path.now) }
 {
-    match strip(path, word) {
-        Some(rest) => rest.is_empty(),
-        None => false,
+    if path.is_empty() {
+        Some((place, path))
+    } else {
+        None
     }
 }
 
-/// The one part of a path, which may be empty, with its escapes.
+/// The one part of a path, which may be empty.
 fn only_part(path: &[u8]) -> Option<&[u8]>
     ensures part { option_map (λ part. part.now) result ≡ only_part path.now }
     ensures len { IfSome result (λ part. length part.now ≤ length path.now) }
@@ -111,12 +115,16 @@ fn only_part(path: &[u8]) -> Option<&[u8]>
     let Some((b'/', part)) = path.split_first() else {
         return None;
     };
-    if has_slash(part) { None } else { Some(part) }
+    if has_slash(part) {
+        None
+    } else {
+        Some(part)
+    }
 }
 
-/// A list of all, or the one of a name.
-fn all_or_one(path: &[u8], all: Place, one: Place) -> Option<(Place, &[u8])>
-    ensures way { option_map (λ w. (w.0, w.1.now)) result ≡ all_or_one all one path.now }
+/// The place of all where nothing is behind it, or of the one that the part behind it names.
+fn ends_or_one(path: &[u8], all: Place, one: Place) -> Option<(Place, &[u8])>
+    ensures way { option_map (λ w. (w.0, w.1.now)) result ≡ ends_or_one all one path.now }
     ensures len { IfSome result (λ w. length w.1.now ≤ length path.now) }
 {
     if path.is_empty() {
@@ -126,44 +134,43 @@ fn all_or_one(path: &[u8], all: Place, one: Place) -> Option<(Place, &[u8])>
     Some((one, name))
 }
 
-fn tasks_or_topics(path: &[u8]) -> Option<(Place, &[u8])>
-    ensures way { option_map (λ w. (w.0, w.1.now)) result
-        ≡ tasks_or_topics (strip (codes "tasks") path.now)
-        (strip_both (codes "alerts") (codes "topics") path.now) }
+/// Where the path behind `/kapacitor/v1` leads.
+fn walk_version(path: &[u8]) -> Option<(Place, &[u8])>
+    ensures way { option_map (λ w. (w.0, w.1.now)) result ≡ walk_version path.now }
     ensures len { IfSome result (λ w. length w.1.now ≤ length path.now) }
 {
+    if let Some(rest) = strip(path, b"ping") {
+        return ends(rest, Place::Ping);
+    }
+    if let Some(rest) = strip(path, b"write") {
+        return ends(rest, Place::Write);
+    }
     if let Some(rest) = strip(path, b"tasks") {
-        return all_or_one(rest, Place::Tasks, Place::Task);
+        return ends_or_one(rest, Place::Tasks, Place::Task);
     }
     let rest = strip_both(path, b"alerts", b"topics")?;
-    all_or_one(rest, Place::Topics, Place::Topic)
+    ends_or_one(rest, Place::Topics, Place::Topic)
 }
 
-/// Where the path leads behind `/kapacitor/v1`.
-fn under_version(path: &[u8]) -> Option<(Place, &[u8])>
-    ensures way { option_map (λ w. (w.0, w.1.now)) result ≡ under_version path.now }
+#[tactic(auto, unfolding(crate::specs::Walks::walk))]
+fn walk(path: &[u8]) -> Option<(Place, &[u8])>
+    ensures way { option_map (λ w. (w.0, w.1.now)) result ≡ walk path.now }
     ensures len { IfSome result (λ w. length w.1.now ≤ length path.now) }
 {
-    if is_only(path, b"ping") {
-        return Some((Place::Ping, b""));
+    if let Some(rest) = strip(path, b"write") {
+        return ends(rest, Place::Write);
     }
-    if is_only(path, b"write") {
-        return Some((Place::Write, b""));
-    }
-    tasks_or_topics(path)
+    let rest = strip_both(path, b"kapacitor", b"v1")?;
+    walk_version(rest)
 }
 
 /// Where a path leads, and the part that names a task or a topic there, with its escapes; it is empty elsewhere.
-#[tactic(auto, unfolding(crate::specs::Paths::way_of))]
+#[tactic(auto, using(crate::proofs::WalkLaws::walk_is))]
 pub(crate) fn way_of(path: &[u8]) -> Option<(Place, &[u8])>
     ensures way { option_map (λ w. (w.0, w.1.now)) result ≡ way_of path.now }
     ensures len { IfSome result (λ w. length w.1.now ≤ length path.now) }
 {
-    if is_only(path, b"write") {
-        return Some((Place::Write, b""));
-    }
-    let rest = strip_both(path, b"kapacitor", b"v1")?;
-    under_version(rest)
+    walk(path)
 }
 
 /// The path of a target: what stands before its first question mark.
