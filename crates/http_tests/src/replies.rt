@@ -1,7 +1,7 @@
 //! The bytes of replies.
 
 use kap_base::Bytes;
-use kap_http::{HttpFault, Refusal, Reply, error_reply, no_memory_text, print_reply, refusal_text};
+use kap_http::{HttpFault, Refusal, Reply, error_reply, no_memory_text, print_reply, fault_text};
 use std::process::Abort;
 use std::test::Fail;
 
@@ -68,11 +68,11 @@ fn replies_without_memory_are_the_printed_ones(rt: HostRuntime) -> Result<(), Fa
     let mut bad = error_reply(alloc, 400, b"bad request");
     bad.last = true;
     let text = print_reply(alloc, &bad)?;
-    assert_eq!(rt; text.as_slice(), refusal_text(HttpFault::Bad));
+    assert_eq!(rt; text.as_slice(), fault_text(HttpFault::Bad));
     let mut large = error_reply(alloc, 413, b"too large");
     large.last = true;
     let text = print_reply(alloc, &large)?;
-    assert_eq!(rt; text.as_slice(), refusal_text(HttpFault::Large));
+    assert_eq!(rt; text.as_slice(), fault_text(HttpFault::Large));
     let text = print_reply(alloc, &Refusal::NoMemory.reply(alloc))?;
     assert_eq!(rt; text.as_slice(), no_memory_text(false));
     Ok(())

@@ -17,7 +17,7 @@ use Rattle.httparse.proofs.GrammarLemmas.{ReadsRequest-append}
 use Rattle.kap_base.specs.Words.{Answers}
 use Rattle.kap_http.specs.declared.fault.HttpFault.{HttpFault}
 use Rattle.kap_http.specs.declared.fault.HttpFault.TheVariants as faults
-use Rattle.kap_http.specs.Requested.{RequestValue}
+use Rattle.kap_http.specs.RequestValues.{RequestValue}
 use Rattle.kap_http.specs.Fields.{Pair}
 use Rattle.kap_http.specs.Reading.{request_of, head_gives, HasHead, Gives, Waits, IsTooLong, IsBad, MayGoOn}
 

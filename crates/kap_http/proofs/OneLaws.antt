@@ -9,10 +9,10 @@ use Rattle.httparse.specs.Spans.{name_and_value, RequestOverflows}
 use Rattle.httparse.proofs.GrammarLemmas.{request_unique, ReadsRequest-append}
 use Rattle.kap_http.specs.declared.fault.HttpFault.{HttpFault}
 use Rattle.kap_http.specs.declared.fault.HttpFault.TheVariants as faults
-use Rattle.kap_http.specs.Requested.{RequestValue}
+use Rattle.kap_http.specs.RequestValues.{RequestValue}
 use Rattle.kap_http.specs.Fields.{Pair, body_len}
 use Rattle.kap_http.specs.Paths.{limit_of}
-use Rattle.kap_http.specs.Reading.{Given, request_from, request_of, head_gives, HasHead, CanBeHead, Waits, IsTooLong, IsBad, Gives, is_last}
+use Rattle.kap_http.specs.Reading.{ReadResult, request_from, request_of, head_gives, HasHead, CanBeHead, Waits, IsTooLong, IsBad, Gives, is_last}
 use Rattle.kap_base.specs.Words.{◌>>=◌}
 use Rattle.kap_http.proofs.CutLaws.{joined}
 use Rattle.kap_http.proofs.RoomLaws.{head_is, first_line, field_line}
@@ -52,7 +52,7 @@ no_wait_bad bytes closed waits (inl over) = by_may waits.may
         let many : 64 < length can.head.fields = over can.more can.head [] (subst (λ (x : List ℕ). ReadsRequest (x ++ can.more) can.head []) (sym same) can.reads) in
         omega arith
 
-pub one_is : (bytes : List ℕ) (a b : Given) → ¬ (EndsInTarget bytes) → Gives bytes a → Gives bytes b → a ≡ b
+pub one_is : (bytes : List ℕ) (a b : ReadResult) → ¬ (EndsInTarget bytes) → Gives bytes a → Gives bytes b → a ≡ b
 one_is bytes a b closed (inl x) (inl y) =
     let same = request_unique bytes x.0 y.0 x.1 y.1 x.2.reads y.2.reads in
     x.3 ∙ ap (λ (h : RequestHead). head_gives h x.1) same.0 ∙ ap (λ (r : List ℕ). head_gives y.0 r) same.1 ∙ sym y.3
@@ -68,13 +68,13 @@ one_is bytes a b closed (inr (inr x)) (inr (inr y)) = x.1 ∙ sym y.1
 -- ---- what follows
 
 -- what a head gives of a body of this size
-abbrev pub with_size : ℕ → (List ℕ → RequestValue) → ℕ → List ℕ → Given
+abbrev pub with_size : ℕ → (List ℕ → RequestValue) → ℕ → List ℕ → ReadResult
 with_size len make size rest = Ok (if nat_le size (length rest) then Some (make (take size rest), len + size) else None)
 
 size_stays : (len size : ℕ) (make : List ℕ → RequestValue) (rest more : List ℕ) (x : RequestValue × ℕ) → with_size len make size rest ≡ Ok (Some x) → with_size len make size (rest ++ more) ≡ Ok (Some x)
 size_stays len size make rest more x e = by_test (nat_le size (length rest)) refl e
   where
-    by_test : (t : Bool) → nat_le size (length rest) ≡ t → ◌≡◌ {A = Given} (Ok (if t then Some (make (take size rest), len + size) else None)) (Ok (Some x)) → with_size len make size (rest ++ more) ≡ Ok (Some x)
+    by_test : (t : Bool) → nat_le size (length rest) ≡ t → ◌≡◌ {A = ReadResult} (Ok (if t then Some (make (take size rest), len + size) else None)) (Ok (Some x)) → with_size len make size (rest ++ more) ≡ Ok (Some x)
     by_test false t e = absurd cc
     by_test true t e =
         let le : size ≤ length rest = leb-true size (length rest) t in
@@ -108,7 +108,7 @@ unfolding request_of
 request_fits method target minor fields len rest r n e = by_size (body_len (limit_of target) fields) e
   where
     by_test : (size : ℕ) (t : Bool) → nat_le size (length rest) ≡ t
-        → ◌≡◌ {A = Given} (Ok (if t then Some (request_from method target minor fields (take size rest), len + size) else None)) (Ok (Some (r, n))) → (len ≤ n) × (n ≤ len + length rest)
+        → ◌≡◌ {A = ReadResult} (Ok (if t then Some (request_from method target minor fields (take size rest), len + size) else None)) (Ok (Some (r, n))) → (len ≤ n) × (n ≤ len + length rest)
     by_test size false t e = absurd cc
     by_test size true t e = let pair : ◌≡◌ {A = RequestValue × ℕ} (request_from method target minor fields (take size rest), len + size) (r, n) = cc in let is : len + size ≡ n = ap (λ (p : RequestValue × ℕ). p.1) pair in let le : size ≤ length rest = leb-true size (length rest) t in (omega arith, omega arith)
 

@@ -2,7 +2,7 @@
 use Rattle.std.proofs.Common.{◌≡◌, true, refl}
 use Rattle.kap_http.specs.declared.refusal.Refusal.{Refusal}
 use Rattle.kap_http.specs.declared.refusal.Refusal.TheVariants as refusals
-use Rattle.kap_http.specs.Replied.{refuses}
+use Rattle.kap_http.specs.ReplyValues.{refuses}
 use Rattle.kap_http.specs.Refusals.{refusal_status}
 
 pub status_refuses : (refusal : Refusal) → refuses (refusal_status refusal) ≡ true

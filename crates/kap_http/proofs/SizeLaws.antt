@@ -9,11 +9,11 @@ use Rattle.httparse.specs.Spans.{name_and_value}
 use Rattle.kap_base.specs.Words.{◌>>=◌}
 use Rattle.kap_http.specs.declared.fault.HttpFault.{HttpFault}
 use Rattle.kap_http.specs.declared.fault.HttpFault.TheVariants as faults
-use Rattle.kap_http.specs.Requested.{RequestValue}
+use Rattle.kap_http.specs.RequestValues.{RequestValue}
 use Rattle.kap_http.specs.Fields.{Pair, shows, body_len, length_of, lengths, within}
 use Rattle.kap_http.specs.Paths.{limit_of, leads_to_write, way_of, path_of}
-use Rattle.kap_http.specs.Requested.{IsRequest}
-use Rattle.kap_http.specs.Reading.{Given, request_from, request_of, Gives, HasHead}
+use Rattle.kap_http.specs.RequestValues.{IsRequest}
+use Rattle.kap_http.specs.Reading.{ReadResult, request_from, request_of, Gives, HasHead}
 use Rattle.kap_http.proofs.OneLaws.{with_size}
 use Rattle.kap_http.specs.declared.fields.Sign.TheVariants as signs
 use Rattle.kap_http.proofs.CutLaws.{joined}
@@ -51,7 +51,7 @@ unfolding request_of
 made method target minor fields len rest r n e = by_size (body_len (limit_of target) fields) refl e
   where
     by_test : (size : ℕ) (t : Bool) → size ≤ limit_of target → nat_le size (length rest) ≡ t
-        → ◌≡◌ {A = Given} (Ok (if t then Some (request_from method target minor fields (take size rest), len + size) else None)) (Ok (Some (r, n))) → Made method target minor fields rest r
+        → ◌≡◌ {A = ReadResult} (Ok (if t then Some (request_from method target minor fields (take size rest), len + size) else None)) (Ok (Some (r, n))) → Made method target minor fields rest r
     by_test size false le t e = absurd cc
     by_test size true le t e =
         let pair : ◌≡◌ {A = RequestValue × ℕ} (request_from method target minor fields (take size rest), len + size) (r, n) = cc in
@@ -66,7 +66,7 @@ unfolding request_of
 missing method target minor fields len rest e = by_size (body_len (limit_of target) fields) refl e
   where
     by_test : (size : ℕ) (t : Bool) → size ≤ limit_of target → nat_le size (length rest) ≡ t
-        → ◌≡◌ {A = Given} (Ok (if t then Some (request_from method target minor fields (take size rest), len + size) else None)) (Ok None) → length rest < 8388608
+        → ◌≡◌ {A = ReadResult} (Ok (if t then Some (request_from method target minor fields (take size rest), len + size) else None)) (Ok None) → length rest < 8388608
     by_test size true le t e = absurd cc
     by_test size false le t e = let lt : length rest < size = leb-false size (length rest) t in omega (arith, limit_most target)
 

@@ -7,31 +7,31 @@ use Rattle.std.proofs.lemmas.Str.Ascii.{IsAscii-cons, IsAscii-nil}
 use Rattle.httparse.specs.Grammar.{EndsInTarget, RequestHead, IsRequestHead, IsField, lf, print_request, is_token_byte, is_uri_byte}
 use Rattle.httparse.proofs.OpenLemmas.{letter_is_token}
 use Rattle.kap_http.specs.declared.fault.HttpFault.{HttpFault}
-use Rattle.kap_http.specs.Requested.{RequestValue}
+use Rattle.kap_http.specs.RequestValues.{RequestValue}
 use Rattle.kap_http.specs.Reading.{Gives}
-use Rattle.kap_http.specs.Requests.{Stop, behind_last, behind_most, at_end, inside, at_fault, StopsAt, BehindIt, Requests, Begun, HasNoOpenTarget, IsFinal}
+use Rattle.kap_http.specs.Requests.{Stop, behind_last, behind_most, at_end, inside, at_fault, StopsAt, BehindIt, Requests, BeginsWith, HasNoOpenTarget, IsFinal}
 use Rattle.kap_http.proofs.OneLaws.{one_is, gives_more, refuses_more, gives_within, some_bytes}
 
 behind_more : (bytes more : List ℕ) (r : RequestValue) (n : ℕ) → Gives bytes (Ok (Some (r, n))) → drop n bytes ++ more ≡ drop n (bytes ++ more)
 behind_more bytes more r n gives = sym (drop-append-le n bytes more (gives_within bytes r n gives).1)
 
-pub begun_more : (bytes more : List ℕ) (requests : List RequestValue) (rest : List ℕ) → Begun bytes requests rest → Begun (bytes ++ more) requests (rest ++ more)
+pub begun_more : (bytes more : List ℕ) (requests : List RequestValue) (rest : List ℕ) → BeginsWith bytes requests rest → BeginsWith (bytes ++ more) requests (rest ++ more)
 begun_more bytes more [] rest begun = ap (λ (x : List ℕ). x ++ more) begun
 begun_more bytes more (r ∷ requests) rest begun = (
   begun.0,
   gives_more bytes more r begun.0 begun.1,
   begun.2,
-  subst (λ (x : List ℕ). Begun x requests (rest ++ more)) (behind_more bytes more r begun.0 begun.1) (begun_more (drop begun.0 bytes) more requests rest begun.3),
+  subst (λ (x : List ℕ). BeginsWith x requests (rest ++ more)) (behind_more bytes more r begun.0 begun.1) (begun_more (drop begun.0 bytes) more requests rest begun.3),
 )
 
-pub begun_next : (bytes : List ℕ) (requests : List RequestValue) (rest : List ℕ) (r : RequestValue) (n : ℕ) → Begun bytes requests rest → Gives rest (Ok (Some (r, n))) → r.last ≡ false
-    → Begun bytes (requests ++ r ∷ []) (drop n rest)
+pub begun_next : (bytes : List ℕ) (requests : List RequestValue) (rest : List ℕ) (r : RequestValue) (n : ℕ) → BeginsWith bytes requests rest → Gives rest (Ok (Some (r, n))) → r.last ≡ false
+    → BeginsWith bytes (requests ++ r ∷ []) (drop n rest)
 begun_next bytes [] rest r n begun gives goes =
     (n, subst (λ (x : List ℕ). Gives x (Ok (Some (r, n)))) (sym begun) gives, goes, ap (λ (x : List ℕ). drop n x) begun)
 begun_next bytes (q ∷ requests) rest r n begun gives goes =
     (begun.0, begun.1, begun.2, begun_next (drop begun.0 bytes) requests rest r n begun.3 gives goes)
 
-pub begun_then : (bytes : List ℕ) (requests : List RequestValue) (rest : List ℕ) (left : ℕ) (more : List RequestValue) (stop : Stop) → Begun bytes requests rest → Requests left rest more stop
+pub begun_then : (bytes : List ℕ) (requests : List RequestValue) (rest : List ℕ) (left : ℕ) (more : List RequestValue) (stop : Stop) → BeginsWith bytes requests rest → Requests left rest more stop
     → Requests (length requests + left) bytes (requests ++ more) stop
 begun_then bytes [] rest left more stop begun due =
     subst (λ (n : ℕ). Requests n bytes more stop) (sym (zero-add left)) (subst (λ (x : List ℕ). Requests left x more stop) (sym begun) due)

@@ -27,9 +27,9 @@ split_some : (bytes : List ℕ) → HasPart (split 47 bytes)
 unfolding split
 split_some [] = record { first = []; others = []; is = refl }
 split_some (b ∷ bytes) = elim (b == 47) as (λ t. HasPart (if t then [] ∷ split 47 bytes else onto_first b (split 47 bytes))) [
-    | true ↦ record { first = []; others = split 47 bytes; is = refl }
-    | false ↦ onto_some b (split 47 bytes)
-  ]
+  | true ↦ record { first = []; others = split 47 bytes; is = refl }
+  | false ↦ onto_some b (split 47 bytes)
+]
 
 -- ---- the first part
 

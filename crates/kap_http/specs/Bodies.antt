@@ -9,7 +9,7 @@ use Rattle.kap_http.specs.declared.refusal.Refusal.{Refusal}
 use Rattle.kap_http.specs.declared.refusal.Refusal.TheVariants as refusals
 use Rattle.kap_http.specs.declared.ask.TaskAct.{TaskAct}
 use Rattle.kap_http.specs.declared.ask.TaskAct.TheVariants as acts
-use Rattle.kap_http.specs.Asked.{DefineValue, is_task_id}
+use Rattle.kap_http.specs.AskValues.{DefineValue, is_task_id}
 use Rattle.kap_http.specs.Refusals.{or_else}
 
 -- the value of a body: UTF-8 that is JSON, nested at most 127 deep; of an object's equal keys the last one counts
@@ -67,16 +67,16 @@ with_script id script enabled =
     else Ok (record { id = id; script = script; enabled = enabled })
 
 -- the task that a value defines; its other keys are ignored
-unfoldable pub defined : Data → Result DefineValue Refusal
-defined d = do
+unfoldable pub definition_in : Data → Result DefineValue Refusal
+definition_in d = do
   id ← or_else refusals.BadBody (text_at (codes "id") d)
   script ← or_else refusals.BadBody (text_at (codes "script") d)
   enabled ← or_else refusals.BadBody (status_or_disabled d)
   if is_task_id id && can_be_defined d then with_script id script enabled else Err refusals.BadBody
 
 -- the task that a body defines
-abbrev pub define_of : List ℕ → Result DefineValue Refusal
-define_of body = or_else refusals.BadBody (json_of body) >>= defined
+abbrev pub definition_of : List ℕ → Result DefineValue Refusal
+definition_of body = or_else refusals.BadBody (json_of body) >>= definition_in
 
 -- what a body that sets the status does
 abbrev pub act_of : Bool → TaskAct

@@ -7,7 +7,7 @@ use Rattle.kap_base.specs.Words.{◌>>=◌}
 use Rattle.kap_http.specs.declared.fault.HttpFault.{HttpFault}
 use Rattle.kap_http.specs.declared.fault.HttpFault.TheVariants as faults
 use Rattle.kap_http.specs.declared.fields.Sign.TheVariants as signs
-use Rattle.kap_http.specs.Requested.{RequestValue}
+use Rattle.kap_http.specs.RequestValues.{RequestValue}
 use Rattle.kap_http.specs.Fields.{Pair, shows, body_len}
 use Rattle.kap_http.specs.Paths.{limit_of}
 
@@ -16,8 +16,8 @@ abbrev pub is_last : ℕ → List Pair → Bool
 is_last minor fields = minor == 0 || list_any (shows signs.Close) fields
 
 -- what reading gives: a request and its length, or None where more bytes are waited for
-abbrev pub Given : Type 0
-Given = Result (Option (RequestValue × ℕ)) HttpFault
+abbrev pub ReadResult : Type 0
+ReadResult = Result (Option (RequestValue × ℕ)) HttpFault
 
 -- the request of these parts and of the bytes behind a head
 abbrev pub request_from : List ℕ → List ℕ → ℕ → List Pair → List ℕ → RequestValue
@@ -26,7 +26,7 @@ request_from method target minor fields body =
 
 -- The request of a head's method, target, minor version and fields, and of the bytes behind it, with its length,
 -- where the head has len bytes; None where the body isn't whole.
-unfoldable pub request_of : List ℕ → List ℕ → ℕ → List Pair → ℕ → List ℕ → Given
+unfoldable pub request_of : List ℕ → List ℕ → ℕ → List Pair → ℕ → List ℕ → ReadResult
 request_of method target minor fields len rest = do
   size ← body_len (limit_of target) fields
   Ok (
@@ -36,7 +36,7 @@ request_of method target minor fields len rest = do
       )
 
 -- what a whole head gives, with the bytes behind it
-abbrev pub head_gives : RequestHead → List ℕ → Given
+abbrev pub head_gives : RequestHead → List ℕ → ReadResult
 head_gives head rest =
     request_of head.method head.target head.minor (map name_and_value head.fields) (length (print_request head)) rest
 
@@ -73,7 +73,7 @@ abbrev pub IsBad : List ℕ → Type 0
 IsBad bytes = RequestOverflows 64 (take 16384 bytes) ⊎ IsTooLong bytes
 
 -- what the bytes give: the answer of a whole head, None where they wait for more of it, Bad where no head can come
-abbrev pub Gives : List ℕ → Given → Type 0
+abbrev pub Gives : List ℕ → ReadResult → Type 0
 Gives bytes answer =
     ((head : RequestHead) × (rest : List ℕ) × HasHead bytes head rest × (answer ≡ head_gives head rest))
     ⊎ ((Waits bytes × (answer ≡ Ok None)) ⊎ (IsBad bytes × (answer ≡ Err faults.Bad)))

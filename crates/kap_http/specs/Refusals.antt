@@ -1,8 +1,8 @@
--- Why a request is refused, and what is replied.
+-- Why a request is refused, and what is as_reply.
 use Rattle.std.specs.Prelude.{ℕ, List, Option, Some, None, Result, Ok, Err, codes, false}
 use Rattle.kap_http.specs.declared.refusal.Refusal.{Refusal}
 use Rattle.kap_http.specs.declared.refusal.Refusal.TheVariants as refusals
-use Rattle.kap_http.specs.Replied.{ReplyValue}
+use Rattle.kap_http.specs.ReplyValues.{ReplyValue}
 use Rattle.kap_http.specs.Replies.{error_reply}
 
 -- the status of a refusal
@@ -40,9 +40,9 @@ abbrev pub refusal_reply : Refusal → ReplyValue
 refusal_reply refusal = error_reply (refusal_status refusal) (refusal_text refusal)
 
 -- a refusal as its reply
-abbrev pub replied : {A : Type 0} → Result A Refusal → Result A ReplyValue
-replied (Ok x) = Ok x
-replied (Err refusal) = Err (refusal_reply refusal)
+abbrev pub as_reply : {A : Type 0} → Result A Refusal → Result A ReplyValue
+as_reply (Ok x) = Ok x
+as_reply (Err refusal) = Err (refusal_reply refusal)
 
 -- what is there, or this refusal
 abbrev pub or_else : {A : Type 0} → Refusal → Option A → Result A Refusal

@@ -2,7 +2,7 @@
 use Rattle.std.specs.Prelude.{ℕ, Bool, true, false, ◌==◌, List, [], ◌∷◌, ◌++◌, length, codes, decimal, if◌then◌else◌}
 use Rattle.kap_http.specs.declared.fault.HttpFault.{HttpFault}
 use Rattle.kap_http.specs.declared.fault.HttpFault.TheVariants as faults
-use Rattle.kap_http.specs.Replied.{ReplyValue}
+use Rattle.kap_http.specs.ReplyValues.{ReplyValue}
 
 -- the end of a line
 abbrev pub line_end : List ℕ

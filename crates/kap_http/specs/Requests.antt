@@ -2,7 +2,7 @@
 use Rattle.std.specs.Prelude.{◌≡◌, ◌≢◌, ℕ, zero, suc, ◌+◌, Bool, true, false, List, [], ◌∷◌, ◌++◌, length, drop, Some, None, Ok, Err}
 use Rattle.httparse.specs.Grammar.{EndsInTarget}
 use Rattle.kap_http.specs.declared.fault.HttpFault.{HttpFault}
-use Rattle.kap_http.specs.Requested.{RequestValue}
+use Rattle.kap_http.specs.RequestValues.{RequestValue}
 use Rattle.kap_http.specs.Reading.{Gives}
 
 -- How the requests stop: behind one that is the last, behind the thousandth, at bytes that hold none, or where the bytes end,
@@ -33,10 +33,10 @@ Requests (suc left) bytes (r ∷ requests) stop =
     (n : ℕ) × Gives bytes (Ok (Some (r, n))) × BehindIt r.last requests stop (Requests left (drop n bytes) requests stop)
 
 -- the bytes begin with these requests, none of which is the last, and with this rest behind them
-abbrev pub Begun : List ℕ → List RequestValue → List ℕ → Type 0
-Begun bytes [] rest = bytes ≡ rest
-Begun bytes (r ∷ requests) rest =
-    (n : ℕ) × Gives bytes (Ok (Some (r, n))) × (r.last ≡ false) × Begun (drop n bytes) requests rest
+abbrev pub BeginsWith : List ℕ → List RequestValue → List ℕ → Type 0
+BeginsWith bytes [] rest = bytes ≡ rest
+BeginsWith bytes (r ∷ requests) rest =
+    (n : ℕ) × Gives bytes (Ok (Some (r, n))) × (r.last ≡ false) × BeginsWith (drop n bytes) requests rest
 
 -- how requests stop, whatever bytes follow
 abbrev pub IsFinal : Stop → Type 0

@@ -17,15 +17,15 @@ use Rattle.kap_http.specs.declared.path.Place.{Place}
 use Rattle.kap_http.specs.declared.path.Place.TheVariants as places
 use Rattle.kap_http.specs.declared.refusal.Refusal.{Refusal}
 use Rattle.kap_http.specs.declared.refusal.Refusal.TheVariants as refusals
-use Rattle.kap_http.specs.Asked.{WriteValue}
-use Rattle.kap_http.specs.Bodies.{act_of, define_of, set_of}
+use Rattle.kap_http.specs.AskValues.{WriteValue}
+use Rattle.kap_http.specs.Bodies.{act_of, definition_of, set_of}
 use Rattle.kap_http.specs.Paths.{path_of, query_of, way_of, Way}
 use Rattle.kap_http.specs.Queries.{value_of}
-use Rattle.kap_http.specs.Requested.{RequestValue}
+use Rattle.kap_http.specs.RequestValues.{RequestValue}
 
 -- what is asked, or why it is refused
-abbrev pub Asked : Type 0
-Asked = Result Ask Refusal
+abbrev pub AskResult : Type 0
+AskResult = Result Ask Refusal
 
 -- the method of this name; its letters have their case
 abbrev pub method_of : List ℕ → Method
@@ -75,62 +75,62 @@ abbrev pub name_of : Refusal → List ℕ → Result (List ℕ) Refusal
 name_of refusal part = if is_utf8 (percent_decode part) then Ok (percent_decode part) else Err refusal
 
 -- a task, and what is to be done with it
-abbrev pub task_of : TaskAct → List ℕ → Asked
+abbrev pub task_of : TaskAct → List ℕ → AskResult
 task_of act part = do
   id ← name_of refusals.NoTask part
   Ok (asks.Task (record { id = id; act = act }))
 
 -- ---- by path and method
 
-abbrev pub ping_asked : Method → Asked
-ping_asked methods.Get = Ok asks.Ping
-ping_asked methods.Head = Ok asks.Ping
-ping_asked _ = Err refusals.NoMethod
+abbrev pub ping_ask : Method → AskResult
+ping_ask methods.Get = Ok asks.Ping
+ping_ask methods.Head = Ok asks.Ping
+ping_ask _ = Err refusals.NoMethod
 
-abbrev pub write_asked : Method → List ℕ → List ℕ → Asked
-write_asked methods.Post query body = do
+abbrev pub write_ask : Method → List ℕ → List ℕ → AskResult
+write_ask methods.Post query body = do
   write ← write_of (raw_pairs query) body
   Ok (asks.Write write)
-write_asked _ query body = Err refusals.NoMethod
+write_ask _ query body = Err refusals.NoMethod
 
-abbrev pub tasks_asked : Method → List ℕ → Asked
-tasks_asked methods.Get body = Ok asks.Tasks
-tasks_asked methods.Post body = do
-  task ← define_of body
+abbrev pub tasks_ask : Method → List ℕ → AskResult
+tasks_ask methods.Get body = Ok asks.Tasks
+tasks_ask methods.Post body = do
+  task ← definition_of body
   Ok (asks.Define task)
-tasks_asked _ body = Err refusals.NoMethod
+tasks_ask _ body = Err refusals.NoMethod
 
-abbrev pub task_asked : Method → List ℕ → List ℕ → Asked
-task_asked methods.Get part body = task_of acts.Show part
-task_asked methods.Patch part body = do
+abbrev pub task_ask : Method → List ℕ → List ℕ → AskResult
+task_ask methods.Get part body = task_of acts.Show part
+task_ask methods.Patch part body = do
   enabled ← set_of body
   task_of (act_of enabled) part
-task_asked methods.Delete part body = task_of acts.Delete part
-task_asked _ part body = Err refusals.NoMethod
+task_ask methods.Delete part body = task_of acts.Delete part
+task_ask _ part body = Err refusals.NoMethod
 
-abbrev pub topics_asked : Method → Asked
-topics_asked methods.Get = Ok asks.Topics
-topics_asked _ = Err refusals.NoMethod
+abbrev pub topics_ask : Method → AskResult
+topics_ask methods.Get = Ok asks.Topics
+topics_ask _ = Err refusals.NoMethod
 
-abbrev pub topic_asked : Method → List ℕ → Asked
-topic_asked methods.Get part = do
+abbrev pub topic_ask : Method → List ℕ → AskResult
+topic_ask methods.Get part = do
   name ← name_of refusals.NoPath part
   Ok (asks.Topic (record { name = name }))
-topic_asked _ part = Err refusals.NoMethod
+topic_ask _ part = Err refusals.NoMethod
 
 -- what is asked at a place
-abbrev pub asked_at : Place → Method → List ℕ → RequestValue → Asked
-asked_at places.Ping method part r = ping_asked method
-asked_at places.Write method part r = write_asked method (query_of r.target) r.body
-asked_at places.Tasks method part r = tasks_asked method r.body
-asked_at places.Task method part r = task_asked method part r.body
-asked_at places.Topics method part r = topics_asked method
-asked_at places.Topic method part r = topic_asked method part
+abbrev pub ask_at : Place → Method → List ℕ → RequestValue → AskResult
+ask_at places.Ping method part r = ping_ask method
+ask_at places.Write method part r = write_ask method (query_of r.target) r.body
+ask_at places.Tasks method part r = tasks_ask method r.body
+ask_at places.Task method part r = task_ask method part r.body
+ask_at places.Topics method part r = topics_ask method
+ask_at places.Topic method part r = topic_ask method part
 
-abbrev pub asked_on : Option Way → RequestValue → Asked
-asked_on None r = Err refusals.NoPath
-asked_on (Some way) r = asked_at way.0 (method_of r.method) way.1 r
+abbrev pub ask_on : Option Way → RequestValue → AskResult
+ask_on None r = Err refusals.NoPath
+ask_on (Some way) r = ask_at way.0 (method_of r.method) way.1 r
 
 -- what a request asks
-unfoldable pub asked : RequestValue → Asked
-asked r = asked_on (way_of (path_of r.target)) r
+unfoldable pub ask_of : RequestValue → AskResult
+ask_of r = ask_on (way_of (path_of r.target)) r

@@ -48,7 +48,7 @@ pub struct WriteAsk {
 }
 
 impl Model for WriteAsk {
-    ghost use Rattle.kap_http.specs.Asked.{WriteValue, IsWrite};
+    ghost use Rattle.kap_http.specs.AskValues.{WriteValue, IsWrite};
 
     ghost Value = { WriteValue };
 
@@ -86,7 +86,7 @@ pub struct DefineAsk {
 }
 
 impl Model for DefineAsk {
-    ghost use Rattle.kap_http.specs.Asked.{DefineValue, IsDefine};
+    ghost use Rattle.kap_http.specs.AskValues.{DefineValue, IsDefine};
 
     ghost Value = { DefineValue };
 
@@ -119,7 +119,7 @@ pub struct TaskAsk {
 }
 
 impl Model for TaskAsk {
-    ghost use Rattle.kap_http.specs.Asked.{TaskValue, IsTask};
+    ghost use Rattle.kap_http.specs.AskValues.{TaskValue, IsTask};
 
     ghost Value = { TaskValue };
 
@@ -147,7 +147,7 @@ pub struct TopicAsk {
 }
 
 impl Model for TopicAsk {
-    ghost use Rattle.kap_http.specs.Asked.{TopicValue, IsTopic};
+    ghost use Rattle.kap_http.specs.AskValues.{TopicValue, IsTopic};
 
     ghost Value = { TopicValue };
 

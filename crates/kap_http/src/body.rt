@@ -5,8 +5,8 @@ ghost use Rattle.std.specs.List.{list_all};
 ghost use Rattle.serde_json.specs.Find.{as_array, as_str, get};
 ghost use Rattle.serde_json.specs.View.{view};
 ghost use Rattle.kap_base.specs.Words.{Answers};
-ghost use Rattle.kap_http.specs.Asked.{is_id_byte, is_task_id};
-ghost use Rattle.kap_http.specs.Bodies.{can_be_defined, define_of, defined, has_no_pairs, is_empty_list, is_stream, is_text, json_of, set_of, status_at, status_of, status_or_disabled, text_at};
+ghost use Rattle.kap_http.specs.AskValues.{is_id_byte, is_task_id};
+ghost use Rattle.kap_http.specs.Bodies.{can_be_defined, definition_in, definition_of, has_no_pairs, is_empty_list, is_stream, is_text, json_of, set_of, status_at, status_of, status_or_disabled, text_at};
 ghost use Rattle.kap_http.specs.declared.refusal.Refusal.TheVariants.{BadBody as bad_body, NoMemory as no_memory};
 
 use crate::ask::DefineAsk;
@@ -138,9 +138,9 @@ fn can_be_defined(value: &Value) -> bool
 }
 
 /// The task that a value defines.
-#[tactic(auto, unfolding(crate::specs::Bodies::defined))]
-fn defined(alloc: Global, value: &Value) -> Result<DefineAsk, Refusal>
-    ensures { Answers no_memory result (defined (view value.now)) }
+#[tactic(auto, unfolding(crate::specs::Bodies::definition_in))]
+fn definition_in(alloc: Global, value: &Value) -> Result<DefineAsk, Refusal>
+    ensures { Answers no_memory result (definition_in (view value.now)) }
 {
     let Some(id) = text_at(value, "id") else {
         return Err(Refusal::BadBody);
@@ -168,11 +168,11 @@ fn defined(alloc: Global, value: &Value) -> Result<DefineAsk, Refusal>
 }
 
 /// The task that a body defines.
-pub(crate) fn define_of(alloc: Global, body: &[u8]) -> Result<DefineAsk, Refusal>
-    ensures { Answers no_memory result (define_of body.now) }
+pub(crate) fn definition_of(alloc: Global, body: &[u8]) -> Result<DefineAsk, Refusal>
+    ensures { Answers no_memory result (definition_of body.now) }
 {
     let value = json_of(alloc, body)?;
-    defined(alloc, &value)
+    definition_in(alloc, &value)
 }
 
 /// The status that a body sets.

@@ -3,14 +3,14 @@
 ghost use Rattle.std.specs.Prelude.{◌≡◌, ◌+◌, ◌<◌, ◌≤◌, ◌++◌, ℕ, List, Option, Some, Ok, Err, Result, length};
 ghost use Rattle.httparse.specs.Grammar.{EndsInTarget};
 ghost use Rattle.kap_http.specs.declared.fault.HttpFault.{HttpFault};
-ghost use Rattle.kap_http.specs.Requested.{RequestValue};
-ghost use Rattle.kap_http.specs.Reading.{Gives, Given};
-ghost use Rattle.kap_http.specs.Requests.{Stop, Requests, Begun, HasNoOpenTarget, IsFinal};
+ghost use Rattle.kap_http.specs.RequestValues.{RequestValue};
+ghost use Rattle.kap_http.specs.Reading.{Gives, ReadResult};
+ghost use Rattle.kap_http.specs.Requests.{Stop, Requests, BeginsWith, HasNoOpenTarget, IsFinal};
 
 /// The law of a request. What bytes give is one answer, but for bytes that end inside a target. A request that was read stays
 /// read whatever follows, and so does a fault. A request takes some bytes, and no more than there are.
 pub fn one_answer()
-    ensures one { (bytes : List ℕ) (a b : Given) → ¬ (EndsInTarget bytes) →
+    ensures one { (bytes : List ℕ) (a b : ReadResult) → ¬ (EndsInTarget bytes) →
         Gives bytes a → Gives bytes b → a ≡ b }
     ensures stays { (bytes more : List ℕ) (r : RequestValue) (n : ℕ) →
         Gives bytes (Ok (Some (r, n))) → Gives (bytes ++ more) (Ok (Some (r, n))) }
@@ -25,10 +25,10 @@ pub fn one_answer()
 /// behind the last, the thousandth and at a fault nothing that follows is looked at.
 pub fn in_pieces()
     ensures more { (bytes more : List ℕ) (requests : List RequestValue) (rest : List ℕ) →
-        Begun bytes requests rest → Begun (bytes ++ more) requests (rest ++ more) }
+        BeginsWith bytes requests rest → BeginsWith (bytes ++ more) requests (rest ++ more) }
     ensures whole { (bytes : List ℕ) (requests : List RequestValue) (rest : List ℕ)
         (left : ℕ) (behind : List RequestValue) (stop : Stop) →
-        Begun bytes requests rest → Requests left rest behind stop →
+        BeginsWith bytes requests rest → Requests left rest behind stop →
         Requests (length requests + left) bytes (requests ++ behind) stop }
     ensures stays { (left : ℕ) (bytes more : List ℕ) (requests : List RequestValue)
         (stop : Stop) →

@@ -23,7 +23,7 @@ pub use laws::{in_pieces, one_answer};
 pub use lines::has_empty_line;
 pub use reading::read_request;
 pub use refusal::{Refusal, error_reply};
-pub use reply::{Reply, no_memory_text, print_reply, refusal_text};
+pub use reply::{Reply, fault_text, no_memory_text, print_reply};
 pub use request::Request;
 pub use routing::route;
 pub use serving::Serve;

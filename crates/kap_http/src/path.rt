@@ -115,11 +115,7 @@ fn only_part(path: &[u8]) -> Option<&[u8]>
     let Some((b'/', part)) = path.split_first() else {
         return None;
     };
-    if has_slash(part) {
-        None
-    } else {
-        Some(part)
-    }
+    if has_slash(part) { None } else { Some(part) }
 }
 
 /// The place of all where nothing is behind it, or of the one that the part behind it names.

@@ -1,7 +1,7 @@
 //! Why requests are refused.
 
 ghost use Rattle.std.specs.Prelude.{◌≡◌, ◌≢◌, IfOk, IsTrue, false};
-ghost use Rattle.kap_http.specs.Replied.{refuses};
+ghost use Rattle.kap_http.specs.ReplyValues.{refuses};
 ghost use Rattle.kap_http.specs.Refusals.{refusal_reply, refusal_status, refusal_text};
 ghost use Rattle.kap_http.specs.Replies.{error_body, error_reply, out_of_memory};
 ghost use Rattle.kap_http.specs.declared.refusal.Refusal.TheVariants.{NoMemory as no_memory};

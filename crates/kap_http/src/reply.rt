@@ -1,7 +1,7 @@
 //! Replies, and their bytes.
 
 ghost use Rattle.std.specs.Prelude.{◌≡◌, ◌++◌, IfOk, IsTrue, OnOk, length};
-ghost use Rattle.kap_http.specs.Replied.{is_status};
+ghost use Rattle.kap_http.specs.ReplyValues.{is_status};
 ghost use Rattle.kap_http.specs.Replies.{fault_reply, last_text, out_of_memory, reply_text, status_text, with_fields};
 
 use crate::fault::HttpFault;
@@ -22,7 +22,7 @@ pub struct Reply {
 }
 
 impl Model for Reply {
-    ghost use Rattle.kap_http.specs.Replied.{ReplyValue, IsReply};
+    ghost use Rattle.kap_http.specs.ReplyValues.{ReplyValue, IsReply};
 
     ghost Value = { ReplyValue };
 
@@ -128,7 +128,7 @@ fn large_text() -> &'static [u8]
 }
 
 /// The bytes of the reply to bytes that hold no request; it is the last. They take no memory.
-pub fn refusal_text(fault: HttpFault) -> &'static [u8]
+pub fn fault_text(fault: HttpFault) -> &'static [u8]
     ensures { result.now ≡ reply_text (fault_reply fault) }
 {
     match fault {

@@ -16,7 +16,7 @@ pub struct Request {
 }
 
 impl Model for Request {
-    ghost use Rattle.kap_http.specs.Requested.{RequestValue, IsRequest};
+    ghost use Rattle.kap_http.specs.RequestValues.{RequestValue, IsRequest};
 
     ghost Value = { RequestValue };
 

@@ -4,13 +4,13 @@ ghost use Rattle.std.specs.Prelude.{◌≡◌, ◌≤◌, IfOk, IfSome, IsUtf8, 
 ghost use Rattle.std.specs.Str.{is_utf8};
 ghost use Rattle.form_urlencoded.specs.Form.{raw_pairs};
 ghost use Rattle.kap_base.specs.Words.{Answers};
-ghost use Rattle.kap_http.specs.Refusals.{replied};
+ghost use Rattle.kap_http.specs.Refusals.{as_reply};
 ghost use Rattle.kap_http.specs.Replies.{out_of_memory};
-ghost use Rattle.kap_http.specs.Routes.{asked, asked_at, database_of, line_of, name_of, ping_asked, precision_of, task_asked, task_of, tasks_asked, topic_asked, topics_asked, write_asked, write_of};
+ghost use Rattle.kap_http.specs.Routes.{ask_of, ask_at, database_of, line_of, name_of, ping_ask, precision_of, task_ask, task_of, tasks_ask, topic_ask, topics_ask, write_ask, write_of};
 ghost use Rattle.kap_http.specs.declared.refusal.Refusal.TheVariants.{NoMemory as no_memory};
 
 use crate::ask::{Ask, Precision, TaskAct, TaskAsk, TopicAsk, WriteAsk};
-use crate::body::{define_of, set_of};
+use crate::body::{definition_of, set_of};
 use crate::method::{Method, method_of};
 use crate::path::{Place, path_of, query_of, way_of};
 use crate::query::value_of;
@@ -121,8 +121,8 @@ fn task_of(alloc: Global, act: TaskAct, part: &[u8]) -> Result<Ask, Refusal>
     Ok(Ask::Task(TaskAsk { id, act }))
 }
 
-fn ping_asked(method: Method) -> Result<Ask, Refusal>
-    ensures { result ≡ ping_asked method }
+fn ping_ask(method: Method) -> Result<Ask, Refusal>
+    ensures { result ≡ ping_ask method }
 {
     match method {
         Method::Get | Method::Head => Ok(Ask::Ping),
@@ -130,10 +130,10 @@ fn ping_asked(method: Method) -> Result<Ask, Refusal>
     }
 }
 
-fn write_asked(alloc: Global, method: Method, query: &[u8], body: &Bytes) -> Result<Ask, Refusal>
+fn write_ask(alloc: Global, method: Method, query: &[u8], body: &Bytes) -> Result<Ask, Refusal>
     requires query { length query.now ≤ 16384 }
     requires body { length body.now ≤ 8388608 }
-    ensures { Answers no_memory result (write_asked method query.now body.now) }
+    ensures { Answers no_memory result (write_ask method query.now body.now) }
 {
     match method {
         Method::Post => Ok(Ask::Write(write_of(alloc, query, body)?)),
@@ -141,19 +141,19 @@ fn write_asked(alloc: Global, method: Method, query: &[u8], body: &Bytes) -> Res
     }
 }
 
-fn tasks_asked(alloc: Global, method: Method, body: &Bytes) -> Result<Ask, Refusal>
-    ensures { Answers no_memory result (tasks_asked method body.now) }
+fn tasks_ask(alloc: Global, method: Method, body: &Bytes) -> Result<Ask, Refusal>
+    ensures { Answers no_memory result (tasks_ask method body.now) }
 {
     match method {
         Method::Get => Ok(Ask::Tasks),
-        Method::Post => Ok(Ask::Define(define_of(alloc, body.as_slice())?)),
+        Method::Post => Ok(Ask::Define(definition_of(alloc, body.as_slice())?)),
         _ => Err(Refusal::NoMethod),
     }
 }
 
-fn task_asked(alloc: Global, method: Method, part: &[u8], body: &Bytes) -> Result<Ask, Refusal>
+fn task_ask(alloc: Global, method: Method, part: &[u8], body: &Bytes) -> Result<Ask, Refusal>
     requires { length part.now ≤ 16384 }
-    ensures { Answers no_memory result (task_asked method part.now body.now) }
+    ensures { Answers no_memory result (task_ask method part.now body.now) }
 {
     match method {
         Method::Get => task_of(alloc, TaskAct::Show, part),
@@ -170,8 +170,8 @@ fn task_asked(alloc: Global, method: Method, part: &[u8], body: &Bytes) -> Resul
     }
 }
 
-fn topics_asked(method: Method) -> Result<Ask, Refusal>
-    ensures { result ≡ topics_asked method }
+fn topics_ask(method: Method) -> Result<Ask, Refusal>
+    ensures { result ≡ topics_ask method }
 {
     match method {
         Method::Get => Ok(Ask::Topics),
@@ -179,9 +179,9 @@ fn topics_asked(method: Method) -> Result<Ask, Refusal>
     }
 }
 
-fn topic_asked(alloc: Global, method: Method, part: &[u8]) -> Result<Ask, Refusal>
+fn topic_ask(alloc: Global, method: Method, part: &[u8]) -> Result<Ask, Refusal>
     requires { length part.now ≤ 16384 }
-    ensures { Answers no_memory result (topic_asked method part.now) }
+    ensures { Answers no_memory result (topic_ask method part.now) }
 {
     match method {
         Method::Get => {
@@ -193,9 +193,9 @@ fn topic_asked(alloc: Global, method: Method, part: &[u8]) -> Result<Ask, Refusa
 }
 
 /// What a request asks, or why it is refused.
-#[tactic(auto, unfolding(crate::specs::Routes::asked), using(crate::proofs::SizeLaws::limit_most))]
-fn asked(alloc: Global, request: &Request) -> Result<Ask, Refusal>
-    ensures { Answers no_memory result (asked request.now) }
+#[tactic(auto, unfolding(crate::specs::Routes::ask_of), using(crate::proofs::SizeLaws::limit_most))]
+fn ask_of(alloc: Global, request: &Request) -> Result<Ask, Refusal>
+    ensures { Answers no_memory result (ask_of request.now) }
 {
     let target = request.target.bytes();
     let Some((place, part)) = way_of(path_of(target)) else {
@@ -203,23 +203,23 @@ fn asked(alloc: Global, request: &Request) -> Result<Ask, Refusal>
     };
     let method = method_of(request.method.bytes());
     match place {
-        Place::Ping => ping_asked(method),
-        Place::Write => write_asked(alloc, method, query_of(target), &request.body),
-        Place::Tasks => tasks_asked(alloc, method, &request.body),
-        Place::Task => task_asked(alloc, method, part, &request.body),
-        Place::Topics => topics_asked(method),
-        Place::Topic => topic_asked(alloc, method, part),
+        Place::Ping => ping_ask(method),
+        Place::Write => write_ask(alloc, method, query_of(target), &request.body),
+        Place::Tasks => tasks_ask(alloc, method, &request.body),
+        Place::Task => task_ask(alloc, method, part, &request.body),
+        Place::Topics => topics_ask(method),
+        Place::Topic => topic_ask(alloc, method, part),
     }
 }
 
-/// What a request asks, or the reply to one that is refused: 404 for a path that leads nowhere, then 405 for another
-/// method than its path takes, then 400 and 404 for what stands in its target and its body, in the order of `Asked`;
-/// 503 where memory runs out. Query values and path parts are decoded (URL Standard: percent-decoding,
-/// `application/x-www-form-urlencoded`), a `+` being a space in a query alone; bodies are read by serde_json.
+/// What a request asks, or the reply to one that is refused: 404 for a path that leads nowhere; then 405 for a method that
+/// its path doesn't take; then 400 and 404 for what stands in its target and its body. 503 says that memory ran out. Query
+/// values and path parts are decoded (URL Standard: percent-decoding, `application/x-www-form-urlencoded`), a `+` being a
+/// space in a query alone; bodies are JSON as serde_json reads it.
 pub fn route(alloc: Global, request: &Request) -> Result<Ask, Reply>
-    ensures { Answers (out_of_memory false) result (replied (asked request.now)) }
+    ensures { Answers (out_of_memory false) result (as_reply (ask_of request.now)) }
 {
-    match asked(alloc, request) {
+    match ask_of(alloc, request) {
         Ok(ask) => Ok(ask),
         Err(refusal) => Err(refusal.reply(alloc)),
     }

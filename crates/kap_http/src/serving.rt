@@ -1,7 +1,7 @@
 //! What answers requests.
 
 ghost use Rattle.std.specs.Prelude.{List, Option};
-ghost use Rattle.kap_http.specs.Served.{AddsCall, Call};
+ghost use Rattle.kap_http.specs.Calls.{AddsCall, Call};
 
 use crate::reply::Reply;
 use crate::request::Request;

@@ -1,7 +1,7 @@
 -- What a Serve was asked and answered.
 use Rattle.std.specs.Prelude.{◌≡◌, ℕ, List, [], ◌∷◌, ◌++◌, Option, Some, None}
-use Rattle.kap_http.specs.Requested.{RequestValue}
-use Rattle.kap_http.specs.Replied.{ReplyValue}
+use Rattle.kap_http.specs.RequestValues.{RequestValue}
+use Rattle.kap_http.specs.ReplyValues.{ReplyValue}
 
 -- a call: the number of the connection, the request and the reply
 pub record Call : Type 0 where
