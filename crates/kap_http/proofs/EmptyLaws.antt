@@ -1,10 +1,10 @@
 -- A whole head has an empty line behind a line feed.
-use Rattle.std.proofs.Common.{◌≡◌, ℕ, zero, suc, ◌+◌, ◌-◌, ◌==◌, Bool, true, false, ◌&&◌, ◌||◌, List, [], ◌∷◌, ◌++◌, take, drop, map, refl, sym, ap, ◌∙◌, append_assoc, arith}
+use Rattle.std.proofs.Common.{◌≡◌, ℕ, zero, suc, ◌-◌, ◌==◌, Bool, true, false, ◌&&◌, ◌||◌, List, [], ◌∷◌, ◌++◌, take, drop, map, refl, sym, ap, ◌∙◌, append_assoc, arith}
 use Rattle.httparse.specs.Grammar.{LineEnd, crlf, lf, print_end, print_blank, RequestHead, print_request, HasNoRequest}
 use Rattle.httparse.proofs.GrammarLemmas.{cons-append}
 use Rattle.kap_http.specs.Lines.{begins_empty, has_empty_line}
 use Rattle.kap_http.proofs.CutLaws.{joined}
-use Rattle.kap_http.proofs.RoomLaws.{head_is, head_lines, first_line, field_line}
+use Rattle.kap_http.proofs.RoomLaws.{head_is, first_line, field_line}
 
 -- lines end in a line feed
 abbrev front_of : List ℕ → List (List ℕ) → List ℕ

@@ -1,25 +1,22 @@
 -- What httparse says of a whole head, as this crate says it.
-use Rattle.std.proofs.Common.{◌≡◌, ◌≢◌, ℕ, ◌+◌, ◌<◌, ◌≤◌, Bool, true, false, min, List, [], ◌∷◌, ◌++◌, length, take, drop, map, refl, sym, ap, ◌∙◌, subst, arith, inl, inr, Result, Ok, Err, Option, None, IsUtf8}
-use Rattle.std.specs.Prelude.{All, ◌⊎◌}
-use Rattle.std.specs.List.{flat_map}
-use Rattle.std.specs.Char.{is_ascii}
-use Rattle.std.proofs.lemmas.List.{length-take, length-map, length-append, take-append-drop, drop-append-le, take_all}
+use Rattle.std.proofs.Common.{◌≡◌, ◌≢◌, ℕ, ◌<◌, ◌≤◌, true, List, ◌++◌, length, take, drop, map, refl, sym, ap, ◌∙◌, subst, arith, inl, inr, Result, Ok, Err, Option, None, IsUtf8}
+use Rattle.std.specs.Prelude.{All}
+use Rattle.std.proofs.lemmas.List.{length-take, length-map, take-append-drop, drop-append-le, take_all}
 use Rattle.std.proofs.lemmas.Str.{IsUtf8-from_ascii}
 use Rattle.std.proofs.lemmas.Str.Ascii.{IsAscii-from_all}
 use Rattle.std.proofs.lemmas.List.Elements.{All-weaker}
 use Rattle.std.proofs.lemmas.Bool.Decides.{nat_tests}
-use Rattle.httparse.specs.declared.spans.Span.{Span}
 use Rattle.httparse.specs.declared.spans.HeaderSpan.{HeaderSpan}
 use Rattle.httparse.specs.declared.spans.RequestSpans.{RequestSpans}
 use Rattle.httparse.specs.Grammar.{is_token_byte, AllPass, IsToken, RequestHead, print_request, IsRequestHead, ReadsRequest, HasNoRequest, MayBecomeRequest}
-use Rattle.httparse.specs.Spans.{IsWithin, IsHeaderWithin, IsRequestAt, IsRequestWithin, IsRequestOf, header_bytes, span_bytes, name_and_value, RequestOverflows}
+use Rattle.httparse.specs.Spans.{IsHeaderWithin, IsRequestWithin, IsRequestOf, header_bytes, span_bytes, name_and_value, RequestOverflows}
 use Rattle.httparse.proofs.GrammarLemmas.{ReadsRequest-append}
 use Rattle.kap_base.specs.Words.{Answers}
 use Rattle.kap_http.specs.declared.fault.HttpFault.{HttpFault}
 use Rattle.kap_http.specs.declared.fault.HttpFault.TheVariants as faults
 use Rattle.kap_http.specs.RequestValues.{RequestValue}
 use Rattle.kap_http.specs.Fields.{Pair}
-use Rattle.kap_http.specs.Reading.{request_of, head_gives, HasHead, Gives, Waits, IsTooLong, IsBad, MayGoOn}
+use Rattle.kap_http.specs.Reading.{request_of, Gives, MayGoOn}
 
 pub widen : (n m : ℕ) (hs : List HeaderSpan) → n ≤ m → All (IsHeaderWithin n) hs → All (IsHeaderWithin m) hs
 widen n m hs le all = λ k d lt. let h = all k d lt in ((h.0.0, omega arith), (h.1.0, omega arith))

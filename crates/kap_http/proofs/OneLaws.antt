@@ -1,18 +1,17 @@
 -- What bytes give is one answer, and stays so whatever follows.
-use Rattle.std.proofs.Common.{◌≡◌, ◌≢◌, ℕ, ◌+◌, ◌-◌, ◌<◌, ◌≤◌, Bool, true, false, List, [], ◌∷◌, ◌++◌, length, take, drop, map, refl, sym, ap, ◌∙◌, subst, arith, inl, inr, Option, Some, None, Result, Ok, Err, append_assoc, append-nil, length-append, min, nat_le}
+use Rattle.std.proofs.Common.{◌≡◌, ℕ, ◌+◌, ◌-◌, ◌<◌, ◌≤◌, Bool, true, false, List, [], ◌∷◌, ◌++◌, length, take, drop, map, refl, sym, ap, ◌∙◌, subst, arith, inl, inr, Some, None, Result, Ok, Err, append_assoc, length-append, nat_le}
 use Rattle.std.specs.Prelude.{◌⊎◌, if◌then◌else◌}
-use Rattle.std.proofs.lemmas.List.{length-take, length-drop, take-append-drop, take-append-le, take_all, take_at}
+use Rattle.std.proofs.lemmas.List.{take-append-drop, take-append-le, take_all}
 use Rattle.std.proofs.lemmas.Bool.{cases_lt, leb-true, le-leb}
 use Rattle.std.proofs.Math.Seq.{take-append-add}
 use Rattle.httparse.specs.Grammar.{RequestHead, print_request, print_blank, print_end, ReadsRequest, HasNoRequest, EndsInTarget}
 use Rattle.httparse.specs.Spans.{name_and_value, RequestOverflows}
 use Rattle.httparse.proofs.GrammarLemmas.{request_unique, ReadsRequest-append}
 use Rattle.kap_http.specs.declared.fault.HttpFault.{HttpFault}
-use Rattle.kap_http.specs.declared.fault.HttpFault.TheVariants as faults
 use Rattle.kap_http.specs.RequestValues.{RequestValue}
 use Rattle.kap_http.specs.Fields.{Pair, body_len}
 use Rattle.kap_http.specs.Paths.{limit_of}
-use Rattle.kap_http.specs.Reading.{ReadResult, request_from, request_of, head_gives, HasHead, CanBeHead, Waits, IsTooLong, IsBad, Gives, is_last}
+use Rattle.kap_http.specs.Reading.{ReadResult, request_from, request_of, head_gives, HasHead, CanBeHead, Waits, IsBad, Gives}
 use Rattle.kap_base.specs.Words.{◌>>=◌}
 use Rattle.kap_http.proofs.CutLaws.{joined}
 use Rattle.kap_http.proofs.RoomLaws.{head_is, first_line, field_line}

@@ -1,11 +1,10 @@
 -- No value of a query is longer than the query.
 use Rattle.std.specs.Prelude.{if◌then◌else◌}
-use Rattle.std.proofs.Common.{◌≡◌, ℕ, ◌==◌, ◌+◌, ◌<◌, ◌≤◌, Bool, true, false, List, [], ◌∷◌, length, map, take, drop, filter, refl, arith, bytes_eq}
+use Rattle.std.proofs.Common.{ℕ, ◌==◌, ◌+◌, ◌≤◌, true, false, List, [], ◌∷◌, length, map, filter, arith, bytes_eq}
 use Rattle.std.specs.List.{position_or_len}
-use Rattle.std.proofs.lemmas.List.{length-map, length-take-le, length-drop, length-take}
-use Rattle.percent_encoding.specs.Percent.{percent_decode}
+use Rattle.std.proofs.lemmas.List.{length-map, length-drop}
 use Rattle.percent_encoding.proofs.PercentLemmas.{length-percent_decode}
-use Rattle.form_urlencoded.specs.Form.{decode, is_nonempty, onto_first, plus_to_space, raw_pairs, split, split_once, split_pair}
+use Rattle.form_urlencoded.specs.Form.{decode, is_nonempty, onto_first, plus_to_space, raw_pairs, split, split_pair}
 use Rattle.kap_http.specs.Queries.{value_of}
 
 -- none of the lists is longer

@@ -1,5 +1,5 @@
 -- How long what is read can be.
-use Rattle.std.proofs.Common.{◌≡◌, ◌≢◌, ℕ, ◌+◌, ◌<◌, ◌≤◌, Bool, true, false, ◌||◌, List, [], ◌∷◌, ◌++◌, length, take, map, refl, sym, ap, subst, ◌∙◌, arith, inl, inr, Option, Some, None, Result, Ok, Err, length-append, nat_le, nat_lt}
+use Rattle.std.proofs.Common.{◌≡◌, ℕ, ◌+◌, ◌<◌, ◌≤◌, Bool, true, false, ◌||◌, List, ◌∷◌, ◌++◌, length, take, map, refl, sym, ap, subst, ◌∙◌, arith, inl, inr, Some, None, Result, Ok, Err, length-append, nat_le, nat_lt}
 use Rattle.std.specs.Prelude.{if◌then◌else◌}
 use Rattle.std.specs.List.{list_any}
 use Rattle.std.proofs.lemmas.List.{length-take-le}
@@ -13,7 +13,7 @@ use Rattle.kap_http.specs.RequestValues.{RequestValue}
 use Rattle.kap_http.specs.Fields.{Pair, shows, body_len, length_of, lengths, within}
 use Rattle.kap_http.specs.Paths.{limit_of, leads_to_write, way_of, path_of}
 use Rattle.kap_http.specs.RequestValues.{IsRequest}
-use Rattle.kap_http.specs.Reading.{ReadResult, request_from, request_of, Gives, HasHead}
+use Rattle.kap_http.specs.Reading.{ReadResult, request_from, request_of, Gives}
 use Rattle.kap_http.proofs.OneLaws.{with_size}
 use Rattle.kap_http.specs.declared.fields.Sign.TheVariants as signs
 use Rattle.kap_http.proofs.CutLaws.{joined}

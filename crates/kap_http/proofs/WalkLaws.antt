@@ -1,12 +1,12 @@
 -- Walking a path leads where its parts lead.
-use Rattle.std.proofs.Common.{◌≡◌, ℕ, suc, ◌+◌, ◌==◌, Bool, true, false, not, ◌&&◌, cond, List, [], ◌∷◌, take, drop, Option, Some, None, refl, sym, ap, ◌∙◌, arith, bytes_eq, codes}
+use Rattle.std.proofs.Common.{◌≡◌, ℕ, suc, ◌+◌, ◌==◌, Bool, true, false, not, List, [], ◌∷◌, take, drop, Option, Some, None, refl, sym, ap, arith, codes}
 use Rattle.std.specs.Prelude.{IfSome, option_map, option_and_then, if◌then◌else◌}
 use Rattle.std.specs.List.{list_any, position_or_len}
 use Rattle.form_urlencoded.specs.Form.{onto_first, split}
 use Rattle.kap_http.specs.declared.path.Place.{Place}
 use Rattle.kap_http.specs.declared.path.Place.TheVariants as places
-use Rattle.kap_http.specs.Paths.{is_slash, is_part, parts_of, behind, behind_both, choose, only, all_or_one, under_version, way_by, way_of, Way}
-use Rattle.kap_http.specs.Walks.{part_in, behind_part, strip, strip_both, ends, only_part, ends_or_one, walk, walk_version}
+use Rattle.kap_http.specs.Paths.{is_slash, is_part, parts_of, behind, behind_both, choose, only, all_or_one, under_version, way_of, Way}
+use Rattle.kap_http.specs.Walks.{part_in, behind_part, strip, strip_both, ends, ends_or_one, walk, walk_version}
 
 -- nothing, or what begins with a slash
 abbrev IsRest : List ℕ → Type 0

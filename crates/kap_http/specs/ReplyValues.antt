@@ -1,5 +1,5 @@
 -- A reply, as definitions speak of it, and what holds of each.
-use Rattle.std.specs.Prelude.{ℕ, Bool, true, ◌||◌, ◌&&◌, not, ◌==◌, List, [], ◌∷◌, IsTrue}
+use Rattle.std.specs.Prelude.{ℕ, Bool, ◌||◌, ◌&&◌, not, ◌==◌, List, [], ◌∷◌, IsTrue}
 use Rattle.std.specs.List.{list_any}
 use Rattle.kap_base.specs.Texts.{is_empty}
 

@@ -1,5 +1,5 @@
 -- What a request asks: by its path, then by its method, then by what stands in its target and its body.
-use Rattle.std.specs.Prelude.{ℕ, List, [], ◌∷◌, Option, Some, None, Result, Ok, Err, codes, bytes_eq, if◌then◌else◌, ◌||◌, not}
+use Rattle.std.specs.Prelude.{ℕ, List, Option, Some, None, Result, Ok, Err, codes, bytes_eq, if◌then◌else◌}
 use Rattle.std.specs.Str.{is_utf8}
 use Rattle.form_urlencoded.specs.Form.{raw_pairs}
 use Rattle.percent_encoding.specs.Percent.{percent_decode}

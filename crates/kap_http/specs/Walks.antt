@@ -1,5 +1,5 @@
 -- How the code walks a path; for private clauses.
-use Rattle.std.specs.Prelude.{ℕ, Bool, not, ◌&&◌, List, [], ◌∷◌, take, drop, Option, Some, None, option_map, option_and_then, codes, if◌then◌else◌}
+use Rattle.std.specs.Prelude.{ℕ, not, ◌&&◌, List, [], ◌∷◌, take, drop, Option, Some, None, option_map, option_and_then, codes, if◌then◌else◌}
 use Rattle.std.specs.List.{list_any, position_or_len}
 use Rattle.kap_http.specs.declared.path.Place.{Place}
 use Rattle.kap_http.specs.declared.path.Place.TheVariants as places

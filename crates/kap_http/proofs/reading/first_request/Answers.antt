@@ -1,8 +1,7 @@
-use Rattle.std.proofs.Common.{◌≡◌, ◌≤◌, ◌<◌, length, drop, take, arith, rules, true, false}
-use Rattle.httparse.specs.Spans.{IsRequestWithin, IsRequestOf}
+use Rattle.std.proofs.Common.{◌≡◌, arith, rules, true, false}
 use Rattle.kap_http.specs.Lines.{has_more_lines}
 use Rattle.kap_http.specs.declared.fault.HttpFault.TheVariants as faults
-use Rattle.kap_http.proofs.HeadLaws.{widen, answer_is, whole_gives, method_utf8, path_utf8, bad_gives, long_gives, waits_gives}
+use Rattle.kap_http.proofs.HeadLaws.{answer_is, whole_gives, method_utf8, bad_gives, long_gives, waits_gives}
 use Rattle.kap_http.proofs.RoomLaws.{may_go_on, overflows}
 use Rattle.kap_http.proofs.reading.first_request.Goals as goal
 
