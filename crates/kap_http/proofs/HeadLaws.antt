@@ -1,6 +1,5 @@
 -- What httparse says of a whole head, as this crate says it.
 use Rattle.std.proofs.Common.{◌≡◌, ◌≢◌, ℕ, ◌<◌, ◌≤◌, true, List, ◌++◌, length, take, drop, map, refl, sym, ap, ◌∙◌, subst, arith, inl, inr, Result, Ok, Err, Option, None, IsUtf8}
-use Rattle.std.specs.Prelude.{All}
 use Rattle.std.proofs.lemmas.List.{length-take, length-map, take-append-drop, drop-append-le, take_all}
 use Rattle.std.proofs.lemmas.Str.{IsUtf8-from_ascii}
 use Rattle.std.proofs.lemmas.Str.Ascii.{IsAscii-from_all}
@@ -9,7 +8,7 @@ use Rattle.std.proofs.lemmas.Bool.Decides.{nat_tests}
 use Rattle.httparse.specs.declared.spans.HeaderSpan.{HeaderSpan}
 use Rattle.httparse.specs.declared.spans.RequestSpans.{RequestSpans}
 use Rattle.httparse.specs.Grammar.{is_token_byte, AllPass, IsToken, RequestHead, print_request, IsRequestHead, ReadsRequest, HasNoRequest, MayBecomeRequest}
-use Rattle.httparse.specs.Spans.{IsHeaderWithin, IsRequestWithin, IsRequestOf, header_bytes, span_bytes, name_and_value, RequestOverflows}
+use Rattle.httparse.specs.Spans.{IsRequestWithin, IsRequestOf, header_bytes, span_bytes, name_and_value, RequestOverflows}
 use Rattle.httparse.proofs.GrammarLemmas.{ReadsRequest-append}
 use Rattle.kap_base.specs.Words.{Answers}
 use Rattle.kap_http.specs.declared.fault.HttpFault.{HttpFault}
@@ -17,9 +16,6 @@ use Rattle.kap_http.specs.declared.fault.HttpFault.TheVariants as faults
 use Rattle.kap_http.specs.RequestValues.{RequestValue}
 use Rattle.kap_http.specs.Fields.{Pair}
 use Rattle.kap_http.specs.Reading.{request_of, Gives, MayGoOn}
-
-pub widen : (n m : ℕ) (hs : List HeaderSpan) → n ≤ m → All (IsHeaderWithin n) hs → All (IsHeaderWithin m) hs
-widen n m hs le all = λ k d lt. let h = all k d lt in ((h.0.0, omega arith), (h.1.0, omega arith))
 
 pub answer_is : {A E : Type 0} (lack : E) (r due : Result A E) → Answers lack r due → r ≢ Err lack → r ≡ due
 answer_is lack (Ok x) due a ne = sym a
@@ -64,9 +60,6 @@ token_utf8 bytes token =
 
 pub method_utf8 : (front : List ℕ) (headers : List HeaderSpan) (spans : RequestSpans) → IsRequestOf front headers spans → IsUtf8 (span_bytes front spans.method)
 method_utf8 front headers spans of = subst IsUtf8 (sym of.1.method) (token_utf8 of.0.method of.1.reads.0.method)
-
-pub path_utf8 : (front : List ℕ) (headers : List HeaderSpan) (spans : RequestSpans) → IsRequestOf front headers spans → IsUtf8 (span_bytes front spans.path)
-path_utf8 front headers spans of = subst IsUtf8 (sym of.1.path) of.1.reads.0.target_text
 
 -- an error of the parser
 pub bad_gives : (bytes front : List ℕ) → front ≡ take 16384 bytes → RequestOverflows 64 front → Gives bytes (Err faults.Bad)

@@ -1,23 +1,18 @@
 -- How long what is read can be.
-use Rattle.std.proofs.Common.{◌≡◌, ℕ, ◌+◌, ◌<◌, ◌≤◌, Bool, true, false, ◌||◌, List, ◌∷◌, ◌++◌, length, take, map, refl, sym, ap, subst, ◌∙◌, arith, inl, inr, Some, None, Result, Ok, Err, length-append, nat_le, nat_lt}
+use Rattle.std.proofs.Common.{◌≡◌, ℕ, ◌+◌, ◌<◌, ◌≤◌, Bool, true, false, ◌||◌, List, length, take, map, refl, sym, ap, ◌∙◌, arith, inl, inr, Some, None, Result, Ok, Err, length-append, nat_le, nat_lt}
 use Rattle.std.specs.Prelude.{if◌then◌else◌}
 use Rattle.std.specs.List.{list_any}
-use Rattle.std.proofs.lemmas.List.{length-take-le}
-use Rattle.std.proofs.lemmas.Bool.{leb-true, leb-false, ltb-false}
-use Rattle.httparse.specs.Grammar.{RequestHead, print_request, print_blank, print_version, print_end}
+use Rattle.std.proofs.lemmas.Bool.{leb-false, ltb-false}
+use Rattle.httparse.specs.Grammar.{print_request}
 use Rattle.httparse.specs.Spans.{name_and_value}
 use Rattle.kap_base.specs.Words.{◌>>=◌}
 use Rattle.kap_http.specs.declared.fault.HttpFault.{HttpFault}
 use Rattle.kap_http.specs.declared.fault.HttpFault.TheVariants as faults
-use Rattle.kap_http.specs.RequestValues.{RequestValue}
 use Rattle.kap_http.specs.Fields.{Pair, shows, body_len, length_of, lengths, within}
 use Rattle.kap_http.specs.Paths.{limit_of, leads_to_write, way_of, path_of}
-use Rattle.kap_http.specs.RequestValues.{IsRequest}
 use Rattle.kap_http.specs.Reading.{ReadResult, request_from, request_of, Gives}
 use Rattle.kap_http.proofs.OneLaws.{with_size}
 use Rattle.kap_http.specs.declared.fields.Sign.TheVariants as signs
-use Rattle.kap_http.proofs.CutLaws.{joined}
-use Rattle.kap_http.proofs.RoomLaws.{head_is, before_feed, field_line}
 
 pub len_within : (limit : ℕ) (fields : List Pair) (size : ℕ) → body_len limit fields ≡ Ok size → size ≤ limit
 unfolding body_len
@@ -38,29 +33,6 @@ len_within limit fields size e = by_refused (list_any (shows signs.Transfer) fie
 pub limit_most : (target : List ℕ) → limit_of target ≤ 8388608
 limit_most target = elim (leads_to_write (way_of (path_of target))) as (λ t. (if t then 8388608 else 1048576) ≤ 8388608) [ true ↦ omega arith | false ↦ omega arith ]
 
--- the request that is made, and the size of its body
-pub record Made (method target : List ℕ) (minor : ℕ) (fields : List Pair) (rest : List ℕ) (r : RequestValue) : Type 0 where
-  pub size : ℕ
-  pub within : size ≤ limit_of target
-  pub there : size ≤ length rest
-  pub is : request_from method target minor fields (take size rest) ≡ r
-
-made : (method target : List ℕ) (minor : ℕ) (fields : List Pair) (len : ℕ) (rest : List ℕ) (r : RequestValue) (n : ℕ)
-    → request_of method target minor fields len rest ≡ Ok (Some (r, n)) → Made method target minor fields rest r
-unfolding request_of
-made method target minor fields len rest r n e = by_size (body_len (limit_of target) fields) refl e
-  where
-    by_test : (size : ℕ) (t : Bool) → size ≤ limit_of target → nat_le size (length rest) ≡ t
-        → ◌≡◌ {A = ReadResult} (Ok (if t then Some (request_from method target minor fields (take size rest), len + size) else None)) (Ok (Some (r, n))) → Made method target minor fields rest r
-    by_test size false le t e = absurd cc
-    by_test size true le t e =
-        let pair : ◌≡◌ {A = RequestValue × ℕ} (request_from method target minor fields (take size rest), len + size) (r, n) = cc in
-        record { size = size; within = le; there = leb-true size (length rest) t; is = ap (λ (p : RequestValue × ℕ). p.0) pair }
-
-    by_size : (b : Result ℕ HttpFault) → body_len (limit_of target) fields ≡ b → (b >>= λ size. with_size len (request_from method target minor fields) size rest) ≡ Ok (Some (r, n)) → Made method target minor fields rest r
-    by_size (Ok size) is e = by_test size (nat_le size (length rest)) (len_within (limit_of target) fields size is) refl e
-    by_size (Err f) is e = absurd cc
-
 missing : (method target : List ℕ) (minor : ℕ) (fields : List Pair) (len : ℕ) (rest : List ℕ) → request_of method target minor fields len rest ≡ Ok None → length rest < 8388608
 unfolding request_of
 missing method target minor fields len rest e = by_size (body_len (limit_of target) fields) refl e
@@ -73,23 +45,6 @@ missing method target minor fields len rest e = by_size (body_len (limit_of targ
     by_size : (b : Result ℕ HttpFault) → body_len (limit_of target) fields ≡ b → (b >>= λ size. with_size len (request_from method target minor fields) size rest) ≡ Ok None → length rest < 8388608
     by_size (Ok size) is e = by_test size (nat_le size (length rest)) (len_within (limit_of target) fields size is) refl e
     by_size (Err f) is e = absurd cc
-
-target_short : (h : RequestHead) → length h.target ≤ length (print_request h)
-target_short h = omega (arith, ap (λ (x : List ℕ). length x) (head_is h), some (print_blank h.blank) h.method h.target (print_version h.minor ++ before_feed h.line_end) (joined (map field_line h.fields)) (print_end h.last))
-  where
-    some : (a b c d e f : List ℕ) → length c ≤ length (a ++ (((b ++ 32 ∷ (c ++ 32 ∷ d)) ++ 10 ∷ e) ++ f))
-    some a b c d e f = simp length-append (omega (arith, length-append c (32 ∷ d)))
-
-pub gives_request : (bytes : List ℕ) (r : RequestValue) (n : ℕ) → Gives bytes (Ok (Some (r, n))) → IsRequest r
-gives_request bytes r n (inl x) =
-    let m = made x.0.method x.0.target x.0.minor (map name_and_value x.0.fields) (length (print_request x.0)) x.1 r n (sym x.3) in
-    let short = x.2.short in
-    subst IsRequest m.is (record {
-      body = let size = length-take-le m.size x.1 m.there in let le = m.within in omega arith;
-      target = omega (arith, target_short x.0);
-    })
-gives_request bytes r n (inr (inl x)) = absurd (cc (x.1))
-gives_request bytes r n (inr (inr x)) = absurd (cc (x.1))
 
 pub gives_short : (bytes : List ℕ) → Gives bytes (Ok None) → length bytes < 8404992
 gives_short bytes (inl x) =

@@ -1,6 +1,6 @@
 //! The laws of reading.
 
-ghost use Rattle.std.specs.Prelude.{◌≡◌, ◌+◌, ◌<◌, ◌≤◌, ◌++◌, ℕ, List, Option, Some, Ok, Err, Result, length};
+ghost use Rattle.std.specs.Prelude.{◌≡◌, ◌+◌, ◌<◌, ◌≤◌, ◌++◌, ◌∷◌, [], ℕ, List, Some, Ok, Err, drop, false, length};
 ghost use Rattle.httparse.specs.Grammar.{EndsInTarget};
 ghost use Rattle.kap_http.specs.declared.fault.HttpFault.{HttpFault};
 ghost use Rattle.kap_http.specs.RequestValues.{RequestValue};
@@ -21,11 +21,15 @@ pub fn one_answer()
 {}
 
 /// The law of a connection's bytes. They hold one list of requests and stop in one way, but for ends inside a target. What
-/// comes in pieces holds the requests that the whole holds: those that were read stay, with what follows behind them; and
-/// behind the last, the thousandth and at a fault nothing that follows is looked at.
+/// comes in pieces holds the requests that the whole holds: those that were read stay, with what follows behind them, and the
+/// next one is read from there; and behind the last, the thousandth and at a fault nothing that follows is looked at.
 pub fn in_pieces()
     ensures more { (bytes more : List ℕ) (requests : List RequestValue) (rest : List ℕ) →
         BeginsWith bytes requests rest → BeginsWith (bytes ++ more) requests (rest ++ more) }
+    ensures next { (bytes : List ℕ) (requests : List RequestValue) (rest : List ℕ)
+        (r : RequestValue) (n : ℕ) →
+        BeginsWith bytes requests rest → Gives rest (Ok (Some (r, n))) → r.last ≡ false →
+        BeginsWith bytes (requests ++ r ∷ []) (drop n rest) }
     ensures whole { (bytes : List ℕ) (requests : List RequestValue) (rest : List ℕ)
         (left : ℕ) (behind : List RequestValue) (stop : Stop) →
         BeginsWith bytes requests rest → Requests left rest behind stop →
