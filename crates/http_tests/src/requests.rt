@@ -1,0 +1,155 @@
+//! Reading of requests, from heads that clients send and heads that none should.
+
+use kap_http::{HttpFault, Request, has_empty_line, read_request};
+use std::alloc::Global;
+use std::process::Abort;
+use std::test::Fail;
+
+/// What reading gives.
+#[derive(Clone, Copy, Debug, PartialEq, Eq)]
+enum Found {
+    /// A request of this length.
+    Whole(usize),
+    /// None yet.
+    Waits,
+    Bad,
+    Large,
+    NoMemory,
+}
+
+fn reading(alloc: Global, bytes: &[u8]) -> Found {
+    match read_request(alloc, bytes) {
+        Ok(Some((_, len))) => Found::Whole(len),
+        Ok(None) => Found::Waits,
+        Err(HttpFault::Bad) => Found::Bad,
+        Err(HttpFault::Large) => Found::Large,
+        Err(HttpFault::NoMemory) => Found::NoMemory,
+    }
+}
+
+/// A head with so many fields, and what stands behind them.
+fn head(alloc: Global, count: u32, behind: &[u8]) -> Result<Vec<u8>, Fail> {
+    let mut bytes = Vec::new(alloc);
+    bytes.extend_from_slice(b"GET / HTTP/1.1\r\n")?;
+    for _ in 0..count {
+        bytes.extend_from_slice(b"a: b\r\n")?;
+    }
+    bytes.extend_from_slice(behind)?;
+    Ok(bytes)
+}
+
+fn check_head(
+    rt: &impl Abort,
+    alloc: Global,
+    count: u32,
+    behind: &[u8],
+    due: Found,
+) -> Result<(), Fail> {
+    let bytes = head(alloc, count, behind)?;
+    assert_eq!(rt; reading(alloc, bytes.as_slice()), due);
+    Ok(())
+}
+
+/// A write of one point.
+const WRITE: &[u8] =
+    b"POST /kapacitor/v1/write?db=d&rp=r HTTP/1.1\r\nContent-Length: 6\r\n\r\nm x=1i";
+
+fn is_the_write(request: &Request) -> bool {
+    request.method.as_str() == "POST"
+        && request.target.as_str() == "/kapacitor/v1/write?db=d&rp=r"
+        && !request.last
+        && request.body.as_slice() == b"m x=1i".as_slice()
+}
+
+#[test]
+fn a_write_is_read_once_it_is_whole(rt: HostRuntime) -> Result<(), Fail> {
+    let alloc = rt.alloc();
+    let Some((request, len)) = read_request(alloc, WRITE)? else {
+        panic!(rt; "no request");
+    };
+    assert_eq!(rt; len, WRITE.len());
+    assert!(rt; is_the_write(&request));
+    for front in 0..WRITE.len() {
+        assert_eq!(rt; reading(alloc, WRITE.split_at(front).0), Found::Waits);
+    }
+    Ok(())
+}
+
+#[test]
+fn the_fields_of_a_head_say_how_its_body_is_read(rt: HostRuntime) {
+    let alloc = rt.alloc();
+    let two = b"POST / HTTP/1.1\r\nContent-Length: 1\r\nContent-Length: 1\r\n\r\na";
+    assert_eq!(rt; reading(alloc, two), Found::Bad);
+    let sign = b"POST / HTTP/1.1\r\nContent-Length: +1\r\n\r\na";
+    assert_eq!(rt; reading(alloc, sign), Found::Bad);
+    let none = b"POST / HTTP/1.1\r\nContent-Length:\r\n\r\na";
+    assert_eq!(rt; reading(alloc, none), Found::Bad);
+    let wide = b"POST / HTTP/1.1\r\nContent-Length: 99999999999999999999999999\r\n\r\n";
+    assert_eq!(rt; reading(alloc, wide), Found::Large);
+    let chunked = b"POST / HTTP/1.1\r\nTransfer-Encoding: chunked\r\n\r\n";
+    assert_eq!(rt; reading(alloc, chunked), Found::Bad);
+    let both = b"POST / HTTP/1.1\r\nContent-Length: 8388609\r\nContent-Encoding: gzip\r\n\r\n";
+    assert_eq!(rt; reading(alloc, both), Found::Bad);
+    let same = b"GET / HTTP/1.1\r\nContent-Encoding: Identity\r\n\r\n";
+    assert_eq!(rt; reading(alloc, same), Found::Whole(46));
+}
+
+#[test]
+fn a_body_is_as_long_as_its_path_allows(rt: HostRuntime) {
+    let alloc = rt.alloc();
+    let most = b"POST /%77rite HTTP/1.1\r\nContent-Length: 8388608\r\n\r\n";
+    assert_eq!(rt; reading(alloc, most), Found::Waits);
+    let more = b"POST /kapacitor/v1/write?db=d HTTP/1.1\r\nContent-Length: 8388609\r\n\r\n";
+    assert_eq!(rt; reading(alloc, more), Found::Large);
+    let other = b"POST /write/ HTTP/1.1\r\nContent-Length: 1048577\r\n\r\n";
+    assert_eq!(rt; reading(alloc, other), Found::Large);
+    let tasks = b"POST /kapacitor/v1/tasks HTTP/1.1\r\nContent-Length: 1048576\r\n\r\n";
+    assert_eq!(rt; reading(alloc, tasks), Found::Waits);
+}
+
+#[test]
+fn a_sixty_fifth_field_is_refused_at_its_first_byte(rt: HostRuntime) -> Result<(), Fail> {
+    let alloc = rt.alloc();
+    check_head(&rt, alloc, 64, b"\r\n", Found::Whole(402))?;
+    check_head(&rt, alloc, 64, b"\r", Found::Waits)?;
+    check_head(&rt, alloc, 64, b"", Found::Waits)?;
+    check_head(&rt, alloc, 64, b"a", Found::Bad)?;
+    check_head(&rt, alloc, 63, b"a", Found::Waits)
+}
+
+#[test]
+fn bytes_that_no_head_begins_with_are_refused(rt: HostRuntime) {
+    let alloc = rt.alloc();
+    assert_eq!(rt; reading(alloc, b"\x01"), Found::Bad);
+    assert_eq!(rt; reading(alloc, b"GET / HTTP/2"), Found::Bad);
+    // inside a target that isn't UTF-8 the parser says whether bytes can go on
+    assert_eq!(rt; reading(alloc, b"GET /\xff\xfe"), Found::Waits);
+    assert_eq!(rt; reading(alloc, b"GET /\xff\xfe "), Found::Bad);
+}
+
+#[test]
+fn a_head_has_an_empty_line(rt: HostRuntime) {
+    assert!(rt; has_empty_line(WRITE, 0));
+    assert!(rt; !has_empty_line(b"GET / HTTP/1.1\r\nHost: a\r\n", 0));
+    assert!(rt; has_empty_line(b"GET / HTTP/1.1\r\nHost: a\r\n\r\n", 0));
+    assert!(rt; has_empty_line(b"GET / HTTP/1.1\n\n", 0));
+}
+
+#[test]
+fn a_connection_ends_behind_a_last_request(rt: HostRuntime) -> Result<(), Fail> {
+    let alloc = rt.alloc();
+    let old = b"GET / HTTP/1.0\r\n\r\n";
+    let closing = b"GET / HTTP/1.1\r\nconnection: Close\r\n\r\n";
+    let listed = b"GET / HTTP/1.1\r\nConnection: a, close\r\n\r\n";
+    assert_eq!(rt; is_last(alloc, old)?, Some(true));
+    assert_eq!(rt; is_last(alloc, closing)?, Some(true));
+    assert_eq!(rt; is_last(alloc, listed)?, Some(false));
+    Ok(())
+}
+
+fn is_last(alloc: Global, bytes: &[u8]) -> Result<Option<bool>, Fail> {
+    match read_request(alloc, bytes)? {
+        Some((request, _)) => Ok(Some(request.last)),
+        None => Ok(None),
+    }
+}

@@ -1,0 +1,16 @@
+pub mod PlaceLaws
+pub mod WalkLaws
+pub mod NumberLaws
+pub mod FieldLaws
+pub mod LineLaws
+pub mod CutLaws
+pub mod HeadLaws
+pub mod RoomLaws
+pub mod EmptyLaws
+pub mod OneLaws
+pub mod StreamLaws
+pub mod SizeLaws
+pub mod QueryLaws
+pub mod NameLaws
+pub mod BodyLaws
+pub mod RefusalLaws

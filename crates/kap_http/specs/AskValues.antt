@@ -1,0 +1,58 @@
+-- What is asked of the service, as definitions speak of it, and what holds of each.
+use Rattle.std.specs.Prelude.{ℕ, ◌≤◌, Bool, not, ◌&&◌, ◌||◌, ◌==◌, List, length, nat_le, IsTrue}
+use Rattle.std.specs.List.{list_all}
+use Rattle.std.specs.Char.{is_ascii_alphanumeric}
+use Rattle.kap_base.specs.Texts.{is_empty, is_line}
+use Rattle.kap_http.specs.declared.ask.Precision.{Precision}
+use Rattle.kap_http.specs.declared.ask.TaskAct.{TaskAct}
+
+-- points to be written
+pub record WriteValue : Type 0 where
+  pub db : List ℕ
+  pub rp : List ℕ
+  pub precision : Precision
+  pub body : List ℕ
+
+-- a database, a retention policy and a body that can be read: names on one line, the database's not empty
+pub record IsWrite (w : WriteValue) : Type 0 where
+  pub db_name : IsTrue (is_line w.db && not (is_empty w.db))
+  pub rp_name : IsTrue (is_line w.rp)
+  pub db_len : length w.db ≤ 16384
+  pub rp_len : length w.rp ≤ 16384
+  pub body_len : length w.body ≤ 8388608
+
+-- what the id of a task is made of: an ASCII letter, a digit, `_`, `-` and `.`
+abbrev pub is_id_byte : ℕ → Bool
+is_id_byte b = is_ascii_alphanumeric b || b == 95 || b == 45 || b == 46
+
+-- the id of a task: 1 to 64 of those bytes
+abbrev pub is_task_id : List ℕ → Bool
+is_task_id id = not (is_empty id) && nat_le (length id) 64 && list_all is_id_byte id
+
+-- a task to be defined
+pub record DefineValue : Type 0 where
+  pub id : List ℕ
+  pub script : List ℕ
+  pub enabled : Bool
+
+-- a task that can be defined: an id of a task, and a script of at most 65,536 bytes
+pub record IsDefine (d : DefineValue) : Type 0 where
+  pub id : IsTrue (is_task_id d.id)
+  pub script : length d.script ≤ 65536
+
+-- a task, by its id, and what is to be done with it
+pub record TaskValue : Type 0 where
+  pub id : List ℕ
+  pub act : TaskAct
+
+-- the id is no longer than a target
+pub record IsTask (t : TaskValue) : Type 0 where
+  pub id : length t.id ≤ 16384
+
+-- a topic, by its name
+pub record TopicValue : Type 0 where
+  pub name : List ℕ
+
+-- the name is no longer than a target
+pub record IsTopic (t : TopicValue) : Type 0 where
+  pub name : length t.name ≤ 16384

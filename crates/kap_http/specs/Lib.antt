@@ -1,0 +1,15 @@
+pub mod Lines
+pub mod Fields
+pub mod Paths
+pub mod Walks
+pub mod RequestValues
+pub mod Reading
+pub mod Requests
+pub mod ReplyValues
+pub mod Replies
+pub mod Refusals
+pub mod Queries
+pub mod AskValues
+pub mod Bodies
+pub mod Routes
+pub mod Calls

@@ -1,0 +1,29 @@
+//! Requests, as HTTP/1.x writes them (RFC 9112), what they ask, and replies.
+#![tactic(auto)]
+
+mod ask;
+mod body;
+mod fault;
+mod fields;
+mod laws;
+mod lines;
+mod method;
+mod path;
+mod query;
+mod reading;
+mod refusal;
+mod reply;
+mod request;
+mod routing;
+mod serving;
+
+pub use ask::{Ask, DefineAsk, Precision, TaskAct, TaskAsk, TopicAsk, WriteAsk};
+pub use fault::HttpFault;
+pub use laws::{in_pieces, one_answer};
+pub use lines::has_empty_line;
+pub use reading::read_request;
+pub use refusal::{Refusal, error_reply};
+pub use reply::{Reply, fault_text, no_memory_text, print_reply};
+pub use request::Request;
+pub use routing::route;
+pub use serving::Serve;
