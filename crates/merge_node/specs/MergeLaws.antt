@@ -102,7 +102,7 @@ found-here k bs x l ls are e q =
       rest = refl;
       before = tt;
       behind = above-append (2 * x.stamp.0) (of_parent k (items l)) (items_from (k + 1) ls) (above-items k (2 * x.stamp.0) l are.0.1.1)
-        (above-items_from (k + 1) (2 * x.stamp.0) ls (all-rise (2 * x.stamp.0) (k + 1) bs ls are.1 w q e));
+          (above-items_from (k + 1) (2 * x.stamp.0) ls (all-rise (2 * x.stamp.0) (k + 1) bs ls are.1 w q e));
       within = omega arith;
     }
 
@@ -132,11 +132,11 @@ least-within k bs [] f are e = absurd cc
 least-within k bs ([] ∷ ls) f are e = least-within (k + 1) bs ls f are.1 e
 least-within k bs ((messages.Barrier b ∷ l) ∷ ls) f are e = least-within (k + 1) bs ls f are.1 e
 least-within k bs ((messages.Item x ∷ l) ∷ ls) f are e = ⊎_elim
-  (λ here.
+    (λ here.
     let w : Within (2 * x.stamp.0) bs = subst (Within (2 * x.stamp.0)) are.0.0 (within-rises (2 * x.stamp.0) l are.0.1.1) in
     subst (λ (y : Front). Within (2 * y.stamp.0 + 1) bs) (sym here.0) (within-odd x.stamp.0 bs w))
-  (λ rest. least-within (k + 1) bs ls f are.1 rest.0)
-  (lower-cases (record { parent = k; stamp = x.stamp }) (least (k + 1) ls) f e)
+    (λ rest. least-within (k + 1) bs ls f are.1 rest.0)
+    (lower-cases (record { parent = k; stamp = x.stamp }) (least (k + 1) ls) f e)
 
 found : (k : ℕ) (bs : List Stamp) (ls : Lists) (f : Front) → AreMergeable bs ls → has_empty ls ≡ false → least k ls ≡ Some f → Found k ls f
 found k bs [] f are h e = absurd cc
@@ -145,11 +145,11 @@ found k bs ((messages.Barrier b ∷ l) ∷ ls) f are h e =
     let w : Within (2 * f.stamp.0 + 1) (b ∷ barriers l) = subst (Within (2 * f.stamp.0 + 1)) (sym are.0.0) (least-within (k + 1) bs ls f are.1 e) in
     found-later k (messages.Barrier b ∷ l) ls f (w, are.0.1.1) (found (k + 1) bs ls f are.1 h e)
 found k bs ((messages.Item x ∷ l) ∷ ls) f are h e = ⊎_elim
-  (λ here. subst (λ (y : Front). Found k ((messages.Item x ∷ l) ∷ ls) y) (sym here.0) (found-here k bs x l ls are h here.1))
-  (λ rest.
+    (λ here. subst (λ (y : Front). Found k ((messages.Item x ∷ l) ∷ ls) y) (sym here.0) (found-here k bs x l ls are h here.1))
+    (λ rest.
     let lt : f.stamp.0 < x.stamp.0 = rest.1 in
     found-later k (messages.Item x ∷ l) ls f (omega (arith, lt), are.0.1.1) (found (k + 1) bs ls f are.1 h rest.0))
-  (lower-cases (record { parent = k; stamp = x.stamp }) (least (k + 1) ls) f e)
+    (lower-cases (record { parent = k; stamp = x.stamp }) (least (k + 1) ls) f e)
 
 -- ---- one message of the whole
 
@@ -198,24 +198,25 @@ item-more bs ls f t are full e by =
     let front_bars : AllAbove (2 * f.stamp.0 + 1) (of_barriers bs) = above-odd f.stamp.0 bs (bars-above (2 * f.stamp.0) bs ls are low (omega arith)) in
     let rank_is : rank (messages.Item r.item) ≡ 2 * f.stamp.0 = ap (λ (s : Stamp). 2 * s.0) r.stamp in
     let whole : gathered ls ≡ (of_barriers bs ++ r.pre) ++ (f.parent, messages.Item r.item) ∷ r.post =
-        ap (λ (b : List Stamp). of_barriers b ++ items_from 0 ls) bars ∙ ap (λ (xs : List Entry). of_barriers bs ++ xs) r.whole
-        ∙ sym (append_assoc (of_barriers bs) r.pre ((f.parent, messages.Item r.item) ∷ r.post)) in
+    ap (λ (b : List Stamp). of_barriers b ++ items_from 0 ls) bars ∙ ap (λ (xs : List Entry). of_barriers bs ++ xs) r.whole
+    ∙ sym (append_assoc (of_barriers bs) r.pre ((f.parent, messages.Item r.item) ∷ r.post)) in
     let whole' : gathered (without_front f.parent ls) ≡ (of_barriers bs ++ r.pre) ++ r.post =
-        ap (λ (b : List Stamp). of_barriers b ++ items_from 0 (without_front f.parent ls)) bars' ∙ ap (λ (xs : List Entry). of_barriers bs ++ xs) rest
-        ∙ sym (append_assoc (of_barriers bs) r.pre r.post) in
+    ap (λ (b : List Stamp). of_barriers b ++ items_from 0 (without_front f.parent ls)) bars' ∙ ap (λ (xs : List Entry). of_barriers bs ++ xs) rest
+    ∙ sym (append_assoc (of_barriers bs) r.pre r.post) in
     let before : AllAbove (rank (messages.Item r.item) + 1) (of_barriers bs ++ r.pre) =
-        subst (λ (n : ℕ). AllAbove (n + 1) (of_barriers bs ++ r.pre)) (sym rank_is) (above-append (2 * f.stamp.0 + 1) (of_barriers bs) r.pre front_bars r.before) in
+    subst (λ (n : ℕ). AllAbove (n + 1) (of_barriers bs ++ r.pre)) (sym rank_is) (above-append (2 * f.stamp.0 + 1) (of_barriers bs) r.pre front_bars r.before) in
     let behind : AllAbove (rank (messages.Item r.item)) r.post = subst (λ (n : ℕ). AllAbove n r.post) (sym rank_is) r.behind in
     subst (λ (y : Taken). OneMore ls y) is_x (record {
       left_barriers = bs;
       are = still;
       is = ap sorted whole ∙ sorted-front (of_barriers bs ++ r.pre) (f.parent, messages.Item r.item) r.post before behind
-        ∙ ap (λ (xs : List Entry). (f.parent, messages.Item r.item) ∷ sorted xs) (sym whole');
+          ∙ ap (λ (xs : List Entry). (f.parent, messages.Item r.item) ∷ sorted xs) (sym whole');
     })
   where
     within-even : (f : Front) (bs : List Stamp) → Within (2 * f.stamp.0 + 1) bs → Within (2 * f.stamp.0) bs
     within-even f [] w = tt
     within-even f (b ∷ bs) w = let h : 2 * f.stamp.0 + 1 ≤ 2 * b.0 + 1 = w in omega (arith, h)
+
     bars-above : (r : ℕ) (bs : List Stamp) (ls : Lists) → AreMergeable bs ls → AllRise r ls → 0 < length ls → AllAbove r (of_barriers bs)
     bars-above r bs [] are rise lt = absurd (omega arith)
     bars-above r bs (l ∷ ls) are rise lt = subst (λ (b : List Stamp). AllAbove r (of_barriers b)) are.0.0 (above-barriers r l rise.0)
@@ -258,12 +259,12 @@ barrier-more bs ((messages.Barrier b ∷ l) ∷ ls) t are full e by =
     let is_x : x ≡ t = some-taken x t by in
     let rise : AllRise (2 * b.0 + 1) all = all-rise (2 * b.0 + 1) 0 (b ∷ barriers l) all are' (omega arith) (subst (Reaches (2 * b.0 + 1)) (sym e) tt) full in
     let behind : AllAbove (2 * b.0 + 1) (of_barriers (barriers l) ++ items_from 0 all) =
-        above-append (2 * b.0 + 1) (of_barriers (barriers l)) (items_from 0 all) (above-barriers (2 * b.0 + 1) l are.0.1.1) (above-items_from 0 (2 * b.0 + 1) all rise) in
+    above-append (2 * b.0 + 1) (of_barriers (barriers l)) (items_from 0 all) (above-barriers (2 * b.0 + 1) l are.0.1.1) (above-items_from 0 (2 * b.0 + 1) all rise) in
     subst (λ (y : Taken). OneMore all y) is_x (record {
       left_barriers = barriers l;
       are = mergeable-barrier 0 b (barriers l) all are' full e;
       is = sorted-front [] (0, messages.Barrier b) (of_barriers (barriers l) ++ items_from 0 all) tt behind
-        ∙ ap (λ (xs : List Entry). (0, messages.Barrier b) ∷ sorted (of_barriers (barriers l) ++ xs)) (sym (items-without 0 0 all full e));
+          ∙ ap (λ (xs : List Entry). (0, messages.Barrier b) ∷ sorted (of_barriers (barriers l) ++ xs)) (sym (items-without 0 0 all full e));
     })
 
 more-by : (bs : List Stamp) (ls : Lists) (o : Option Front) (t : Taken) → AreMergeable bs ls → has_empty ls ≡ false → least 0 ls ≡ o → next_by o ls ≡ Some t → OneMore ls t

@@ -21,7 +21,7 @@ pub above-less : (r s : ℕ) (xs : List Entry) → r ≤ s → AllAbove s xs →
 above-less r s [] le a = tt
 above-less r s (x ∷ xs) le a = let h : s ≤ rank x.1 = a.0 in (omega (arith, h, le), above-less r s xs le a.1)
 
-above-placed : (r : ℕ) (x : Entry) (ys : List Entry) → r ≤ rank x.1 → AllAbove r ys → AllAbove r (placed x ys)
+pub above-placed : (r : ℕ) (x : Entry) (ys : List Entry) → r ≤ rank x.1 → AllAbove r ys → AllAbove r (placed x ys)
 above-placed r x [] h a = (h, tt)
 above-placed r x (y ∷ ys) h a = elim (leb (rank x.1) (rank y.1)) as (λ t. AllAbove r (cond t (x ∷ y ∷ ys) (y ∷ placed x ys))) [
   | true ↦ (h, a)
@@ -32,7 +32,7 @@ pub above-sorted : (r : ℕ) (xs : List Entry) → AllAbove r xs → AllAbove r 
 above-sorted r [] a = tt
 above-sorted r (x ∷ xs) a = above-placed r x (sorted xs) a.0 (above-sorted r xs a.1)
 
-placed-low : (x : Entry) (ys : List Entry) → AllAbove (rank x.1) ys → placed x ys ≡ x ∷ ys
+pub placed-low : (x : Entry) (ys : List Entry) → AllAbove (rank x.1) ys → placed x ys ≡ x ∷ ys
 placed-low x [] a = refl
 placed-low x (y ∷ ys) a = cond-true (leb (rank x.1) (rank y.1)) (x ∷ y ∷ ys) (y ∷ placed x ys) (le-leb (rank x.1) (rank y.1) a.0)
 

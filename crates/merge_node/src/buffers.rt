@@ -3,6 +3,7 @@
 ghost use Rattle.std.specs.Prelude.{◌≡◌, ◌↔◌, ◌<◌, ◌≤◌, false, [], length, replicate, IfOk, IsNone, IsTrue, OnErr, OnOk};
 ghost use Rattle.merge_node.specs.Buffers.{has_empty, left_of, next, next_by, put, said, taken};
 
+use crate::PARENT_LIMIT;
 use crate::fronts::{Front, least_front, pop_all, pop_at};
 use crate::queue::Queue;
 use kap_base::{Msg, NoMemory};
@@ -20,6 +21,7 @@ impl Model for MergeBuf {
     ghost use Rattle.std.specs.Prelude.{List, ◌<◌, ◌≤◌, length};
     ghost use Rattle.kap_base.specs.Maps.{key_map_code};
     ghost use Rattle.kap_base.specs.declared.items.Msg.{Msg};
+    ghost use Rattle.merge_node.specs.declared.TheConstants.{PARENT_LIMIT};
 
     ghost Value = { List (List Msg) };
 
@@ -27,7 +29,7 @@ impl Model for MergeBuf {
 
     ghost view = { λ b. b.buffers.items };
 
-    ghost invariant = { λ b. (0 < length b.buffers.items) × (length b.buffers.items ≤ 64) };
+    ghost invariant = { λ b. (0 < length b.buffers.items) × (length b.buffers.items ≤ PARENT_LIMIT) };
 }
 
 /// An empty buffer for each parent.
@@ -72,7 +74,7 @@ fn take_found(buffers: &mut [Queue], best: Option<Front>) -> Option<(u32, Msg)>
 
 /// Takes the message that is next.
 fn take_next(buffers: &mut [Queue]) -> Option<(u32, Msg)>
-    requires { length buffers.old ≤ 64 }
+    requires { length buffers.old ≤ PARENT_LIMIT }
     ensures gives { result ≡ said (next buffers.old) }
     ensures left { buffers.new ≡ left_of (next buffers.old) buffers.old }
 {
@@ -86,7 +88,7 @@ impl MergeBuf {
     /// Nothing buffered, for 1 to 64 parents. `NoMemory` comes where an allocation fails.
     pub fn new(alloc: Global, parents: u32) -> Result<MergeBuf, NoMemory>
         requires some { 0 < parents }
-        requires limit { parents ≤ 64 }
+        requires limit { parents ≤ PARENT_LIMIT }
         ensures { IfOk result (λ buffers. buffers ≡ replicate parents []) }
     {
         Ok(MergeBuf {

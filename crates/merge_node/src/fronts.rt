@@ -4,6 +4,7 @@ ghost use Rattle.std.specs.Prelude.{◌≡◌, ◌<◌, ◌≤◌, length};
 ghost use Rattle.merge_node.specs.Buffers.{front, item_front, lower, without_front, without_fronts};
 ghost use Rattle.merge_node.specs.Looking.{looked};
 
+use crate::PARENT_LIMIT;
 use crate::queue::Queue;
 use kap_base::{Msg, Stamp};
 
@@ -48,7 +49,7 @@ fn lower(best: Option<Front>, other: Option<Front>) -> Option<Front>
 
 /// The item least by stamp and parent among the fronts, if some front is an item; `None` where a parent has nothing buffered.
 pub(crate) fn least_front(buffers: &[Queue]) -> Option<Option<Front>>
-    requires { length buffers.now ≤ 64 }
+    requires { length buffers.now ≤ PARENT_LIMIT }
     ensures { result ≡ looked buffers.now }
 {
     let mut rest = buffers;

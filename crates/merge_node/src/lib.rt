@@ -3,9 +3,11 @@
 
 mod buffers;
 mod fronts;
+mod laws;
 mod queue;
 
 pub use buffers::MergeBuf;
+pub use laws::{calls_give_the_merged_list, merging_orders};
 pub use queue::Queue;
 
 /// How many parents a node has at most.

@@ -1,7 +1,7 @@
 use Rattle.std.proofs.Common.{◌≡◌, ◌∙◌, List, None, sym, ap}
 use Rattle.kap_base.specs.declared.items.Msg.{Msg}
 use Rattle.merge_node.specs.Buffers.{left_of, next, next_by, said, Taken}
-use Rattle.merge_node.proofs.FrontLaws.{looked_empty, looked_full}
+use Rattle.merge_node.specs.FrontLaws.{looked_empty, looked_full}
 use Rattle.merge_node.proofs.buffers.take_next.Goals as goal
 
 pub returns-in_default-clause-gives : goal.returns-in_default-clause-gives

@@ -1,4 +1,4 @@
--- What the loop over buffers does, and what looks at their fronts find.
+-- What looks at the fronts of buffers find.
 use Rattle.std.proofs.Common.{◌≡◌, ℕ, zero, suc, ◌+◌, ◌<◌, ◌≤◌, Bool, true, false, cond, ltb, List, [], ◌∷◌, ◌++◌, map, length, drop, take, set, get_or, Option, Some, None, refl, sym, ap, subst, ◌∙◌, inl, inr, ⊎_elim, arith, rules}
 use Rattle.std.specs.Prelude.{◌⊎◌, ◌↔◌, is_some, IsNone, IsTrue}
 use Rattle.kap_base.specs.declared.items.Item.{Item}
@@ -8,26 +8,6 @@ use Rattle.merge_node.specs.Merge.{Lists, Entry}
 use Rattle.merge_node.specs.declared.fronts.Front.{Front}
 use Rattle.merge_node.specs.Buffers.{has_empty, item_front, lower, least, front, without_front, without_fronts, Taken, taken, next_by, next, said, left_of}
 use Rattle.merge_node.specs.Looking.{looked}
-
--- where the items up to one were changed, that one is as before
-same-there : {A : Type 0} (f : A → A) (xs : List A) (i : ℕ) (d : A) → i < length xs → get_or (map f (take i xs) ++ drop i xs) i d ≡ get_or xs i d
-same-there f [] i d lt = absurd (omega arith)
-same-there f (x ∷ xs) zero d lt = refl
-same-there f (x ∷ xs) (suc i) d lt = same-there f xs i d (omega arith)
-
--- and where it is changed too
-change-there : {A : Type 0} (f : A → A) (xs : List A) (i : ℕ) (d : A) → i < length xs
-    → set (map f (take i xs) ++ drop i xs) i (f (get_or xs i d)) ≡ map f (take (suc i) xs) ++ drop (suc i) xs
-change-there f [] i d lt = absurd (omega arith)
-change-there f (x ∷ xs) zero d lt = refl
-change-there f (x ∷ xs) (suc i) d lt = ap (λ l. f x ∷ l) (change-there f xs i d (omega arith))
-
-pub changed : {A : Type 0} (f : A → A) (xs now : List A) (i : ℕ) (d new : A) → i < length xs → now ≡ map f (take i xs) ++ drop i xs → new ≡ f (get_or now i d)
-    → set now i new ≡ map f (take (i + 1) xs) ++ drop (i + 1) xs
-changed f xs now i d new lt is made =
-    let old : get_or now i d ≡ get_or xs i d = ap (λ l. get_or l i d) is ∙ same-there f xs i d lt in
-    let one : suc i ≡ i + 1 = omega arith in
-    (λ k. set (is k) i ((made ∙ ap f old) k)) ∙ change-there f xs i d lt ∙ ap (λ (n : ℕ). map f (take n xs) ++ drop n xs) one
 
 -- ---- what is taken where each parent has a front
 
@@ -65,9 +45,9 @@ least-within k [] f e = absurd cc
 least-within k ([] ∷ ls) f e = let h : f.parent < k + 1 + length ls = least-within (k + 1) ls f e in omega (arith, h)
 least-within k ((messages.Barrier b ∷ l) ∷ ls) f e = let h : f.parent < k + 1 + length ls = least-within (k + 1) ls f e in omega (arith, h)
 least-within k ((messages.Item x ∷ l) ∷ ls) f e = ⊎_elim
-  (λ same. let h : f.parent ≡ k = ap (λ (y : Front). y.parent) same in omega (arith, h))
-  (λ rest. let h : f.parent < k + 1 + length ls = least-within (k + 1) ls f rest in omega (arith, h))
-  (lower-cases (record { parent = k; stamp = x.stamp }) (least (k + 1) ls) f e)
+    (λ same. let h : f.parent ≡ k = ap (λ (y : Front). y.parent) same in omega (arith, h))
+    (λ rest. let h : f.parent < k + 1 + length ls = least-within (k + 1) ls f rest in omega (arith, h))
+    (lower-cases (record { parent = k; stamp = x.stamp }) (least (k + 1) ls) f e)
 
 looked-none : (b : Bool) (o : Option Front) (t : Option Taken) → None ≡ cond b None (Some o) → cond b None t ≡ None
 looked-none true o t e = refl
@@ -122,3 +102,16 @@ none-iff false o h = none-else o (h refl)
 pub none_where_empty : (ls : Lists) → 0 < length ls → IsNone (said (next ls)) ↔ IsTrue (has_empty ls)
 unfolding next
 none_where_empty ls lt = none-iff (has_empty ls) (next_by (least 0 ls) ls) (λ h. by-some ls (least 0 ls) h lt refl)
+
+empty-by : (ls : Lists) (b : Bool) → has_empty ls ≡ b → next ls ≡ None → 0 < length ls → has_empty ls ≡ true
+unfolding next
+empty-by ls true h e lt = h
+empty-by ls false h e lt =
+    let some : is_some (said (next_by (least 0 ls) ls)) ≡ true = by-some ls (least 0 ls) h lt refl in
+    let none : next_by (least 0 ls) ls ≡ None = sym (ap (λ (b : Bool). cond b None (next_by (least 0 ls) ls)) h) ∙ e in
+    let both : is_some (said None) ≡ true = sym (ap (λ (o : Option Taken). is_some (said o)) none) ∙ some in
+    absurd cc
+
+-- where nothing is next, some parent has nothing buffered
+pub empty-none : (ls : Lists) → next ls ≡ None → 0 < length ls → has_empty ls ≡ true
+empty-none ls e lt = empty-by ls (has_empty ls) refl e lt
