@@ -1,12 +1,9 @@
 -- What comes later changes no message that is next: what is given of buffers goes on, whatever is put when.
-use Rattle.std.proofs.Common.{◌≡◌, ℕ, zero, suc, ◌+◌, ◌<◌, ◌≤◌, Bool, true, false, cond, List, [], ◌∷◌, ◌++◌, map, length, drop, get_or, replicate, Option, Some, None, refl, sym, ap, subst, ◌∙◌, append-nil, append_assoc, arith}
-use Rattle.std.specs.Prelude.{slice_get}
-use Rattle.kap_base.specs.declared.items.Item.{Item}
+use Rattle.std.proofs.Common.{◌≡◌, ℕ, zero, suc, ◌+◌, ◌<◌, ◌≤◌, Bool, true, false, cond, List, [], ◌∷◌, ◌++◌, length, drop, replicate, Option, Some, None, refl, sym, ap, subst, ◌∙◌, append-nil, arith}
 use Rattle.kap_base.specs.declared.items.Msg.{Msg}
-use Rattle.kap_base.specs.declared.items.Msg.TheVariants as messages
 use Rattle.merge_node.specs.Merge.{Lists, Entry}
 use Rattle.merge_node.specs.declared.fronts.Front.{Front}
-use Rattle.merge_node.specs.Buffers.{has_empty, item_front, lower, least, front, without_front, without_fronts, Taken, taken, next_by, next, said, left_of, put, Merges, done, more, Calls, start, putting, taking, AreFronts}
+use Rattle.merge_node.specs.Buffers.{has_empty, item_front, lower, least, front, without_front, without_fronts, Taken, taken, next_by, next, said, left_of, put, Merges, done, more, Calls, start, putting, taking}
 
 -- each list with what came later
 abbrev pub join : Lists → Lists → Lists

@@ -1,7 +1,6 @@
 -- What waits for each parent, which message is next, and what calls make of it.
 use Rattle.std.specs.Prelude.{◌≡◌, ℕ, ◌+◌, ⊤, Bool, true, false, nat_lt, if◌then◌else◌, List, [], ◌∷◌, ◌++◌, map, drop, replicate, Option, Some, None, slice_get, slice_index_or, slice_set}
 use mathlib.Core.List.{IsPrefix}
-use Rattle.kap_base.specs.declared.items.Item.{Item}
 use Rattle.kap_base.specs.declared.items.Msg.{Msg}
 use Rattle.kap_base.specs.declared.items.Msg.TheVariants as messages
 use Rattle.merge_node.specs.Merge.{Lists, Entry}

@@ -1,17 +1,16 @@
 -- In whatever order calls are made: what they have given is the front of what is merged of the whole lists, and in the end all of it.
-use Rattle.std.proofs.Common.{◌≡◌, ℕ, zero, suc, ◌+◌, ◌<◌, Bool, true, false, cond, List, [], ◌∷◌, ◌++◌, length, drop, Option, Some, None, refl, sym, ap, subst, ◌∙◌, append-nil, arith}
-use Rattle.std.specs.Prelude.{⊤, ◌≢◌, is_some, slice_index_or}
+use Rattle.std.proofs.Common.{◌≡◌, ℕ, zero, suc, ◌+◌, true, List, [], ◌∷◌, ◌++◌, drop, Option, Some, None, refl, sym, ap, subst, ◌∙◌, append-nil, arith}
+use Rattle.std.specs.Prelude.{⊤, slice_index_or}
 use mathlib.Core.List.{IsPrefix}
-use Rattle.kap_base.specs.declared.items.Item.{Item}
 use Rattle.kap_base.specs.declared.items.Stamp.{Stamp}
 use Rattle.kap_base.specs.declared.items.Msg.{Msg}
 use Rattle.kap_base.specs.declared.items.Msg.TheVariants as messages
-use Rattle.merge_node.specs.Merge.{Lists, Entry, items, barriers, of_parent, of_barriers, items_from, gathered, sorted, merge, AreMergeable, IsClosed, AreClosed}
+use Rattle.merge_node.specs.Merge.{Lists, Entry, items, barriers, of_parent, of_barriers, items_from, sorted, merge, AreMergeable, IsClosed, AreClosed}
 use Rattle.merge_node.specs.declared.fronts.Front.{Front}
 use Rattle.merge_node.specs.Buffers.{has_empty, least, front, without_front, without_fronts, Taken, taken, next_by, next, Merges, done, more, Calls, AreFronts}
 use Rattle.merge_node.specs.BufferLaws.{join, next-by, merges-join, merges-same, calls-merge, some-same}
 use Rattle.merge_node.specs.FrontLaws.{empty-none}
-use Rattle.merge_node.specs.MergeLaws.{Front_of, merges-merge}
+use Rattle.merge_node.specs.MergeLaws.{merges-merge}
 
 -- ---- the front
 

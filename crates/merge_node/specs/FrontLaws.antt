@@ -1,12 +1,11 @@
 -- What looks at the fronts of buffers find.
-use Rattle.std.proofs.Common.{◌≡◌, ℕ, zero, suc, ◌+◌, ◌<◌, ◌≤◌, Bool, true, false, cond, ltb, List, [], ◌∷◌, ◌++◌, map, length, drop, take, set, get_or, Option, Some, None, refl, sym, ap, subst, ◌∙◌, inl, inr, ⊎_elim, arith, rules}
+use Rattle.std.proofs.Common.{◌≡◌, ℕ, zero, suc, ◌+◌, ◌<◌, Bool, true, false, cond, ltb, [], ◌∷◌, length, Option, Some, None, refl, sym, ap, ◌∙◌, inl, inr, ⊎_elim, arith, rules}
 use Rattle.std.specs.Prelude.{◌⊎◌, ◌↔◌, is_some, IsNone, IsTrue}
-use Rattle.kap_base.specs.declared.items.Item.{Item}
 use Rattle.kap_base.specs.declared.items.Msg.{Msg}
 use Rattle.kap_base.specs.declared.items.Msg.TheVariants as messages
-use Rattle.merge_node.specs.Merge.{Lists, Entry}
+use Rattle.merge_node.specs.Merge.{Lists}
 use Rattle.merge_node.specs.declared.fronts.Front.{Front}
-use Rattle.merge_node.specs.Buffers.{has_empty, item_front, lower, least, front, without_front, without_fronts, Taken, taken, next_by, next, said, left_of}
+use Rattle.merge_node.specs.Buffers.{has_empty, lower, least, front, without_front, without_fronts, Taken, taken, next_by, next, said, left_of}
 use Rattle.merge_node.specs.Looking.{looked}
 
 -- ---- what is taken where each parent has a front

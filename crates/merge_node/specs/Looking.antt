@@ -1,5 +1,5 @@
 -- A look at the fronts of all buffers.
-use Rattle.std.specs.Prelude.{◌≡◌, ℕ, ◌+◌, Bool, true, false, if◌then◌else◌, List, [], ◌∷◌, Option, Some, None}
+use Rattle.std.specs.Prelude.{ℕ, if◌then◌else◌, Option, Some, None}
 use Rattle.merge_node.specs.Merge.{Lists}
 use Rattle.merge_node.specs.declared.fronts.Front.{Front}
 use Rattle.merge_node.specs.Buffers.{has_empty, lower, least}

@@ -1,17 +1,16 @@
 -- What is given of buffers is the front of the lists merged as a whole.
-use Rattle.std.proofs.Common.{◌≡◌, ℕ, zero, suc, ◌+◌, ◌*◌, ◌<◌, ◌≤◌, true, false, cond, ltb, List, [], ◌∷◌, ◌++◌, map, length, drop, get_or, set, Option, Some, None, refl, sym, ap, subst, ◌∙◌, append-nil, append_assoc, inl, inr, ⊎_elim, arith}
-use Rattle.std.specs.Prelude.{⊤, ◌⊎◌, ◌≢◌, slice_get, slice_index_or}
-use mathlib.Core.List.{IsPrefix}
+use Rattle.std.proofs.Common.{◌≡◌, ℕ, zero, suc, ◌+◌, ◌*◌, ◌<◌, ◌≤◌, true, false, cond, ltb, List, [], ◌∷◌, ◌++◌, length, drop, Option, Some, None, refl, sym, ap, subst, ◌∙◌, append_assoc, inl, inr, ⊎_elim, arith}
+use Rattle.std.specs.Prelude.{⊤, ◌⊎◌, slice_index_or}
 use Rattle.std.proofs.lemmas.Bool.{ltb-true, ltb-false}
 use Rattle.kap_base.specs.declared.items.Item.{Item}
 use Rattle.kap_base.specs.declared.items.Stamp.{Stamp}
 use Rattle.kap_base.specs.declared.items.Msg.{Msg}
 use Rattle.kap_base.specs.declared.items.Msg.TheVariants as messages
-use Rattle.merge_node.specs.Merge.{Lists, Entry, rank, items, barriers, of_parent, of_barriers, items_from, gathered, placed, sorted, merge, RisesFrom, AreMergeable, IsClosed, AreClosed}
+use Rattle.merge_node.specs.Merge.{Lists, Entry, rank, items, barriers, of_parent, of_barriers, items_from, gathered, sorted, merge, RisesFrom, AreMergeable}
 use Rattle.merge_node.specs.declared.fronts.Front.{Front}
-use Rattle.merge_node.specs.Buffers.{has_empty, item_front, lower, least, front, without_front, without_fronts, Taken, taken, next_by, next, Merges, done, more, Calls, AreFronts}
-use Rattle.merge_node.specs.BufferLaws.{join, next-full, next-by, merges-join, merges-same, calls-merge, some-same}
-use Rattle.merge_node.specs.RankLaws.{AllAbove, above-append, above-less, above-odd, above-items, above-barriers, above-items_from, AllRise, sorted-front, rises-less}
+use Rattle.merge_node.specs.Buffers.{has_empty, lower, least, front, without_front, without_fronts, Taken, taken, next_by, next, Merges, done, more}
+use Rattle.merge_node.specs.BufferLaws.{next-full, next-by}
+use Rattle.merge_node.specs.RankLaws.{AllAbove, above-append, above-odd, above-items, above-barriers, above-items_from, AllRise, sorted-front, rises-less}
 
 -- ---- the first barrier, and the least front
 

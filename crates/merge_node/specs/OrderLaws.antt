@@ -1,16 +1,14 @@
 -- A merged list stands in order, and has of each parent just what it sent.
-use Rattle.std.proofs.Common.{◌≡◌, ℕ, zero, suc, ◌+◌, ◌*◌, ◌<◌, ◌≤◌, Bool, true, false, cond, eqb, leb, List, [], ◌∷◌, ◌++◌, map, length, get_or, refl, sym, ap, subst, ◌∙◌, append-nil, append_assoc, inl, inr, ⊎_elim, arith}
+use Rattle.std.proofs.Common.{◌≡◌, ℕ, zero, suc, ◌+◌, ◌*◌, ◌<◌, ◌≤◌, Bool, true, false, cond, eqb, leb, List, [], ◌∷◌, ◌++◌, map, length, refl, sym, ap, ◌∙◌, append-nil, inl, inr, ⊎_elim, arith}
 use Rattle.std.specs.Prelude.{⊤, ◌⊎◌, slice_index_or}
 use Rattle.std.specs.List.{filter}
 use Rattle.std.proofs.lemmas.Bool.{leb-true, leb-false, lt-leb, cond-true, cond-false, eq-eqb, ne_eqb, cases_order}
-use Rattle.std.proofs.lemmas.List.{map-append}
 use Rattle.std.proofs.lemmas.List.Elements.{filter-append}
-use Rattle.kap_base.specs.declared.items.Item.{Item}
 use Rattle.kap_base.specs.declared.items.Stamp.{Stamp}
 use Rattle.kap_base.specs.declared.items.Msg.{Msg}
 use Rattle.kap_base.specs.declared.items.Msg.TheVariants as messages
 use Rattle.merge_node.specs.Merge.{Lists, Entry, rank, items, barriers, of_parent, of_barriers, items_from, gathered, placed, sorted, merge, RisesFrom, AreMergeable, PrecedesAll, AreOrdered, from_parent}
-use Rattle.merge_node.specs.RankLaws.{AllAbove, above-append, above-less, above-odd, above-items, above-barriers, above-placed, above-sorted, placed-low, sorted-front, rises-less}
+use Rattle.merge_node.specs.RankLaws.{AllAbove, above-append, above-less, above-odd, above-items, above-barriers, above-placed, placed-low, sorted-front}
 
 -- ---- in order
 

@@ -1,8 +1,7 @@
 -- Sorting by rank: what it does to a least entry, and where the messages of lists in order stand.
-use Rattle.std.proofs.Common.{◌≡◌, ℕ, zero, suc, ◌+◌, ◌*◌, ◌<◌, ◌≤◌, leb, true, false, cond, List, [], ◌∷◌, ◌++◌, map, length, get_or, Option, Some, None, refl, sym, ap, subst, ◌∙◌, append_assoc, arith}
+use Rattle.std.proofs.Common.{◌≡◌, ℕ, ◌+◌, ◌*◌, ◌<◌, ◌≤◌, leb, true, false, cond, List, [], ◌∷◌, ◌++◌, refl, ap, ◌∙◌, arith}
 use Rattle.std.specs.Prelude.{⊤}
 use Rattle.std.proofs.lemmas.Bool.{le-leb, lt-leb, cond-true, cond-false}
-use Rattle.kap_base.specs.declared.items.Item.{Item}
 use Rattle.kap_base.specs.declared.items.Stamp.{Stamp}
 use Rattle.kap_base.specs.declared.items.Msg.{Msg}
 use Rattle.kap_base.specs.declared.items.Msg.TheVariants as messages

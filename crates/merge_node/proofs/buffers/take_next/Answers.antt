@@ -1,6 +1,5 @@
-use Rattle.std.proofs.Common.{◌≡◌, ◌∙◌, List, None, sym, ap}
-use Rattle.kap_base.specs.declared.items.Msg.{Msg}
-use Rattle.merge_node.specs.Buffers.{left_of, next, next_by, said, Taken}
+use Rattle.std.proofs.Common.{◌∙◌, sym, ap}
+use Rattle.merge_node.specs.Buffers.{left_of, said}
 use Rattle.merge_node.specs.FrontLaws.{looked_empty, looked_full}
 use Rattle.merge_node.proofs.buffers.take_next.Goals as goal
 
