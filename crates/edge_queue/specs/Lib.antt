@@ -1,0 +1,6 @@
+-- what went over an edge, ever and since the last load, and what its ends know
+pub mod Edges
+-- what calls do to the ends
+pub mod Moves
+-- proofs, no definitions: what stays of an edge, and what a settled one tells
+pub mod EdgeLaws

@@ -1,0 +1,26 @@
+//! What may go to another thread.
+
+ghost use Rattle.std.specs.Prelude.{◌≡◌};
+
+use crate::ends::{Head, Tail};
+
+/// Any value that may go to another thread.
+fn hand_on<T: Send>(value: T) -> T
+    ensures { result ≡ value }
+{
+    value
+}
+
+/// The tail of an edge may go to another thread.
+pub fn send_tail(tail: Tail) -> Tail
+    ensures { result ≡ tail }
+{
+    hand_on(tail)
+}
+
+/// The head of an edge may go to another thread.
+pub fn send_head(head: Head) -> Head
+    ensures { result ≡ head }
+{
+    hand_on(head)
+}

@@ -1,0 +1,12 @@
+-- lists of messages merged as a whole
+pub mod Merge
+-- what waits for each parent, which message is next, and what calls make of it
+pub mod Buffers
+pub mod Looking
+-- proofs, no definitions: what looks and calls do, and that what is given is the front of the whole, which is in order
+pub mod FrontLaws
+pub mod BufferLaws
+pub mod RankLaws
+pub mod MergeLaws
+pub mod CallLaws
+pub mod OrderLaws

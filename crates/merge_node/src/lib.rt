@@ -1,0 +1,14 @@
+//! The messages of a node's parents as one list: by stamp, then by parent, then by place, and each barrier once.
+#![tactic(auto)]
+
+mod buffers;
+mod fronts;
+mod laws;
+mod queue;
+
+pub use buffers::MergeBuf;
+pub use laws::{calls_give_the_merged_list, merging_orders};
+pub use queue::Queue;
+
+/// How many parents a node has at most.
+pub const PARENT_LIMIT: u32 = 64;
