@@ -1,0 +1,33 @@
+-- The record whose body some bytes are.
+use Rattle.std.proofs.Common.{◌≡◌, ℕ, List, [], ◌∷◌, ◌++◌, Bool, true, false, length, Option, Some, None, refl, sym, ap, ◌∙◌, subst, arith}
+use Rattle.std.specs.Prelude.{◌==◌}
+use Rattle.std.proofs.lemmas.Bool.{eq-eqb, eqb-true, false≢true}
+use Rattle.std.proofs.lemmas.List.{append-nil}
+use Rattle.state_code.specs.Spelling.{IsBytes, value_then}
+use Rattle.store_records.proofs.FollowLaws.{nil_of}
+use Rattle.store_records.specs.Records.{IsBodyOf, IsNoBody, read_record, record_spelled, spell_record}
+use Rattle.store_records.specs.declared.rec.Rec.{Rec}
+
+-- what is read of the body of a record
+pub body_reads : (r : Rec) (body : List ℕ) → IsBodyOf r body → read_record body ≡ value_then r []
+body_reads r body is =
+    ap read_record (is.is ∙ sym (append-nil (spell_record r))) ∙ record_spelled.again r [] is.fits
+
+pub is_body : (body : List ℕ) (r : Rec) (rest : List ℕ) → IsBytes body → read_record body ≡ value_then r rest → true ≡ (length rest == 0) → IsBodyOf r body
+is_body body r rest bytes reads done =
+    let stands = record_spelled.only body r rest bytes reads in
+    let none : rest ≡ [] = nil_of rest (eqb-true _ _ (sym done)) in
+    record { fits = stands.fits; is = stands.parts ∙ ap (λ (t : List ℕ). spell_record r ++ t) none ∙ append-nil (spell_record r) }
+
+same_pair : (p q : Rec × List ℕ) → Some p ≡ Some q → p ≡ q
+same_pair p q e = cc
+
+-- bytes behind a record make no body
+pub more_is_none : (body : List ℕ) (r : Rec) (rest : List ℕ) → read_record body ≡ value_then r rest → false ≡ (length rest == 0) → IsNoBody body
+more_is_none body r rest reads more other is =
+    let both = same_pair (r, rest) (other, []) (sym reads ∙ body_reads other body is) in
+    let none : rest ≡ [] = ap (λ (p : Rec × List ℕ). p.1) both in
+    false≢true (more ∙ eq-eqb (length rest) 0 (ap (λ (l : List ℕ). length l) none))
+
+pub none_is_none : (body : List ℕ) → read_record body ≡ None → IsNoBody body
+none_is_none body none other is = let found : read_record body ≡ value_then other [] = body_reads other body is in absurd cc

@@ -1,0 +1,4 @@
+pub mod BodyLaws
+pub mod FollowLaws
+pub mod LineLaws
+pub mod StateLoops

@@ -1,0 +1,18 @@
+//! What the spelling of records keeps: laws, and no code.
+
+ghost use Rattle.std.specs.Prelude.{◌≡◌, ◌++◌, ℕ, List};
+ghost use Rattle.state_code.specs.Spelling.{IsBytes, value_then};
+ghost use Rattle.store_records.specs.Records.{FitsRecord, read_record, spell_record};
+ghost use Rattle.store_records.specs.declared.rec.Rec.{Rec};
+
+/// The laws of the bodies of records. What is spelled is read again whatever follows, what is read is spelled so, and so no body
+/// begins another one.
+pub fn record_laws()
+    ensures again { (r : Rec) (rest : List ℕ) → FitsRecord r
+        → read_record (spell_record r ++ rest) ≡ value_then r rest }
+    ensures only { (bytes : List ℕ) (r : Rec) (rest : List ℕ) → IsBytes bytes
+        → read_record bytes ≡ value_then r rest → FitsRecord r
+        × (bytes ≡ spell_record r ++ rest) }
+    ensures apart { (a b : Rec) (x y : List ℕ) → FitsRecord a → FitsRecord b
+        → spell_record a ++ x ≡ spell_record b ++ y → (a ≡ b) × (x ≡ y) }
+{}

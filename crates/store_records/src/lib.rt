@@ -1,0 +1,19 @@
+//! The records of a store: their bytes, what a store holds behind them, and which may follow.
+#![tactic(auto)]
+
+mod following;
+mod laws;
+mod limits;
+mod lines;
+mod rec;
+mod records;
+mod states;
+mod task;
+mod transitions;
+
+pub use following::{find_task, has_task, is_batch, is_task_id, may_define, take_transitions};
+pub use laws::record_laws;
+pub use limits::{ID_LIMIT, SCRIPT_LIMIT, TASK_LIMIT};
+pub use rec::{Rec, Transitions};
+pub use records::{read_record, record_body};
+pub use task::{Life, LifeNumbers, Snapshot, StoredTask};
