@@ -1,8 +1,7 @@
 //! What the tests share: what scripts hand to nodes, inputs that are written as lines, and what nodes give as text.
 
-ghost use Rattle.std.specs.Prelude.{◌≡◌, ◌<◌, ℕ, IfOk, OnOk};
+ghost use Rattle.std.specs.Prelude.{◌≡◌, ◌<◌, IfOk, OnOk, map};
 ghost use Rattle.kap_base.specs.Texts.{has_line_feed};
-ghost use Rattle.node_core.specs.Cut.{AllAtPorts};
 
 use kap_base::{Body, Item, ItemList, Point, Stamp, Text};
 use lambda_types::RegexPatterns;
@@ -97,12 +96,13 @@ pub fn shown(
 
 /// Items that all come at port 0.
 fn at_port_zero(alloc: Global, items: Vec<Item>) -> Result<Vec<(u32, Item)>, Fail>
-    ensures { IfOk result (λ inputs. (ports : ℕ) → 0 < ports → AllAtPorts ports inputs.items) }
+    ensures { IfOk result (λ inputs. inputs.items ≡ map (λ item. (0, item)) items.items) }
 {
     Ok(items.into_iter().map(|item| (0, item)).collect(alloc)?)
 }
 
 /// What a node in its first state gives of these lines.
+#[tactic(auto, using(crate::proofs::PortLaws::at_zero))]
 pub fn given<N: Node>(
     rt: &impl Abort,
     alloc: Global,
