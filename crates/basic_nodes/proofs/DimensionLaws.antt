@@ -1,5 +1,5 @@
 -- The keys of a map can be the dimensions of a point.
-use Rattle.std.proofs.Common.{◌≡◌, ℕ, Bool, true, false, cond, ◌||◌, T, List, [], ◌∷◌, ◌++◌, map, refl, sym, ◌∙◌, IsUtf8}
+use Rattle.std.proofs.Common.{◌≡◌, ℕ, ◌+◌, ◌<◌, Bool, true, false, cond, ◌||◌, T, List, [], ◌∷◌, ◌++◌, map, length, take, get_or, refl, sym, ap, ◌∙◌, IsUtf8}
 use Rattle.std.specs.Prelude.{◌&&◌, IsTrue, Option, Some, None, bytes_eq, is_some}
 use Rattle.std.specs.List.{list_all, list_any}
 use Rattle.std.specs.Str.{is_utf8}
@@ -8,6 +8,7 @@ use Rattle.std.specs.declared.cmp.Ordering.{Ordering}
 use Rattle.std.specs.declared.cmp.Ordering.TheVariants.{Less, Equal, Greater}
 use Rattle.std.specs.FinMap.{contains_key, contains_key-keys, empty, entries, entries_sorted, get, get-empty, get-insert, get_tied, insert, is_sorted, keys, nat_cmp-IsAntisymmetric, same_map, slice_cmp-IsAntisymmetric}
 use Rattle.std.specs.FinMap.Entries.{below_all}
+use Rattle.std.proofs.lemmas.List.{take_more}
 use Rattle.std.proofs.lemmas.List.Folds.{list_all-append}
 use Rattle.std.proofs.lemmas.Str.{is_utf8-from_IsUtf8}
 use Rattle.std.proofs.lemmas.Cmp.{nat_list_cmp_total}
@@ -96,8 +97,14 @@ one_more : (m : KeyMap (Unit {0})) (names : List (List ℕ)) (name : List ℕ)
 one_more m [] name = refl
 one_more m (n ∷ names) name = one_more (insert m n tt) names name
 
-pub map_of_more : (names : List (List ℕ)) (name : List ℕ) → map_of (names ++ name ∷ []) ≡ insert (map_of names) name tt
+map_of_more : (names : List (List ℕ)) (name : List ℕ) → map_of (names ++ name ∷ []) ≡ insert (map_of names) name tt
 map_of_more names name = one_more empty names name
+
+pub map_of_next : (names : List (List ℕ)) (i : ℕ) (name : List ℕ) (old new : KeyMap (Unit {0})) → i < length names → name ≡ get_or names i name
+    → old ≡ map_of (take i names) → new ≡ insert old name tt → new ≡ map_of (take (i + 1) names)
+map_of_next names i name old new lt is so_far more =
+    more ∙ ap (λ (m : KeyMap (Unit {0})). insert m name tt) so_far ∙ sym (map_of_more (take i names) name)
+    ∙ ap (λ (n : List ℕ). map_of (take i names ++ n ∷ [])) is ∙ ap map_of (sym (take_more names i name lt))
 
 is_equal : (o : Ordering) → is_eq o ≡ true → o ≡ Equal
 is_equal Less e = absurd cc
@@ -110,7 +117,7 @@ there None e = absurd cc
 
 -- a key that is there changes nothing
 pub key_stays : (m : KeyMap (Unit {0})) (k : List ℕ) → contains_key m k ≡ true → insert m k tt ≡ m
-key_stays m k in_m = same_map (slice_cmp-IsAntisymmetric nat_cmp-IsAntisymmetric) (insert m k tt) m (λ q. get-insert nat_list_cmp_total m k tt q ∙ at q (eq_by_cmp byte_order q k) refl)
+key_stays m k in_m = same_map nat_list_cmp_total (slice_cmp-IsAntisymmetric nat_cmp-IsAntisymmetric) (insert m k tt) m (λ q. get-insert nat_list_cmp_total m k tt q ∙ at q (eq_by_cmp byte_order q k) refl)
   where
     at : (q : List ℕ) (b : Bool) → eq_by_cmp byte_order q k ≡ b → cond b (Some tt) (get m q) ≡ get m q
     at q true e = there (get m k) in_m ∙ get_tied nat_list_cmp_total m q k (is_equal (byte_order q k) e)
