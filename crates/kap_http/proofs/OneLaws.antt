@@ -11,7 +11,7 @@ use Rattle.kap_http.specs.declared.fault.HttpFault.{HttpFault}
 use Rattle.kap_http.specs.RequestValues.{RequestValue}
 use Rattle.kap_http.specs.Fields.{Pair, body_len}
 use Rattle.kap_http.specs.Paths.{limit_of}
-use Rattle.kap_http.specs.Reading.{ReadResult, request_from, request_of, head_gives, HasHead, CanBeHead, Waits, IsBad, Gives}
+use Rattle.kap_http.specs.Reading.{ReadResult, request_from, request_of, head_gives, HasHead, CanBeHead, Waits, IsBad, IsLostInTarget, Gives}
 use Rattle.kap_base.specs.Words.{◌>>=◌}
 use Rattle.kap_http.proofs.CutLaws.{joined}
 use Rattle.kap_http.proofs.RoomLaws.{head_is, first_line, field_line}
@@ -37,32 +37,45 @@ no_bad bytes head rest has (inl over) =
     let many : 64 < length head.fields = over (drop 16384 bytes) head rest (subst (λ (x : List ℕ). ReadsRequest x head rest) (sym (take-append-drop 16384 bytes)) has.reads) in
     omega arith
 
-no_wait_bad : (bytes : List ℕ) → ¬ (EndsInTarget bytes) → Waits bytes → IsBad bytes → ⊥
-no_wait_bad bytes closed waits (inr long) = let a = waits.short in let b = long.long in omega arith
-no_wait_bad bytes closed waits (inl over) = by_may waits.may
+no_wait_bad : (bytes : List ℕ) → Waits bytes → IsBad bytes → IsLostInTarget bytes
+no_wait_bad bytes waits (inr long) = let a = waits.short in let b = long.long in absurd (omega arith)
+no_wait_bad bytes waits (inl over) = by_may waits.may
   where
     same : take 16384 bytes ≡ bytes
     same = let a = waits.short in take_all 16384 bytes (omega arith)
 
-    by_may : CanBeHead bytes ⊎ EndsInTarget bytes → ⊥
-    by_may (inr ends) = closed ends
-    by_may (inl can) =
+    none : CanBeHead bytes → ⊥
+    none can =
         let few = can.few in
         let many : 64 < length can.head.fields = over can.more can.head [] (subst (λ (x : List ℕ). ReadsRequest (x ++ can.more) can.head []) (sym same) can.reads) in
         omega arith
 
-pub one_is : (bytes : List ℕ) (a b : ReadResult) → ¬ (EndsInTarget bytes) → Gives bytes a → Gives bytes b → a ≡ b
-one_is bytes a b closed (inl x) (inl y) =
+    by_may : CanBeHead bytes ⊎ EndsInTarget bytes → IsLostInTarget bytes
+    by_may (inr ends) = (ends, none)
+    by_may (inl can) = absurd (none can)
+
+pub one_is : (bytes : List ℕ) (a b : ReadResult) → Gives bytes a → Gives bytes b → (a ≡ b) ⊎ IsLostInTarget bytes
+one_is bytes a b (inl x) (inl y) =
+    let same = request_unique bytes x.0 y.0 x.1 y.1 x.2.reads y.2.reads in
+    inl (x.3 ∙ ap (λ (h : RequestHead). head_gives h x.1) same.0 ∙ ap (λ (r : List ℕ). head_gives y.0 r) same.1 ∙ sym y.3)
+one_is bytes a b (inl x) (inr (inl y)) = absurd (no_waits bytes x.0 x.1 x.2 y.0)
+one_is bytes a b (inl x) (inr (inr y)) = absurd (no_bad bytes x.0 x.1 x.2 y.0)
+one_is bytes a b (inr (inl x)) (inl y) = absurd (no_waits bytes y.0 y.1 y.2 x.0)
+one_is bytes a b (inr (inl x)) (inr (inl y)) = inl (x.1 ∙ sym y.1)
+one_is bytes a b (inr (inl x)) (inr (inr y)) = inr (no_wait_bad bytes x.0 y.0)
+one_is bytes a b (inr (inr x)) (inl y) = absurd (no_bad bytes y.0 y.1 y.2 x.0)
+one_is bytes a b (inr (inr x)) (inr (inl y)) = inr (no_wait_bad bytes y.0 x.0)
+one_is bytes a b (inr (inr x)) (inr (inr y)) = inl (x.1 ∙ sym y.1)
+
+-- a request that is read is the one answer
+pub request_is : (bytes : List ℕ) (r : RequestValue) (n : ℕ) (b : ReadResult) → Gives bytes (Ok (Some (r, n))) → Gives bytes b → Ok (Some (r, n)) ≡ b
+request_is bytes r n b (inl x) (inl y) =
     let same = request_unique bytes x.0 y.0 x.1 y.1 x.2.reads y.2.reads in
     x.3 ∙ ap (λ (h : RequestHead). head_gives h x.1) same.0 ∙ ap (λ (r : List ℕ). head_gives y.0 r) same.1 ∙ sym y.3
-one_is bytes a b closed (inl x) (inr (inl y)) = absurd (no_waits bytes x.0 x.1 x.2 y.0)
-one_is bytes a b closed (inl x) (inr (inr y)) = absurd (no_bad bytes x.0 x.1 x.2 y.0)
-one_is bytes a b closed (inr (inl x)) (inl y) = absurd (no_waits bytes y.0 y.1 y.2 x.0)
-one_is bytes a b closed (inr (inl x)) (inr (inl y)) = x.1 ∙ sym y.1
-one_is bytes a b closed (inr (inl x)) (inr (inr y)) = absurd (no_wait_bad bytes closed x.0 y.0)
-one_is bytes a b closed (inr (inr x)) (inl y) = absurd (no_bad bytes y.0 y.1 y.2 x.0)
-one_is bytes a b closed (inr (inr x)) (inr (inl y)) = absurd (no_wait_bad bytes closed y.0 x.0)
-one_is bytes a b closed (inr (inr x)) (inr (inr y)) = x.1 ∙ sym y.1
+request_is bytes r n b (inl x) (inr (inl y)) = absurd (no_waits bytes x.0 x.1 x.2 y.0)
+request_is bytes r n b (inl x) (inr (inr y)) = absurd (no_bad bytes x.0 x.1 x.2 y.0)
+request_is bytes r n b (inr (inl x)) gives = absurd (cc (x.1))
+request_is bytes r n b (inr (inr x)) gives = absurd (cc (x.1))
 
 -- ---- what follows
 

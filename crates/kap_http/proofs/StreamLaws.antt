@@ -1,16 +1,17 @@
 -- Requests one behind the other, read in any pieces.
-use Rattle.std.proofs.Common.{◌≡◌, ℕ, zero, suc, ◌+◌, Bool, true, false, List, [], ◌∷◌, ◌++◌, length, take, drop, refl, sym, ap, ◌∙◌, subst, arith, inl, inr, Option, Some, None, Result, Ok, Err, append_assoc, append-nil, length-append, zero-add}
-use Rattle.std.proofs.lemmas.List.{drop-append-le, take-append-drop}
+use Rattle.std.proofs.Common.{◌≡◌, ℕ, zero, suc, ◌+◌, Bool, true, false, List, [], ◌∷◌, ◌++◌, length, drop, refl, sym, ap, ◌∙◌, subst, arith, inl, inr, Option, Some, None, Result, Ok, Err, append-nil, length-append, zero-add}
+use Rattle.std.specs.Prelude.{◌⊎◌}
+use Rattle.std.proofs.lemmas.List.{drop-append-le}
 use Rattle.std.proofs.lemmas.List.Elements.{All-cons, All-nil}
 use Rattle.std.proofs.lemmas.Str.{IsUtf8-from_ascii}
 use Rattle.std.proofs.lemmas.Str.Ascii.{IsAscii-cons, IsAscii-nil}
-use Rattle.httparse.specs.Grammar.{EndsInTarget, RequestHead, IsRequestHead, IsField, lf, print_request, is_token_byte, is_uri_byte}
+use Rattle.httparse.specs.Grammar.{RequestHead, IsRequestHead, IsField, lf, print_request, is_token_byte, is_uri_byte}
 use Rattle.httparse.proofs.OpenLemmas.{letter_is_token}
 use Rattle.kap_http.specs.declared.fault.HttpFault.{HttpFault}
 use Rattle.kap_http.specs.RequestValues.{RequestValue}
-use Rattle.kap_http.specs.Reading.{Gives}
-use Rattle.kap_http.specs.Requests.{Stop, behind_last, behind_most, at_end, inside, at_fault, StopsAt, BehindIt, Requests, BeginsWith, HasNoOpenTarget, IsFinal}
-use Rattle.kap_http.proofs.OneLaws.{one_is, gives_more, refuses_more, gives_within, some_bytes}
+use Rattle.kap_http.specs.Reading.{Gives, IsLostInTarget, ReadResult}
+use Rattle.kap_http.specs.Requests.{Stop, behind_last, behind_most, at_end, inside, at_fault, StopsAt, BehindIt, Requests, BeginsWith, IsFinal, IsLostBehind}
+use Rattle.kap_http.proofs.OneLaws.{one_is, request_is, gives_more, refuses_more, gives_within, some_bytes}
 
 behind_more : (bytes more : List ℕ) (r : RequestValue) (n : ℕ) → Gives bytes (Ok (Some (r, n))) → drop n bytes ++ more ≡ drop n (bytes ++ more)
 behind_more bytes more r n gives = sym (drop-append-le n bytes more (gives_within bytes r n gives).1)
@@ -88,58 +89,72 @@ never_nothing f (inr (inr (inl over, e))) =
     let many = over (print_request some_head) some_head [] (some_valid, sym (append-nil (print_request some_head))) in
     omega (arith, some_few)
 
-stop_one : (bytes : List ℕ) (x y : Stop) → ¬ (EndsInTarget bytes) → StopsAt bytes x → StopsAt bytes y → x ≡ y
-stop_one bytes behind_last y closed p q = absurd p
-stop_one bytes behind_most y closed p q = absurd p
-stop_one bytes at_end behind_last closed p q = absurd q
-stop_one bytes at_end behind_most closed p q = absurd q
-stop_one bytes at_end at_end closed p q = refl
-stop_one bytes at_end inside closed p q = absurd (q.0 p)
-stop_one bytes at_end (at_fault f) closed p q = absurd (never_nothing f (subst (λ (b : List ℕ). Gives b (Err f)) p q))
-stop_one bytes inside behind_last closed p q = absurd q
-stop_one bytes inside behind_most closed p q = absurd q
-stop_one bytes inside at_end closed p q = absurd (p.0 q)
-stop_one bytes inside inside closed p q = refl
-stop_one bytes inside (at_fault f) closed p q = absurd (cc (one_is bytes (Ok None) (Err f) closed p.1 q))
-stop_one bytes (at_fault f) behind_last closed p q = absurd q
-stop_one bytes (at_fault f) behind_most closed p q = absurd q
-stop_one bytes (at_fault f) at_end closed p q = absurd (never_nothing f (subst (λ (b : List ℕ). Gives b (Err f)) q p))
-stop_one bytes (at_fault f) inside closed p q = absurd (cc (one_is bytes (Err f) (Ok None) closed p q.1))
-stop_one bytes (at_fault f) (at_fault g) closed p q = let same : f ≡ g = cc (one_is bytes (Err f) (Err g) closed p q) in ap (λ (e : HttpFault). at_fault e) same
+-- two answers that differ
+lost_of : (bytes : List ℕ) (a b : ReadResult) → (a ≡ b → ⊥) → (a ≡ b) ⊎ IsLostInTarget bytes → IsLostInTarget bytes
+lost_of bytes a b other (inl e) = absurd (other e)
+lost_of bytes a b other (inr lost) = lost
 
-no_stop : (bytes : List ℕ) (x : Stop) (r : RequestValue) (n : ℕ) → ¬ (EndsInTarget bytes) → StopsAt bytes x → Gives bytes (Ok (Some (r, n))) → ⊥
-no_stop bytes behind_last r n closed p q = p
-no_stop bytes behind_most r n closed p q = p
-no_stop bytes at_end r n closed p q = let w = gives_within bytes r n q in let none = ap (λ (b : List ℕ). length b) p in omega arith
-no_stop bytes inside r n closed p q = cc (one_is bytes (Ok None) (Ok (Some (r, n))) closed p.1 q)
-no_stop bytes (at_fault f) r n closed p q = cc (one_is bytes (Err f) (Ok (Some (r, n))) closed p q)
+stop_one : (bytes : List ℕ) (x y : Stop) → StopsAt bytes x → StopsAt bytes y → (x ≡ y) ⊎ IsLostInTarget bytes
+stop_one bytes behind_last y p q = absurd p
+stop_one bytes behind_most y p q = absurd p
+stop_one bytes at_end behind_last p q = absurd q
+stop_one bytes at_end behind_most p q = absurd q
+stop_one bytes at_end at_end p q = inl refl
+stop_one bytes at_end inside p q = absurd (q.0 p)
+stop_one bytes at_end (at_fault f) p q = absurd (never_nothing f (subst (λ (b : List ℕ). Gives b (Err f)) p q))
+stop_one bytes inside behind_last p q = absurd q
+stop_one bytes inside behind_most p q = absurd q
+stop_one bytes inside at_end p q = absurd (p.0 q)
+stop_one bytes inside inside p q = inl refl
+stop_one bytes inside (at_fault f) p q = inr (lost_of bytes (Ok None) (Err f) (λ e. cc) (one_is bytes (Ok None) (Err f) p.1 q))
+stop_one bytes (at_fault f) behind_last p q = absurd q
+stop_one bytes (at_fault f) behind_most p q = absurd q
+stop_one bytes (at_fault f) at_end p q = absurd (never_nothing f (subst (λ (b : List ℕ). Gives b (Err f)) q p))
+stop_one bytes (at_fault f) inside p q = inr (lost_of bytes (Err f) (Ok None) (λ e. cc) (one_is bytes (Err f) (Ok None) p q.1))
+stop_one bytes (at_fault f) (at_fault g) p q = by_one (one_is bytes (Err f) (Err g) p q)
+  where
+    by_one : ◌≡◌ {A = ReadResult} (Err f) (Err g) ⊎ IsLostInTarget bytes → (at_fault f ≡ at_fault g) ⊎ IsLostInTarget bytes
+    by_one (inl e) = let same : f ≡ g = cc in inl (ap (λ (e : HttpFault). at_fault e) same)
+    by_one (inr lost) = inr lost
 
-closed_here : (bytes : List ℕ) → HasNoOpenTarget bytes → ¬ (EndsInTarget bytes)
-closed_here bytes closed = closed [] bytes refl
-
-closed_behind : (bytes : List ℕ) (n : ℕ) → HasNoOpenTarget bytes → HasNoOpenTarget (drop n bytes)
-closed_behind bytes n closed = λ front back e.
-    closed (take n bytes ++ front) back (sym (take-append-drop n bytes) ∙ ap (λ (x : List ℕ). take n bytes ++ x) e ∙ sym (append_assoc (take n bytes) front back))
+no_stop : (bytes : List ℕ) (x : Stop) (r : RequestValue) (n : ℕ) → StopsAt bytes x → Gives bytes (Ok (Some (r, n))) → ⊥
+no_stop bytes behind_last r n p q = p
+no_stop bytes behind_most r n p q = p
+no_stop bytes at_end r n p q = let w = gives_within bytes r n q in let none = ap (λ (b : List ℕ). length b) p in omega arith
+no_stop bytes inside r n p q = cc (request_is bytes r n (Ok None) q p.1)
+no_stop bytes (at_fault f) r n p q = cc (request_is bytes r n (Err f) q p)
 
 pair_of : (r q : RequestValue) (n m : ℕ) → ◌≡◌ {A = Result (Option (RequestValue × ℕ)) HttpFault} (Ok (Some (r, n))) (Ok (Some (q, m))) → (r ≡ q) × (n ≡ m)
 pair_of r q n m e =
     let pair : ◌≡◌ {A = RequestValue × ℕ} (r, n) (q, m) = cc in
     (ap (λ (p : RequestValue × ℕ). p.0) pair, ap (λ (p : RequestValue × ℕ). p.1) pair)
 
-pub one_list : (left : ℕ) (bytes : List ℕ) (a b : List RequestValue) (x y : Stop) → HasNoOpenTarget bytes → Requests left bytes a x → Requests left bytes b y → (a ≡ b) × (x ≡ y)
-one_list zero bytes [] [] x y closed p q = (refl, p ∙ sym q)
-one_list zero bytes [] (r ∷ b) x y closed p q = absurd q
-one_list zero bytes (r ∷ a) b x y closed p q = absurd p
-one_list (suc left) bytes [] [] x y closed p q = (refl, stop_one bytes x y (closed_here bytes closed) p q)
-one_list (suc left) bytes [] (r ∷ b) x y closed p q = absurd (no_stop bytes x r q.0 (closed_here bytes closed) p q.1)
-one_list (suc left) bytes (r ∷ a) [] x y closed p q = absurd (no_stop bytes y r p.0 (closed_here bytes closed) q p.1)
-one_list (suc left) bytes (r ∷ a) (s ∷ b) x y closed p q =
-    let same = pair_of r s p.0 q.0 (one_is bytes (Ok (Some (r, p.0))) (Ok (Some (s, q.0))) (closed_here bytes closed) p.1 q.1) in
-    let there = subst (λ (n : ℕ). Requests left (drop n bytes) a x → Requests left (drop q.0 bytes) b y → (a ≡ b) × (x ≡ y)) (sym same.1) (one_list left (drop q.0 bytes) a b x y (closed_behind bytes q.0 closed)) in
+-- one list of requests, and one stop but where the rest is lost
+abbrev Same : List ℕ → List RequestValue → List RequestValue → Stop → Stop → Type 0
+Same bytes a b x y = (a ≡ b) × ((x ≡ y) ⊎ IsLostBehind bytes a)
+
+pub one_list : (left : ℕ) (bytes : List ℕ) (a b : List RequestValue) (x y : Stop) → Requests left bytes a x → Requests left bytes b y → Same bytes a b x y
+one_list zero bytes [] [] x y p q = (refl, inl (p ∙ sym q))
+one_list zero bytes [] (r ∷ b) x y p q = absurd q
+one_list zero bytes (r ∷ a) b x y p q = absurd p
+one_list (suc left) bytes [] [] x y p q = (refl, by_stop (stop_one bytes x y p q))
+  where
+    by_stop : (x ≡ y) ⊎ IsLostInTarget bytes → (x ≡ y) ⊎ IsLostBehind bytes []
+    by_stop (inl e) = inl e
+    by_stop (inr lost) = inr (bytes, refl, lost)
+one_list (suc left) bytes [] (r ∷ b) x y p q = absurd (no_stop bytes x r q.0 p q.1)
+one_list (suc left) bytes (r ∷ a) [] x y p q = absurd (no_stop bytes y r p.0 q p.1)
+one_list (suc left) bytes (r ∷ a) (s ∷ b) x y p q =
+    let same = pair_of r s p.0 q.0 (request_is bytes r p.0 (Ok (Some (s, q.0))) p.1 q.1) in
+    let there = subst (λ (n : ℕ). Requests left (drop p.0 bytes) a x → Requests left (drop n bytes) b y → Same (drop p.0 bytes) a b x y) same.1 (one_list left (drop p.0 bytes) a b x y) in
     let goes : r.last ≡ s.last = ap (λ (e : RequestValue). e.last) same.0 in
-    let behind = both r.last p.2 (subst (λ (t : Bool). BehindIt t b y (Requests left (drop q.0 bytes) b y)) (sym goes) q.2) there in
+    let behind = both r.last refl p.2 (subst (λ (t : Bool). BehindIt t b y (Requests left (drop q.0 bytes) b y)) (sym goes) q.2) there in
     (ap (λ (e : RequestValue). e ∷ a) same.0 ∙ ap (λ (l : List RequestValue). s ∷ l) behind.0, behind.1)
   where
-    both : {P Q : Type 0} (t : Bool) → BehindIt t a x P → BehindIt t b y Q → (P → Q → (a ≡ b) × (x ≡ y)) → (a ≡ b) × (x ≡ y)
-    both true h k step = (h.0 ∙ sym k.0, h.1 ∙ sym k.1)
-    both false h k step = step h k
+    onto : r.last ≡ false → (x ≡ y) ⊎ IsLostBehind (drop p.0 bytes) a → (x ≡ y) ⊎ IsLostBehind bytes (r ∷ a)
+    onto last (inl e) = inl e
+    onto last (inr lost) = inr (lost.0, (p.0, p.1, last, lost.1), lost.2)
+
+    both : {P Q : Type 0} (t : Bool) → r.last ≡ t → BehindIt t a x P → BehindIt t b y Q → (P → Q → Same (drop p.0 bytes) a b x y) → (a ≡ b) × ((x ≡ y) ⊎ IsLostBehind bytes (r ∷ a))
+    both true last h k step = (h.0 ∙ sym k.0, inl (h.1 ∙ sym k.1))
+    both false last h k step = let here = step h k in (here.0, onto last here.1)

@@ -53,9 +53,14 @@ pub record CanBeHead (bytes : List ℕ) : Type 0 where
   pub reads : ReadsRequest (bytes ++ more) head []
   pub few : length head.fields ≤ 64
 
--- The bytes may go on to a head. Of bytes that end inside a target whose bytes aren't UTF-8, this says nothing.
+-- the bytes may go on to a head, or end inside a target, whose test for UTF-8 waits for its end
 abbrev pub MayGoOn : List ℕ → Type 0
 MayGoOn bytes = CanBeHead bytes ⊎ EndsInTarget bytes
+
+-- The bytes end inside a target, and no bytes behind make a head of at most 64 fields: httparse alone says whether they
+-- can go on.
+abbrev pub IsLostInTarget : List ℕ → Type 0
+IsLostInTarget bytes = EndsInTarget bytes × ¬ (CanBeHead bytes)
 
 -- fewer than 16,384 bytes, with no whole head in them, that may go on to one
 pub record Waits (bytes : List ℕ) : Type 0 where

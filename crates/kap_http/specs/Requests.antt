@@ -1,12 +1,11 @@
 -- The requests of a connection: what all its bytes hold, and how it stops.
-use Rattle.std.specs.Prelude.{◌≡◌, ◌≢◌, ℕ, zero, suc, Bool, true, false, List, [], ◌∷◌, ◌++◌, drop, Some, None, Ok, Err}
-use Rattle.httparse.specs.Grammar.{EndsInTarget}
+use Rattle.std.specs.Prelude.{◌≡◌, ◌≢◌, ℕ, zero, suc, Bool, true, false, List, [], ◌∷◌, drop, Some, None, Ok, Err}
 use Rattle.kap_http.specs.declared.fault.HttpFault.{HttpFault}
 use Rattle.kap_http.specs.RequestValues.{RequestValue}
-use Rattle.kap_http.specs.Reading.{Gives}
+use Rattle.kap_http.specs.Reading.{Gives, IsLostInTarget}
 
--- How the requests stop: behind one that is the last, behind the thousandth, at bytes that hold none, or where the bytes end,
--- between two requests or inside one.
+-- How the requests stop: behind one that is the last, behind the thousandth, at bytes that hold none, or where the
+-- bytes end, between two requests or inside one.
 pub data Stop : Type 0 where
   behind_last behind_most at_end inside : Stop
   at_fault : HttpFault → Stop
@@ -46,6 +45,6 @@ IsFinal at_end = ⊥
 IsFinal inside = ⊥
 IsFinal (at_fault fault) = Unit {0}
 
--- none of the bytes' ends lies inside a target
-abbrev pub HasNoOpenTarget : List ℕ → Type 0
-HasNoOpenTarget bytes = (front back : List ℕ) → bytes ≡ front ++ back → ¬ (EndsInTarget back)
+-- behind these requests the bytes end inside a target that no head has
+abbrev pub IsLostBehind : List ℕ → List RequestValue → Type 0
+IsLostBehind bytes requests = (rest : List ℕ) × BeginsWith bytes requests rest × IsLostInTarget rest

@@ -1,17 +1,19 @@
 //! The laws of reading.
 
-ghost use Rattle.std.specs.Prelude.{◌≡◌, ◌+◌, ◌<◌, ◌≤◌, ◌++◌, ◌∷◌, [], ℕ, List, Some, Ok, Err, drop, false, length};
-ghost use Rattle.httparse.specs.Grammar.{EndsInTarget};
+ghost use Rattle.std.specs.Prelude.{◌≡◌, ◌+◌, ◌<◌, ◌≤◌, ◌⊎◌, ◌++◌, ◌∷◌, [], ℕ, List, Some, Ok, Err, drop, false, length};
 ghost use Rattle.kap_http.specs.declared.fault.HttpFault.{HttpFault};
 ghost use Rattle.kap_http.specs.RequestValues.{RequestValue};
-ghost use Rattle.kap_http.specs.Reading.{Gives, ReadResult};
-ghost use Rattle.kap_http.specs.Requests.{Stop, Requests, BeginsWith, HasNoOpenTarget, IsFinal};
+ghost use Rattle.kap_http.specs.Reading.{Gives, IsLostInTarget, ReadResult};
+ghost use Rattle.kap_http.specs.Requests.{Stop, Requests, BeginsWith, IsFinal, IsLostBehind};
 
-/// The law of a request. What bytes give is one answer, but for bytes that end inside a target. A request that was read stays
-/// read whatever follows, and so does a fault. A request takes some bytes, and no more than there are.
+/// The law of a request. What bytes give is one answer, but for bytes that end inside a target that no head has. A
+/// request that was read stays read whatever follows, and so does a fault. A request takes some bytes, and no more than
+/// there are.
 pub fn one_answer()
-    ensures one { (bytes : List ℕ) (a b : ReadResult) → ¬ (EndsInTarget bytes) →
-        Gives bytes a → Gives bytes b → a ≡ b }
+    ensures one { (bytes : List ℕ) (a b : ReadResult) →
+        Gives bytes a → Gives bytes b → (a ≡ b) ⊎ IsLostInTarget bytes }
+    ensures one_request { (bytes : List ℕ) (r : RequestValue) (n : ℕ) (b : ReadResult) →
+        Gives bytes (Ok (Some (r, n))) → Gives bytes b → Ok (Some (r, n)) ≡ b }
     ensures stays { (bytes more : List ℕ) (r : RequestValue) (n : ℕ) →
         Gives bytes (Ok (Some (r, n))) → Gives (bytes ++ more) (Ok (Some (r, n))) }
     ensures stays_refused { (bytes more : List ℕ) (fault : HttpFault) →
@@ -20,9 +22,10 @@ pub fn one_answer()
         Gives bytes (Ok (Some (r, n))) → (0 < n) × (n ≤ length bytes) }
 {}
 
-/// The law of a connection's bytes. They hold one list of requests and stop in one way, but for ends inside a target. What
-/// comes in pieces holds the requests that the whole holds: those that were read stay, with what follows behind them, and the
-/// next one is read from there; and behind the last, the thousandth and at a fault nothing that follows is looked at.
+/// The law of a connection's bytes. They hold one list of requests and stop in one way, but where the rest ends inside a
+/// target that no head has. What comes in pieces holds the requests that the whole holds: those that were read stay, with what follows behind
+/// them, and the next one is read from there; and behind the last, the thousandth and at a fault nothing that follows
+/// is looked at.
 pub fn in_pieces()
     ensures more { (bytes more : List ℕ) (requests : List RequestValue) (rest : List ℕ) →
         BeginsWith bytes requests rest → BeginsWith (bytes ++ more) requests (rest ++ more) }
@@ -39,6 +42,6 @@ pub fn in_pieces()
         IsFinal stop → Requests left bytes requests stop →
         Requests left (bytes ++ more) requests stop }
     ensures one { (left : ℕ) (bytes : List ℕ) (a b : List RequestValue) (x y : Stop) →
-        HasNoOpenTarget bytes →
-        Requests left bytes a x → Requests left bytes b y → (a ≡ b) × (x ≡ y) }
+        Requests left bytes a x → Requests left bytes b y →
+        (a ≡ b) × ((x ≡ y) ⊎ IsLostBehind bytes a) }
 {}
