@@ -1,7 +1,7 @@
 //! The bytes of replies.
 
 use kap_base::Bytes;
-use kap_http::{HttpFault, Refusal, Reply, error_reply, no_memory_text, print_reply, fault_text};
+use kap_http::{HttpFault, Refusal, Reply, error_reply, fault_text, no_memory_text, print_reply};
 use std::process::Abort;
 use std::test::Fail;
 
