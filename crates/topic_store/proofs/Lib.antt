@@ -1,1 +1,5 @@
-pub mod Keeping
+pub mod Adding
+pub mod Apart
+pub mod Found
+pub mod Made
+pub mod Reading

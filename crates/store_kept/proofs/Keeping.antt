@@ -13,9 +13,9 @@ use Rattle.store_records.specs.declared.rec.Rec.{Rec}
 use Rattle.store_records.specs.declared.task.Life.{Life}
 use Rattle.store_records.specs.declared.task.Snapshot.{Snapshot}
 use Rattle.store_records.specs.declared.task.StoredTask.{StoredTask}
-use Rattle.topic_store.specs.Changing.{IsMarkAt, kept_with}
-use Rattle.topic_store.specs.Keeping.{AreMarks, IsMark, Keeps, KeepsRecords, KeptValue}
-use Rattle.topic_store.specs.declared.kept.Mark.{Mark}
+use Rattle.store_kept.specs.Changing.{IsMarkAt, kept_with}
+use Rattle.store_kept.specs.Keeping.{AreMarks, IsMark, Keeps, KeepsRecords, KeptValue}
+use Rattle.store_kept.specs.declared.kept.Mark.{Mark}
 
 -- ---- records one behind the other, and one more
 

@@ -6,8 +6,8 @@ use Rattle.store_records.specs.declared.rec.Rec.{Rec}
 use Rattle.store_records.specs.declared.task.Life.{Life}
 use Rattle.store_records.specs.declared.task.Snapshot.{Snapshot}
 use Rattle.store_records.specs.declared.task.StoredTask.{StoredTask}
-use Rattle.topic_store.specs.declared.kept.Kept.{Kept}
-use Rattle.topic_store.specs.declared.kept.Mark.{Mark}
+use Rattle.store_kept.specs.declared.kept.Kept.{Kept}
+use Rattle.store_kept.specs.declared.kept.Mark.{Mark}
 
 -- what is kept, as lists
 pub record KeptValue : Type 0 where

@@ -9,10 +9,10 @@ use Rattle.store_records.specs.declared.rec.Rec.{Rec}
 use Rattle.store_records.specs.declared.task.Life.{Life}
 use Rattle.store_records.specs.declared.task.Snapshot.{Snapshot}
 use Rattle.store_records.specs.declared.task.StoredTask.{StoredTask}
-use Rattle.topic_store.specs.Keeping.{Keeps, KeptValue}
-use Rattle.topic_store.specs.declared.kept.Kept.{Kept}
-use Rattle.topic_store.specs.declared.kept.Mark.{Mark}
-use Rattle.topic_store.specs.declared.parts.Parts.{Parts}
+use Rattle.store_kept.specs.Keeping.{Keeps, KeptValue}
+use Rattle.store_kept.specs.declared.kept.Kept.{Kept}
+use Rattle.store_kept.specs.declared.kept.Mark.{Mark}
+use Rattle.store_kept.specs.declared.parts.Parts.{Parts}
 
 -- there is room for one more of each
 pub record HasRoom (k : Kept) : Type 0 where

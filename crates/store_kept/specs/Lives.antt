@@ -1,6 +1,7 @@
 -- Where a life stands that a record ends.
-use Rattle.std.specs.Prelude.{◌≡◌, ℕ, true, false, List, ◌∷◌, ◌++◌, length, Option, Some, None}
+use Rattle.std.specs.Prelude.{◌≡◌, ℕ, true, false, List, ◌∷◌, ◌++◌, length, Option, Some, None, Vec, vec_capacity, vec_len}
 use Rattle.std.specs.List.{list_any}
+use Rattle.std.specs.declared.alloc.Global.{Global}
 use Rattle.store_records.specs.Held.{is_open_of}
 use Rattle.store_records.specs.declared.task.Life.{Life}
 
@@ -17,3 +18,8 @@ pub record StandsLast (id : List ℕ) (lives : List Life) (at : ℕ) : Type 0 wh
 abbrev pub IsLastOpen : List ℕ → List Life → Option ℕ → Type 0
 IsLastOpen id lives None = list_any (is_open_of id) lives ≡ false
 IsLastOpen id lives (Some at) = StandsLast id lives at
+
+-- there are as many, with room for as many more
+pub record HasSameRoom (old new : Vec Life Global) : Type 0 where
+  pub len : vec_len new ≡ vec_len old
+  pub capacity : vec_capacity new ≡ vec_capacity old

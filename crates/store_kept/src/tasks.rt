@@ -1,6 +1,6 @@
 //! The tasks of a store, as a record changes them.
 
-ghost use Rattle.std.specs.Prelude.{◌≡◌, ℕ, ◌<◌, ◌≤◌, IfOk, length, vec_capacity, vec_len};
+ghost use Rattle.std.specs.Prelude.{◌≡◌, ℕ, ◌<◌, ◌≤◌, IfOk, length, position, vec_capacity, vec_len};
 ghost use Rattle.std.specs.List.{position_or_len};
 ghost use Rattle.std.specs.Option.{option_to_list};
 ghost use Rattle.std.specs.Ordering.{is_lt};
@@ -17,12 +17,18 @@ fn is_before(id: &Text, other: &StoredTask) -> bool
     id.cmp(&other.id).is_lt()
 }
 
+fn first_behind(tasks: &[StoredTask], id: &Text) -> Option<usize>
+    ensures { result ≡ position (λ other. is_lt (byte_order id.now other.id)) tasks.now }
+{
+    tasks.iter().position(|other| is_before(id, other))
+}
+
 /// Where the first task stands whose id is greater, or their end.
 fn place_of(tasks: &[StoredTask], id: &Text) -> usize
     ensures place { result ≡ position_or_len (λ other. is_lt (byte_order id.now other.id)) tasks.now }
     ensures within { result ≤ length tasks.now }
 {
-    match tasks.iter().position(|other| is_before(id, other)) {
+    match first_behind(tasks, id) {
         Some(at) => at,
         None => tasks.len(),
     }
@@ -47,8 +53,9 @@ fn remove_task(tasks: &mut Vec<StoredTask>, id: &Text)
 fn set_enabled(tasks: &mut Vec<StoredTask>, id: &Text, enabled: bool)
     ensures { tasks.new.items ≡ set_enabled id.now enabled tasks.old.items }
 {
-    if let Some(at) = find_task(tasks, id) {
-        tasks[at].enabled = enabled;
+    match find_task(tasks, id) {
+        Some(at) => tasks[at].enabled = enabled,
+        None => {}
     }
 }
 

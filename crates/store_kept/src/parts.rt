@@ -2,9 +2,9 @@
 
 ghost use Rattle.std.specs.Prelude.{◌≡◌, ℕ, ◌+◌, ◌++◌, ◌<◌, IfOk, IfSome, OnOk, if◌then◌else◌, length, vec_capacity, vec_len};
 ghost use Rattle.std.specs.Option.{option_to_list};
-ghost use Rattle.store_records.specs.Held.{is_change, points_in, transitions_in};
-ghost use Rattle.topic_store.specs.Changing.{ArePartsFor, HasRoom, IsMarkAt, kept_with};
-ghost use Rattle.topic_store.specs.Keeping.{kept_of};
+ghost use Rattle.store_records.specs.Held.{is_change, later_of, points_in, transitions_in};
+ghost use Rattle.store_kept.specs.Changing.{ArePartsFor, HasRoom, IsMarkAt, kept_with};
+ghost use Rattle.store_kept.specs.Keeping.{kept_of};
 
 use crate::kept::{Kept, Mark};
 use crate::lives::{begun, change_lives, snap_in};
@@ -18,14 +18,21 @@ const MARK_STEP: u64 = 4096;
 
 /// What a record adds.
 #[derive(Debug, Drop)]
-pub(crate) struct Parts {
-    pub(crate) task: Option<StoredTask>,
-    pub(crate) life: Option<Life>,
-    pub(crate) snap: Option<Snapshot>,
-    pub(crate) mark: Option<Mark>,
-    pub(crate) points: u64,
-    pub(crate) transitions: u64,
-    pub(crate) changes: u64,
+pub struct Parts {
+    /// The task that it defines.
+    pub task: Option<StoredTask>,
+    /// The life that it begins.
+    pub life: Option<Life>,
+    /// The snapshot that it is.
+    pub snap: Option<Snapshot>,
+    /// Its place, where that is kept.
+    pub mark: Option<Mark>,
+    /// How many points are then stored.
+    pub points: u64,
+    /// How many transitions are then stored.
+    pub transitions: u64,
+    /// How many records there are then of the kinds that clients ask for.
+    pub changes: u64,
 }
 
 /// Makes room for one more of each.
@@ -113,13 +120,8 @@ fn parts_of(alloc: Global, kept: &Kept, at: u64, rec: &Rec) -> Result<Parts, NoM
     })
 }
 
-/// What a record adds whose gate stands at this offset, and room for it.
-pub(crate) fn prepare(
-    alloc: Global,
-    kept: &mut Kept,
-    at: u64,
-    rec: &Rec,
-) -> Result<Parts, NoMemory>
+/// What a record adds whose gate stands at this offset, and room for it. It changes nothing that is kept.
+pub fn prepare(alloc: Global, kept: &mut Kept, at: u64, rec: &Rec) -> Result<Parts, NoMemory>
     ensures parts { IfOk result (λ parts. ArePartsFor at rec.now (kept_of kept.old) parts) }
     ensures room { OnOk result (HasRoom kept.new) }
     ensures same { kept_of kept.new ≡ kept_of kept.old }
@@ -138,19 +140,34 @@ fn put_mark(marks: &mut Vec<Mark>, mark: Option<Mark>)
     }
 }
 
-/// Puts in what the record adds. It takes no memory.
-pub(crate) fn commit(kept: &mut Kept, rec: &Rec, parts: Parts)
+fn put_snap(kept: &mut Option<Snapshot>, snap: Option<Snapshot>)
+    ensures { kept.new ≡ later_of snap kept.old }
+{
+    if let Some(snap) = snap {
+        *kept = Some(snap);
+    }
+}
+
+/// Puts in what the record adds, by the parts that `prepare` made for it. It takes no memory.
+pub fn commit(kept: &mut Kept, rec: &Rec, parts: Parts)
     requires { HasRoom kept.old }
     ensures { (at : ℕ) → ArePartsFor at rec.now (kept_of kept.old) parts
         → kept_of kept.new ≡ kept_with at rec.now parts.mark (kept_of kept.old) }
 {
-    change_lives(&mut kept.lives, &kept.tasks, rec, kept.points, parts.life);
-    change_tasks(&mut kept.tasks, rec, parts.task);
-    put_mark(&mut kept.marks, parts.mark);
-    if let Some(snap) = parts.snap {
-        kept.snap = Some(snap);
-    }
-    kept.points = parts.points;
-    kept.transitions = parts.transitions;
-    kept.changes = parts.changes;
+    let Parts {
+        task,
+        life,
+        snap,
+        mark,
+        points,
+        transitions,
+        changes,
+    } = parts;
+    change_lives(&mut kept.lives, &kept.tasks, rec, kept.points, life);
+    change_tasks(&mut kept.tasks, rec, task);
+    put_mark(&mut kept.marks, mark);
+    put_snap(&mut kept.snap, snap);
+    kept.points = points;
+    kept.transitions = transitions;
+    kept.changes = changes;
 }

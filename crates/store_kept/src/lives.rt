@@ -3,7 +3,7 @@
 ghost use Rattle.std.specs.Prelude.{◌≡◌, ◌+◌, ◌++◌, ◌<◌, IfOk, if◌then◌else◌, vec_capacity, vec_len};
 ghost use Rattle.std.specs.Option.{option_to_list};
 ghost use Rattle.store_records.specs.Held.{begun, end_life, ended, is_enabled, is_open, is_open_of, life_of, open_from, snap_in, task_of};
-ghost use Rattle.topic_store.specs.Lives.{IsLastOpen};
+ghost use Rattle.store_kept.specs.Lives.{HasSameRoom, IsLastOpen};
 
 use crate::tasks::is_enabled;
 use kap_base::{Duplicate, NoMemory, Text};
@@ -42,16 +42,19 @@ fn last_open(lives: &[Life], id: &Text) -> Option<usize>
 }
 
 fn end_life(lives: &mut Vec<Life>, id: &Text, last: u64)
-    ensures { lives.new.items ≡ end_life id.now last lives.old.items }
+    ensures items { lives.new.items ≡ end_life id.now last lives.old.items }
+    ensures room { HasSameRoom lives.old lives.new }
 {
-    if let Some(at) = last_open(lives, id) {
-        lives[at].last = Some(last);
+    match last_open(lives, id) {
+        Some(at) => lives[at].last = Some(last),
+        None => {}
     }
 }
 
 fn end_if_enabled(lives: &mut Vec<Life>, tasks: &[StoredTask], id: &Text, last: u64)
-    ensures { lives.new.items ≡ (if is_enabled id.now tasks.now
+    ensures items { lives.new.items ≡ (if is_enabled id.now tasks.now
         then end_life id.now last lives.old.items else lives.old.items) }
+    ensures room { HasSameRoom lives.old lives.new }
 {
     if is_enabled(tasks, id) {
         end_life(lives, id, last);
@@ -60,7 +63,8 @@ fn end_if_enabled(lives: &mut Vec<Life>, tasks: &[StoredTask], id: &Text, last: 
 
 /// Ends the life of the task that the record disables or deletes, behind so many points.
 fn end_lives(lives: &mut Vec<Life>, tasks: &[StoredTask], rec: &Rec, last: u64)
-    ensures { lives.new.items ≡ ended last rec.now tasks.now lives.old.items }
+    ensures items { lives.new.items ≡ ended last rec.now tasks.now lives.old.items }
+    ensures room { HasSameRoom lives.old lives.new }
 {
     match rec {
         Rec::Disable { id } => end_if_enabled(lives, tasks, id, last),
@@ -87,7 +91,12 @@ fn new_life(
     define_at: u64,
 ) -> Result<Life, NoMemory>
     ensures { IfOk result (λ life. life ≡ record {
-        task = id.now; script = script.now; first = points + 1; last = None; define_at = define_at }) }
+      task = id.now;
+      script = script.now;
+      first = points + 1;
+      last = None;
+      define_at = define_at;
+    }) }
 {
     let Some(first) = points.checked_add(1) else {
         return Err(NoMemory);
@@ -101,6 +110,17 @@ fn new_life(
     })
 }
 
+/// The life that the task's enabling begins behind so many points, unless it is enabled.
+fn life_of(alloc: Global, points: u64, task: &StoredTask) -> Result<Option<Life>, NoMemory>
+    ensures { IfOk result (λ life. option_to_list life ≡ life_of points (Some task.now)) }
+{
+    if task.enabled {
+        return Ok(None);
+    }
+    let life = new_life(alloc, points, &task.id, &task.script, task.define_at)?;
+    Ok(Some(life))
+}
+
 /// The life of the task of this id that its enabling begins behind so many points, unless it is enabled.
 fn enabled_life(
     alloc: Global,
@@ -111,15 +131,10 @@ fn enabled_life(
     ensures { IfOk result (λ life.
         option_to_list life ≡ life_of points (task_of id.now tasks.now)) }
 {
-    let Some(at) = find_task(tasks, id) else {
-        return Ok(None);
-    };
-    let task = &tasks[at];
-    if task.enabled {
-        return Ok(None);
+    match find_task(tasks, id) {
+        Some(at) => life_of(alloc, points, &tasks[at]),
+        None => Ok(None),
     }
-    let life = new_life(alloc, points, &task.id, &task.script, task.define_at)?;
-    Ok(Some(life))
 }
 
 /// The life that the record begins, whose gate stands at this offset, behind so many points.

@@ -1,0 +1,5 @@
+pub mod Faults
+pub mod Stores
+pub mod Opening
+pub mod Adding
+pub mod Making
