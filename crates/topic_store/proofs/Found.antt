@@ -12,7 +12,7 @@ use Rattle.store_records.specs.Records.{spell_record}
 use Rattle.store_records.specs.declared.rec.Rec.{Rec}
 use Rattle.topic_store.specs.Faults.{fault_in}
 use Rattle.store_kept.specs.Keeping.{KeptValue}
-use Rattle.topic_store.specs.Opening.{AreRead, IsNamed, IsNoStore, IsOpened, LogOrNot, NamesOrNot, Opens, OpensAs, Refuses, no_head, no_log}
+use Rattle.topic_store.specs.Opening.{AreRead, IsNamed, IsNoStore, IsOpened, LogOrNot, NamesOrNot, Opens, OpensAs, ReadsOrNot, Refuses, no_head, no_log}
 use Rattle.topic_store.specs.Stores.{IsBad, IsNoLog, IsOn, Stands, StoreState, bad, headerless, store_of, torn}
 use Rattle.topic_store.proofs.Apart.{no_store_apart, stands_unique}
 use Rattle.topic_store.specs.declared.fault.StoreFault.{StoreFault}
@@ -45,6 +45,14 @@ module _ (seen : Image) (images : Image → Type 0) where
       → there ≡ log.part → IsBad bodies offset → IsNoStore seen there offset
   record_refused part there offset bodies left log named is_part rests at is =
       no_log (subst (IsNamed seen) (sym (at ∙ is_part)) named) (bad bodies (subst (λ (p : Part). IsLog bodies (seen p)) (sym at) rests.file.bytes) is)
+
+  -- the records were not all read
+  pub fault_refused : (part : Part) (bodies : List (List ℕ)) (left : Image → Type 0) (log : LogState) (fault : StoreFault) → IsNamed seen part → log.part ≡ part → Rests bodies seen left log
+      → ReadsOrNot bodies log.part (Err fault) → Opens seen images (Err fault)
+  fault_refused part bodies left log (NotStore there offset) named is_part rests none = record_refused part there offset bodies left log named is_part rests none.0 none.1
+  fault_refused part bodies left log DiskFault named is_part rests none = tt
+  fault_refused part bodies left log Long named is_part rests none = none
+  fault_refused part bodies left log NoMemory named is_part rests none = tt
 
   -- all records were read
   pub opened : (part : Part) (bodies : List (List ℕ)) (log : LogState) (kept : KeptValue) (topics : TopicsValue) → IsNamed seen part → OnlyIn Head (seen Head) images → log.part ≡ part

@@ -44,7 +44,7 @@ fn body_at<D: Disk>(
 }
 
 /// Reads the records of a log, one after the other.
-fn read_records<D: Disk>(alloc: Global, log: &Log, disk: &mut D) -> Result<Reached, StoreFault>
+pub(crate) fn read_records<D: Disk>(alloc: Global, log: &Log, disk: &mut D) -> Result<Reached, StoreFault>
     requires { log.now.spent ≡ false }
     ensures found { IsTrue D.tells → (bodies : List (List ℕ))
         → Rests bodies (D.seen disk.old) (D.may_leave disk.old) log.now
