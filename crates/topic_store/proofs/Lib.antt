@@ -1,5 +1,0 @@
-pub mod Adding
-pub mod Apart
-pub mod Found
-pub mod Made
-pub mod Reading

@@ -1,5 +1,0 @@
-pub mod Faults
-pub mod Stores
-pub mod Opening
-pub mod Adding
-pub mod Making
