@@ -1,0 +1,4 @@
+pub mod Following
+pub mod Keeping
+pub mod Places
+pub mod Records

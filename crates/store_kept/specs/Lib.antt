@@ -1,0 +1,4 @@
+pub mod Keeping
+pub mod Changing
+pub mod Lives
+pub mod Taking

@@ -1,0 +1,64 @@
+//! Taking in the next record, by its body.
+
+ghost use Rattle.std.specs.Prelude.{◌≡◌, ◌++◌, List, IfOk, IsTrue, length, map};
+ghost use Rattle.store_records.specs.Held.{event_of, transitions_in};
+ghost use Rattle.store_records.specs.Histories.{end_of};
+ghost use Rattle.store_records.specs.declared.rec.Rec.{Rec};
+ghost use Rattle.topic_core.specs.Topics.{StandsFor};
+ghost use Rattle.topic_core.specs.declared.transition.Transition.{Transition};
+ghost use Rattle.store_kept.specs.Keeping.{kept_of};
+ghost use Rattle.store_kept.specs.Taking.{Holds, TakesOrNot, follows};
+
+use crate::kept::Kept;
+use crate::parts::{commit, prepare};
+use kap_base::NoMemory;
+use std::alloc::Global;
+use store_records::{Rec, has_task, is_batch, may_define, read_record, take_transitions};
+use topic_core::Topics;
+
+/// Whether the record may follow. Where it may, its transitions are taken into the topics.
+fn may_follow(alloc: Global, kept: &Kept, topics: &mut Topics, rec: &Rec) -> Result<bool, NoMemory>
+    ensures may { (ts : List Transition) → StandsFor (map event_of ts) topics.old
+        → kept.now.transitions ≡ length ts
+        → IfOk result (λ may. may ≡ follows (kept_of kept.now) ts rec.now) }
+    ensures topics { (ts : List Transition) → StandsFor (map event_of ts) topics.old
+        → IfOk result (λ may. IsTrue may
+        → StandsFor (map event_of (ts ++ transitions_in rec.now)) topics.new) }
+{
+    match rec {
+        Rec::Define { id, script, .. } => Ok(may_define(&kept.tasks, id, script)),
+        Rec::Enable { id } => Ok(has_task(&kept.tasks, id)),
+        Rec::Disable { id } => Ok(has_task(&kept.tasks, id)),
+        Rec::Delete { id } => Ok(has_task(&kept.tasks, id)),
+        Rec::Batch { db, rp, points } => Ok(is_batch(db, rp, points.as_slice())),
+        Rec::Trans(transitions) => {
+            take_transitions(alloc, topics, kept.transitions, transitions.as_slice())
+        }
+        Rec::Snap { points, trans, .. } => {
+            Ok(*points == kept.points && *trans == kept.transitions)
+        }
+    }
+}
+
+/// Takes in the next record, whose gate stands at this offset, where the body is that of one that may follow; else `false`. The
+/// topics are those of the transitions before.
+pub fn take_body(
+    alloc: Global,
+    gate: u64,
+    body: &[u8],
+    kept: &mut Kept,
+    topics: &mut Topics,
+) -> Result<bool, NoMemory>
+    ensures { (rs : List Rec) → Holds rs (kept_of kept.old) topics.old → gate ≡ end_of rs
+        → IfOk result (TakesOrNot rs body.now (kept_of kept.new) topics.new) }
+{
+    let Some(rec) = read_record(alloc, body)? else {
+        return Ok(false);
+    };
+    if !may_follow(alloc, kept, topics, &rec)? {
+        return Ok(false);
+    }
+    let parts = prepare(alloc, kept, gate, &rec)?;
+    commit(kept, &rec, parts);
+    Ok(true)
+}
