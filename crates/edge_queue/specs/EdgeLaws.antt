@@ -1,5 +1,5 @@
 -- What stays of an edge whatever its ends do, and what a settled one tells.
-use Rattle.std.proofs.Common.{◌≡◌, ℕ, zero, suc, ◌+◌, ◌<◌, ◌≤◌, List, [], ◌∷◌, ◌++◌, length, drop, refl, sym, ◌∙◌, ap, subst, arith, length-append}
+use Rattle.std.proofs.Common.{◌≡◌, ℕ, zero, suc, ◌+◌, ◌<◌, ◌≤◌, List, [], ◌∷◌, ◌++◌, length, drop, refl, sym, ◌∙◌, ap, subst, arith, append-nil, length-append}
 use Rattle.kap_base.specs.declared.items.Msg.{Msg}
 use Rattle.rtrb.specs.Ring.{IsPair, known_free, known_items, producer_capacity, received as popped, sent as pushed}
 use Rattle.edge_queue.specs.declared.ends.Head.{Head}
@@ -24,12 +24,24 @@ SameHead-trans p q = record { ring = ((cc, cc, cc, cc), cc); base = q.base ∙ p
 pub TailLooked-refl : (a : Tail) → TailLooked a a
 TailLooked-refl a = record { same = SameTail-refl a; ring_sent = refl; sent = refl; free = omega arith }
 
+pub HeadLooked-refl : (a : Head) → HeadLooked a a
+HeadLooked-refl a = record { same = SameHead-refl a; ring_received = refl; received = refl; known = ([], append-nil (known a)) }
+
 pub TailLooked-trans : {a b c : Tail} → TailLooked a b → TailLooked b c → TailLooked a c
 TailLooked-trans {a = a} {b = b} {c = c} p q = record {
   same = SameTail-trans p.same q.same;
   ring_sent = q.ring_sent ∙ p.ring_sent;
   sent = q.sent ∙ p.sent;
   free = let x : free a ≤ free b = p.free in let y : free b ≤ free c = q.free in omega (arith, x, y);
+}
+
+-- a message was put behind a look
+pub Puts-looked : {msg : Msg} {a b c : Tail} → TailLooked a b → Puts msg b c → Puts msg a c
+Puts-looked {msg = msg} {a = a} {b = b} {c = c} l p = record {
+  same = SameTail-trans l.same p.same;
+  ring_sent = p.ring_sent ∙ ap (λ (xs : List Msg). xs ++ msg ∷ []) l.ring_sent;
+  sent = p.sent ∙ ap (λ (xs : List Msg). xs ++ msg ∷ []) l.sent;
+  free = let x : free a ≤ free b = l.free in let y : free b ≤ free c + 1 = p.free in omega (arith, x, y);
 }
 
 pub SameTail-capacity : {a b : Tail} → SameTail a b → edge_capacity b ≡ edge_capacity a

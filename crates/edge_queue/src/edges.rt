@@ -1,6 +1,6 @@
 //! What goes over an edge.
 
-ghost use Rattle.std.specs.Prelude.{◌≡◌, ◌<◌, ◌≤◌, [], length, IfErr, IfNone, IfOk, IfSome, OnOk};
+ghost use Rattle.std.specs.Prelude.{◌≡◌, ◌↔◌, ◌<◌, ◌≤◌, [], length, IfErr, IfNone, IfOk, IfSome, IsTrue, OnOk};
 ghost use Rattle.edge_queue.specs.Edges.{IsEdge, IsPaired, IsSettled, edge_capacity, free, known, ring_received, ring_sent};
 ghost use Rattle.edge_queue.specs.Moves.{HeadLoads, HeadLooked, Puts, TailLoads, TailLooked, Takes};
 
@@ -47,6 +47,14 @@ impl Tail {
             Ok(()) => Ok(()),
             Err(PushError::Full(msg)) => Err(msg),
         }
+    }
+
+    /// Whether this end knows of a free place, once it has looked where it knew of none.
+    pub fn has_room(&mut self) -> bool
+        ensures looked { TailLooked self.old self.new }
+        ensures room { IsTrue result ↔ (0 < free self.new) }
+    {
+        !self.producer.is_full()
     }
 
     /// Begins a load: from now on what was sent is counted anew.
