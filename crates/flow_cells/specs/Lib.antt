@@ -1,0 +1,13 @@
+-- what waits at outs, and what sending does
+pub mod Outs
+-- what a node gives over items and barriers, and what a cell keeps of it
+pub mod Runs
+pub mod Kept
+-- what handling messages does
+pub mod Handled
+-- what the moves of a cell do to it
+pub mod Moves
+-- proofs, no definitions
+pub mod OutLaws
+pub mod HandledLaws
+pub mod MoveLaws

@@ -1,0 +1,74 @@
+//! A cell whose type says what it keeps.
+
+use crate::moves::{put, take};
+use crate::parts::CellParts;
+use kap_base::NoMemory;
+use node_core::Node;
+use std::alloc::Global;
+use std::marker::Model;
+
+/// A cell of a net. Its state, what it sent and has to send, its effects and its saved state are those of its node's function on
+/// what it received; its type says so, unless it is spent.
+#[derive(Drop)]
+pub struct Cell<N: Node> {
+    parts: CellParts<N>,
+}
+
+impl<N: Node> Model for Cell<N> {
+    ghost use Rattle.std.specs.Prelude.{◌≡◌, false};
+    ghost use Rattle.flow_cells.specs.declared.parts.CellParts.{CellParts};
+    ghost use Rattle.flow_cells.specs.Kept.{Keeps};
+
+    ghost Value = { CellParts N };
+
+    ghost view = { λ c. c.parts };
+
+    ghost invariant = { λ c. c.parts.spent ≡ false → Keeps N.Node c.parts };
+}
+
+impl<N: Node> Cell<N> {
+    ghost use Rattle.std.specs.Prelude.{◌≡◌, false, true, is_err, IsFalse, IsTrue, Ok, OnErr};
+    ghost use Rattle.flow_cells.specs.Kept.{Keeps};
+    ghost use Rattle.flow_cells.specs.Moves.{PutsNone, PutsOne, TakesNone, TakesOne};
+
+    /// Takes a message from an input into its buffer, and handles all that is then determined. `false` comes only where there is
+    /// no such input, a message waits to be sent, or the ring was empty as this call looked. After NoMemory the cell is spent.
+    pub fn take(&mut self, alloc: Global, input: u32) -> Result<bool, NoMemory>
+        requires { self.old.spent ≡ false }
+        ensures took { result ≡ Ok true → TakesOne input self.old self.new }
+        ensures none { result ≡ Ok false → TakesNone input self.old self.new }
+        ensures spent { OnErr result (self.new.spent ≡ true) }
+    {
+        match take(alloc, &mut self.parts, input) {
+            Ok(took) => Ok(took),
+            Err(fault) => {
+                self.parts.spent = true;
+                Err(fault)
+            }
+        }
+    }
+
+    /// Puts the first message that waits at an out on its edge. `false` comes only where there is no such out, nothing waits
+    /// there, or the ring was full as this call looked. It takes no memory.
+    pub fn put(&mut self, out: u32) -> bool
+        requires { self.old.spent ≡ false }
+        ensures put { IsTrue result → PutsOne out self.old self.new }
+        ensures none { IsFalse result → PutsNone out self.old self.new }
+    {
+        put(&mut self.parts, out)
+    }
+
+    /// Whether a call on it failed in the middle.
+    pub fn is_spent(&self) -> bool
+        ensures { result ≡ self.now.spent }
+    {
+        self.parts.spent
+    }
+
+    /// What a cell keeps, unless it is spent.
+    pub fn keeps(&self)
+        ensures { self.now.spent ≡ false → Keeps N.Node self.now }
+    {
+        let _ = &self.parts;
+    }
+}

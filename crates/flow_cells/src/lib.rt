@@ -1,0 +1,12 @@
+//! The cells of a net. A cell has a node, what its parents sent and isn't merged yet, what it gives out and hasn't sent yet, and the
+//! state saved at the last barrier that it passed. What it keeps stands in its type, whoever moves it.
+#![tactic(auto)]
+
+mod cell;
+mod moves;
+mod outs;
+mod parts;
+mod reacting;
+
+pub use cell::Cell;
+pub use parts::{CellParts, Core, Gathered, InEdge, OutEdge};
