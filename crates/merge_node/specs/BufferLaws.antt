@@ -41,10 +41,6 @@ pub next-from : (ls : Lists) (t : Taken) → has_empty ls ≡ false → next_by 
 unfolding next
 next-from ls t h e = from-of (has_empty ls) (next_by (least 0 ls) ls) t h e
 
-pub next-empty : (ls : Lists) → has_empty ls ≡ true → next ls ≡ None
-unfolding next
-next-empty ls h = ap (λ (b : Bool). cond b None (next_by (least 0 ls) ls)) h
-
 -- ---- more behind each list
 
 has_empty-join : (ls ys : Lists) → has_empty ls ≡ false → has_empty (join ls ys) ≡ false

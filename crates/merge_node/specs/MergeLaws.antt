@@ -9,7 +9,7 @@ use Rattle.kap_base.specs.declared.items.Msg.TheVariants as messages
 use Rattle.merge_node.specs.Merge.{Lists, Entry, rank, items, barriers, of_parent, of_barriers, items_from, gathered, sorted, merge, RisesFrom, AreMergeable}
 use Rattle.merge_node.specs.declared.fronts.Front.{Front}
 use Rattle.merge_node.specs.Buffers.{has_empty, lower, least, front, without_front, without_fronts, Taken, taken, next_by, next, Merges, done, more}
-use Rattle.merge_node.specs.BufferLaws.{next-full, next-by}
+use Rattle.merge_node.specs.BufferLaws.{next-full, next-by, some-same}
 use Rattle.merge_node.specs.RankLaws.{AllAbove, above-append, above-odd, above-items, above-barriers, above-items_from, AllRise, sorted-front, rises-less}
 
 -- ---- the first barrier, and the least front
@@ -175,9 +175,6 @@ pub record OneMore (ls : Lists) (t : Taken) : Type 0 where
   pub are : AreMergeable left_barriers t.rest
   pub is : merge ls ≡ (t.parent, t.msg) ∷ merge t.rest
 
-some-taken : (s t : Taken) → ◌≡◌ {A = Option Taken} (Some s) (Some t) → s ≡ t
-some-taken s t e = cc
-
 item-more : (bs : List Stamp) (ls : Lists) (f : Front) (t : Taken) → AreMergeable bs ls → has_empty ls ≡ false → least 0 ls ≡ Some f → next_by (Some f) ls ≡ Some t → OneMore ls t
 unfolding merge
 item-more bs ls f t are full e by =
@@ -189,7 +186,7 @@ item-more bs ls f t are full e by =
     let lt : r.i < length ls = r.within in
     let lt' : f.parent < length ls = omega (arith, p, lt) in
     let x : Taken = record { parent = f.parent; msg = messages.Item r.item; rest = without_front f.parent ls } in
-    let is_x : x ≡ t = some-taken x t (sym (ap (λ (o : Option Msg). taken f.parent o (without_front f.parent ls)) at) ∙ by) in
+    let is_x : x ≡ t = some-same x t (sym (ap (λ (o : Option Msg). taken f.parent o (without_front f.parent ls)) at) ∙ by) in
     let still : AreMergeable bs (without_front f.parent ls) = mergeable-item f.parent bs r.item ls are at in
     let bars : barriers (slice_index_or ls 0 []) ≡ bs = first-barriers bs ls are (omega arith) in
     let bars' : barriers (slice_index_or (without_front f.parent ls) 0 []) ≡ bs = first-barriers bs (without_front f.parent ls) still (without_front-some f.parent ls lt') in
@@ -255,7 +252,7 @@ barrier-more bs ((messages.Barrier b ∷ l) ∷ ls) t are full e by =
     let all : Lists = (messages.Barrier b ∷ l) ∷ ls in
     let are' : AreMergeable (b ∷ barriers l) all = subst (λ (c : List Stamp). AreMergeable c all) (sym are.0.0) are in
     let x : Taken = record { parent = 0; msg = messages.Barrier b; rest = without_fronts all } in
-    let is_x : x ≡ t = some-taken x t by in
+    let is_x : x ≡ t = some-same x t by in
     let rise : AllRise (2 * b.0 + 1) all = all-rise (2 * b.0 + 1) 0 (b ∷ barriers l) all are' (omega arith) (subst (Reaches (2 * b.0 + 1)) (sym e) tt) full in
     let behind : AllAbove (2 * b.0 + 1) (of_barriers (barriers l) ++ items_from 0 all) =
     above-append (2 * b.0 + 1) (of_barriers (barriers l)) (items_from 0 all) (above-barriers (2 * b.0 + 1) l are.0.1.1) (above-items_from 0 (2 * b.0 + 1) all rise) in
@@ -275,13 +272,13 @@ next-more bs ls t are e = more-by bs ls (least 0 ls) t are (next-full ls t e) re
 
 -- ---- all that is given
 
-pub record Front_of (ls : Lists) (given : List Entry) (left : Lists) : Type 0 where
+pub record GoesOn (ls : Lists) (given : List Entry) (left : Lists) : Type 0 where
   pub left_barriers : List Stamp
   pub are : AreMergeable left_barriers left
   pub is : merge ls ≡ given ++ merge left
 
 -- what is given of lists is the front of what is merged of them, and the rest is merged of what is left
-pub merges-merge : {ls left : Lists} {given : List Entry} (bs : List Stamp) → AreMergeable bs ls → Merges ls given left → Front_of ls given left
+pub merges-merge : {ls left : Lists} {given : List Entry} (bs : List Stamp) → AreMergeable bs ls → Merges ls given left → GoesOn ls given left
 merges-merge bs are done = record { left_barriers = bs; are = are; is = refl }
 merges-merge {ls = ls} bs are (more t e h) =
     let one = next-more bs ls t are e in
