@@ -7,8 +7,8 @@ use node_core::Node;
 use std::alloc::Global;
 use std::marker::Model;
 
-/// A cell of a net. Its state, what it sent and has to send, its effects and its saved state are those of its node's function on
-/// what it received; its type says so, unless it is spent.
+/// A cell of a net. Its state, what it sent and has to send, its effects and its saved state are those of its node's
+/// function on what it received; its type says so, unless it is spent.
 #[derive(Drop)]
 pub struct Cell<N: Node> {
     parts: CellParts<N>,
@@ -31,8 +31,9 @@ impl<N: Node> Cell<N> {
     ghost use Rattle.flow_cells.specs.Kept.{Keeps};
     ghost use Rattle.flow_cells.specs.Moves.{PutsNone, PutsOne, TakesNone, TakesOne};
 
-    /// Takes a message from an input into its buffer, and handles all that is then determined. `false` comes only where there is
-    /// no such input, a message waits to be sent, or the ring was empty as this call looked. After NoMemory the cell is spent.
+    /// Takes a message from an input into its buffer, and handles all that is then determined. `false` comes only where
+    /// there is no such input, a message waits to be sent, or the ring was empty as this call looked. After NoMemory
+    /// the cell is spent.
     pub fn take(&mut self, alloc: Global, input: u32) -> Result<bool, NoMemory>
         requires { self.old.spent ≡ false }
         ensures took { result ≡ Ok true → TakesOne input self.old self.new }
@@ -48,8 +49,8 @@ impl<N: Node> Cell<N> {
         }
     }
 
-    /// Puts the first message that waits at an out on its edge. `false` comes only where there is no such out, nothing waits
-    /// there, or the ring was full as this call looked. It takes no memory.
+    /// Puts the first message that waits at an out on its edge. `false` comes only where there is no such out, nothing
+    /// waits there, or the ring was full as this call looked. It takes no memory.
     pub fn put(&mut self, out: u32) -> bool
         requires { self.old.spent ≡ false }
         ensures put { IsTrue result → PutsOne out self.old self.new }

@@ -1,6 +1,8 @@
 //! The outs of a cell.
 
-ghost use Rattle.std.specs.Prelude.{◌≡◌, [], ◌∷◌, map, IsFalse, IsTrue, OnOk};
+ghost use Rattle.std.specs.Prelude.{◌≡◌, List, [], ◌∷◌, map, IsFalse, IsTrue, OnOk};
+ghost use Rattle.kap_base.specs.declared.items.Msg.{Msg};
+ghost use Rattle.flow_cells.specs.Kept.{IsGiven};
 ghost use Rattle.flow_cells.specs.Outs.{LooksOn, SendsOn, has_unsent, item_msgs, with_unsent};
 
 use crate::parts::OutEdge;
@@ -73,10 +75,12 @@ pub(crate) fn has_unsent(outs: &[OutEdge]) -> bool
 }
 
 impl OutEdge {
-    /// Puts the first message that waits on the edge. `false` comes where none waits, or the ring was full as this call looked.
+    /// Puts the first message that waits on the edge. `false` comes where none waits, or the ring was full as this call
+    /// looked.
     pub(crate) fn send(&mut self) -> bool
         ensures sent { IsTrue result → SendsOn self.old self.new }
         ensures kept { IsFalse result → LooksOn self.old self.new }
+        ensures given { (given : List Msg) → IsGiven given self.old → IsGiven given self.new }
     {
         if !self.tail.has_room() {
             return false;

@@ -30,8 +30,8 @@ pub struct InEdge {
     pub out: u32,
 }
 
-/// The effects that were gathered from a cell since the load, one list behind the other. It has no contents: contracts alone see
-/// them.
+/// The effects that were gathered from a cell since the load, one list behind the other. It has no contents: contracts
+/// alone see them.
 #[derive(Drop)]
 pub enum Gathered {
     /// None yet.
