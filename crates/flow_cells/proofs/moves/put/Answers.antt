@@ -56,7 +56,7 @@ returns-clause-none g c = λ no.
     let looks : LooksOn edge c.send.new.self = c.send.ensures.kept no in
     let eases : Eases edge c.send.new.self = record { tail = looks.tail; unsent = looks.unsent; child = looks.child; input = looks.input } in
     record {
-      why = inr (at-set (λ (o : OutEdge). (o.unsent ≡ []) ⊎ (free o.tail ≡ 0)) outs i c.send.new.self h looks.why);
+      why = inr (at-set (λ (o : OutEdge). (o.unsent ≡ []) ⊎ (free o.tail ≡ 0)) outs i c.send.new.self h (subst (λ q. (q ≡ []) ⊎ (free c.send.new.self.tail ≡ 0)) (sym looks.unsent) looks.why));
       outs = zip-set Eases Eases-refl outs i c.send.new.self edge h (subst (λ (o : OutEdge). Eases o c.send.new.self) (sym here) eases);
       others = record { node = refl; gathered = refl; effects = refl; saved = refl; passed = refl; buffer = refl; ins = refl; base = refl; source = refl; spent = refl };
     }

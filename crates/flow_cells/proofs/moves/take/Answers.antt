@@ -6,6 +6,7 @@ use Rattle.merge_node.specs.Buffers.{put}
 use Rattle.merge_node.specs.BufferLaws.{put-length}
 use Rattle.edge_queue.specs.Edges.{known, received}
 use Rattle.flow_cells.specs.declared.parts.InEdge.{InEdge}
+use Rattle.flow_cells.specs.Outs.{has_unsent}
 use Rattle.flow_cells.specs.Kept.{KeptBy, received_of}
 use Rattle.flow_cells.specs.Handled.{Handles, Waits}
 use Rattle.flow_cells.specs.Moves.{Still, TakesAt, TakesNone, TakesOne}
@@ -26,7 +27,7 @@ returns-then-input-len-clause-none g c = λ _. record {
 
 pub returns-then-has_unsent-clause-none : goal.returns-then-has_unsent-clause-none
 returns-then-has_unsent-clause-none g c = λ _. record {
-  why = inr (inl ?);
+  why = inr (inl (sym (ap has_unsent c.deref.ensures.value) ∙ sym (c.has_unsent.ensures) ∙ c.if-has_unsent.true));
   ins = zip-refl Still Still-refl c.args.cell.now.ins.items;
   core = refl;
   buffer = refl;

@@ -1,7 +1,7 @@
 use Rattle.std.proofs.Common.{◌≡◌, ◌∙◌, ◌++◌, List, [], ◌∷◌, refl, sym, ap, subst}
 use Rattle.kap_base.specs.declared.items.Msg.TheVariants as messages
 use Rattle.flow_cells.specs.OutLaws.{given_by, waits_by}
-use Rattle.flow_cells.proofs.reacting.Core.pass.Goals as goal
+use Rattle.flow_cells.proofs.parts.Core.pass.Goals as goal
 
 pub returns-clause-outs : goal.returns-clause-outs
 returns-clause-outs g c = waits_by (messages.Barrier c.args.stamp ∷ []) c.args.self.now.outs.items c.push_each.new.outs.items c.in_ok-push_each.ensures

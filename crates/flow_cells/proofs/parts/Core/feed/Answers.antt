@@ -4,7 +4,7 @@ use Rattle.kap_base.specs.declared.items.Item.{Item}
 use Rattle.flow_cells.specs.Outs.{item_msgs}
 use Rattle.flow_cells.specs.Kept.{IsGiven, gathered}
 use Rattle.flow_cells.specs.OutLaws.{given_by, waits_by}
-use Rattle.flow_cells.proofs.reacting.Core.feed.Goals as goal
+use Rattle.flow_cells.proofs.parts.Core.feed.Goals as goal
 
 pub returns-clause-outs : goal.returns-clause-outs
 returns-clause-outs g c = waits_by (item_msgs c.feed.new.out) c.args.self.now.outs.items c.push_items.new.outs.items c.in_ok-push_items.ensures
