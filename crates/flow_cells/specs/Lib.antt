@@ -11,3 +11,4 @@ pub mod Moves
 pub mod OutLaws
 pub mod HandledLaws
 pub mod MoveLaws
+pub mod Promises

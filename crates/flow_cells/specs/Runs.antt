@@ -40,7 +40,7 @@ inputs ((k, messages.Item x) ∷ xs) = (k, x) ∷ inputs xs
 inputs ((k, messages.Barrier b) ∷ xs) = inputs xs
 
 -- what stands before the last barrier, if there is one
-abbrev longer : ℕ → Msg → Option (List Entry) → Option (List Entry)
+abbrev pub longer : ℕ → Msg → Option (List Entry) → Option (List Entry)
 longer k m (Some l) = Some ((k, m) ∷ l)
 longer k (messages.Item x) None = None
 longer k (messages.Barrier b) None = Some []

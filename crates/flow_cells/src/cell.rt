@@ -15,11 +15,16 @@ pub struct Cell<N: Node> {
 }
 
 impl<N: Node> Model for Cell<N> {
+    ghost use Rattle.std.specs.Coded.{codes};
     ghost use Rattle.std.specs.Prelude.{◌≡◌, false};
+    ghost use Rattle.kap_base.specs.Maps.{key_map_code};
+    ghost use Rattle.flow_cells.specs.contracts.parts.Gathered as gathered_effects;
     ghost use Rattle.flow_cells.specs.declared.parts.CellParts.{CellParts};
     ghost use Rattle.flow_cells.specs.Kept.{Keeps};
 
     ghost Value = { CellParts N };
+
+    ghost coded = { Prim.hlevel (codes, key_map_code, gathered_effects.the_row.coded) };
 
     ghost view = { λ c. c.parts };
 

@@ -3,10 +3,12 @@
 #![tactic(auto)]
 
 mod cell;
+mod laws;
 mod moves;
 mod outs;
 mod parts;
 mod reacting;
 
 pub use cell::Cell;
+pub use laws::runs_are_folds;
 pub use parts::{CellParts, Core, Gathered, InEdge, OutEdge};
