@@ -12,3 +12,8 @@ pub mod OutLaws
 pub mod HandledLaws
 pub mod MoveLaws
 pub mod Promises
+-- what is made, and that it keeps what a cell keeps
+pub mod Made
+pub mod MadeLaws
+-- what beginning a load does
+pub mod Loads

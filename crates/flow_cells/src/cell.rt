@@ -1,8 +1,10 @@
 //! A cell whose type says what it keeps.
 
+use crate::making::{add_out, make};
 use crate::moves::{put, take};
-use crate::parts::CellParts;
+use crate::parts::{CellParts, InEdge, OutEdge};
 use kap_base::NoMemory;
+use merge_node::PARENT_LIMIT;
 use node_core::Node;
 use std::alloc::Global;
 use std::marker::Model;
@@ -32,9 +34,40 @@ impl<N: Node> Model for Cell<N> {
 }
 
 impl<N: Node> Cell<N> {
-    ghost use Rattle.std.specs.Prelude.{◌≡◌, false, true, is_err, IsFalse, IsTrue, Ok, OnErr};
+    ghost use Rattle.std.specs.Prelude.{◌≡◌, ◌≤◌, false, true, [], ◌∷◌, ◌++◌, length, IfOk, IsFalse, IsTrue, Ok, OnErr, OnOk};
+    ghost use Rattle.std.specs.List.{AllByRecursion as Each};
     ghost use Rattle.flow_cells.specs.Kept.{Keeps};
-    ghost use Rattle.flow_cells.specs.Moves.{PutsNone, PutsOne, TakesNone, TakesOne};
+    ghost use Rattle.flow_cells.specs.Made.{HasNothing, IsFresh, IsMade, IsUnused, one_or_more};
+    ghost use Rattle.flow_cells.specs.Moves.{KeepsOthers, PutsNone, PutsOne, TakesNone, TakesOne};
+
+    /// A cell of a node with these inputs, on which nothing was received since their load, in the order of its parents;
+    /// none for a stream. Its saved state is its state, and the last barrier that it passed has the stamp 0. `NoMemory`
+    /// comes where an allocation fails.
+    pub fn new(alloc: Global, node: N, ins: Vec<InEdge>) -> Result<Cell<N>, NoMemory>
+        requires limit { length ins.items ≤ PARENT_LIMIT }
+        requires fresh { Each IsFresh ins.items }
+        requires ports { one_or_more (length ins.items) ≤ N.ports (N.spec node) }
+        ensures core { IfOk result (λ cell. IsMade N.Node node cell.core) }
+        ensures ins { IfOk result (λ cell. cell.ins.items ≡ ins.items) }
+        ensures spent { IfOk result (λ cell. cell.spent ≡ false) }
+    {
+        Ok(Cell {
+            parts: make(alloc, node, ins)?,
+        })
+    }
+
+    /// Adds an edge to a child, where nothing was received since the load. `NoMemory` comes where an allocation fails,
+    /// and changes nothing.
+    pub fn add_out(&mut self, out: OutEdge) -> Result<(), NoMemory>
+        requires unspent { self.old.spent ≡ false }
+        requires nothing { HasNothing self.old }
+        requires unused { IsUnused out }
+        ensures others { KeepsOthers self.old self.new }
+        ensures ok { OnOk result (self.new.core.outs.items ≡ self.old.core.outs.items ++ out ∷ []) }
+        ensures err { OnErr result (self.new.core.outs.items ≡ self.old.core.outs.items) }
+    {
+        add_out(&mut self.parts, out)
+    }
 
     /// Takes a message from an input into its buffer, and handles all that is then determined. `false` comes only where
     /// there is no such input, a message waits to be sent, or the ring was empty as this call looked. After NoMemory

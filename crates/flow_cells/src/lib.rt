@@ -4,6 +4,8 @@
 
 mod cell;
 mod laws;
+mod loads;
+mod making;
 mod moves;
 mod outs;
 mod parts;
