@@ -17,3 +17,4 @@ pub mod Made
 pub mod MadeLaws
 -- what beginning a load does
 pub mod Loads
+pub mod LoadLaws

@@ -1,9 +1,10 @@
 //! A cell whose type says what it keeps.
 
+use crate::loads::load;
 use crate::making::{add_out, make};
 use crate::moves::{put, take};
 use crate::parts::{CellParts, InEdge, OutEdge};
-use kap_base::NoMemory;
+use kap_base::{Msg, NoMemory};
 use merge_node::PARENT_LIMIT;
 use node_core::Node;
 use std::alloc::Global;
@@ -37,7 +38,8 @@ impl<N: Node> Cell<N> {
     ghost use Rattle.std.specs.Prelude.{◌≡◌, ◌≤◌, false, true, [], ◌∷◌, ◌++◌, length, IfOk, IsFalse, IsTrue, Ok, OnErr, OnOk};
     ghost use Rattle.std.specs.List.{AllByRecursion as Each};
     ghost use Rattle.flow_cells.specs.Kept.{Keeps};
-    ghost use Rattle.flow_cells.specs.Made.{HasNothing, IsFresh, IsMade, IsUnused, one_or_more};
+    ghost use Rattle.flow_cells.specs.Loads.{Begins, IsOwn, NothingWaits};
+    ghost use Rattle.flow_cells.specs.Made.{HasNothing, IsFresh, IsMade, IsNothing, IsUnused, one_or_more};
     ghost use Rattle.flow_cells.specs.Moves.{KeepsOthers, PutsNone, PutsOne, TakesNone, TakesOne};
 
     /// A cell of a node with these inputs, on which nothing was received since their load, in the order of its parents;
@@ -95,6 +97,25 @@ impl<N: Node> Cell<N> {
         ensures none { IsFalse result → PutsNone out self.old self.new }
     {
         put(&mut self.parts, out)
+    }
+
+    /// A load begins: from now on what is sent, received and done is counted anew, from the state in which the node is.
+    /// A stream's cell handles the points and barriers of the load in this call. After NoMemory the cell is spent.
+    pub fn load(&mut self, alloc: Global, source: Vec<Msg>) -> Result<(), NoMemory>
+        requires unspent { self.old.spent ≡ false }
+        requires empty { Each IsNothing self.old.buffer }
+        requires sent { Each NothingWaits self.old.core.outs.items }
+        requires own { IsOwn self.old.ins.items source.items }
+        ensures begins { OnOk result (Begins source.items self.old self.new) }
+        ensures spent { OnErr result (self.new.spent ≡ true) }
+    {
+        match load(alloc, &mut self.parts, source) {
+            Ok(()) => Ok(()),
+            Err(fault) => {
+                self.parts.spent = true;
+                Err(fault)
+            }
+        }
     }
 
     /// Whether a call on it failed in the middle.

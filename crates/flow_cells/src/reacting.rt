@@ -43,12 +43,7 @@ impl<N: Node> Core<N> {
     }
 
     /// Handles one message.
-    pub(crate) fn react(
-        &mut self,
-        alloc: Global,
-        parent: u32,
-        msg: Msg,
-    ) -> Result<(), NoMemory>
+    pub(crate) fn react(&mut self, alloc: Global, parent: u32, msg: Msg) -> Result<(), NoMemory>
         requires { parent < N.ports (N.spec self.old.node) }
         ensures spec { N.spec self.new.node ≡ N.spec self.old.node }
         ensures outs { OnOk result (AllZip Waits self.old.outs.items self.new.outs.items) }

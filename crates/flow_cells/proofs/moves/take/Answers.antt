@@ -92,7 +92,7 @@ returns-clause-keeps g c =
     let new : InEdge = record edge { head = c.take.new.self } in
     let msg = c.in-Some.msg in
     let took : received new.head ≡ received (get_or ins i edge).head ++ msg ∷ [] =
-        c.in-Some.ensures.taken.received ∙ ap (λ (e : InEdge). received e.head ++ msg ∷ []) (sym here) in
+    c.in-Some.ensures.taken.received ∙ ap (λ (e : InEdge). received e.head ++ msg ∷ []) (sym here) in
     let handled = subst (λ (b : Lists). Handles g.N.Node cell.core b c.handle_all.new.core c.handle_all.new.buffer) c.in_ok-put.ensures.ok c.in_ok-handle_all.ensures.handles in
     let kept = kept-take g.N.Node cell.base.value (received_of ins source) cell.buffer c.handle_all.new.buffer cell.core c.handle_all.new.core i msg c.requires handled c.in_ok-handle_all.ensures.stuck in
     subst (λ (ls : Lists). KeptBy g.N.Node cell.base.value ls c.handle_all.new.buffer c.handle_all.new.core) (sym (received_of-took ins source i new edge msg h took)) kept

@@ -12,6 +12,6 @@ pushing-preserved c =
     let d = c.out-item.result in
     let lt : i < length c.args.outs.now = omega arith in
     let waits : c.push.new.self ≡ (get_or outs i d).unsent ++ c.args.msg.now ∷ [] =
-        c.in_ok-push.ensures.ok ∙ ap (λ (m : Msg). (get_or outs i d).unsent ++ m ∷ []) c.in_ok-copy.ensures in
+    c.in_ok-push.ensures.ok ∙ ap (λ (m : Msg). (get_or outs i d).unsent ++ m ∷ []) c.in_ok-copy.ensures in
     changed (with_unsent (c.args.msg.now ∷ [])) c.args.outs.now outs i d (record (get_or outs i d) { unsent = c.push.new.self }) lt c.pushing.invariant
     (ap (λ (q : List Msg). record (get_or outs i d) { unsent = q }) waits)
