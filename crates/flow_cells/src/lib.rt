@@ -10,7 +10,9 @@ mod moves;
 mod outs;
 mod parts;
 mod reacting;
+mod sends;
 
 pub use cell::Cell;
 pub use laws::runs_are_folds;
 pub use parts::{CellParts, Core, Gathered, InEdge, OutEdge};
+pub use sends::send_cell;
