@@ -1,0 +1,20 @@
+-- what waits at outs, and what sending does
+pub mod Outs
+-- what a node gives over items and barriers, and what a cell keeps of it
+pub mod Runs
+pub mod Kept
+-- what handling messages does
+pub mod Handled
+-- what the moves of a cell do to it
+pub mod Moves
+-- proofs, no definitions
+pub mod OutLaws
+pub mod HandledLaws
+pub mod MoveLaws
+pub mod Promises
+-- what is made, and that it keeps what a cell keeps
+pub mod Made
+pub mod MadeLaws
+-- what beginning a load does
+pub mod Loads
+pub mod LoadLaws

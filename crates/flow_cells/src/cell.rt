@@ -1,0 +1,134 @@
+//! A cell whose type says what it keeps.
+
+use crate::loads::load;
+use crate::making::{add_out, make};
+use crate::moves::{put, take};
+use crate::parts::{CellParts, InEdge, OutEdge};
+use kap_base::{Msg, NoMemory};
+use merge_node::PARENT_LIMIT;
+use node_core::Node;
+use std::alloc::Global;
+use std::marker::Model;
+
+/// A cell of a net. Its state, what it sent and has to send, its effects and its saved state are those of its node's
+/// function on what it received; its type says so, unless it is spent.
+#[derive(Drop)]
+pub struct Cell<N: Node> {
+    parts: CellParts<N>,
+}
+
+impl<N: Node> Model for Cell<N> {
+    ghost use Rattle.std.specs.Coded.{codes};
+    ghost use Rattle.std.specs.Prelude.{◌≡◌, false};
+    ghost use Rattle.kap_base.specs.Maps.{key_map_code};
+    ghost use Rattle.flow_cells.specs.contracts.parts.Gathered as gathered_effects;
+    ghost use Rattle.flow_cells.specs.declared.parts.CellParts.{CellParts};
+    ghost use Rattle.flow_cells.specs.Kept.{Keeps};
+
+    ghost Value = { CellParts N };
+
+    ghost coded = { Prim.hlevel (codes, key_map_code, gathered_effects.the_row.coded) };
+
+    ghost view = { λ c. c.parts };
+
+    ghost invariant = { λ c. c.parts.spent ≡ false → Keeps N.Node c.parts };
+}
+
+impl<N: Node> Cell<N> {
+    ghost use Rattle.std.specs.Prelude.{◌≡◌, ◌≤◌, false, true, [], ◌∷◌, ◌++◌, length, IfOk, IsFalse, IsTrue, Ok, OnErr, OnOk};
+    ghost use Rattle.std.specs.List.{AllByRecursion as Each};
+    ghost use Rattle.flow_cells.specs.Kept.{Keeps};
+    ghost use Rattle.flow_cells.specs.Loads.{Begins, IsOwn, NothingWaits};
+    ghost use Rattle.flow_cells.specs.Made.{HasNothing, IsFresh, IsMade, IsNothing, IsUnused, one_or_more};
+    ghost use Rattle.flow_cells.specs.Moves.{KeepsOthers, PutsNone, PutsOne, TakesNone, TakesOne};
+
+    /// A cell of a node with these inputs, on which nothing was received since their load, in the order of its parents;
+    /// none for a stream. Its saved state is its state, and the last barrier that it passed has the stamp 0. `NoMemory`
+    /// comes where an allocation fails.
+    pub fn new(alloc: Global, node: N, ins: Vec<InEdge>) -> Result<Cell<N>, NoMemory>
+        requires limit { length ins.items ≤ PARENT_LIMIT }
+        requires fresh { Each IsFresh ins.items }
+        requires ports { one_or_more (length ins.items) ≤ N.ports (N.spec node) }
+        ensures core { IfOk result (λ cell. IsMade N.Node node cell.core) }
+        ensures ins { IfOk result (λ cell. cell.ins.items ≡ ins.items) }
+        ensures spent { IfOk result (λ cell. cell.spent ≡ false) }
+    {
+        Ok(Cell {
+            parts: make(alloc, node, ins)?,
+        })
+    }
+
+    /// Adds an edge to a child, where nothing was received since the load. `NoMemory` comes where an allocation fails,
+    /// and changes nothing.
+    pub fn add_out(&mut self, out: OutEdge) -> Result<(), NoMemory>
+        requires unspent { self.old.spent ≡ false }
+        requires nothing { HasNothing self.old }
+        requires unused { IsUnused out }
+        ensures others { KeepsOthers self.old self.new }
+        ensures ok { OnOk result (self.new.core.outs.items ≡ self.old.core.outs.items ++ out ∷ []) }
+        ensures err { OnErr result (self.new.core.outs.items ≡ self.old.core.outs.items) }
+    {
+        add_out(&mut self.parts, out)
+    }
+
+    /// Takes a message from an input into its buffer, and handles all that is then determined. `false` comes only where
+    /// there is no such input, a message waits to be sent, or the ring was empty as this call looked. After NoMemory
+    /// the cell is spent.
+    pub fn take(&mut self, alloc: Global, input: u32) -> Result<bool, NoMemory>
+        requires { self.old.spent ≡ false }
+        ensures took { result ≡ Ok true → TakesOne input self.old self.new }
+        ensures none { result ≡ Ok false → TakesNone input self.old self.new }
+        ensures spent { OnErr result (self.new.spent ≡ true) }
+    {
+        match take(alloc, &mut self.parts, input) {
+            Ok(took) => Ok(took),
+            Err(fault) => {
+                self.parts.spent = true;
+                Err(fault)
+            }
+        }
+    }
+
+    /// Puts the first message that waits at an out on its edge. `false` comes only where there is no such out, nothing
+    /// waits there, or the ring was full as this call looked. It takes no memory.
+    pub fn put(&mut self, out: u32) -> bool
+        requires { self.old.spent ≡ false }
+        ensures put { IsTrue result → PutsOne out self.old self.new }
+        ensures none { IsFalse result → PutsNone out self.old self.new }
+    {
+        put(&mut self.parts, out)
+    }
+
+    /// A load begins: from now on what is sent, received and done is counted anew, from the state in which the node is.
+    /// A stream's cell handles the points and barriers of the load in this call. After NoMemory the cell is spent.
+    pub fn load(&mut self, alloc: Global, source: Vec<Msg>) -> Result<(), NoMemory>
+        requires unspent { self.old.spent ≡ false }
+        requires empty { Each IsNothing self.old.buffer }
+        requires sent { Each NothingWaits self.old.core.outs.items }
+        requires own { IsOwn self.old.ins.items source.items }
+        ensures begins { OnOk result (Begins source.items self.old self.new) }
+        ensures spent { OnErr result (self.new.spent ≡ true) }
+    {
+        match load(alloc, &mut self.parts, source) {
+            Ok(()) => Ok(()),
+            Err(fault) => {
+                self.parts.spent = true;
+                Err(fault)
+            }
+        }
+    }
+
+    /// Whether a call on it failed in the middle.
+    pub fn is_spent(&self) -> bool
+        ensures { result ≡ self.now.spent }
+    {
+        self.parts.spent
+    }
+
+    /// What a cell keeps, unless it is spent.
+    pub fn keeps(&self)
+        ensures { self.now.spent ≡ false → Keeps N.Node self.now }
+    {
+        let _ = &self.parts;
+    }
+}

@@ -1,0 +1,18 @@
+//! The cells of a net. A cell has a node, what its parents sent and isn't merged yet, what it gives out and hasn't sent
+//! yet, and the state saved at the last barrier that it passed. What it keeps stands in its type, whoever moves it.
+#![tactic(auto)]
+
+mod cell;
+mod laws;
+mod loads;
+mod making;
+mod moves;
+mod outs;
+mod parts;
+mod reacting;
+mod sends;
+
+pub use cell::Cell;
+pub use laws::runs_are_folds;
+pub use parts::{CellParts, Core, Gathered, InEdge, OutEdge};
+pub use sends::send_cell;

@@ -1,0 +1,94 @@
+//! A load begins on a cell.
+
+ghost use Rattle.std.specs.Prelude.{◌≡◌, ◌<◌, [], length, OnOk};
+ghost use Rattle.std.specs.List.{AllByRecursion as Each, AllZip};
+ghost use Rattle.flow_cells.specs.Kept.{IsGiven, Keeps};
+ghost use Rattle.flow_cells.specs.Loads.{Begins, InLoads, IsOwn, NothingWaits, OutLoads, with_source};
+ghost use Rattle.flow_cells.specs.Made.{IsFresh, IsNothing};
+
+use crate::parts::{CellParts, Gathered, InEdge, OutEdge};
+use crate::reacting::handle_all;
+use kap_base::{Msg, NoMemory};
+use merge_node::MergeBuf;
+use node_core::Node;
+use std::alloc::Global;
+use std::snapshot::Snapshot;
+
+/// The loads of some inputs begin.
+fn begin_ins(ins: &mut [InEdge])
+    ensures loads { AllZip InLoads ins.old ins.new }
+    ensures fresh { Each IsFresh ins.new }
+{
+    if let Some((first, others)) = ins.split_first_mut() {
+        first.head.begin_load();
+        begin_ins(others);
+    }
+}
+
+/// The loads of all inputs begin.
+fn load_ins(ins: &mut Vec<InEdge>)
+    ensures loads { AllZip InLoads ins.old.items ins.new.items }
+    ensures fresh { Each IsFresh ins.new.items }
+{
+    begin_ins(ins);
+}
+
+/// The loads of some outs begin.
+fn begin_outs(outs: &mut [OutEdge])
+    requires { Each NothingWaits outs.old }
+    ensures loads { AllZip OutLoads outs.old outs.new }
+    ensures given { Each (IsGiven []) outs.new }
+{
+    if let Some((first, others)) = outs.split_first_mut() {
+        first.tail.begin_load();
+        begin_outs(others);
+    }
+}
+
+/// The loads of all outs begin.
+fn load_outs(outs: &mut Vec<OutEdge>)
+    requires { Each NothingWaits outs.old.items }
+    ensures loads { AllZip OutLoads outs.old.items outs.new.items }
+    ensures given { Each (IsGiven []) outs.new.items }
+{
+    begin_outs(outs);
+}
+
+/// Puts the points and barriers of a load into the buffer of the first parent.
+fn put_source(buffer: &mut MergeBuf, source: Vec<Msg>) -> Result<(), NoMemory>
+    requires { 0 < length buffer.old }
+    ensures { OnOk result (buffer.new ≡ with_source source.items buffer.old) }
+{
+    let mut rest = source;
+    rest.reverse();
+    'putting: while let Some(msg) = rest.pop() {
+        buffer.put(0, msg)?;
+    }
+    Ok(())
+}
+
+/// A load begins, with its points and barriers where the cell is a stream's, which are handled in this call.
+pub(crate) fn load<N: Node>(
+    alloc: Global,
+    cell: &mut CellParts<N>,
+    source: Vec<Msg>,
+) -> Result<(), NoMemory>
+    requires keeps { Keeps N.Node cell.old }
+    requires empty { Each IsNothing cell.old.buffer }
+    requires sent { Each NothingWaits cell.old.core.outs.items }
+    requires own { IsOwn cell.old.ins.items source.items }
+    ensures keeps { OnOk result (Keeps N.Node cell.new) }
+    ensures begins { OnOk result (Begins source.items cell.old cell.new) }
+{
+    load_ins(&mut cell.ins);
+    load_outs(&mut cell.core.outs);
+    cell.core.gathered = Gathered::Start;
+    cell.core.effects.clear();
+    cell.core.saved.clear();
+    cell.core.node.save(&mut cell.core.saved)?;
+    cell.base = Snapshot::of(&cell.core);
+    cell.source = Snapshot::of(&source);
+    put_source(&mut cell.buffer, source)?;
+    handle_all(alloc, &mut cell.core, &mut cell.buffer)?;
+    Ok(())
+}

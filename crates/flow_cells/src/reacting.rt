@@ -1,0 +1,75 @@
+//! What a cell does with a message.
+
+ghost use Rattle.std.specs.Prelude.{◌≡◌, ℕ, ◌<◌, ◌≤◌, None, OnOk, length};
+ghost use Rattle.std.specs.List.{AllZip};
+ghost use Rattle.kap_base.specs.declared.items.Msg.TheVariants as messages;
+ghost use Rattle.merge_node.specs.Buffers.{next};
+ghost use Rattle.flow_cells.specs.Handled.{Handles, Reacts, Waits};
+
+use crate::outs::{push_each, push_items};
+use crate::parts::Core;
+use kap_base::{Item, Msg, NoMemory, Stamp};
+use merge_node::MergeBuf;
+use node_core::{Items, Node};
+use std::alloc::Global;
+
+impl<N: Node> Core<N> {
+    /// Feeds the node an item, and has what it gives wait at each out.
+    fn feed(&mut self, alloc: Global, parent: u32, item: Item) -> Result<(), NoMemory>
+        requires { parent < N.ports (N.spec self.old.node) }
+        ensures spec { N.spec self.new.node ≡ N.spec self.old.node }
+        ensures outs { OnOk result (AllZip Waits self.old.outs.items self.new.outs.items) }
+        ensures reacts { OnOk result (Reacts N.Node self.old parent (messages.Item item) self.new) }
+    {
+        let mut given = Items::new(alloc);
+        self.node
+            .feed(alloc, parent, item, &mut given, &mut self.effects)?;
+        push_items(alloc, &mut self.outs, given)?;
+        Ok(())
+    }
+
+    /// Passes a barrier: saves the state, and has the barrier wait at each out.
+    fn pass(&mut self, alloc: Global, stamp: Stamp) -> Result<(), NoMemory>
+        ensures spec { N.spec self.new.node ≡ N.spec self.old.node }
+        ensures outs { OnOk result (AllZip Waits self.old.outs.items self.new.outs.items) }
+        ensures reacts { OnOk result ((parent : ℕ)
+            → Reacts N.Node self.old parent (messages.Barrier stamp) self.new) }
+    {
+        self.saved.clear();
+        self.node.save(&mut self.saved)?;
+        self.passed = stamp;
+        push_each(alloc, &mut self.outs, Msg::Barrier(stamp))?;
+        Ok(())
+    }
+
+    /// Handles one message.
+    pub(crate) fn react(&mut self, alloc: Global, parent: u32, msg: Msg) -> Result<(), NoMemory>
+        requires { parent < N.ports (N.spec self.old.node) }
+        ensures spec { N.spec self.new.node ≡ N.spec self.old.node }
+        ensures outs { OnOk result (AllZip Waits self.old.outs.items self.new.outs.items) }
+        ensures reacts { OnOk result (Reacts N.Node self.old parent msg self.new) }
+    {
+        match msg {
+            Msg::Item(item) => self.feed(alloc, parent, item)?,
+            Msg::Barrier(stamp) => self.pass(alloc, stamp)?,
+        }
+        Ok(())
+    }
+}
+
+/// Handles all that is determined.
+pub(crate) fn handle_all<N: Node>(
+    alloc: Global,
+    core: &mut Core<N>,
+    buffer: &mut MergeBuf,
+) -> Result<(), NoMemory>
+    requires { length buffer.old ≤ N.ports (N.spec core.old.node) }
+    ensures outs { OnOk result (AllZip Waits core.old.outs.items core.new.outs.items) }
+    ensures stuck { OnOk result (next buffer.new ≡ None) }
+    ensures handles { OnOk result (Handles N.Node core.old buffer.old core.new buffer.new) }
+{
+    'handling: while let Some((parent, msg)) = buffer.next() {
+        core.react(alloc, parent, msg)?;
+    }
+    Ok(())
+}
