@@ -1,5 +1,5 @@
 -- What handling a message does to a core.
-use Rattle.std.specs.Prelude.{◌≡◌, ℕ, List, [], ◌∷◌, ◌++◌, Some}
+use Rattle.std.specs.Prelude.{◌≡◌, ℕ, List}
 use Rattle.kap_base.specs.declared.items.Msg.{Msg}
 use Rattle.node_core.specs.declared.node.Node.{Ghosts}
 use Rattle.merge_node.specs.Merge.{Lists, Entry}

@@ -1,10 +1,10 @@
 -- Messages that are handled one after the other.
-use Rattle.std.proofs.Common.{◌≡◌, ℕ, List, [], ◌∷◌, ◌++◌, Some, refl, sym, ap, subst, ◌∙◌}
+use Rattle.std.proofs.Common.{◌≡◌, ℕ, List, [], ◌∷◌, ◌++◌, Some, refl, sym, subst, ◌∙◌}
 use Rattle.kap_base.specs.declared.items.Msg.{Msg}
 use Rattle.node_core.specs.declared.node.Node.{Ghosts}
 use Rattle.node_core.specs.Meaning.{Input, Move}
 use Rattle.merge_node.specs.Merge.{Lists, Entry}
-use Rattle.merge_node.specs.Buffers.{Merges, done, more, next}
+use Rattle.merge_node.specs.Buffers.{done, more, next}
 use Rattle.merge_node.specs.BufferLaws.{merges-trans}
 use Rattle.flow_cells.specs.declared.parts.Core.{Core}
 use Rattle.flow_cells.specs.Runs.{Run, run, reacted}

@@ -1,5 +1,5 @@
 -- What a cell keeps by itself, whoever moves it.
-use Rattle.std.specs.Prelude.{◌≡◌, ℕ, ◌≤◌, List, [], ◌∷◌, ◌++◌, map, length, None}
+use Rattle.std.specs.Prelude.{◌≡◌, ◌≤◌, List, [], ◌∷◌, ◌++◌, map, length, None}
 use Rattle.std.specs.List.{AllByRecursion as Each}
 use Rattle.kap_base.specs.declared.items.Effect.{Effect}
 use Rattle.kap_base.specs.declared.items.Msg.{Msg}
@@ -12,7 +12,7 @@ use Rattle.flow_cells.specs.declared.parts.InEdge.{InEdge}
 use Rattle.flow_cells.specs.declared.parts.Gathered.{Gathered, Start, More'}
 use Rattle.flow_cells.specs.declared.parts.Core.{Core}
 use Rattle.flow_cells.specs.declared.parts.CellParts.{CellParts}
-use Rattle.flow_cells.specs.Runs.{Run, begun, run, reacted}
+use Rattle.flow_cells.specs.Runs.{Run, begun, run}
 
 -- the effects that were gathered since the load
 abbrev pub gathered : Gathered → List Effect

@@ -1,5 +1,5 @@
 -- A load that begins leaves a cell that keeps what a cell keeps.
-use Rattle.std.proofs.Common.{◌≡◌, ℕ, zero, suc, ◌+◌, ◌<◌, ◌≤◌, List, [], ◌∷◌, ◌++◌, length, map, None, refl, sym, ap, subst, ◌∙◌, append-nil, arith}
+use Rattle.std.proofs.Common.{◌≡◌, suc, ◌+◌, ◌<◌, ◌≤◌, List, [], ◌∷◌, ◌++◌, length, map, None, refl, sym, ap, subst, ◌∙◌, append-nil, arith}
 use Rattle.std.specs.List.{AllByRecursion as Each, AllZip}
 use Rattle.kap_base.specs.declared.items.Msg.{Msg}
 use Rattle.node_core.specs.declared.node.Node.{Ghosts}
@@ -11,8 +11,8 @@ use Rattle.edge_queue.specs.Moves.{TailLoads}
 use Rattle.flow_cells.specs.declared.parts.InEdge.{InEdge}
 use Rattle.flow_cells.specs.declared.parts.OutEdge.{OutEdge}
 use Rattle.flow_cells.specs.declared.parts.Core.{Core}
-use Rattle.flow_cells.specs.Runs.{Run, begun, run}
-use Rattle.flow_cells.specs.Kept.{IsAt, KeptBy, received_of, run_of}
+use Rattle.flow_cells.specs.Runs.{begun}
+use Rattle.flow_cells.specs.Kept.{IsAt, KeptBy, received_of}
 use Rattle.flow_cells.specs.Handled.{Handles, Waits}
 use Rattle.flow_cells.specs.Made.{IsFresh, IsNothing}
 use Rattle.flow_cells.specs.Loads.{InLoads, IsOwn, OutLoads, with_source}

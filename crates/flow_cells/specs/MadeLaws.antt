@@ -1,9 +1,8 @@
 -- A cell that begins keeps what a cell keeps.
-use Rattle.std.proofs.Common.{◌≡◌, ℕ, zero, suc, ◌+◌, ◌≤◌, List, [], ◌∷◌, ◌++◌, length, map, replicate, None, refl, sym, ap, subst, ◌∙◌, append-nil, arith}
+use Rattle.std.proofs.Common.{◌≡◌, ℕ, zero, suc, ◌+◌, ◌≤◌, List, [], ◌∷◌, ◌++◌, length, map, replicate, None, refl, sym, ap, subst, ◌∙◌, arith}
 use Rattle.std.proofs.lemmas.List.{length-replicate}
 use Rattle.std.specs.List.{AllByRecursion as Each}
 use Rattle.kap_base.specs.declared.items.Msg.{Msg}
-use Rattle.kap_base.specs.declared.items.Stamp.{Stamp}
 use Rattle.node_core.specs.declared.node.Node.{Ghosts}
 use Rattle.merge_node.specs.Merge.{Lists, Entry}
 use Rattle.merge_node.specs.Buffers.{Merges, done, more, next}
@@ -11,7 +10,7 @@ use Rattle.edge_queue.specs.Edges.{received}
 use Rattle.flow_cells.specs.declared.parts.OutEdge.{OutEdge}
 use Rattle.flow_cells.specs.declared.parts.InEdge.{InEdge}
 use Rattle.flow_cells.specs.declared.parts.Core.{Core}
-use Rattle.flow_cells.specs.Runs.{Run, begun, run}
+use Rattle.flow_cells.specs.Runs.{begun}
 use Rattle.flow_cells.specs.Kept.{IsAt, IsGiven, KeptBy, received_of, run_of}
 use Rattle.flow_cells.specs.Made.{IsFresh, IsMade, IsNothing, IsUnused, one_or_more}
 

@@ -4,8 +4,8 @@ use Rattle.std.specs.Prelude.{slice_get}
 use Rattle.std.specs.List.{AllByRecursion as Each}
 use Rattle.kap_base.specs.declared.items.Msg.{Msg}
 use Rattle.node_core.specs.declared.node.Node.{Ghosts}
-use Rattle.merge_node.specs.Merge.{Lists, Entry}
-use Rattle.merge_node.specs.Buffers.{Merges, next, put}
+use Rattle.merge_node.specs.Merge.{Lists}
+use Rattle.merge_node.specs.Buffers.{next, put}
 use Rattle.merge_node.specs.BufferLaws.{merges-length, merges-put, merges-trans, put-length}
 use Rattle.edge_queue.specs.Edges.{received, sent}
 use Rattle.edge_queue.specs.EdgeLaws.{HeadLooked-refl, TailLooked-refl}

@@ -1,5 +1,5 @@
 -- What the moves of a cell do to it.
-use Rattle.std.specs.Prelude.{◌≡◌, ℕ, ◌≤◌, ◌⊎◌, true, List, [], ◌∷◌, length, Some, slice_get, slice_set}
+use Rattle.std.specs.Prelude.{◌≡◌, ℕ, ◌≤◌, ◌⊎◌, true, [], length, Some, slice_get, slice_set}
 use Rattle.std.specs.List.{AllZip}
 use Rattle.kap_base.specs.declared.items.Msg.{Msg}
 use Rattle.edge_queue.specs.Edges.{free, known}

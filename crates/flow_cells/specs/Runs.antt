@@ -1,7 +1,6 @@
 -- What a node gives over a merged list of items and barriers, from a state on.
-use Rattle.std.specs.Prelude.{◌≡◌, ℕ, List, [], ◌∷◌, ◌++◌, map, Option, Some, None}
+use Rattle.std.specs.Prelude.{ℕ, List, [], ◌∷◌, ◌++◌, Option, Some, None}
 use Rattle.kap_base.specs.declared.items.Effect.{Effect}
-use Rattle.kap_base.specs.declared.items.Item.{Item}
 use Rattle.kap_base.specs.declared.items.Msg.{Msg}
 use Rattle.kap_base.specs.declared.items.Msg.TheVariants as messages
 use Rattle.kap_base.specs.declared.items.Stamp.{Stamp}

@@ -3,12 +3,10 @@ use Rattle.std.proofs.Common.{◌≡◌, ℕ, ◌+◌, List, [], ◌∷◌, ◌+
 use Rattle.std.proofs.lemmas.List.{append-nil}
 use Rattle.std.specs.Prelude.{if◌then◌else◌, IfSome}
 use Rattle.std.specs.Option.{option_to_list}
-use Rattle.kap_base.specs.Points.{PointValue}
-use Rattle.topic_core.specs.declared.transition.Transition.{Transition}
 use Rattle.store_records.specs.Held.{Held, after, begun, ended, is_change, later_of, nothing, points_in, snap_in, tasks_after, transitions_in}
 use Rattle.store_records.specs.Histories.{FollowFrom, Follow, end_from, end_of, first_gate, held, held_from, next_gate}
 use Rattle.store_records.specs.Held.{MayFollow}
-use Rattle.store_records.specs.Records.{FitsRecord, spell_record}
+use Rattle.store_records.specs.Records.{FitsRecord}
 use Rattle.store_records.specs.declared.rec.Rec.{Rec}
 use Rattle.store_records.specs.declared.task.Life.{Life}
 use Rattle.store_records.specs.declared.task.Snapshot.{Snapshot}

@@ -1,15 +1,14 @@
 -- Places in lists of tasks and lives.
-use Rattle.std.proofs.Common.{◌≡◌, ℕ, suc, ◌+◌, ◌<◌, ◌≤◌, Bool, true, false, not, cond, ltb, List, [], ◌∷◌, ◌++◌, Option, Some, None, length, get_or, take, drop, refl, sym, ap, subst, ◌∙◌, arith}
+use Rattle.std.proofs.Common.{◌≡◌, ℕ, suc, ◌+◌, ◌<◌, ◌≤◌, Bool, true, false, not, cond, ltb, List, [], ◌∷◌, ◌++◌, Option, Some, None, length, get_or, refl, sym, ap, ◌∙◌, arith}
 use Rattle.std.specs.Prelude.{◌||◌, position, slice_set}
-use Rattle.std.specs.List.{find, list_any, position_or_len, remove}
-use Rattle.std.specs.Option.{option_map_or}
-use Rattle.std.proofs.lemmas.Bool.{false≢true, ltb-false, ltb-true}
+use Rattle.std.specs.List.{list_any, position_or_len}
+use Rattle.std.proofs.lemmas.Bool.{ltb-false, ltb-true}
 use Rattle.std.proofs.lemmas.List.{set_at}
 use Rattle.kap_base.proofs.TestLaws.{first_false, second_false}
-use Rattle.store_records.specs.Held.{end_life, is_called, is_enabled, is_open_of, life_of, set_enabled, task_of}
+use Rattle.store_records.specs.Held.{end_life, is_called, is_open_of, set_enabled, task_of}
 use Rattle.store_records.specs.declared.task.Life.{Life}
 use Rattle.store_records.specs.declared.task.StoredTask.{StoredTask}
-use Rattle.store_kept.specs.Lives.{IsLastOpen, StandsLast}
+use Rattle.store_kept.specs.Lives.{StandsLast}
 
 module _ {A : Type 0} (p : A → Bool) where
   pub place_le : (xs : List A) → position_or_len p xs ≤ length xs

@@ -1,5 +1,5 @@
 -- A record that is taken in, or may not follow.
-use Rattle.std.proofs.Common.{◌≡◌, ℕ, Bool, true, false, List, [], ◌∷◌, ◌++◌, map, sym, ap, ◌∙◌, subst, Option}
+use Rattle.std.proofs.Common.{◌≡◌, ℕ, true, false, List, [], ◌∷◌, ◌++◌, map, sym, ap, ◌∙◌, subst, Option}
 use Rattle.std.specs.Prelude.{IfSome}
 use Rattle.state_code.specs.Laws.{once}
 use Rattle.topic_core.specs.Topics.{StandsFor, TopicsValue}

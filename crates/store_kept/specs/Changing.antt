@@ -1,15 +1,9 @@
 -- What is kept behind one more record.
-use Rattle.std.specs.Prelude.{◌≡◌, ℕ, ◌+◌, ◌<◌, List, ◌++◌, length, Option, if◌then◌else◌, IfSome, vec_capacity, vec_len}
+use Rattle.std.specs.Prelude.{◌≡◌, ℕ, ◌+◌, ◌<◌, ◌++◌, length, Option, if◌then◌else◌, IfSome, vec_capacity, vec_len}
 use Rattle.std.specs.Option.{option_to_list}
-use Rattle.std.proofs.Common.{ap, sym, ◌∙◌, length-append, arith}
-use Rattle.kap_base.specs.Points.{PointValue}
-use Rattle.topic_core.specs.declared.transition.Transition.{Transition}
-use Rattle.store_records.specs.Held.{Held, after, begun, defined, ended, is_change, later_of, points_in, snap_in, tasks_after, transitions_in}
+use Rattle.store_records.specs.Held.{begun, defined, ended, is_change, later_of, points_in, snap_in, tasks_after, transitions_in}
 use Rattle.store_records.specs.declared.rec.Rec.{Rec}
-use Rattle.store_records.specs.declared.task.Life.{Life}
-use Rattle.store_records.specs.declared.task.Snapshot.{Snapshot}
-use Rattle.store_records.specs.declared.task.StoredTask.{StoredTask}
-use Rattle.store_kept.specs.Keeping.{Keeps, KeptValue}
+use Rattle.store_kept.specs.Keeping.{KeptValue}
 use Rattle.store_kept.specs.declared.kept.Kept.{Kept}
 use Rattle.store_kept.specs.declared.kept.Mark.{Mark}
 use Rattle.store_kept.specs.declared.parts.Parts.{Parts}

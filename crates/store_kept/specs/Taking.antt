@@ -1,5 +1,5 @@
 -- Taking in the next record, by its body.
-use Rattle.std.specs.Prelude.{◌≡◌, ℕ, ◌&&◌, ◌==◌, Bool, true, false, List, [], ◌∷◌, ◌++◌, map}
+use Rattle.std.specs.Prelude.{ℕ, ◌&&◌, ◌==◌, Bool, true, false, List, [], ◌∷◌, ◌++◌, map}
 use Rattle.std.specs.List.{list_all}
 use Rattle.topic_core.specs.Topics.{StandsFor, TopicsValue}
 use Rattle.topic_core.specs.declared.transition.Transition.{Transition}

@@ -1,7 +1,7 @@
 -- Points of a database and policy, by their canonical lines.
 use Rattle.std.proofs.Common.{◌≡◌, ℕ, Bool, true, false, not, ◌&&◌, List, [], ◌∷◌, length, refl, sym, ap, ◌∙◌, subst, arith}
 use Rattle.std.proofs.lemmas.Bool.{eqb-true}
-use Rattle.std.specs.Prelude.{◌==◌, Ok, IsTrue, bytes_eq}
+use Rattle.std.specs.Prelude.{◌==◌, Ok, bytes_eq}
 use Rattle.std.specs.Str.{is_utf8}
 use Rattle.std.specs.Cmp.Lexicographic.{bytes_decides}
 use Rattle.kap_base.specs.Points.{PointValue}

@@ -1,10 +1,10 @@
 -- States one behind the other, as a loop gathers them.
-use Rattle.std.proofs.Common.{◌≡◌, ℕ, ◌+◌, ◌-◌, ◌<◌, List, [], ◌∷◌, ◌++◌, length, Some, sym, ap, ◌∙◌, append_assoc, arith, length-append}
+use Rattle.std.proofs.Common.{◌≡◌, ℕ, ◌+◌, ◌-◌, ◌<◌, List, [], ◌∷◌, ◌++◌, length, sym, ap, ◌∙◌, arith, length-append}
 use Rattle.std.proofs.lemmas.List.{append-nil, flat_map_more}
 use Rattle.std.specs.Int.{w32}
 use Rattle.std.specs.List.{flat_map}
 use Rattle.state_code.specs.Places.{Passes, Place}
-use Rattle.state_code.specs.Spelling.{read_bytes, read_many, spell_bytes, spell_number, value_then}
+use Rattle.state_code.specs.Spelling.{read_bytes, spell_bytes, spell_number, value_then}
 use Rattle.state_code.proofs.Loops.{Taken, one_taken}
 use Rattle.store_records.specs.States.{Gathered}
 

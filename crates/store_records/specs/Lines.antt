@@ -1,6 +1,6 @@
 -- Points as a record spells them: each as its canonical line.
 use Rattle.std.specs.Prelude.{◌≡◌, ℕ, ◌==◌, Bool, true, false, not, ◌&&◌, if◌then◌else◌, length, List, ◌++◌, Option, Some, None, Result, Ok, Err, IsTrue, bytes_eq}
-use Rattle.std.proofs.Common.{refl, sym, subst, cond, ◌∙◌}
+use Rattle.std.proofs.Common.{refl, sym, subst, cond}
 use Rattle.std.specs.Cmp.Lexicographic.{bytes_decides}
 use Rattle.kap_base.specs.Points.{PointValue}
 use Rattle.kap_base.specs.Texts.{is_line}

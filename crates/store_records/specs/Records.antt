@@ -7,7 +7,6 @@ use Rattle.kap_base.specs.declared.memory.NoMemory.{NoMemory}
 use Rattle.state_code.specs.Laws.{bool_spelled, list_spelled, pair_spelled, u64_spelled, variant}
 use Rattle.state_code.specs.Spelling.{FitsList, FitsPair, IsBytes, IsSpelling, Reading, Stands, read_as, read_bool, read_list, read_number, read_pair, spell_bool, spell_bytes, spell_list, spell_number, spell_pair, value_then}
 use Rattle.state_code.specs.Texts.{FitsText, read_text, text_spelled}
-use Rattle.topic_core.specs.declared.transition.Transition.{Transition}
 use Rattle.store_records.specs.Lines.{Batch, FitsBatch, are_lines, batch_spelled, is_of, read_batch, spell_batch}
 use Rattle.store_records.specs.States.{AreStates, read_states, spell_states, states_spelled}
 use Rattle.store_records.specs.Transitions.{FitsTransition, read_transition, spell_transition, transition_spelled}

@@ -1,11 +1,10 @@
-use Rattle.std.proofs.Common.{◌≡◌, ◌∙◌, ◌<◌, List, [], length, get_or, set, Some, refl, sym, ap, subst, inl, inr, arith}
+use Rattle.std.proofs.Common.{◌≡◌, ◌∙◌, ◌<◌, [], length, get_or, Some, refl, sym, ap, subst, inl, inr, arith}
 use Rattle.std.specs.Prelude.{◌⊎◌}
-use Rattle.kap_base.specs.declared.items.Msg.{Msg}
 use Rattle.edge_queue.specs.Edges.{free}
 use Rattle.flow_cells.specs.declared.parts.OutEdge.{OutEdge}
-use Rattle.flow_cells.specs.Outs.{LooksOn, SendsOn}
-use Rattle.flow_cells.specs.Kept.{IsGiven, KeptBy}
-use Rattle.flow_cells.specs.Moves.{Eases, PutsNone, PutsOne}
+use Rattle.flow_cells.specs.Outs.{LooksOn}
+use Rattle.flow_cells.specs.Kept.{IsGiven}
+use Rattle.flow_cells.specs.Moves.{Eases}
 use Rattle.flow_cells.specs.OutLaws.{zip-refl, zip-set, each-set, each-at, get-here}
 use Rattle.flow_cells.specs.MoveLaws.{Eases-refl, at-set, kept-outs}
 use Rattle.flow_cells.proofs.moves.put.Goals as goal

@@ -1,16 +1,13 @@
-use Rattle.std.proofs.Common.{◌≡◌, ◌∙◌, ◌<◌, ◌≤◌, ◌++◌, List, [], ◌∷◌, length, get_or, set, Some, refl, sym, ap, subst, inl, inr, arith}
-use Rattle.std.specs.Prelude.{slice_get}
-use Rattle.kap_base.specs.declared.items.Msg.{Msg}
+use Rattle.std.proofs.Common.{◌≡◌, ◌∙◌, ◌<◌, ◌≤◌, ◌++◌, [], ◌∷◌, length, get_or, Some, refl, sym, ap, subst, inl, inr, arith}
 use Rattle.merge_node.specs.Merge.{Lists}
-use Rattle.merge_node.specs.Buffers.{put}
 use Rattle.merge_node.specs.BufferLaws.{put-length}
 use Rattle.edge_queue.specs.Edges.{known, received}
 use Rattle.flow_cells.specs.declared.parts.InEdge.{InEdge}
 use Rattle.flow_cells.specs.Outs.{has_unsent}
 use Rattle.flow_cells.specs.Kept.{KeptBy, received_of}
-use Rattle.flow_cells.specs.Handled.{Handles, Waits}
-use Rattle.flow_cells.specs.Moves.{Still, TakesAt, TakesNone, TakesOne}
-use Rattle.flow_cells.specs.OutLaws.{zip-refl, zip-set, get-here, get-within}
+use Rattle.flow_cells.specs.Handled.{Handles}
+use Rattle.flow_cells.specs.Moves.{Still}
+use Rattle.flow_cells.specs.OutLaws.{zip-refl, zip-set, get-here}
 use Rattle.flow_cells.specs.MoveLaws.{received_of-took, received_of-same, input-within, ports-of, kept-take, Still-refl, at-set}
 use Rattle.flow_cells.proofs.moves.take.Goals as goal
 

@@ -1,5 +1,5 @@
-use Rattle.std.proofs.Common.{◌≡◌, ◌<◌, ◌≤◌, ◌∙◌, length, Some, sym, subst, ap, refl, arith}
-use Rattle.merge_node.specs.BufferLaws.{next-some, next-none, next-less}
+use Rattle.std.proofs.Common.{◌≡◌, ◌<◌, ◌≤◌, ◌∙◌, length, refl, arith}
+use Rattle.merge_node.specs.BufferLaws.{next-some, next-less}
 use Rattle.flow_cells.specs.Handled.{Waits}
 use Rattle.flow_cells.specs.HandledLaws.{Handles-none, Handles-more}
 use Rattle.flow_cells.specs.OutLaws.{Waits-refl, Waits-trans, zip-refl, zip-trans}

@@ -1,4 +1,4 @@
-use Rattle.std.proofs.Common.{◌≡◌, List, ◌++◌, map, Bool, subst}
+use Rattle.std.proofs.Common.{◌≡◌, List, ◌++◌, map, subst}
 use Rattle.std.specs.Prelude.{IfOk, IsTrue}
 use Rattle.topic_core.specs.Topics.{StandsFor}
 use Rattle.topic_core.specs.declared.transition.Transition.{Transition}

@@ -1,4 +1,4 @@
-use Rattle.std.proofs.Common.{List, sym, ◌∙◌}
+use Rattle.std.proofs.Common.{sym, ◌∙◌}
 use Rattle.store_records.specs.Histories.{held}
 use Rattle.store_kept.specs.Keeping.{kept_of}
 use Rattle.store_kept.proofs.Records.{committed, refused}

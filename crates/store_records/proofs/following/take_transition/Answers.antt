@@ -1,4 +1,4 @@
-use Rattle.std.proofs.Common.{◌≡◌, List, ◌++◌, ◌∷◌, [], map, subst}
+use Rattle.std.proofs.Common.{◌≡◌, ◌++◌, ◌∷◌, [], map, subst}
 use Rattle.kap_base.specs.Maps.{KeyMap}
 use Rattle.kap_base.specs.declared.items.Event.{Event}
 use Rattle.kap_base.specs.declared.items.Level.{Level}

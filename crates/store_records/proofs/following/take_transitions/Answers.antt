@@ -1,6 +1,6 @@
-use Rattle.std.proofs.Common.{◌≡◌, ◌+◌, List, [], ◌∷◌, arith, subst}
+use Rattle.std.proofs.Common.{◌≡◌, ◌+◌, List, arith, subst}
 use Rattle.topic_core.specs.declared.transition.Transition.{Transition}
-use Rattle.store_records.proofs.FollowLaws.{Taking, all_kept, all_taken, nil_of, one_more, stops}
+use Rattle.store_records.proofs.FollowLaws.{Taking, all_kept, nil_of, one_more, stops}
 use Rattle.store_records.proofs.following.take_transitions.Goals as goal
 
 pub returns-then-not-branch-clause-next : goal.returns-then-not-branch-clause-next

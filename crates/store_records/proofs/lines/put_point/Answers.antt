@@ -1,4 +1,4 @@
-use Rattle.std.proofs.Common.{List, ℕ, ◌∙◌, sym, subst}
+use Rattle.std.proofs.Common.{subst}
 use Rattle.state_code.specs.Spelling.{FitsBytes}
 use Rattle.state_code.proofs.PointLaws.{on_ok}
 use Rattle.store_records.proofs.LineLaws.{line_fits}

@@ -1,4 +1,4 @@
-use Rattle.std.proofs.Common.{List, ℕ, ◌≡◌, Option, None, arith, subst}
+use Rattle.std.proofs.Common.{◌≡◌, None, arith, subst}
 use Rattle.state_code.specs.Places.{Place}
 use Rattle.state_code.specs.Spelling.{value_then}
 use Rattle.store_records.specs.Records.{read_record}

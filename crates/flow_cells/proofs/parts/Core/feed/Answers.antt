@@ -1,4 +1,4 @@
-use Rattle.std.proofs.Common.{◌≡◌, ◌∙◌, ◌++◌, List, [], refl, sym, ap, subst, append_assoc}
+use Rattle.std.proofs.Common.{◌≡◌, ◌∙◌, ◌++◌, List, sym, ap, subst, append_assoc}
 use Rattle.std.specs.List.{AllByRecursion as Each}
 use Rattle.kap_base.specs.declared.items.Item.{Item}
 use Rattle.flow_cells.specs.Outs.{item_msgs}

@@ -1,4 +1,4 @@
-use Rattle.std.proofs.Common.{◌≡◌, ◌∙◌, ◌++◌, List, [], ◌∷◌, refl, sym, ap, subst}
+use Rattle.std.proofs.Common.{◌∙◌, ◌++◌, [], ◌∷◌, refl, ap}
 use Rattle.kap_base.specs.declared.items.Msg.TheVariants as messages
 use Rattle.flow_cells.specs.OutLaws.{given_by, waits_by}
 use Rattle.flow_cells.proofs.parts.Core.pass.Goals as goal
