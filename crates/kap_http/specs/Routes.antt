@@ -3,6 +3,7 @@ use Rattle.std.specs.Prelude.{ℕ, List, Option, Some, None, Result, Ok, Err, co
 use Rattle.std.specs.Str.{is_utf8}
 use Rattle.form_urlencoded.specs.Form.{raw_pairs}
 use Rattle.percent_encoding.specs.Percent.{percent_decode}
+use Rattle.kap_base.specs.Words.{◌>>=◌}
 use Rattle.kap_base.specs.Texts.{is_empty, is_line}
 use Rattle.kap_http.specs.declared.ask.Ask.{Ask}
 use Rattle.kap_http.specs.declared.ask.Ask.TheVariants as asks
