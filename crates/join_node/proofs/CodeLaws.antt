@@ -1,5 +1,6 @@
 -- What loops and calls do, as the machine says it.
 use Rattle.std.proofs.Common.{◌≡◌, ℕ, zero, suc, ◌+◌, ◌<◌, true, false, List, [], ◌∷◌, ◌++◌, map, length, drop, take, set, get_or, Result, Ok, Err, OnOk, refl, sym, ap, ◌∙◌, arith, append_assoc, append-nil, flat_map, ℤ}
+use Rattle.kap_base.proofs.LoopLaws.{same_there}
 use Rattle.kap_base.specs.Points.{PointValue}
 use Rattle.kap_base.specs.declared.items.Body.{Body}
 use Rattle.task_graph.specs.declared.spec.JoinSpec.{JoinSpec}
@@ -7,26 +8,6 @@ use Rattle.join_node.specs.QueueLaws.{sets_next, sets_none}
 use Rattle.join_node.specs.Queues.{has_points, push, rests}
 use Rattle.join_node.specs.Results.{result_of}
 use Rattle.join_node.specs.Sets.{Columns, Set, set_at, sets}
-
--- where the items up to one were changed, that one is as before
-same-there : {A : Type 0} (f : A → A) (xs : List A) (i : ℕ) (d : A) → i < length xs → get_or (map f (take i xs) ++ drop i xs) i d ≡ get_or xs i d
-same-there f [] i d lt = absurd (omega arith)
-same-there f (x ∷ xs) zero d lt = refl
-same-there f (x ∷ xs) (suc i) d lt = same-there f xs i d (omega arith)
-
--- and where it is changed too
-change-there : {A : Type 0} (f : A → A) (xs : List A) (i : ℕ) (d : A) → i < length xs
-    → set (map f (take i xs) ++ drop i xs) i (f (get_or xs i d)) ≡ map f (take (suc i) xs) ++ drop (suc i) xs
-change-there f [] i d lt = absurd (omega arith)
-change-there f (x ∷ xs) zero d lt = refl
-change-there f (x ∷ xs) (suc i) d lt = ap (λ l. f x ∷ l) (change-there f xs i d (omega arith))
-
-pub changed : {A : Type 0} (f : A → A) (xs now : List A) (i : ℕ) (d new : A) → i < length xs → now ≡ map f (take i xs) ++ drop i xs → new ≡ f (get_or now i d)
-    → set now i new ≡ map f (take (i + 1) xs) ++ drop (i + 1) xs
-changed f xs now i d new lt is made =
-    let old : get_or now i d ≡ get_or xs i d = ap (λ l. get_or l i d) is ∙ same-there f xs i d lt in
-    let one : suc i ≡ i + 1 = omega arith in
-    (λ k. set (is k) i ((made ∙ ap f old) k)) ∙ change-there f xs i d lt ∙ ap (λ (n : ℕ). map f (take n xs) ++ drop n xs) one
 
 -- what is seen of the items up to one, and of that one
 more-seen : {A B : Type 0} (g : A → B) (xs : List A) (i : ℕ) (d : A) → i < length xs → map g (take (suc i) xs) ≡ map g (take i xs) ++ g (get_or xs i d) ∷ []
@@ -38,7 +19,7 @@ pub seen : {A B : Type 0} (f : A → A) (g : A → B) (xs now : List A) (i : ℕ
     → now ≡ map f (take i xs) ++ drop i xs → old ≡ map g (take i xs)
     → new ≡ g (get_or now i d) → old ++ new ∷ [] ≡ map g (take (i + 1) xs)
 seen f g xs now i d old new lt is so_far made =
-    let same : get_or now i d ≡ get_or xs i d = ap (λ l. get_or l i d) is ∙ same-there f xs i d lt in
+    let same : get_or now i d ≡ get_or xs i d = ap (λ l. get_or l i d) is ∙ same_there f xs i d lt in
     let one : suc i ≡ i + 1 = omega arith in
     (λ k. so_far k ++ (made ∙ ap g same) k ∷ []) ∙ sym (more-seen g xs i d lt) ∙ ap (λ (n : ℕ). map g (take n xs)) one
 

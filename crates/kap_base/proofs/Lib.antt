@@ -9,3 +9,4 @@ pub mod PointLaws
 pub mod TestLaws
 pub mod EntryLaws
 pub mod RetainLaws
+pub mod LoopLaws

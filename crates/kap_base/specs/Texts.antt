@@ -1,7 +1,9 @@
 -- Tests on the bytes of a text.
-use Rattle.std.specs.Prelude.{ℕ, Bool, true, false, not, ◌&&◌, ◌==◌, List, [], ◌∷◌}
-use Rattle.std.specs.List.{list_any}
+use Rattle.std.specs.Prelude.{ℕ, Bool, true, false, not, ◌&&◌, ◌||◌, ◌==◌, nat_lt, nat_le, List, [], ◌∷◌, length}
+use Rattle.std.specs.Char.{is_ascii_alphanumeric}
+use Rattle.std.specs.List.{list_all, list_any}
 use Rattle.std.specs.Str.{is_utf8}
+use Rattle.kap_base.specs.declared.limits.TheConstants.{ID_LIMIT}
 
 abbrev pub line_feed : ℕ
 line_feed = 10
@@ -47,3 +49,11 @@ is_plain bytes = not (is_empty bytes) && not (ends_with backslash bytes) && not 
 -- a name that can be a measurement: a line that begins with a number sign is a comment
 abbrev pub is_measurement : List ℕ → Bool
 is_measurement bytes = not (begins_with number_sign bytes) && is_name bytes
+
+-- what the id of a task is made of: an ASCII letter, a digit, `_`, `-` and `.`
+abbrev pub is_id_byte : ℕ → Bool
+is_id_byte b = is_ascii_alphanumeric b || b == 95 || b == 45 || b == 46
+
+-- the id of a task: one of those bytes at least, and at most as many as the limit says
+abbrev pub is_task_id : List ℕ → Bool
+is_task_id id = nat_lt 0 (length id) && nat_le (length id) ID_LIMIT && list_all is_id_byte id

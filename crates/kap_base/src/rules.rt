@@ -4,10 +4,11 @@ ghost use Rattle.std.specs.Prelude.{◌≡◌, ◌&&◌, not};
 ghost use Rattle.std.specs.List.{list_all};
 ghost use Rattle.std.specs.Str.{is_utf8};
 ghost use Rattle.kap_base.specs.Points.{are_dimensions, is_value, rises};
-ghost use Rattle.kap_base.specs.Texts.{begins_with, ends_with, has_line_feed, is_line, is_measurement, is_name};
+ghost use Rattle.kap_base.specs.Texts.{begins_with, ends_with, has_line_feed, is_id_byte, is_line, is_measurement, is_name, is_task_id};
 ghost use Rattle.kap_base.specs.declared.value.Value.TheVariants.{Int as Number};
 
 use crate::Names;
+use crate::limits::ID_LIMIT;
 use crate::text::Text;
 use crate::value::Value;
 
@@ -135,4 +136,23 @@ pub fn are_dimensions(names: &Names) -> bool
         return false;
     }
     are_utf8(names.as_slice())
+}
+
+fn is_id_byte(byte: u8) -> bool
+    ensures { result ≡ is_id_byte byte }
+{
+    byte.is_ascii_alphanumeric() || byte == b'_' || byte == b'-' || byte == b'.'
+}
+
+fn has_id_bytes(bytes: &[u8]) -> bool
+    ensures { result ≡ list_all is_id_byte bytes.now }
+{
+    bytes.iter().all(|byte| is_id_byte(*byte))
+}
+
+/// Whether these bytes can be the id of a task: 1 to `ID_LIMIT` bytes, each an ASCII letter, a digit, `_`, `-` or `.`.
+pub fn is_task_id(id: &[u8]) -> bool
+    ensures { result ≡ is_task_id id.now }
+{
+    !id.is_empty() && id.len() <= ID_LIMIT && has_id_bytes(id)
 }

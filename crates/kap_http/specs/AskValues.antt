@@ -1,8 +1,7 @@
 -- What is asked of the service, as definitions speak of it, and what holds of each.
-use Rattle.std.specs.Prelude.{ℕ, ◌≤◌, Bool, not, ◌&&◌, ◌||◌, ◌==◌, List, length, nat_le, IsTrue}
-use Rattle.std.specs.List.{list_all}
-use Rattle.std.specs.Char.{is_ascii_alphanumeric}
-use Rattle.kap_base.specs.Texts.{is_empty, is_line}
+use Rattle.std.specs.Prelude.{ℕ, ◌≤◌, Bool, not, ◌&&◌, List, length, IsTrue}
+use Rattle.kap_base.specs.declared.limits.TheConstants.{SCRIPT_LIMIT}
+use Rattle.kap_base.specs.Texts.{is_empty, is_line, is_task_id}
 use Rattle.kap_http.specs.declared.ask.Precision.{Precision}
 use Rattle.kap_http.specs.declared.ask.TaskAct.{TaskAct}
 
@@ -21,24 +20,16 @@ pub record IsWrite (w : WriteValue) : Type 0 where
   pub rp_len : length w.rp ≤ 16384
   pub body_len : length w.body ≤ 8388608
 
--- what the id of a task is made of: an ASCII letter, a digit, `_`, `-` and `.`
-abbrev pub is_id_byte : ℕ → Bool
-is_id_byte b = is_ascii_alphanumeric b || b == 95 || b == 45 || b == 46
-
--- the id of a task: 1 to 64 of those bytes
-abbrev pub is_task_id : List ℕ → Bool
-is_task_id id = not (is_empty id) && nat_le (length id) 64 && list_all is_id_byte id
-
 -- a task to be defined
 pub record DefineValue : Type 0 where
   pub id : List ℕ
   pub script : List ℕ
   pub enabled : Bool
 
--- a task that can be defined: an id of a task, and a script of at most 65,536 bytes
+-- a task that can be defined: an id of a task, and a script that is not too long
 pub record IsDefine (d : DefineValue) : Type 0 where
   pub id : IsTrue (is_task_id d.id)
-  pub script : length d.script ≤ 65536
+  pub script : length d.script ≤ SCRIPT_LIMIT
 
 -- a task, by its id, and what is to be done with it
 pub record TaskValue : Type 0 where

@@ -9,7 +9,9 @@ use Rattle.kap_http.specs.declared.refusal.Refusal.{Refusal}
 use Rattle.kap_http.specs.declared.refusal.Refusal.TheVariants as refusals
 use Rattle.kap_http.specs.declared.ask.TaskAct.{TaskAct}
 use Rattle.kap_http.specs.declared.ask.TaskAct.TheVariants as acts
-use Rattle.kap_http.specs.AskValues.{DefineValue, is_task_id}
+use Rattle.kap_base.specs.Texts.{is_task_id}
+use Rattle.kap_base.specs.declared.limits.TheConstants.{SCRIPT_LIMIT}
+use Rattle.kap_http.specs.AskValues.{DefineValue}
 use Rattle.kap_http.specs.Refusals.{or_else}
 
 -- the value of a body: UTF-8 that is JSON, nested at most 127 deep; of an object's equal keys the last one counts
@@ -63,7 +65,7 @@ can_be_defined d = is_stream (get (codes "type") d) && has_no_pairs (get (codes 
 -- the task, where the script isn't too long
 abbrev pub with_script : List ℕ → List ℕ → Bool → Result DefineValue Refusal
 with_script id script enabled =
-    if nat_lt 65536 (length script) then Err refusals.TooLong
+    if nat_lt SCRIPT_LIMIT (length script) then Err refusals.TooLong
     else Ok (record { id = id; script = script; enabled = enabled })
 
 -- the task that a value defines; its other keys are ignored

@@ -1,43 +1,17 @@
 //! What the JSON bodies of requests say.
 
 ghost use Rattle.std.specs.Prelude.{◌≡◌, ◌≢◌, IfErr, IfOk, None, Some, codes, option_map};
-ghost use Rattle.std.specs.List.{list_all};
 ghost use Rattle.serde_json.specs.Find.{as_array, as_str, get};
 ghost use Rattle.serde_json.specs.View.{view};
 ghost use Rattle.kap_base.specs.Words.{Answers};
-ghost use Rattle.kap_http.specs.AskValues.{is_id_byte, is_task_id};
 ghost use Rattle.kap_http.specs.Bodies.{can_be_defined, definition_in, definition_of, has_no_pairs, is_empty_list, is_stream, is_text, json_of, set_of, status_at, status_of, status_or_disabled, text_at};
 ghost use Rattle.kap_http.specs.declared.refusal.Refusal.TheVariants.{BadBody as bad_body, NoMemory as no_memory};
 
 use crate::ask::DefineAsk;
 use crate::refusal::Refusal;
-use kap_base::Text;
+use kap_base::{SCRIPT_LIMIT, Text, is_task_id};
 use serde_json::Value;
 use std::alloc::Global;
-
-/// The most bytes of a script.
-const SCRIPT_LIMIT: usize = 65_536;
-
-/// The most bytes of the id of a task.
-const ID_LIMIT: usize = 64;
-
-fn is_id_byte(byte: u8) -> bool
-    ensures { result ≡ is_id_byte byte }
-{
-    byte.is_ascii_alphanumeric() || byte == b'_' || byte == b'-' || byte == b'.'
-}
-
-fn has_id_bytes(bytes: &[u8]) -> bool
-    ensures { result ≡ list_all is_id_byte bytes.now }
-{
-    bytes.iter().all(|b| is_id_byte(*b))
-}
-
-fn is_task_id(id: &[u8]) -> bool
-    ensures { result ≡ is_task_id id.now }
-{
-    !id.is_empty() && id.len() <= ID_LIMIT && has_id_bytes(id)
-}
 
 /// The value of a body.
 #[tactic(auto, using(crate::proofs::BodyLaws::json_is, crate::proofs::BodyLaws::json_none))]

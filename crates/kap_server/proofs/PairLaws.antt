@@ -6,7 +6,7 @@ use Rattle.std.proofs.lemmas.Bool.{false≢true}
 use Rattle.std.proofs.lemmas.List.{length-drop}
 use Rattle.std.proofs.lemmas.Bool.Decides.{nat_tests}
 use Rattle.lambda_types.specs.Faults.{Refusal}
-use Rattle.tick_lexer.specs.declared.limits.TheConstants.{SCRIPT_LIMIT}
+use Rattle.kap_base.specs.declared.limits.TheConstants.{SCRIPT_LIMIT}
 use Rattle.tick_compile.specs.Scripts.{Accepts, Refuses}
 use Rattle.tick_compile.specs.declared.script_fault.ScriptFault.{ScriptFault}
 use Rattle.tick_compile.specs.declared.tasks.Task.{Task}

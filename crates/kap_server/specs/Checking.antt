@@ -3,7 +3,7 @@ use Rattle.std.specs.Prelude.{◌≡◌, ℕ, ◌<◌, List, length, Option, Non
 use Rattle.std.specs.Io.KnownBytes.{Appends, Keeps}
 use Rattle.kap_io.specs.Pieces.{AppendsPrefix}
 use Rattle.lambda_types.specs.Faults.{Refusal}
-use Rattle.tick_lexer.specs.declared.limits.TheConstants.{SCRIPT_LIMIT}
+use Rattle.kap_base.specs.declared.limits.TheConstants.{SCRIPT_LIMIT}
 use Rattle.tick_parser.specs.Trees.{StmtTree}
 use Rattle.tick_print.specs.Print.{script_text}
 use Rattle.tick_compile.specs.Scripts.{Accepts, Parses, Refuses}

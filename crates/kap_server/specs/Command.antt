@@ -1,6 +1,6 @@
 -- What a command answers, and when.
 use Rattle.std.specs.Prelude.{◌≡◌, ◌⊎◌, ℕ, ◌<◌, ◌≤◌, Bool, List, length, Some}
-use Rattle.kap_server.specs.declared.readying.TheConstants.{TASK_LIMIT}
+use Rattle.kap_base.specs.declared.limits.TheConstants.{TASK_LIMIT}
 use Rattle.kap_server.specs.declared.status.Status.{Status}
 use Rattle.kap_server.specs.declared.status.Status.TheVariants.{NoMemory, ReadFault, WriteFault}
 use Rattle.kap_server.specs.Words.{Check, Replay, Pair, request_in}

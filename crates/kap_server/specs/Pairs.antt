@@ -3,7 +3,7 @@ use Rattle.std.specs.Prelude.{◌≡◌, ◌⊎◌, ℕ, ◌<◌, ◌++◌, ⊤,
 use Rattle.std.specs.List.{list_any}
 use Rattle.std.specs.Str.{bytes_eq}
 use Rattle.lambda_types.specs.Faults.{Refusal}
-use Rattle.tick_lexer.specs.declared.limits.TheConstants.{SCRIPT_LIMIT}
+use Rattle.kap_base.specs.declared.limits.TheConstants.{SCRIPT_LIMIT}
 use Rattle.tick_compile.specs.Scripts.{Accepts, Refuses}
 use Rattle.tick_compile.specs.declared.tasks.Task.{Task}
 use Rattle.effect_text.specs.declared.names.TaskNames.{TaskNames}

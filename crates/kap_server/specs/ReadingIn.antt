@@ -1,7 +1,7 @@
 -- What reading a whole script from the input gives.
 use Rattle.std.specs.Prelude.{◌≡◌, ℕ, ◌<◌, ◌≤◌, List, length, Option, IfSome}
 use Rattle.std.specs.Io.KnownBytes.{Consumes}
-use Rattle.tick_lexer.specs.declared.limits.TheConstants.{SCRIPT_LIMIT}
+use Rattle.kap_base.specs.declared.limits.TheConstants.{SCRIPT_LIMIT}
 
 -- a script may have so many bytes
 abbrev pub IsShort : List ℕ → Type 0

@@ -3,7 +3,7 @@
 ghost use Rattle.std.specs.Prelude.{◌≡◌, ◌≢◌, ◌⊎◌, ◌≤◌, true, None, Some, Err, IfErr, IfOk, OnOk, length};
 ghost use Rattle.kap_base.specs.Words.{HasRisen};
 ghost use Rattle.recording_file.specs.Reading.{HasEnded};
-ghost use Rattle.tick_lexer.specs.declared.limits.TheConstants.{SCRIPT_LIMIT};
+ghost use Rattle.kap_base.specs.declared.limits.TheConstants.{SCRIPT_LIMIT};
 ghost use Rattle.tick_compile.specs.Scripts.{Refuses};
 ghost use Rattle.tick_compile.specs.Tasks.{is_refusal, refusal_in};
 ghost use Rattle.kap_server.specs.Checking.{Checked, HasForm};
@@ -11,12 +11,11 @@ ghost use Rattle.kap_server.specs.ReadingIn.{IsAll, IsLong, IsShort, ReadsFew};
 ghost use Rattle.kap_server.specs.Readying.{is_pattern_refused};
 
 use crate::status::Status;
-use kap_base::{Bytes, Text};
+use kap_base::{Bytes, SCRIPT_LIMIT, Text};
 use kap_io::{Failed, Sink, Source, write_all};
 use lambda_types::Patterns;
 use std::alloc::Global;
 use tick_compile::{ScriptFault, compile, read_tree};
-use tick_lexer::SCRIPT_LIMIT;
 use tick_print::print;
 
 /// How many bytes are asked of the input at once.

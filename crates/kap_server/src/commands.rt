@@ -17,10 +17,11 @@ ghost use Rattle.kap_server.specs.Words.{Pair, pairs_of, request_in};
 ghost use Rattle.kap_server.specs.declared.status.Status.{Status};
 
 use crate::checking::check;
-use crate::readying::{Ready, TASK_LIMIT, add_tasks, are_too_many};
+use crate::readying::{Ready, add_tasks, are_too_many};
 use crate::replaying::replay;
 use crate::status::Status;
 use crate::words::{Request, request_in};
+use kap_base::TASK_LIMIT;
 use kap_io::{Sink, Source};
 use lambda_types::Patterns;
 use node_core::Node;

@@ -11,17 +11,13 @@ ghost use Rattle.kap_server.specs.Words.{pairs_of};
 
 use crate::status::Status;
 use effect_text::TaskNames;
-use kap_base::{NoMemory, Text};
+use kap_base::{NoMemory, SCRIPT_LIMIT, TASK_LIMIT, Text};
 use lambda_types::Patterns;
 use node_core::Node;
 use node_set::{ScriptNode, TaskPlan, plan_task};
 use std::alloc::Global;
 use task_run::LifePlan;
 use tick_compile::{Task, compile};
-use tick_lexer::SCRIPT_LIMIT;
-
-/// How many tasks a replay may have.
-pub(crate) const TASK_LIMIT: usize = 64;
 
 /// Tasks that are ready to run: the names by which lines tell of them, and their lives.
 #[derive(Drop)]

@@ -1,12 +1,10 @@
 //! The words of a command line.
 
 ghost use Rattle.std.specs.Prelude.{◌≡◌, false, true, map, string_bytes};
-ghost use Rattle.std.specs.List.{list_all};
 ghost use Rattle.std.specs.Option.{option_map};
-ghost use Rattle.kap_server.specs.Words.{are_pairs, check_request, is_id, is_id_byte, is_letter, is_option, replay_request, request_in, request_of, request_of_pairs};
+ghost use Rattle.kap_server.specs.Words.{are_pairs, check_request, is_option, replay_request, request_in, request_of, request_of_pairs};
 
-/// How many bytes the id of a task may have.
-pub(crate) const ID_LIMIT: usize = 64;
+use kap_base::is_task_id;
 
 /// What the words of a command line ask for.
 #[derive(Clone, Copy)]
@@ -18,24 +16,6 @@ pub(crate) enum Request<'a> {
     Replay { counts: bool, words: &'a [String] },
 }
 
-fn is_letter(byte: u8) -> bool
-    ensures { result ≡ is_letter byte }
-{
-    byte.is_ascii_uppercase() || byte.is_ascii_lowercase()
-}
-
-fn is_id_byte(byte: u8) -> bool
-    ensures { result ≡ is_id_byte byte }
-{
-    is_letter(byte) || byte.is_ascii_digit() || byte == b'_' || byte == b'-' || byte == b'.'
-}
-
-fn has_id_bytes(bytes: &[u8]) -> bool
-    ensures { result ≡ list_all is_id_byte bytes.now }
-{
-    bytes.iter().all(|b| is_id_byte(*b))
-}
-
 fn is_option(word: &[u8]) -> bool
     ensures { result ≡ is_option word.now }
 {
@@ -43,12 +23,6 @@ fn is_option(word: &[u8]) -> bool
         [b'-', b'-', ..] => true,
         _ => false,
     }
-}
-
-fn is_id(word: &[u8]) -> bool
-    ensures { result ≡ is_id word.now }
-{
-    !word.is_empty() && word.len() <= ID_LIMIT && has_id_bytes(word)
 }
 
 /// Whether the words are ids, each with a script behind it.
@@ -61,7 +35,7 @@ fn are_pairs(words: &[String]) -> bool
             [] => return true,
             [_] => return false,
             [id, _, others @ ..] => {
-                if !is_id(id.as_bytes()) {
+                if !is_task_id(id.as_bytes()) {
                     return false;
                 }
                 rest = others;

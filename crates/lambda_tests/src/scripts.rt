@@ -1,10 +1,10 @@
 //! What the tests share: the lambda of a text.
 
-use kap_base::SharedExpr;
+use kap_base::{SCRIPT_LIMIT, SharedExpr};
 use lambda_types::{Lambda, RegexPatterns, infer};
 use std::alloc::Global;
 use std::test::Fail;
-use tick_lexer::{SCRIPT_LIMIT, lex};
+use tick_lexer::lex;
 use tick_parser::{Stmt, Val, parse};
 
 /// What stands before a lambda's expression in these scripts.

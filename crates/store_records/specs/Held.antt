@@ -3,8 +3,8 @@ use Rattle.std.specs.Prelude.{◌≡◌, ℕ, ◌+◌, Bool, true, false, not, �
 use Rattle.std.specs.List.{find, insert, list_all, list_any, position_or_len, remove}
 use Rattle.std.specs.Option.{option_map_or}
 use Rattle.std.specs.Ordering.{is_lt}
-use Rattle.std.specs.Char.{is_ascii_digit}
 use Rattle.kap_base.specs.Maps.{byte_order}
+use Rattle.kap_base.specs.Texts.{is_task_id}
 use Rattle.kap_base.specs.Points.{PointValue, is_time}
 use Rattle.kap_base.specs.declared.items.Event.{Event}
 use Rattle.kap_base.specs.declared.items.Level.{Level}
@@ -14,7 +14,7 @@ use Rattle.topic_core.specs.Topics.{last_level}
 use Rattle.topic_core.specs.declared.transition.Transition.{Transition}
 use Rattle.store_records.specs.Lines.{are_lines, is_of}
 use Rattle.store_records.specs.States.{AreStates}
-use Rattle.store_records.specs.declared.limits.TheConstants.{ID_LIMIT, SCRIPT_LIMIT, TASK_LIMIT}
+use Rattle.kap_base.specs.declared.limits.TheConstants.{SCRIPT_LIMIT, TASK_LIMIT}
 use Rattle.store_records.specs.declared.rec.Rec.{Rec}
 use Rattle.store_records.specs.declared.rec.Rec.TheVariants as kinds
 use Rattle.store_records.specs.declared.task.Life.{Life}
@@ -22,18 +22,6 @@ use Rattle.store_records.specs.declared.task.Snapshot.{Snapshot}
 use Rattle.store_records.specs.declared.task.StoredTask.{StoredTask}
 
 -- ---- tasks
-
--- an ASCII letter
-abbrev pub is_letter : ℕ → Bool
-is_letter b = (nat_le 65 b && nat_le b 90) || (nat_le 97 b && nat_le b 122)
-
--- what an id is made of: an ASCII letter, a digit, `_`, `-` and `.`
-abbrev pub is_id_byte : ℕ → Bool
-is_id_byte b = is_letter b || is_ascii_digit b || b == 95 || b == 45 || b == 46
-
--- a text that can be the id of a task
-abbrev pub is_task_id : List ℕ → Bool
-is_task_id id = nat_lt 0 (length id) && (nat_le (length id) ID_LIMIT && list_all is_id_byte id)
 
 -- the task has this id
 abbrev pub is_called : List ℕ → StoredTask → Bool

@@ -2,49 +2,18 @@
 
 ghost use Rattle.std.specs.Prelude.{◌≡◌, ◌==◌, ◌+◌, ◌&&◌, ◌∷◌, ◌++◌, [], IfOk, IsTrue, List, OnOk, length, map, position};
 ghost use Rattle.std.specs.List.{list_all};
-ghost use Rattle.store_records.specs.Held.{are_next, event_of, goes_on, has_task, is_called, is_id_byte, is_letter, is_next, is_task_id, may_define};
+ghost use Rattle.store_records.specs.Held.{are_next, event_of, goes_on, has_task, is_called, is_next, may_define};
 ghost use Rattle.store_records.specs.Lines.{are_lines, is_of};
 ghost use Rattle.topic_core.specs.Topics.{StandsFor};
 ghost use Rattle.topic_core.specs.declared.transition.Transition.{Transition};
 
-use crate::limits::{ID_LIMIT, SCRIPT_LIMIT, TASK_LIMIT};
 use crate::lines::are_of;
 use crate::task::StoredTask;
-use kap_base::{Duplicate, Event, Level, NoMemory, Point, Text, is_time};
+use kap_base::{
+    Duplicate, Event, Level, NoMemory, Point, SCRIPT_LIMIT, TASK_LIMIT, Text, is_task_id, is_time,
+};
 use std::alloc::Global;
 use topic_core::{Topics, Transition};
-
-fn is_letter(byte: u8) -> bool
-    ensures { result ≡ is_letter byte }
-{
-    byte.is_ascii_uppercase() || byte.is_ascii_lowercase()
-}
-
-fn is_id_byte(byte: u8) -> bool
-    ensures { result ≡ is_id_byte byte }
-{
-    is_letter(byte) || byte.is_ascii_digit() || byte == b'_' || byte == b'-' || byte == b'.'
-}
-
-fn has_id_bytes(bytes: &[u8]) -> bool
-    ensures { result ≡ list_all is_id_byte bytes.now }
-{
-    bytes.iter().all(|byte| is_id_byte(*byte))
-}
-
-/// Whether the text can be the id of a task: 1 to `ID_LIMIT` bytes, each an ASCII letter, a digit, `_`, `-` or `.`.
-pub fn is_task_id(id: &Text) -> bool
-    ensures { result ≡ is_task_id id.now }
-{
-    let bytes = id.bytes();
-    if bytes.is_empty() {
-        return false;
-    }
-    if bytes.len() > ID_LIMIT {
-        return false;
-    }
-    has_id_bytes(bytes)
-}
 
 fn is_called(task: &StoredTask, id: &Text) -> bool
     ensures { result ≡ is_called id.now task.now }
@@ -71,7 +40,7 @@ pub fn has_task(tasks: &[StoredTask], id: &Text) -> bool
 pub fn may_define(tasks: &[StoredTask], id: &Text, script: &Text) -> bool
     ensures { result ≡ may_define id.now script.now tasks.now }
 {
-    if !is_task_id(id) {
+    if !is_task_id(id.bytes()) {
         return false;
     }
     if has_task(tasks, id) {

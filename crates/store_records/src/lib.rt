@@ -3,7 +3,6 @@
 
 mod following;
 mod laws;
-mod limits;
 mod lines;
 mod rec;
 mod records;
@@ -11,9 +10,8 @@ mod states;
 mod task;
 mod transitions;
 
-pub use following::{find_task, has_task, is_batch, is_task_id, may_define, take_transitions};
+pub use following::{find_task, has_task, is_batch, may_define, take_transitions};
 pub use laws::record_laws;
-pub use limits::{ID_LIMIT, SCRIPT_LIMIT, TASK_LIMIT};
 pub use rec::{Rec, Transitions};
 pub use records::{read_record, record_body};
 pub use task::{Life, LifeNumbers, Snapshot, StoredTask};

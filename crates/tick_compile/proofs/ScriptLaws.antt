@@ -9,7 +9,7 @@ use Rattle.kap_base.specs.Utf8.{broken_at}
 use Rattle.kap_base.proofs.Utf8Laws.{breaks_there, one_place}
 use Rattle.lambda_types.specs.Faults.{Refusal}
 use Rattle.task_graph.specs.declared.spec.NodeSpec.{NodeSpec}
-use Rattle.tick_lexer.specs.declared.limits.TheConstants.{SCRIPT_LIMIT}
+use Rattle.kap_base.specs.declared.limits.TheConstants.{SCRIPT_LIMIT}
 use Rattle.tick_lexer.specs.declared.token.LexFault.{LexFault}
 use Rattle.tick_lexer.specs.declared.token.Token.{Token}
 use Rattle.tick_lexer.specs.Script.{HasTokens, HasFirstFault}

@@ -3,7 +3,7 @@
 ghost use Rattle.std.specs.Prelude.{◌≡◌, ◌⊎◌, ◌≤◌, ℕ, List, Option, length};
 ghost use Rattle.lambda_types.specs.Faults.{Refusal};
 ghost use Rattle.lambda_types.specs.declared.fault.TypeFault.TheVariants.{Pattern};
-ghost use Rattle.tick_lexer.specs.declared.limits.TheConstants.{SCRIPT_LIMIT};
+ghost use Rattle.kap_base.specs.declared.limits.TheConstants.{SCRIPT_LIMIT};
 ghost use Rattle.tick_parser.specs.Trees.{StmtTree};
 ghost use Rattle.tick_compile.specs.Scripts.{Accepts, IsRefusedAt, Parses, Refuses};
 ghost use Rattle.tick_compile.specs.declared.script_fault.ScriptFault.{ScriptFault};

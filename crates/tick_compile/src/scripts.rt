@@ -3,7 +3,7 @@
 ghost use Rattle.std.specs.Prelude.{◌≡◌, ◌≢◌, ◌≤◌, true, false, length, IfErr, IfOk, None};
 ghost use Rattle.kap_base.specs.Words.{HasRisen};
 ghost use Rattle.lambda_types.specs.Builds.{AtMostOneMore};
-ghost use Rattle.tick_lexer.specs.declared.limits.TheConstants.{SCRIPT_LIMIT};
+ghost use Rattle.kap_base.specs.declared.limits.TheConstants.{SCRIPT_LIMIT};
 ghost use Rattle.tick_parser.specs.Trees.{script_tree};
 ghost use Rattle.tick_vars.specs.Law.{IsSettled};
 ghost use Rattle.tick_vars.specs.Nodes.{bound_tree};

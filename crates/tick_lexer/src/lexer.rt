@@ -10,9 +10,8 @@ ghost use Rattle.tick_lexer.specs.declared.token.Token.{Token};
 
 use crate::bytes::is_white;
 use crate::front::next_token;
-use crate::limits::SCRIPT_LIMIT;
 use crate::token::{Kind, LexFault, Token, Tokens};
-use kap_base::Op;
+use kap_base::{Op, SCRIPT_LIMIT};
 use std::alloc::Global;
 
 fn begins_comment(text: &[u8]) -> bool

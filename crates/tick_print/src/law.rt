@@ -10,9 +10,9 @@ ghost use Rattle.tick_print.specs.Places.{bare_script};
 ghost use Rattle.tick_print.specs.Print.{script_text};
 
 use crate::script::print;
-use kap_base::NoMemory;
+use kap_base::{NoMemory, SCRIPT_LIMIT};
 use std::alloc::Global;
-use tick_lexer::{LexFault, SCRIPT_LIMIT, Tokens, lex, text_reads_in_one_way};
+use tick_lexer::{LexFault, Tokens, lex, text_reads_in_one_way};
 use tick_parser::{ParseFault, Tree, not_both, one_tree, parse};
 
 /// The print of a script that was read is read as that script, places aside, whatever its length. It does nothing: its

@@ -1,7 +1,7 @@
 use Rattle.std.proofs.Common.{◌≡◌, ◌∙◌, ◌<◌, ◌++◌, List, [], ◌∷◌, length, get_or, ap, arith}
 use Rattle.kap_base.specs.declared.items.Msg.{Msg}
 use Rattle.flow_cells.specs.Outs.{with_unsent}
-use Rattle.merge_node.proofs.LoopLaws.{changed}
+use Rattle.kap_base.proofs.LoopLaws.{changed}
 use Rattle.flow_cells.proofs.outs.push_copies.Goals as goal
 
 pub pushing-preserved : goal.pushing-preserved

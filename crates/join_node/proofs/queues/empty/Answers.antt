@@ -1,6 +1,6 @@
 use Rattle.std.proofs.Common.{◌<◌, List, [], length, arith}
 use Rattle.kap_base.specs.Points.{PointValue}
-use Rattle.join_node.proofs.CodeLaws.{changed}
+use Rattle.kap_base.proofs.LoopLaws.{changed}
 use Rattle.join_node.proofs.queues.empty.Goals as goal
 
 pub emptying-preserved : goal.emptying-preserved

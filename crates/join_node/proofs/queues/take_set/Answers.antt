@@ -1,6 +1,7 @@
 use Rattle.std.proofs.Common.{◌<◌, ◌∙◌, List, drop, slice_get, length, arith}
 use Rattle.kap_base.specs.Points.{PointValue}
-use Rattle.join_node.proofs.CodeLaws.{changed, seen}
+use Rattle.join_node.proofs.CodeLaws.{seen}
+use Rattle.kap_base.proofs.LoopLaws.{changed}
 use Rattle.join_node.proofs.queues.take_set.Goals as goal
 
 pub taking-preserved : goal.taking-preserved

@@ -1,6 +1,6 @@
 use Rattle.std.proofs.Common.{◌<◌, List, drop, length, arith}
 use Rattle.kap_base.specs.declared.items.Msg.{Msg}
-use Rattle.merge_node.proofs.LoopLaws.{changed}
+use Rattle.kap_base.proofs.LoopLaws.{changed}
 use Rattle.merge_node.proofs.fronts.drop_fronts.Goals as goal
 
 pub dropping-preserved : goal.dropping-preserved
