@@ -1,10 +1,10 @@
-ghost use Rattle.std.specs.Prelude.{◌≡◌, IsTrue};
+ghost use Rattle.std.specs.Prelude.{◌≡◌, ◌≤ℤ◌, pos, IsTrue};
 ghost use Rattle.kap_base.specs.Points.{is_time};
 
 use kap_base::TIME_LIMIT;
 use std::marker::Model;
 use std::time;
-use std::time::{SystemTime, UNIX_EPOCH};
+use std::time::{Duration, SystemTime, UNIX_EPOCH};
 
 /// What tells the time.
 pub trait Clock {
@@ -40,8 +40,8 @@ impl Clock for FixedClock {
     }
 }
 
-/// The clock of the system. A time behind the last one that it may tell is told as the last one; where the clock can't be read,
-/// or stands before 1970, it tells 1970-01-01T00:00:00Z.
+/// The clock of the system. A time outside the range is told as the end of the range that is next to it; where the clock can't be
+/// read, it tells 1970-01-01T00:00:00Z.
 #[derive(Drop)]
 pub struct RealClock<C: time::Clock + Drop> {
     system: C,
@@ -54,15 +54,22 @@ impl<C: time::Clock + Drop> RealClock<C> {
     }
 }
 
+/// So many nanoseconds, or the most that a time may lie from 1970-01-01T00:00:00Z.
+fn within_limit(distance: Duration) -> i64
+    ensures least { pos 0 ≤ℤ result }
+    ensures most { result ≤ℤ pos TIME_LIMIT }
+{
+    distance.as_nanos().min(u128::from(TIME_LIMIT)) as i64
+}
+
 impl<C: time::Clock + Drop> Clock for RealClock<C> {
     fn now(&self) -> i64 {
-        let nanos = match SystemTime::now(&self.system) {
+        match SystemTime::now(&self.system) {
             Ok(now) => match now.duration_since(UNIX_EPOCH) {
-                Ok(since) => since.as_nanos(),
-                Err(_) => 0,
+                Ok(since) => within_limit(since),
+                Err(before) => -within_limit(before.duration()),
             },
             Err(_) => 0,
-        };
-        nanos.min(u128::from(TIME_LIMIT)) as i64
+        }
     }
 }
