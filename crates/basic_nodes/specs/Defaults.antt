@@ -9,7 +9,7 @@ use Rattle.task_graph.specs.declared.spec.DefaultSetting.{DefaultSetting}
 use Rattle.task_graph.specs.declared.spec.DefaultSetting.TheVariants.{Field, Tag}
 use Rattle.task_graph.specs.declared.spec.DefaultValue.{DefaultValue}
 use Rattle.task_graph.specs.declared.spec.DefaultValue.TheVariants.{Int, Bool as Truth, Str}
-use Rattle.basic_nodes.specs.Words.{passed}
+use Rattle.node_core.specs.Meaning.{passed}
 
 -- the value of a field
 abbrev pub value_of : DefaultValue → Value
@@ -27,5 +27,6 @@ abbrev pub with_defaults : List DefaultSetting → PointValue → PointValue
 with_defaults [] p = p
 with_defaults (setting ∷ settings) p = with_defaults settings (with_default setting p)
 
+-- the point with each setting that it lacks
 abbrev pub default_says : List DefaultSetting → PointValue → Said
 default_says settings p = passed (with_defaults settings p)

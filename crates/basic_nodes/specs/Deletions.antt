@@ -4,9 +4,8 @@ use Rattle.std.specs.List.{list_any}
 use Rattle.std.specs.FinMap.{len, retain_keys}
 use Rattle.kap_base.specs.Points.{PointValue}
 use Rattle.node_core.specs.declared.said.Said.{Said}
-use Rattle.node_core.specs.Meaning.{a_drop}
+use Rattle.node_core.specs.Meaning.{a_drop, passed}
 use Rattle.basic_nodes.specs.declared.deletions.Deletion.{Deletion}
-use Rattle.basic_nodes.specs.Words.{passed}
 
 -- the name is none of these
 abbrev pub is_left : List (List ℕ) → List ℕ → Bool

@@ -7,7 +7,7 @@ use Rattle.node_core.specs.declared.said.Said.{Said}
 use Rattle.basic_nodes.specs.declared.dimensions.Grouping.{Grouping}
 use Rattle.basic_nodes.specs.declared.dimensions.Grouping.TheVariants.{By, ByAll}
 use Rattle.basic_nodes.specs.declared.dimensions.Regrouping.{Regrouping}
-use Rattle.basic_nodes.specs.Words.{passed}
+use Rattle.node_core.specs.Meaning.{passed}
 
 -- a map that has these keys
 abbrev pub map_of : List (List ℕ) → KeyMap (Unit {0})

@@ -27,6 +27,7 @@ says_behind (Sample n) k p = sample_says n k p
 abbrev pub count_in : GroupKind → List Came → ℕ
 count_in kind before = length (filter (λ c. is_counted kind c.1) before)
 
+-- what is said of a point, by the points of its group before it
 abbrev pub group_says : GroupKind → GroupAnswer
 group_says kind before port p = says_behind kind (count_in kind before) p
 
@@ -36,6 +37,7 @@ group_says kind before port p = says_behind kind (count_in kind before) p
 abbrev pub counted_by : Bool → ℕ → ℕ
 counted_by b k = k + (if b then 1 else 0)
 
+-- the same by what is kept of the group: how often its condition was evaluated, or how many points it had
 abbrev pub group_step : GroupKind → ℕ → ℕ → PointValue → Turn ℕ
 group_step kind k port p = record { state = counted_by (is_counted kind p) k; said = says_behind kind k p }
 
@@ -43,6 +45,7 @@ one_more : (b : Bool) (c : Came) → length (cond b (c ∷ []) []) ≡ cond b 1 
 one_more true c = refl
 one_more false c = refl
 
+-- what is kept, and what is said, of one point more
 pub group_goes_on : (kind : GroupKind) (before : List Came) (port : ℕ) (p : PointValue)
     → group_step kind (count_in kind before) port p ≡ record { state = count_in kind (before ++ (port, p) ∷ []); said = group_says kind before port p }
 group_goes_on kind before port p = rw (filter-append (λ (c : Came). is_counted kind c.1) before ((port, p) ∷ []), length-append, one_more (is_counted kind p) (port, p)) refl

@@ -38,20 +38,25 @@ abbrev pub grouping_of : Dims → Grouping
 grouping_of (dims.Names names) = By (in_order names)
 grouping_of dims.All = ByAll
 
+-- what `from` selects, of its spec
 abbrev pub selection_of : FromSpec Lambda → Selection
 selection_of f = record { database = f.database; policy = f.retention_policy; measurement = f.measurement; conditions = f.conditions; grouping = grouping_of f.dims; by_measurement = f.by_measurement }
 
+-- by what `groupBy` groups, of its spec
 abbrev pub regrouping_of : GroupBySpec → Regrouping
 regrouping_of g = record { grouping = grouping_of g.dims; by_measurement = g.by_measurement }
 
+-- the field that a setting of `delete` names, if it names one
 abbrev pub field_named : DeleteSetting → List (List ℕ)
 field_named (deletes.Field name) = name ∷ []
 field_named (deletes.Tag name) = []
 
+-- and the tag
 abbrev pub tag_named : DeleteSetting → List (List ℕ)
 tag_named (deletes.Field name) = []
 tag_named (deletes.Tag name) = name ∷ []
 
+-- what `delete` takes away, of its settings
 abbrev pub deletion_of : List DeleteSetting → Deletion
 deletion_of settings = record { fields = flat_map field_named settings; tags = flat_map tag_named settings }
 
@@ -80,30 +85,37 @@ kind_of (Sample n) = Other (groups.Sample n)
 abbrev pub BasicSeat : Type 0
 BasicSeat = Both (Seat (Alone PointKind)) (Seat (Grouped GroupKind))
 
+-- a node of this kind, in this life and with this number
 abbrev pub seat_of : ℕ → ℕ → BasicKind → BasicSeat
 seat_of life node = of_both (λ kind. record { life = life; node = node; kind = record { plain = kind } }) (λ kind. record { life = life; node = node; kind = record { rule = kind } })
 
 -- ---- what is seen of a node
 
+-- the seat answers what the kind says
 pub answers : (life node : ℕ) (kind : BasicKind)
     → ◌≡◌ {A = Answer} (either (λ s. stamped s.life s.node (λ before x. point_says s.kind.plain x.0 x.1)) (λ s. stamped s.life s.node (in_groups (group_says s.kind.rule))) (seat_of life node kind)) (stamped life node (saying_of kind))
 answers life node (One kind) = refl
 answers life node (Other kind) = refl
 
+-- it has this life
 pub lives : (life node : ℕ) (kind : BasicKind) → either (λ s. s.life) (λ s. s.life) (seat_of life node kind) ≡ life
 lives life node (One kind) = refl
 lives life node (Other kind) = refl
 
+-- and this number
 pub numbers : (life node : ℕ) (kind : BasicKind) → either (λ s. s.node) (λ s. s.node) (seat_of life node kind) ≡ node
 numbers life node (One kind) = refl
 numbers life node (Other kind) = refl
 
+-- it has one port
 pub port : (life node : ℕ) (kind : BasicKind) → either {C = ℕ} (λ s. 1) (λ s. 1) (seat_of life node kind) ≡ 1
 port life node (One kind) = refl
 port life node (Other kind) = refl
 
+-- it takes points
 pub takes_points : (life node : ℕ) (kind : BasicKind) → ◌≡◌ {A = Body → Bool} (either (λ s. is_point) (λ s. is_point) (seat_of life node kind)) is_point
 takes_points life node (One kind) = refl
 takes_points life node (Other kind) = refl
 
+-- what is seen of a seat
 pub ruleset seen = (answers, lives, numbers, port, takes_points)

@@ -16,6 +16,7 @@ use Rattle.basic_nodes.specs.Shifts.{shift_says}
 use Rattle.basic_nodes.specs.Streams.{stream_says}
 use Rattle.basic_nodes.specs.Words.{of_points}
 
+-- what is said of a point by itself
 abbrev pub says_of : PointKind → PointValue → Said
 says_of (Stream dbrps) p = stream_says dbrps p
 says_of (GroupBy regrouping) p = group_by_says regrouping p

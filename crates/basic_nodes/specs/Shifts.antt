@@ -2,8 +2,7 @@
 use Rattle.std.specs.Prelude.{ℕ, ℤ, ◌+ℤ◌, ◌%◌, ◌==◌, if◌then◌else◌, Option, Some, None}
 use Rattle.kap_base.specs.Points.{PointValue, is_time}
 use Rattle.node_core.specs.declared.said.Said.{Said}
-use Rattle.node_core.specs.Meaning.{a_drop}
-use Rattle.basic_nodes.specs.Words.{passed, passed_if}
+use Rattle.node_core.specs.Meaning.{a_drop, passed, passed_if}
 
 -- the time so many nanoseconds later, where it lies in the range of times
 abbrev pub later : ℤ → ℤ → Option ℤ

@@ -4,7 +4,7 @@ use Rattle.std.specs.List.{list_any}
 use Rattle.kap_base.specs.Points.{PointValue}
 use Rattle.kap_base.specs.declared.dbrp.Dbrp.{Dbrp}
 use Rattle.node_core.specs.declared.said.Said.{Said}
-use Rattle.basic_nodes.specs.Words.{passed_if}
+use Rattle.node_core.specs.Meaning.{passed_if}
 
 -- the point is of this database and policy
 abbrev pub is_of : PointValue → Dbrp → Bool
@@ -14,5 +14,6 @@ is_of p d = bytes_eq d.db p.db && bytes_eq d.rp p.rp
 abbrev pub sees : List Dbrp → PointValue → Bool
 sees dbrps p = length dbrps == 0 || list_any (is_of p) dbrps
 
+-- the points of these databases and policies, and all points where none are named
 abbrev pub stream_says : List Dbrp → PointValue → Said
 stream_says dbrps p = passed_if (sees dbrps p) p

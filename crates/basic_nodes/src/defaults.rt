@@ -6,9 +6,8 @@ ghost use Rattle.kap_base.specs.Points.{is_value};
 ghost use Rattle.kap_base.specs.Texts.{is_name};
 ghost use Rattle.basic_nodes.specs.Defaults.{default_says, value_of, with_default, with_defaults};
 
-use crate::words::pass;
 use kap_base::{Duplicate, NoMemory, Point, Text, Value};
-use node_core::Said;
+use node_core::{Said, pass};
 use std::alloc::Global;
 use task_graph::{DefaultSetting, DefaultValue, Name};
 

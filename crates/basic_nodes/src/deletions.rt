@@ -5,9 +5,8 @@ ghost use Rattle.std.specs.List.{list_all, list_any};
 ghost use Rattle.std.specs.FinMap.{retain_keys};
 ghost use Rattle.basic_nodes.specs.Deletions.{delete_says, is_left, without};
 
-use crate::words::pass;
 use kap_base::{Duplicate, KeyMap, Names, NoMemory, Point, SharedText, Text};
-use node_core::Said;
+use node_core::{Said, pass};
 use std::alloc::Global;
 use task_graph::SharedNames;
 
@@ -81,16 +80,12 @@ fn left<V: Duplicate + Drop>(
 }
 
 /// The names that are none of these.
-fn names_left(alloc: Global, taken: &SharedNames, names: Names) -> Result<Names, NoMemory>
-    ensures { IfOk result (λ left. left ≡ filter (is_left taken.now) names) }
+fn names_left(taken: &SharedNames, names: Names) -> Names
+    ensures { result ≡ filter (is_left taken.now) names }
 {
-    let mut left = Vec::new(alloc);
-    'moving: for name in names.into_items() {
-        if is_left(taken.as_slice(), &name) {
-            left.push(name)?;
-        }
-    }
-    Ok(Names::from_items(left))
+    let mut items = names.into_items();
+    items.retain(|name| is_left(taken.as_slice(), name));
+    Names::from_items(items)
 }
 
 /// What `delete` says of a point.
@@ -116,7 +111,7 @@ pub(crate) fn feed_delete(
         return Ok(Said::dropped(alloc));
     }
     let tags = left(alloc, &deletion.tags, tags)?;
-    let dims = names_left(alloc, &deletion.tags, dims)?;
+    let dims = names_left(&deletion.tags, dims);
     let point = Point {
         db,
         rp,

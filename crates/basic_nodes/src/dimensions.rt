@@ -7,9 +7,8 @@ ghost use Rattle.std.specs.Str.{is_utf8};
 ghost use Rattle.kap_base.specs.Points.{are_dimensions};
 ghost use Rattle.basic_nodes.specs.Dimensions.{dims_of, group_by_says, grouped, in_order, map_of};
 
-use crate::words::pass;
 use kap_base::{Duplicate, KeyMap, Names, NoMemory, Point, SharedText, Text};
-use node_core::Said;
+use node_core::{Said, pass};
 use std::alloc::Global;
 use std::marker::Model;
 

@@ -7,11 +7,11 @@ ghost use Rattle.basic_nodes.specs.Conditions.{agrees, chosen_says, from_says, i
 ghost use Rattle.basic_nodes.specs.GroupKinds.{counted_by};
 
 use crate::dimensions::{Grouping, group};
-use crate::words::{pass, pass_where};
+use crate::words::pass_where;
 use kap_base::{NoMemory, Point, Text, Value};
 use lambda_count::{next_count, outcome, outcome_of_all};
 use lambda_types::Lambda;
-use node_core::Said;
+use node_core::{Said, pass};
 use std::alloc::Global;
 use std::marker::Model;
 

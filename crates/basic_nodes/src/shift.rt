@@ -5,10 +5,9 @@ ghost use Rattle.kap_base.specs.Points.{is_time};
 ghost use Rattle.basic_nodes.specs.GroupKinds.{counted_by};
 ghost use Rattle.basic_nodes.specs.Shifts.{later, sample_says, shift_says};
 
-use crate::words::{pass, pass_if};
 use kap_base::{NoMemory, Point, is_time};
 use lambda_count::next_count;
-use node_core::Said;
+use node_core::{Said, pass, pass_if};
 use std::alloc::Global;
 use task_graph::Count;
 

@@ -4,9 +4,8 @@ ghost use Rattle.std.specs.Prelude.{◌≡◌};
 ghost use Rattle.std.specs.List.{list_any};
 ghost use Rattle.basic_nodes.specs.Streams.{is_of, sees, stream_says};
 
-use crate::words::pass_if;
 use kap_base::{Dbrp, Dbrps, Point};
-use node_core::Said;
+use node_core::{Said, pass_if};
 use std::alloc::Global;
 
 fn is_of(point: &Point, dbrp: &Dbrp) -> bool

@@ -1,29 +1,12 @@
 //! What nodes say of a point.
 
 ghost use Rattle.std.specs.Prelude.{◌≡◌};
-ghost use Rattle.basic_nodes.specs.Words.{passed, passed_if, passed_where};
+ghost use Rattle.node_core.specs.Meaning.{passed, passed_if};
+ghost use Rattle.basic_nodes.specs.Words.{passed_where};
 
-use kap_base::{Body, Point, Value};
-use node_core::Said;
+use kap_base::{Point, Value};
+use node_core::{Said, pass_if};
 use std::alloc::Global;
-
-/// The point is given out.
-pub(crate) fn pass(alloc: Global, point: Point) -> Said
-    ensures { result ≡ passed point }
-{
-    Said::of_body(alloc, Body::Point(point))
-}
-
-/// The point is given out where this is true; else nothing is said of it.
-pub(crate) fn pass_if(alloc: Global, holds: bool, point: Point) -> Said
-    ensures { result ≡ passed_if holds point }
-{
-    if holds {
-        pass(alloc, point)
-    } else {
-        Said::nothing(alloc)
-    }
-}
 
 /// The point is given out where the value of a condition is true. It is dropped and counted where there is none, and only
 /// dropped where it is another one.

@@ -8,9 +8,11 @@ use Rattle.node_core.specs.Meaning.{Given, Input}
 abbrev pub inputs_up_to : ℕ → List Input → List Input
 inputs_up_to s xs = filter (λ x. nat_le x.1.stamp.0 s) xs
 
+-- the items up to a stamp
 abbrev pub items_up_to : ℕ → List Item → List Item
 items_up_to s items = filter (λ i. nat_le i.stamp.0 s) items
 
+-- and the effects
 abbrev pub effects_up_to : ℕ → List Effect → List Effect
 effects_up_to s effects = filter (λ e. nat_le e.stamp.0 s) effects
 
@@ -30,6 +32,7 @@ pub record IsEffectOf (life node stamp : ℕ) (e : Effect) : Type 0 where
   pub node_is : e.node ≡ node
   pub stamp_is : e.stamp.0 ≡ stamp
 
+-- each is an effect of this node in this life, with this stamp
 abbrev pub AreEffectsOf : ℕ → ℕ → ℕ → List Effect → Type 0
 AreEffectsOf life node stamp [] = ⊤
 AreEffectsOf life node stamp (e ∷ effects) = IsEffectOf life node stamp e × AreEffectsOf life node stamp effects

@@ -44,6 +44,7 @@ module _ (life node : ℕ) (answer : Answer) (stamped : (before : List Input) (x
         effects = sym (filter-append _ (answer before x).effects _ ∙ rw (effects-cut s life node x.1.stamp.0 _ le is.effects, ← rest.effects) refl);
       }
 
+  -- what is given up to a stamp is what the inputs up to it give, in a list whose stamps don't fall
   pub after_up_to : (s : ℕ) (before xs : List Input) → InOrder xs → UpTo s (given_after answer before (inputs_up_to s xs)) (given_after answer before xs)
   after_up_to s before [] ordered = record { items = refl; effects = refl }
   after_up_to s before (x ∷ xs) ordered =

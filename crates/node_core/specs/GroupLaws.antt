@@ -75,5 +75,6 @@ groups-batch : {C : Type 0} (first : C) (step : C → ℕ → PointValue → Tur
 groups-batch first step cells port (bodies.Point p) e = absurd cc
 groups-batch first step cells port (bodies.Batch b) e = refl
 
+-- a batch changes no group
 pub groups_stay : {C : Type 0} (first : C) (step : C → ℕ → PointValue → Turn C) (cells : KeyMap C) (x : Arrival) → is_point x.1 ≡ false → group_step first step cells x ≡ record { state = cells; said = silence }
 groups_stay first step cells x e = groups-batch first step cells x.0 x.1 e

@@ -82,6 +82,7 @@ measured-name bs e = both-second (not (begins_with number_sign bs)) (is_name bs)
 
 -- ---- the values of tags
 
+-- a name and a value that is one
 abbrev is_tag : List ℕ × List ℕ → Bool
 is_tag e = is_name e.0 && is_name e.1
 
@@ -112,10 +113,12 @@ not_nil : (a z w : List ℕ) → [] ≡ (ended a ++ z) ++ w → ⊥
 not_nil [] z w e = absurd cc
 not_nil (c ∷ a) z w e = absurd cc
 
+-- no text has the mark
 abbrev AllClean : List (List ℕ) → Type 0
 AllClean [] = Unit {0}
 AllClean (d ∷ ds) = Clean d × AllClean ds
 
+-- the same dimensions, with the same values
 abbrev SameDims : KeyMap (List ℕ) → KeyMap (List ℕ) → List (List ℕ) → List (List ℕ) → Type 0
 SameDims s t ds es = (ds ≡ es) × (map (tag_value s) ds ≡ map (tag_value t) es)
 
@@ -166,6 +169,7 @@ same_key_same_group p q hp hq e =
 
 -- ---- the key of a group
 
+-- dimensions and their values, each with its mark
 abbrev key_pairs : List (List ℕ) → List (List ℕ) → List ℕ
 key_pairs [] values = []
 key_pairs (d ∷ ds) [] = []
@@ -179,6 +183,7 @@ key-name : (b : Bool) (x : List ℕ) → ◌≡◌ {A = List ℕ} (cond b x []) 
 key-name true x = refl
 key-name false x = refl
 
+-- the key of a group by its parts
 abbrev key_of : GroupValue → List ℕ
 key_of g = ended (unwrap_or g.name []) ++ key_pairs g.dims g.values
 

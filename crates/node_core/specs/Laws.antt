@@ -9,9 +9,11 @@ use Rattle.node_core.specs.Meaning.{Given, Input, Answer, Move, Follows, nothing
 pub also_assoc : (a b c : Given) → also (also a b) c ≡ also a (also b c)
 also_assoc a b c = rw (append_assoc {A = Item}, append_assoc {A = Effect}, add_assoc) refl
 
+-- with nothing behind it, it is the same
 pub also-nothing : (a : Given) → also a nothing ≡ a
 also-nothing a = rw (append-nil {A = Item}, append-nil {A = Effect}, add-zero) refl
 
+-- and with nothing before it
 pub nothing-also : (a : Given) → also nothing a ≡ a
 nothing-also a = rw zero-add refl
 
@@ -33,6 +35,7 @@ given-append answer before (x ∷ xs) ys = rw (given-append answer (before ++ x 
 
 -- ---- filters
 
+-- what is left of two lists is what is left of each
 pub filter-append : {A : Type 0} (p : A → Bool) (xs ys : List A) → filter p (xs ++ ys) ≡ filter p xs ++ filter p ys
 filter-append p [] ys = refl
 filter-append p (x ∷ xs) ys = elim (p x) as (λ b. cond b (x ∷ filter p (xs ++ ys)) (filter p (xs ++ ys)) ≡ cond b (x ∷ filter p xs) (filter p xs) ++ filter p ys) [

@@ -16,9 +16,11 @@ step_of first step cells port (bodies.Point p) =
     record { state = insert cells (group_key p) turn.state; said = turn.said }
 step_of first step cells port (bodies.Batch b) = record { state = cells; said = silence }
 
+-- a step of all groups, on an arrival
 abbrev pub group_step : {C : Type 0} → C → (C → ℕ → PointValue → Turn C) → KeyMap C → Arrival → Turn (KeyMap C)
 group_step first step cells x = step_of first step cells x.0 x.1
 
+-- before the first point there is no group
 abbrev pub no_groups : {C : Type 0} → KeyMap C
 no_groups = empty
 

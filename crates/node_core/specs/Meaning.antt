@@ -1,6 +1,8 @@
 -- What a node says of what arrives, and what it gives on a whole list of inputs.
-use Rattle.std.specs.Prelude.{◌≡◌, ℕ, ◌+◌, List, [], ◌∷◌, ◌++◌}
+use Rattle.std.specs.Prelude.{◌≡◌, ℕ, ◌+◌, Bool, if◌then◌else◌, List, [], ◌∷◌, ◌++◌}
+use Rattle.kap_base.specs.Points.{PointValue}
 use Rattle.kap_base.specs.declared.items.Body.{Body}
+use Rattle.kap_base.specs.declared.items.Body.TheVariants as bodies
 use Rattle.kap_base.specs.declared.items.Item.{Item}
 use Rattle.kap_base.specs.declared.items.Effect.{Effect}
 use Rattle.node_core.specs.declared.said.Said.{Said}
@@ -14,6 +16,14 @@ silence = record { bodies = []; deeds = []; drops = 0 }
 -- an input that is dropped and counted
 abbrev pub a_drop : Said
 a_drop = record { bodies = []; deeds = []; drops = 1 }
+
+-- the point is given out
+abbrev pub passed : PointValue → Said
+passed p = record { bodies = bodies.Point p ∷ []; deeds = []; drops = 0 }
+
+-- where this is true; else nothing is said of it
+abbrev pub passed_if : Bool → PointValue → Said
+passed_if b p = if b then passed p else silence
 
 -- a body at a port
 abbrev pub Arrival : Type 0
@@ -36,6 +46,7 @@ pub record Given : Type 0 where
   pub effects : List Effect
   pub drops : ℕ
 
+-- nothing is given
 abbrev pub nothing : Given
 nothing = record { items = []; effects = []; drops = 0 }
 

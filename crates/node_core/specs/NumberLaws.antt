@@ -36,9 +36,11 @@ module _ {S : Type 0} (life node : ℕ) (saying : Saying) (step : S → Arrival 
   kept_first : KeptRunning life node saying Kept [] (running_first first)
   kept_first = record { tally = refl; dropped = refl; inner = begins }
 
+  -- fed a list, the machine gives what is said, with stamps and numbers
   pub folds : (xs : List Input) → (fold (running_step life node step) (running_first first) xs).given ≡ given (stamped life node saying) xs
   folds xs = fold-given follows [] (running_first first) xs kept_first
 
+  -- and has counted what was dropped
   pub counts : (xs : List Input) → (fold (running_step life node step) (running_first first) xs).state.dropped ≡ (given (stamped life node saying) xs).drops
   counts xs = (fold-state follows [] (running_first first) xs kept_first).dropped
 
@@ -50,6 +52,7 @@ effects_stamped : (life node : ℕ) (stamp : Stamp) (seq : ℕ) (whats : List Wh
 effects_stamped life node stamp seq [] = tt
 effects_stamped life node stamp seq (w ∷ whats) = (record { life_is = refl; node_is = refl; stamp_is = refl }, effects_stamped life node stamp (seq + 1) whats)
 
+-- what is given has the input's stamp, the life and the node
 pub is_stamped : (life node : ℕ) (saying : Saying) (before : List Input) (x : Input) → IsStamped life node x.1.stamp.0 (stamped life node saying before x)
 is_stamped life node saying before x =
     let said = saying (map arrival before) (arrival x) in

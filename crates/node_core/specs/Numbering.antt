@@ -8,6 +8,8 @@ use Rattle.kap_base.specs.declared.items.What.{What}
 use Rattle.node_core.specs.declared.said.Said.{Said}
 use Rattle.node_core.specs.declared.running.Tally.{Tally}
 use Rattle.node_core.specs.declared.running.Running.{Running}
+use Rattle.node_core.specs.declared.grouped.Grouped.{Grouped}
+use Rattle.node_core.specs.declared.numbered.Seat.{Seat}
 use Rattle.node_core.specs.Meaning.{Arrival, Saying, Turn, Input, Answer, Given, Move, given}
 
 -- an input without its stamp
@@ -22,6 +24,7 @@ item_at stamp body = record { stamp = stamp; body = body }
 abbrev pub effect_at : ℕ → ℕ → Stamp → ℕ → What → Effect
 effect_at life node stamp seq what = record { stamp = stamp; life = life; node = node; seq = seq; what = what }
 
+-- each of them, with a stamp
 abbrev pub items_at : Stamp → List Body → List Item
 items_at stamp bodies = map (item_at stamp) bodies
 
@@ -51,6 +54,7 @@ abbrev pub tally_after : Saying → Tally → List Input → List Input → Tall
 tally_after saying t before [] = t
 tally_after saying t before (x ∷ xs) = tally_after saying (counted t x.1.stamp.0 (length (saying (map arrival before) (arrival x)).deeds)) (before ++ x ∷ []) xs
 
+-- the last stamp with which effects were given, and how many, behind these inputs
 abbrev pub tally : Saying → List Input → Tally
 tally saying before = tally_after saying no_tally [] before
 
@@ -63,8 +67,13 @@ abbrev pub given_with : ℕ → Saying → List Input → List Input → ℕ
 given_with stamp saying before [] = 0
 given_with stamp saying before (x ∷ xs) = (if x.1.stamp.0 == stamp then length (saying (map arrival before) (arrival x)).deeds else 0) + given_with stamp saying (before ++ x ∷ []) xs
 
+-- what a node does in each group by itself, with the life in which it runs, and its number
+abbrev pub rule_seat : {R : Type 0} → ℕ → ℕ → R → Seat (Grouped R)
+rule_seat life node rule = record { life = life; node = node; kind = record { rule = rule } }
+
 -- ---- the machine of a node, from the machine of what it says
 
+-- a step: what is said gets its stamp, its effects their numbers, and its drops are counted
 abbrev pub running_step : {S : Type 0} → ℕ → ℕ → (S → Arrival → Turn S) → Running S → Input → Move (Running S)
 running_step life node step s x =
     let turn = step s.inner (arrival x) in
@@ -73,6 +82,7 @@ running_step life node step s x =
       given = given_at life node x.1.stamp (number_at s.tally x.1.stamp.0) turn.said;
     }
 
+-- the state before the first input
 abbrev pub running_first : {S : Type 0} → S → Running S
 running_first s = record { tally = no_tally; dropped = 0; inner = s }
 

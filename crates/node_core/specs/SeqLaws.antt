@@ -46,6 +46,7 @@ none-before stamp = elim (0 == stamp) as (λ b. ◌≡◌ {A = ℕ} (cond b 0 0)
   | false ↦ refl
 ]
 
+-- in a list whose stamps don't fall, the number of the next effect with a stamp is that of all effects with it before
 pub numbers_count : (saying : Saying) (before : List Input) (stamp : ℕ) → InOrder before → AllUpTo stamp before → number_at (tally saying before) stamp ≡ given_with stamp saying [] before
 numbers_count saying before stamp ordered upto =
     number-after saying no_tally [] before stamp (from-zero before) ordered upto

@@ -1,8 +1,8 @@
 ghost use Rattle.std.specs.Prelude.{◌≡◌, [], ◌∷◌};
-ghost use Rattle.node_core.specs.Meaning.{silence, a_drop};
+ghost use Rattle.node_core.specs.Meaning.{silence, a_drop, passed, passed_if};
 
 use crate::few::Few;
-use kap_base::{Body, What};
+use kap_base::{Body, Point, What};
 use std::alloc::Global;
 
 /// What a node says of one arrival: what it gives out, what it does, and how many inputs it drops and counts.
@@ -55,5 +55,23 @@ impl Said {
         ensures { result ≡ record { bodies = body ∷ []; deeds = []; drops = 0 } }
     {
         Said::given(alloc, Few::one(alloc, body))
+    }
+}
+
+/// The point is given out.
+pub fn pass(alloc: Global, point: Point) -> Said
+    ensures { result ≡ passed point }
+{
+    Said::of_body(alloc, Body::Point(point))
+}
+
+/// The point is given out where this is true; else nothing is said of it.
+pub fn pass_if(alloc: Global, holds: bool, point: Point) -> Said
+    ensures { result ≡ passed_if holds point }
+{
+    if holds {
+        pass(alloc, point)
+    } else {
+        Said::nothing(alloc)
     }
 }

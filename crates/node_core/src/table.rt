@@ -55,13 +55,6 @@ impl<C: Drop> Table<C> {
             looked_up: Key::new(alloc),
         }
     }
-
-    /// How many groups there are.
-    pub fn len(&self) -> usize
-        ensures { result ≡ map.len self.now }
-    {
-        self.cells.len()
-    }
 }
 
 /// Where the key's cell is; a key that has none gets the first one.

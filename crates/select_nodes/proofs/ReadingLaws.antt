@@ -37,12 +37,6 @@ pub ranks : (rank : Rank) → IsStrictWeakOrder (goes_before rank)
 ranks Lowest = record { one_way = λ x y. less_one_way x.number y.number; chain = λ x y z. less_chain x.number y.number z.number }
 ranks Highest = record { one_way = λ x y. less_one_way y.number x.number; chain = λ x y z e f. less_chain z.number y.number x.number f e }
 
-pub less_from_cmp : (a b : ℤ) → is_lt (int_cmp a b) ≡ int_lt a b
-less_from_cmp a b = elim (int_lt a b) as (λ t. is_lt (cond t Less (cond (int_lt b a) Greater Equal)) ≡ t) [
-  | true ↦ refl
-  | false ↦ elim (int_lt b a) as (λ t. is_lt (cond t Greater Equal) ≡ false) [ true ↦ refl | false ↦ refl ]
-]
-
 pub sorted_by_rank : (rank : Rank) (xs ys : List ReadingValue) → IsSortedBy (goes_before rank) ys → IsStableBy (goes_before rank) xs ys → ys ≡ by_rank rank xs
 sorted_by_rank rank xs ys = sorted_is_ranked (goes_before rank) (ranks rank) xs ys
 

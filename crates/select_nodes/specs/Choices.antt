@@ -21,6 +21,7 @@ abbrev pub sum_of : List ℤ → Option ℤ
 sum_of [] = None
 sum_of (n ∷ ns) = Some (int_wrap w64 (fold ◌+ℤ◌ (pos 0) (n ∷ ns)))
 
+-- the sum of readings, where there are some
 abbrev pub sum_in : List ReadingValue → Option ℤ
 sum_in rs = sum_of (map (λ r. r.number) rs)
 
@@ -29,6 +30,7 @@ abbrev pub spread_between : Option ReadingValue → Option ReadingValue → Opti
 spread_between (Some high) (Some low) = Some (int_wrap w64 (high.number -ℤ low.number))
 spread_between _ _ = None
 
+-- the greatest less the least, where there are some
 abbrev pub spread_in : List ReadingValue → Option ℤ
 spread_in rs = spread_between (first (by_rank Highest rs)) (first (by_rank Lowest rs))
 
@@ -48,6 +50,7 @@ distinct (v ∷ vs) = v ∷ filter (λ w. not (is_same w v)) (distinct vs)
 abbrev pub at_end : ℤ → Value → PickValue
 at_end tmax v = record { value = v; time = tmax }
 
+-- a number at the end of the batch
 abbrev pub int_at_end : ℤ → ℤ → PickValue
 int_at_end tmax n = at_end tmax (Int n)
 
@@ -55,6 +58,7 @@ int_at_end tmax n = at_end tmax (Int n)
 abbrev pub timed : Bool → ℤ → PickValue → PickValue
 timed point_times tmax p = record { value = p.value; time = if point_times then p.time else tmax }
 
+-- a reading at its own time, or at the end of the batch
 abbrev pub timed_reading : Bool → ℤ → ReadingValue → PickValue
 timed_reading point_times tmax r = timed point_times tmax (record { value = Int r.number; time = r.time })
 
@@ -71,5 +75,6 @@ choices Distinct field point_times tmax ps = map (at_end tmax) (distinct (values
 choices (Top n) field point_times tmax ps = map (timed_reading point_times tmax) (take n (by_rank Highest (readings_at field ps)))
 choices (Bottom n) field point_times tmax ps = map (timed_reading point_times tmax) (take n (by_rank Lowest (readings_at field ps)))
 
+-- what is chosen from the points of a batch that ends then
 abbrev pub chosen : SelectSpec → ℤ → List PointValue → List PickValue
 chosen s tmax ps = choices s.select s.field s.use_point_times tmax ps

@@ -18,36 +18,46 @@ saying_of spec before x = select_says spec x.0 x.1
 abbrev pub SelectSeat : Type 0
 SelectSeat = Seat (Alone Selection)
 
+-- a select of this spec, in this life and with this number
 abbrev pub seat_of : ℕ → ℕ → SelectSpec → SelectSeat
 seat_of life node spec = record { life = life; node = node; kind = record { plain = record { spec = spec } } }
 
 -- ---- what is seen of a select
 
+-- nothing is said of a point
 pub silent : (spec : SelectSpec) (port : ℕ) (body : Body) → is_batch body ≡ false → select_says spec port body ≡ silence
 silent spec port (bodies.Point p) e = refl
 silent spec port (bodies.Batch b) e = absurd cc
 
+-- how many ports a seat has
 abbrev pub ports : SelectSeat → ℕ
 ports s = 1
 
+-- which bodies it takes
 abbrev pub takes : SelectSeat → Body → Bool
 takes s = is_batch
 
+-- the seat answers what the kind says
 pub answers : (life node : ℕ) (spec : SelectSpec)
     → ◌≡◌ {A = Answer} ((λ (s : SelectSeat). stamped s.life s.node (λ before x. select_says s.kind.plain.spec x.0 x.1)) (seat_of life node spec))
     (stamped life node (saying_of spec))
 answers life node spec = refl
 
+-- it has this life
 pub lives : (life node : ℕ) (spec : SelectSpec) → (seat_of life node spec).life ≡ life
 lives life node spec = refl
 
+-- and this number
 pub numbers : (life node : ℕ) (spec : SelectSpec) → (seat_of life node spec).node ≡ node
 numbers life node spec = refl
 
+-- it has one port
 pub port : (life node : ℕ) (spec : SelectSpec) → ports (seat_of life node spec) ≡ 1
 port life node spec = refl
 
+-- it takes batches
 pub takes_batches : (life node : ℕ) (spec : SelectSpec) → takes (seat_of life node spec) ≡ is_batch
 takes_batches life node spec = refl
 
+-- what is seen of a seat
 pub ruleset seen = (answers, lives, numbers, port, takes_batches)

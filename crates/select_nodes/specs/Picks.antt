@@ -29,6 +29,7 @@ abbrev pub reading_of : Option Value → ℤ → Option ReadingValue
 reading_of (Some (Int n)) time = Some (record { number = n; time = time })
 reading_of _ time = None
 
+-- the integer of a point's field, with its place
 abbrev pub reading_at : List ℕ → PointValue → Option ReadingValue
 reading_at field p = reading_of (get p.fields field) p.time
 
@@ -36,9 +37,11 @@ reading_at field p = reading_of (get p.fields field) p.time
 abbrev pub values_at : List ℕ → List PointValue → List Value
 values_at field ps = filter_map (λ p. get p.fields field) ps
 
+-- the values of a field, at the points that have it, in their order
 abbrev pub picks_at : List ℕ → List PointValue → List PickValue
 picks_at field ps = filter_map (pick_at field) ps
 
+-- its integers, at the points that have one, in their order
 abbrev pub readings_at : List ℕ → List PointValue → List ReadingValue
 readings_at field ps = filter_map (reading_at field) ps
 

@@ -33,6 +33,7 @@ abbrev pub name_or : Option (List ℕ) → List ℕ → List ℕ
 name_or None own = own
 name_or (Some name) own = name
 
+-- the field of a result: the one that is given, or the node's name
 abbrev pub field_name : SelectSpec → List ℕ
 field_name s = name_or s.name (node_name s.select)
 

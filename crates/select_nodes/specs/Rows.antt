@@ -16,9 +16,11 @@ at time number = record { number = number; time = pos time }
 abbrev pub five : List ReadingValue
 five = at 1 (pos 3) ∷ at 2 (pos 7) ∷ at 3 (pos 2) ∷ at 4 (pos 7) ∷ at 5 (pos 2) ∷ []
 
+-- the least integer of a field
 abbrev pub least : ℤ
 least = negsuc 9223372036854775807
 
+-- and the greatest
 abbrev pub greatest : ℤ
 greatest = pos 9223372036854775807
 
@@ -30,9 +32,11 @@ TopThree = take 3 (by_rank Highest five) ≡ at 2 (pos 7) ∷ at 4 (pos 7) ∷ a
 abbrev pub BottomNine : Type 0
 BottomNine = take 9 (by_rank Lowest five) ≡ at 3 (pos 2) ∷ at 5 (pos 2) ∷ at 1 (pos 3) ∷ at 2 (pos 7) ∷ at 4 (pos 7) ∷ []
 
+-- `max` takes the first of the greatest
 abbrev pub Greatest : Type 0
 Greatest = first (by_rank Highest five) ≡ Some (at 2 (pos 7))
 
+-- `min` takes the first of the least
 abbrev pub Least : Type 0
 Least = first (by_rank Lowest five) ≡ Some (at 3 (pos 2))
 
@@ -44,6 +48,7 @@ NoSum = sum_in [] ≡ None
 abbrev pub WrappedSum : Type 0
 WrappedSum = sum_in (at 1 greatest ∷ at 2 (pos 1) ∷ []) ≡ Some (int_wrap w64 (pos 9223372036854775808))
 
+-- a spread past 64 bits wraps
 abbrev pub WrappedSpread : Type 0
 WrappedSpread = spread_in (at 1 least ∷ at 2 greatest ∷ []) ≡ Some (int_wrap w64 (pos 18446744073709551615))
 
@@ -51,5 +56,6 @@ WrappedSpread = spread_in (at 1 least ∷ at 2 greatest ∷ []) ≡ Some (int_wr
 abbrev pub ones : List Value
 ones = Int (pos 1) ∷ Str (codes "1") ∷ Truth true ∷ []
 
+-- values of two kinds are two values
 abbrev pub Kinds : Type 0
 Kinds = distinct (ones ++ ones) ≡ ones

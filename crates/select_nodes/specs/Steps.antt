@@ -36,11 +36,13 @@ choice_items (Many picks) = picks.items
 abbrev pub KeyValue : Type 0
 KeyValue = ℕ × ℤ × List ℕ
 
+-- what tells a value from others
 abbrev pub key_of : Value → KeyValue
 key_of (Int n) = (0, n, [])
 key_of (Truth b) = (1, pos (if b then 1 else 0), [])
 key_of (Str text) = (2, pos 0, text)
 
+-- an order of these
 abbrev pub compare_keys : KeyValue → KeyValue → Ordering
 compare_keys a b = ordering_then (ordering_then (nat_cmp a.0 b.0) (int_cmp a.1 b.1)) (slice_cmp nat_cmp a.2 b.2)
 
@@ -48,6 +50,7 @@ compare_keys a b = ordering_then (ordering_then (nat_cmp a.0 b.0) (int_cmp a.1 b
 abbrev pub KeptKey : Type 0
 KeptKey = ℕ × ℤ × Bor (List ℕ)
 
+-- the same of one that is kept
 abbrev pub seen_key : KeptKey → KeyValue
 seen_key k = (k.0, k.1, k.2.now)
 

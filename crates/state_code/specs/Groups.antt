@@ -12,12 +12,15 @@ use Rattle.state_code.specs.Texts.{FitsText, read_text, text_spelled}
 abbrev pub are_group : Option (List ℕ) → List (List ℕ) → List (List ℕ) → Bool
 are_group name dims values = option_map_or is_measurement name true && (are_dimensions dims && are_tag_values dims values)
 
+-- the same of a whole group
 abbrev pub is_group : GroupValue → Bool
 is_group g = are_group g.name g.dims g.values
 
+-- a group as a tuple of its parts
 abbrev pub group_parts : GroupValue → Option (List ℕ) × (List (List ℕ) × List (List ℕ))
 group_parts g = (g.name, (g.dims, g.values))
 
+-- and the group of such a tuple
 abbrev pub group_with : Option (List ℕ) × (List (List ℕ) × List (List ℕ)) → GroupValue
 group_with x = record { name = x.0; dims = x.1.0; values = x.1.1 }
 
@@ -33,5 +36,6 @@ spell_group g = spell_pair (spell_option spell_bytes) (spell_pair (spell_list sp
 abbrev pub read_group : Reading GroupValue
 read_group = read_where is_group (read_as group_with (read_pair (read_option read_text) (read_pair (read_list read_text) (read_list read_text))))
 
+-- what is spelled is read again, and only that
 pub group_spelled : IsSpelling FitsGroup spell_group read_group
 group_spelled = tested_by (as_parts (pair_spelled (option_spelled text_spelled) (pair_spelled (list_spelled text_spelled) (list_spelled text_spelled))) group_with group_parts (λ g. refl) (λ x. refl)) is_group

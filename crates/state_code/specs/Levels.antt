@@ -10,9 +10,11 @@ use Rattle.state_code.specs.Laws.{variant}
 abbrev pub spell_unit : Unit {0} → List ℕ
 spell_unit x = []
 
+-- it stands everywhere
 abbrev pub read_unit : Reading (Unit {0})
 read_unit bytes = value_then tt bytes
 
+-- it can always be spelled
 abbrev pub FitsUnit : Unit {0} → Type 0
 FitsUnit x = ⊤
 
@@ -24,6 +26,7 @@ unit_only bytes x rest fits e =
     let is = ap (λ (p : Unit {0} × List ℕ). p.1) (same_pair (tt, bytes) (x, rest) e) in
     record { fits = tt; parts = is; rest_bytes = rw (← is) fits }
 
+-- what is spelled is read again, and only that
 pub unit_spelled : IsSpelling FitsUnit spell_unit read_unit
 unit_spelled = record { again = λ x rest h. refl; only = unit_only }
 
@@ -43,6 +46,7 @@ read_level (suc (suc zero) ∷ bytes) = read_as (λ x. Warning) read_unit bytes
 read_level (suc (suc (suc zero)) ∷ bytes) = read_as (λ x. Critical) read_unit bytes
 read_level (suc (suc (suc (suc n))) ∷ bytes) = None
 
+-- each level can be spelled
 abbrev pub FitsLevel : Level → Type 0
 FitsLevel l = ⊤
 
@@ -60,5 +64,6 @@ level_only (suc (suc zero) ∷ bytes) l rest fits e = variant unit_spelled 2 (λ
 level_only (suc (suc (suc zero)) ∷ bytes) l rest fits e = variant unit_spelled 3 (λ x. Critical) (λ x h. tt) (λ x. refl) bytes l rest fits e
 level_only (suc (suc (suc (suc n))) ∷ bytes) l rest fits e = absurd cc
 
+-- what is spelled is read again, and only that
 pub level_spelled : IsSpelling FitsLevel spell_level read_level
 level_spelled = record { again = level_again; only = level_only }

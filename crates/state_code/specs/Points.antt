@@ -34,18 +34,23 @@ is_point p = are_named p.db p.rp p.name && are_held p.tags p.fields p.dims p.tim
 abbrev pub Parts : Type 0
 Parts = (List ℕ × (List ℕ × List ℕ)) × ((KeyMap (List ℕ) × KeyMap Value) × (List (List ℕ) × (Bool × ℤ)))
 
+-- a point as a tuple of its parts
 abbrev pub point_parts : PointValue → Parts
 point_parts p = ((p.db, (p.rp, p.name)), ((p.tags, p.fields), (p.dims, (p.by_name, p.time))))
 
+-- and the point of such a tuple
 abbrev pub point_of : Parts → PointValue
 point_of x = record { db = x.0.0; rp = x.0.1.0; name = x.0.1.1; tags = x.1.0.0; fields = x.1.0.1; dims = x.1.1.0; by_name = x.1.1.1.0; time = x.1.1.1.1 }
 
+-- texts of fewer than 2^32 bytes
 abbrev pub FitsNamed : List ℕ × (List ℕ × List ℕ) → Type 0
 FitsNamed = FitsPair FitsText (FitsPair FitsText FitsText)
 
+-- fewer than 2^32 tags and fields, and each can be spelled
 abbrev pub FitsMaps : KeyMap (List ℕ) × KeyMap Value → Type 0
 FitsMaps = FitsPair (FitsMap FitsText FitsText) (FitsMap FitsText FitsValue)
 
+-- fewer than 2^32 dimensions, and a time of 64 bits
 abbrev pub FitsRest : List (List ℕ) × (Bool × ℤ) → Type 0
 FitsRest = FitsPair (FitsList FitsText) (FitsPair (λ b. ⊤) (FitsSigned w64))
 
@@ -53,12 +58,15 @@ FitsRest = FitsPair (FitsList FitsText) (FitsPair (λ b. ⊤) (FitsSigned w64))
 abbrev pub FitsPoint : PointValue → Type 0
 FitsPoint p = FitsPair FitsNamed (FitsPair FitsMaps FitsRest) (point_parts p) × IsTrue (is_point p)
 
+-- database, policy and measurement, one behind the other
 abbrev pub spell_named : List ℕ × (List ℕ × List ℕ) → List ℕ
 spell_named = spell_pair spell_bytes (spell_pair spell_bytes spell_bytes)
 
+-- the tags, and then the fields
 abbrev pub spell_maps : KeyMap (List ℕ) × KeyMap Value → List ℕ
 spell_maps = spell_pair (spell_map spell_bytes spell_bytes) (spell_map spell_bytes spell_value)
 
+-- the dimensions, whether it is grouped by name, and the time
 abbrev pub spell_rest : List (List ℕ) × (Bool × ℤ) → List ℕ
 spell_rest = spell_pair (spell_list spell_bytes) (spell_pair spell_bool spell_i64)
 
@@ -66,12 +74,15 @@ spell_rest = spell_pair (spell_list spell_bytes) (spell_pair spell_bool spell_i6
 abbrev pub spell_point : PointValue → List ℕ
 spell_point p = spell_pair spell_named (spell_pair spell_maps spell_rest) (point_parts p)
 
+-- the names that stand there
 abbrev pub read_named : Reading (List ℕ × (List ℕ × List ℕ))
 read_named = read_pair read_text (read_pair read_text read_text)
 
+-- the tags and fields that stand there
 abbrev pub read_maps : Reading (KeyMap (List ℕ) × KeyMap Value)
 read_maps = read_pair (read_map byte_order read_text read_text) (read_map byte_order read_text read_value)
 
+-- the dimensions, whether it is grouped by name, and the time that stand there
 abbrev pub read_rest : Reading (List (List ℕ) × (Bool × ℤ))
 read_rest = read_pair (read_list read_text) (read_pair read_bool read_i64)
 
@@ -79,6 +90,7 @@ read_rest = read_pair (read_list read_text) (read_pair read_bool read_i64)
 abbrev pub read_point : Reading PointValue
 read_point = read_where is_point (read_as point_of (read_pair read_named (read_pair read_maps read_rest)))
 
+-- what is spelled is read again, and only that
 pub point_spelled : IsSpelling FitsPoint spell_point read_point
 point_spelled = tested_by (as_parts
     (pair_spelled (pair_spelled text_spelled (pair_spelled text_spelled text_spelled)) (pair_spelled (pair_spelled (map_spelled byte_order text_spelled text_spelled) (map_spelled byte_order text_spelled value_spelled)) (pair_spelled (list_spelled text_spelled) (pair_spelled bool_spelled i64_spelled))))

@@ -6,7 +6,8 @@ use Rattle.kap_base.specs.Points.{PointValue}
 use Rattle.node_core.specs.declared.said.Said.{Said}
 use Rattle.state_nodes.specs.CumulativeSums.{summed_behind, with_sum}
 use Rattle.state_nodes.specs.Differences.{difference_from}
-use Rattle.state_nodes.specs.Words.{passed, result_name, with_number_alone}
+use Rattle.node_core.specs.Meaning.{passed}
+use Rattle.state_nodes.specs.Words.{result_name, with_number_alone}
 
 -- a number of 64 bits, as the code hands it on
 abbrev pub handed : ℤ → ℤ

@@ -9,8 +9,8 @@ use Rattle.kap_base.specs.Points.{PointValue}
 use Rattle.kap_base.specs.declared.value.Value.{Value}
 use Rattle.kap_base.specs.declared.value.Value.TheVariants.{Int, Bool as Truth, Str}
 use Rattle.node_core.specs.Groups.{Came, GroupAnswer}
-use Rattle.node_core.specs.Meaning.{Turn}
-use Rattle.state_nodes.specs.Words.{last, last_push, passed_if}
+use Rattle.node_core.specs.Meaning.{Turn, passed_if}
+use Rattle.state_nodes.specs.Words.{last, last_push}
 
 -- ---- a field
 
@@ -47,14 +47,17 @@ is_change names (Some q) p = differ names q p
 abbrev pub last_point : List Came → Option PointValue
 last_point before = option_map (λ c. c.1) (last before)
 
+-- what is said of a point, by the points of its group before it
 abbrev pub change_detect_says : List (List ℕ) → GroupAnswer
 change_detect_says names before port p = passed_if (is_change names (last_point before) p) p
 
 -- ---- what is kept of a group: what stands at the fields of its last point
 
+-- what stands at the listed fields
 abbrev pub values_at : List (List ℕ) → PointValue → List (Option Value)
 values_at names p = map (value_at p) names
 
+-- the same of the last point, if there was one
 abbrev pub last_values : List (List ℕ) → List Came → Option (List (Option Value))
 last_values names points = option_map (values_at names) (last_point points)
 
@@ -65,10 +68,12 @@ are_still [] (v ∷ values) p = false
 are_still (name ∷ names) [] p = false
 are_still (name ∷ names) (v ∷ values) p = is_same v (value_at p name) && are_still names values p
 
+-- a listed field differs from what was there, or nothing was
 abbrev pub is_change_from : List (List ℕ) → Option (List (Option Value)) → PointValue → Bool
 is_change_from names None p = true
 is_change_from names (Some values) p = not (are_still names values p)
 
+-- a step, by what is kept
 abbrev pub change_detect_step : List (List ℕ) → Option (List (Option Value)) → ℕ → PointValue → Turn (Option (List (Option Value)))
 change_detect_step names values port p = record { state = Some (values_at names p); said = passed_if (is_change_from names values p) p }
 
@@ -91,6 +96,7 @@ change_is names (Some q) p = still_or_differ names q p
 made : Option (List (Option Value)) → Bool → PointValue → Turn (Option (List (Option Value)))
 made values b p = record { state = values; said = passed_if b p }
 
+-- what is kept, and what is said, of one point more
 pub change_detect_goes_on : (names : List (List ℕ)) (before : List Came) (port : ℕ) (p : PointValue)
     → change_detect_step names (last_values names before) port p ≡ record { state = last_values names (before ++ (port, p) ∷ []); said = change_detect_says names before port p }
 unfolding made

@@ -8,14 +8,15 @@ use Rattle.std.proofs.lemmas.List.Sums.{fold_push}
 use Rattle.kap_base.specs.Points.{PointValue}
 use Rattle.node_core.specs.declared.said.Said.{Said}
 use Rattle.node_core.specs.Groups.{Came, GroupAnswer}
-use Rattle.node_core.specs.Meaning.{Turn, a_drop}
+use Rattle.node_core.specs.Meaning.{Turn, a_drop, passed}
 use Rattle.task_graph.specs.declared.spec.FieldSpec.{FieldSpec}
-use Rattle.state_nodes.specs.Words.{int_at, ints_at, passed, result_name, with_number_alone}
+use Rattle.state_nodes.specs.Words.{int_at, ints_at, result_name, with_number_alone}
 
 -- the sum of integers, brought into 64 bits
 abbrev pub sum_of : List ℤ → ℤ
 sum_of ns = int_wrap w64 (fold ◌+ℤ◌ (pos 0) ns)
 
+-- the point with its sum
 abbrev pub with_sum : Option (List ℕ) → ℤ → PointValue → PointValue
 with_sum name sum p = with_number_alone (result_name (codes "cumulativeSum") name) sum p
 
@@ -24,11 +25,13 @@ abbrev pub summed : Option (List ℕ) → List ℤ → Option ℤ → PointValue
 summed name before None p = a_drop
 summed name before (Some n) p = passed (with_sum name (sum_of (before ++ n ∷ [])) p)
 
+-- what is said of a point, by the points of its group before it
 abbrev pub cumulative_sum_says : FieldSpec → GroupAnswer
 cumulative_sum_says spec before port p = summed spec.name (ints_at spec.field before) (int_at spec.field p) p
 
 -- ---- what is kept of a group: its sum
 
+-- the sum of the field so far
 abbrev pub sum_in : FieldSpec → List Came → ℤ
 sum_in spec points = sum_of (ints_at spec.field points)
 
@@ -37,15 +40,18 @@ abbrev pub sum_behind : ℤ → Option ℤ → ℤ
 sum_behind sum None = sum
 sum_behind sum (Some n) = int_wrap w64 (sum +ℤ n)
 
+-- what is said of a point that holds a number, and of one that doesn't
 abbrev pub summed_behind : Option (List ℕ) → ℤ → Option ℤ → PointValue → Said
 summed_behind name sum None p = a_drop
 summed_behind name sum (Some n) p = passed (with_sum name (int_wrap w64 (sum +ℤ n)) p)
 
+-- a step, by what is kept
 abbrev pub cumulative_sum_step : FieldSpec → ℤ → ℕ → PointValue → Turn ℤ
 cumulative_sum_step spec sum port p = record { state = sum_behind sum (int_at spec.field p); said = summed_behind spec.name sum (int_at spec.field p) p }
 
 -- ---- laws
 
+-- before the first number the sum is 0
 pub no_sum : pos 0 ≡ sum_of []
 no_sum = sym (int_wrap_fits w64 (pos 0) (record { sfits = lit< tt }))
 
@@ -67,6 +73,7 @@ summed_is name ns (Some n) p = ap (λ (sum : ℤ). passed (with_sum name sum p))
 made : ℤ → Said → Turn ℤ
 made sum said = record { state = sum; said = said }
 
+-- what is kept, and what is said, of one point more
 pub cumulative_sum_goes_on : (spec : FieldSpec) (before : List Came) (port : ℕ) (p : PointValue)
     → cumulative_sum_step spec (sum_in spec before) port p ≡ record { state = sum_in spec (before ++ (port, p) ∷ []); said = cumulative_sum_says spec before port p }
 unfolding made ints_of

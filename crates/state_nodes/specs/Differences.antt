@@ -5,9 +5,9 @@ use Rattle.std.proofs.Common.{ap, sym}
 use Rattle.kap_base.specs.Points.{PointValue}
 use Rattle.node_core.specs.declared.said.Said.{Said}
 use Rattle.node_core.specs.Groups.{Came, GroupAnswer}
-use Rattle.node_core.specs.Meaning.{Turn, a_drop, silence}
+use Rattle.node_core.specs.Meaning.{Turn, a_drop, silence, passed}
 use Rattle.task_graph.specs.declared.spec.FieldSpec.{FieldSpec}
-use Rattle.state_nodes.specs.Words.{int_at, ints_at, last, last_more, latest, passed, result_name, with_number_alone}
+use Rattle.state_nodes.specs.Words.{int_at, ints_at, last, last_more, latest, result_name, with_number_alone}
 
 -- The point with the difference as its one field, brought into 64 bits. The first integer gives nothing, and a point without one
 -- is dropped and counted.
@@ -20,17 +20,20 @@ difference_from name (Some m) (Some n) p = passed (with_number_alone (result_nam
 abbrev pub last_int : FieldSpec → List Came → Option ℤ
 last_int spec points = last (ints_at spec.field points)
 
+-- what is said of a point, by the points of its group before it
 abbrev pub difference_says : FieldSpec → GroupAnswer
 difference_says spec before port p = difference_from spec.name (last_int spec before) (int_at spec.field p) p
 
 -- ---- what is kept of a group: its last integer
 
+-- a step, by what is kept
 abbrev pub difference_step : FieldSpec → Option ℤ → ℕ → PointValue → Turn (Option ℤ)
 difference_step spec before port p = record { state = latest before (int_at spec.field p); said = difference_from spec.name before (int_at spec.field p) p }
 
 made : Said → Option ℤ → Turn (Option ℤ)
 made said kept = record { state = kept; said = said }
 
+-- what is kept, and what is said, of one point more
 pub difference_goes_on : (spec : FieldSpec) (before : List Came) (port : ℕ) (p : PointValue)
     → difference_step spec (last_int spec before) port p ≡ record { state = last_int spec (before ++ (port, p) ∷ []); said = difference_says spec before port p }
 unfolding made

@@ -5,9 +5,9 @@ use Rattle.std.proofs.Common.{ap, sym}
 use Rattle.kap_base.specs.Points.{PointValue}
 use Rattle.node_core.specs.declared.said.Said.{Said}
 use Rattle.node_core.specs.Groups.{Came, GroupAnswer}
-use Rattle.node_core.specs.Meaning.{Turn, a_drop, silence}
+use Rattle.node_core.specs.Meaning.{Turn, a_drop, silence, passed}
 use Rattle.task_graph.specs.declared.spec.ElapsedSpec.{ElapsedSpec}
-use Rattle.state_nodes.specs.Words.{last, last_more, latest, passed, result_name, with_number_alone}
+use Rattle.state_nodes.specs.Words.{last, last_more, latest, result_name, with_number_alone}
 
 -- how many units of so many nanoseconds lie between two times, toward 0 without the part of a unit that is left
 abbrev pub units_between : ℕ → ℤ → ℤ → ℤ
@@ -32,17 +32,20 @@ elapsed_from spec (Some since) (Some time) p = passed (with_number_alone (result
 abbrev pub last_time : ElapsedSpec → List Came → Option ℤ
 last_time spec points = last (times_at spec.field points)
 
+-- what is said of a point, by the points of its group before it
 abbrev pub elapsed_says : ElapsedSpec → GroupAnswer
 elapsed_says spec before port p = elapsed_from spec (last_time spec before) (time_at spec.field p) p
 
 -- ---- what is kept of a group: that time
 
+-- a step, by what is kept
 abbrev pub elapsed_step : ElapsedSpec → Option ℤ → ℕ → PointValue → Turn (Option ℤ)
 elapsed_step spec since port p = record { state = latest since (time_at spec.field p); said = elapsed_from spec since (time_at spec.field p) p }
 
 made : Said → Option ℤ → Turn (Option ℤ)
 made said kept = record { state = kept; said = said }
 
+-- what is kept, and what is said, of one point more
 pub elapsed_goes_on : (spec : ElapsedSpec) (before : List Came) (port : ℕ) (p : PointValue)
     → elapsed_step spec (last_time spec before) port p ≡ record { state = last_time spec (before ++ (port, p) ∷ []); said = elapsed_says spec before port p }
 unfolding made

@@ -8,7 +8,7 @@ use Rattle.node_core.specs.declared.numbered.Seat.{Seat}
 use Rattle.node_core.specs.Both.{either}
 use Rattle.node_core.specs.Groups.{GroupAnswer, in_groups, is_point}
 use Rattle.node_core.specs.Meaning.{Answer, Saying}
-use Rattle.node_core.specs.Numbering.{stamped}
+use Rattle.node_core.specs.Numbering.{rule_seat, stamped}
 use Rattle.state_nodes.specs.declared.change_detect.ChangeDetect.{ChangeDetect as DetectRule}
 use Rattle.state_nodes.specs.declared.cumulative_sum.CumulativeSum.{CumulativeSum as SumRule}
 use Rattle.state_nodes.specs.declared.difference.Difference.{Difference as DifferenceRule}
@@ -38,9 +38,7 @@ saying_of spec = in_groups (group_says spec)
 abbrev pub StateSeat : Type 0
 StateSeat = Both (Seat (Grouped CountRule)) (Both (Seat (Grouped DetectRule)) (Both (Seat (Grouped DifferenceRule)) (Both (Seat (Grouped SumRule)) (Seat (Grouped ElapsedRule)))))
 
-abbrev pub rule_seat : {R : Type 0} → ℕ → ℕ → R → Seat (Grouped R)
-rule_seat life node rule = record { life = life; node = node; kind = record { rule = rule } }
-
+-- a node of this spec, in this life and with this number
 abbrev pub seat_of : ℕ → ℕ → StateSpec → StateSeat
 seat_of life node (StateCount spec) = One (rule_seat life node (record { spec = spec }))
 seat_of life node (ChangeDetect names) = Other (One (rule_seat life node (record { names = names })))
@@ -54,6 +52,7 @@ seat_of life node (Elapsed spec) = Other (Other (Other (Other (rule_seat life no
 abbrev pub of_seat : {C : Type 0} → (Seat (Grouped CountRule) → C) → (Seat (Grouped DetectRule) → C) → (Seat (Grouped DifferenceRule) → C) → (Seat (Grouped SumRule) → C) → (Seat (Grouped ElapsedRule) → C) → StateSeat → C
 of_seat count detect difference sum elapsed = either count (either detect (either difference (either sum elapsed)))
 
+-- the seat answers what the kind says
 pub answers : (life node : ℕ) (spec : StateSpec) → ◌≡◌ {A = Answer} (of_seat
     (λ s. stamped s.life s.node (in_groups (state_count_says s.kind.rule.spec)))
     (λ s. stamped s.life s.node (in_groups (change_detect_says s.kind.rule.names)))
@@ -67,6 +66,7 @@ answers life node (Difference spec) = refl
 answers life node (CumulativeSum spec) = refl
 answers life node (Elapsed spec) = refl
 
+-- it has this life
 pub lives : (life node : ℕ) (spec : StateSpec) → of_seat (λ s. s.life) (λ s. s.life) (λ s. s.life) (λ s. s.life) (λ s. s.life) (seat_of life node spec) ≡ life
 lives life node (StateCount spec) = refl
 lives life node (ChangeDetect names) = refl
@@ -74,6 +74,7 @@ lives life node (Difference spec) = refl
 lives life node (CumulativeSum spec) = refl
 lives life node (Elapsed spec) = refl
 
+-- and this number
 pub numbers : (life node : ℕ) (spec : StateSpec) → of_seat (λ s. s.node) (λ s. s.node) (λ s. s.node) (λ s. s.node) (λ s. s.node) (seat_of life node spec) ≡ node
 numbers life node (StateCount spec) = refl
 numbers life node (ChangeDetect names) = refl
@@ -81,6 +82,7 @@ numbers life node (Difference spec) = refl
 numbers life node (CumulativeSum spec) = refl
 numbers life node (Elapsed spec) = refl
 
+-- it has one port
 pub port : (life node : ℕ) (spec : StateSpec) → of_seat {C = ℕ} (λ s. 1) (λ s. 1) (λ s. 1) (λ s. 1) (λ s. 1) (seat_of life node spec) ≡ 1
 port life node (StateCount spec) = refl
 port life node (ChangeDetect names) = refl
@@ -88,6 +90,7 @@ port life node (Difference spec) = refl
 port life node (CumulativeSum spec) = refl
 port life node (Elapsed spec) = refl
 
+-- it takes points
 pub takes_points : (life node : ℕ) (spec : StateSpec)
     → ◌≡◌ {A = Body → Bool} (of_seat (λ s. is_point) (λ s. is_point) (λ s. is_point) (λ s. is_point) (λ s. is_point) (seat_of life node spec)) is_point
 takes_points life node (StateCount spec) = refl
@@ -96,4 +99,5 @@ takes_points life node (Difference spec) = refl
 takes_points life node (CumulativeSum spec) = refl
 takes_points life node (Elapsed spec) = refl
 
+-- what is seen of a seat
 pub ruleset seen = (answers, lives, numbers, port, takes_points)

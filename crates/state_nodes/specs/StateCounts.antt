@@ -12,9 +12,9 @@ use Rattle.lambda_count.specs.Outcomes.{value_or_none}
 use Rattle.lambda_eval.specs.Values.{val}
 use Rattle.node_core.specs.declared.said.Said.{Said}
 use Rattle.node_core.specs.Groups.{Came, GroupAnswer}
-use Rattle.node_core.specs.Meaning.{Turn, a_drop}
+use Rattle.node_core.specs.Meaning.{Turn, a_drop, passed}
 use Rattle.task_graph.specs.declared.spec.StateCountSpec.{StateCountSpec}
-use Rattle.state_nodes.specs.Words.{passed, result_name, with_number}
+use Rattle.state_nodes.specs.Words.{result_name, with_number}
 
 -- ---- the condition
 
@@ -49,11 +49,13 @@ abbrev pub numbered : Option (List ℕ) → List Bool → Option Bool → PointV
 numbered name before None p = a_drop
 numbered name before (Some b) p = passed (with_number (result_name (codes "state_count") name) (state_number before b) p)
 
+-- what is said of a point, by the points of its group before it
 abbrev pub state_count_says : StateCountSpec Tree → GroupAnswer
 state_count_says spec before port p = numbered spec.name (truths spec.condition before) (truth_at spec.condition (length before) p) p
 
 -- ---- what is kept of a group: how often the condition was evaluated, and at how many points in a row it was true
 
+-- how many evaluations there were, and how many true ones stand last
 abbrev pub counts_in : StateCountSpec Tree → List Came → ℕ × ℕ
 counts_in spec points = (length points, true_run (truths spec.condition points))
 
@@ -68,10 +70,12 @@ abbrev pub number_behind : ℕ → Bool → ℤ
 number_behind run true = pos (run + 1)
 number_behind run false = negsuc 0
 
+-- what is said of a point by the truth of its condition, behind so many true ones
 abbrev pub numbered_behind : Option (List ℕ) → ℕ → Option Bool → PointValue → Said
 numbered_behind name run None p = a_drop
 numbered_behind name run (Some b) p = passed (with_number (result_name (codes "state_count") name) (number_behind run b) p)
 
+-- a step, by what is kept
 abbrev pub state_count_step : StateCountSpec Tree → ℕ × ℕ → ℕ → PointValue → Turn (ℕ × ℕ)
 state_count_step spec kept port p =
     let truth = truth_at spec.condition kept.0 p in
@@ -98,9 +102,11 @@ truths_more condition cs c =
     ∙ filter_map-append h (enumerate_from 0 cs) ((0 + length cs, c) ∷ [])
     ∙ ap (λ (k : ℕ). truths condition cs ++ filter_map h ((k, c) ∷ [])) place
 
+-- one true one more
 pub true_run-true : (truths : List Bool) → true_run (truths ++ true ∷ []) ≡ true_run truths + 1
 true_run-true truths = rw (reverse-append truths (true ∷ [])) (omega arith)
 
+-- behind a false one there is none
 pub true_run-false : (truths : List Bool) → true_run (truths ++ false ∷ []) ≡ 0
 true_run-false truths = rw (reverse-append truths (false ∷ [])) refl
 
@@ -121,6 +127,7 @@ numbered_is name truths (Some b) p = ap (λ (n : ℤ). passed (with_number (resu
 made : ℕ → ℕ → Said → Turn (ℕ × ℕ)
 made k run said = record { state = (k, run); said = said }
 
+-- what is kept, and what is said, of one point more
 pub state_count_goes_on : (spec : StateCountSpec Tree) (before : List Came) (port : ℕ) (p : PointValue)
     → state_count_step spec (counts_in spec before) port p ≡ record { state = counts_in spec (before ++ (port, p) ∷ []); said = state_count_says spec before port p }
 unfolding made

@@ -1,24 +1,13 @@
 -- What nodes say of a point, and what stands at the points of a group.
-use Rattle.std.specs.Prelude.{◌≡◌, ℕ, ℤ, Bool, if◌then◌else◌, List, [], ◌∷◌, ◌++◌, Option, Some, None, filter_map, refl}
+use Rattle.std.specs.Prelude.{◌≡◌, ℕ, ℤ, List, [], ◌∷◌, ◌++◌, Option, Some, None, filter_map, refl}
 use Rattle.std.specs.FinMap.{empty, get, insert}
 use Rattle.std.specs.List.{last_or}
 use Rattle.std.proofs.Common.{append-nil, ap, ◌∙◌}
 use Rattle.std.proofs.lemmas.List.Elements.{filter_map-append}
 use Rattle.kap_base.specs.Points.{PointValue}
-use Rattle.kap_base.specs.declared.items.Body.TheVariants as bodies
 use Rattle.kap_base.specs.declared.value.Value.{Value}
 use Rattle.kap_base.specs.declared.value.Value.TheVariants.{Int}
-use Rattle.node_core.specs.declared.said.Said.{Said}
 use Rattle.node_core.specs.Groups.{Came}
-use Rattle.node_core.specs.Meaning.{silence}
-
--- the point is given out
-abbrev pub passed : PointValue → Said
-passed p = record { bodies = bodies.Point p ∷ []; deeds = []; drops = 0 }
-
--- where this is true; else nothing is said of it
-abbrev pub passed_if : Bool → PointValue → Said
-passed_if b p = if b then passed p else silence
 
 -- the name of a result: the one that is given, or else the node's own
 abbrev pub result_name : List ℕ → Option (List ℕ) → List ℕ
@@ -38,6 +27,7 @@ abbrev pub int_of : Option Value → Option ℤ
 int_of (Some (Int n)) = Some n
 int_of _ = None
 
+-- the integer at a field, if one stands there
 abbrev pub int_at : List ℕ → PointValue → Option ℤ
 int_at field p = int_of (get p.fields field)
 
@@ -60,6 +50,7 @@ last_or-push : {A : Type 0} (o : Option A) (xs : List A) (x : A) → last_or o (
 last_or-push o [] x = refl
 last_or-push o (y ∷ xs) x = last_or-push (Some y) xs x
 
+-- the last of a list with one item more
 pub last_push : {A : Type 0} (xs : List A) (x : A) → last (xs ++ x ∷ []) ≡ Some x
 last_push xs x = last_or-push None xs x
 

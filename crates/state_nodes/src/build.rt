@@ -2,7 +2,8 @@
 
 ghost use Rattle.std.specs.Prelude.{◌≡◌};
 ghost use Rattle.node_core.specs.declared.both.Both.TheVariants.{One, Other};
-ghost use Rattle.state_nodes.specs.Nodes.{rule_seat, seat_of};
+ghost use Rattle.node_core.specs.Numbering.{rule_seat};
+ghost use Rattle.state_nodes.specs.Nodes.{seat_of};
 
 use crate::change_detect::ChangeDetect;
 use crate::cumulative_sum::CumulativeSum;

@@ -1,11 +1,10 @@
 ghost use Rattle.std.specs.Prelude.{◌≡◌, IfOk, OnOk, Some};
 ghost use Rattle.std.specs.FinMap.{get};
 ghost use Rattle.state_nodes.specs.ChangeDetects.{are_still, change_detect_goes_on, change_detect_says, change_detect_step, is_change_from, is_same, is_same_value, last_values, values_at};
-ghost use Rattle.state_nodes.specs.Words.{passed_if};
+ghost use Rattle.node_core.specs.Meaning.{passed_if};
 
-use crate::words::pass;
 use kap_base::{Duplicate, Fields, ItemList, NoMemory, Point, SharedText, Text, Value};
-use node_core::{Rule, Said};
+use node_core::{Rule, Said, pass};
 use std::alloc::Global;
 use task_graph::SharedNames;
 

@@ -3,9 +3,9 @@ ghost use Rattle.std.specs.Int.{int_wrap, w64};
 ghost use Rattle.state_nodes.specs.CumulativeSums.{cumulative_sum_goes_on, cumulative_sum_says, cumulative_sum_step, sum_behind, sum_in, summed_behind};
 ghost use Rattle.state_nodes.specs.Words.{int_at};
 
-use crate::words::{int_at, pass, with_result};
+use crate::words::{int_at, with_result};
 use kap_base::{NoMemory, Point};
-use node_core::{Rule, Said};
+use node_core::{Rule, Said, pass};
 use std::alloc::Global;
 use task_graph::FieldSpec;
 

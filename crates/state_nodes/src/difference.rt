@@ -3,9 +3,9 @@ ghost use Rattle.std.specs.Int.{int_wrap, w64};
 ghost use Rattle.state_nodes.specs.Differences.{difference_from, difference_goes_on, difference_says, difference_step, last_int};
 ghost use Rattle.state_nodes.specs.Words.{int_at, latest};
 
-use crate::words::{int_at, pass, with_result};
+use crate::words::{int_at, with_result};
 use kap_base::{NoMemory, Point};
-use node_core::{Rule, Said};
+use node_core::{Rule, Said, pass};
 use std::alloc::Global;
 use task_graph::FieldSpec;
 

@@ -2,9 +2,9 @@ ghost use Rattle.std.specs.Prelude.{◌≡◌, ◌≤◌, ◌^◌, ◌-ℤ◌, p
 ghost use Rattle.state_nodes.specs.ElapsedTimes.{elapsed_from, elapsed_goes_on, elapsed_says, elapsed_step, last_time, time_at};
 ghost use Rattle.state_nodes.specs.Words.{latest};
 
-use crate::words::{pass, with_result};
+use crate::words::with_result;
 use kap_base::{NoMemory, Point, Text};
-use node_core::{Rule, Said};
+use node_core::{Rule, Said, pass};
 use std::alloc::Global;
 use task_graph::{ElapsedSpec, ElapsedUnit};
 

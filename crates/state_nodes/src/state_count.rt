@@ -1,11 +1,11 @@
 ghost use Rattle.std.specs.Prelude.{◌≡◌, IfOk, OnOk};
 ghost use Rattle.state_nodes.specs.StateCounts.{counts_in, number_behind, numbered_behind, run_behind, state_count_goes_on, state_count_says, state_count_step, truth_at, truth_of};
 
-use crate::words::{pass, result_name, with_number};
+use crate::words::{result_name, with_number};
 use kap_base::{NoMemory, Point, Value};
 use lambda_count::{next_count, outcome};
 use lambda_types::Lambda;
-use node_core::{Rule, Said};
+use node_core::{Rule, Said, pass};
 use std::alloc::Global;
 use task_graph::{Name, StateCountSpec};
 

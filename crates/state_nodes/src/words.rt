@@ -2,19 +2,12 @@
 
 ghost use Rattle.std.specs.Prelude.{◌≡◌, IfOk, IsTrue};
 ghost use Rattle.kap_base.specs.Texts.{is_name, is_plain};
-ghost use Rattle.state_nodes.specs.Words.{int_at, passed, result_name, with_number, with_number_alone};
+ghost use Rattle.node_core.specs.Meaning.{passed};
+ghost use Rattle.state_nodes.specs.Words.{int_at, result_name, with_number, with_number_alone};
 
-use kap_base::{Body, Duplicate, Fields, NoMemory, Point, Text, Value};
-use node_core::Said;
+use kap_base::{Duplicate, Fields, NoMemory, Point, Text, Value};
 use std::alloc::Global;
 use task_graph::Name;
-
-/// The point is given out.
-pub(crate) fn pass(alloc: Global, point: Point) -> Said
-    ensures { result ≡ passed point }
-{
-    Said::of_body(alloc, Body::Point(point))
-}
 
 /// The name of a result: the one that is given, or else the node's own.
 pub(crate) fn result_name(alloc: Global, own: &str, given: &Option<Name>) -> Result<Text, NoMemory>

@@ -21,6 +21,7 @@ counted w number p ps = if is_due w number then batch_at p p.time (last w.period
 abbrev pub points_say : CountedWindow → List PointValue → PointValue → Said
 points_say w before p = counted w (length before + 1) p (before ++ p ∷ [])
 
+-- what is said of a point, by the points of its group before it
 abbrev pub counted_says : CountedWindow → GroupAnswer
 counted_says w before port p = points_say w (points_in before) p
 
@@ -40,14 +41,17 @@ pub record CountedKept : Type 0 where
   pub seen : ℕ
   pub live : List PointValue
 
+-- what is kept of points
 abbrev pub points_kept : CountedWindow → List PointValue → CountedKept
 points_kept w ps = record { seen = length ps; live = last (kept_count w (length ps)) ps }
 
+-- what is kept of what came
 abbrev pub counted_kept : CountedWindow → List Came → CountedKept
 counted_kept w before = points_kept w (points_in before)
 
 -- ---- the machine
 
+-- a step, by what is kept
 abbrev pub counted_step : CountedWindow → CountedKept → ℕ → PointValue → Turn CountedKept
 counted_step w k port p = record {
   state = record { seen = k.seen + 1; live = last (kept_count w (k.seen + 1)) (k.live ++ p ∷ []) };

@@ -105,6 +105,7 @@ counted_live w before p =
 
 -- ---- the machine goes on as the definition says
 
+-- a turn, by its parts
 abbrev turn_to : ℕ → List PointValue → Said → Turn CountedKept
 turn_to seen live said = record { state = record { seen = seen; live = live }; said = said }
 
@@ -118,5 +119,6 @@ counts_on w before port p =
     ∙ ap (turn_to (seen + 1) (last (kept_count w (seen + 1)) all)) (counted_live w before p)
     ∙ ap (λ (n : ℕ). turn_to n (last (kept_count w n) all) (points_say w before p)) (sym long)
 
+-- what is kept, and what is said, of one point more
 pub counted_goes_on : (w : CountedWindow) (before : List Came) (port : ℕ) (p : PointValue) → counted_step w (counted_kept w before) port p ≡ record { state = counted_kept w (before ++ (port, p) ∷ []); said = counted_says w before port p }
 counted_goes_on w before port p = rw (points_more before port p) (counts_on w (points_in before) port p)

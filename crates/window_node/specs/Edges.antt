@@ -60,6 +60,7 @@ abbrev pub edges_say : EdgeWindow → List PointValue → PointValue → Said
 edges_say w [] p = silence
 edges_say w (first ∷ others) p = emitted w (edge_of w first others) p (first ∷ others)
 
+-- what is said of a point, by the points of its group before it
 abbrev pub edge_says : EdgeWindow → GroupAnswer
 edge_says w before port p = edges_say w (points_in before) p
 
@@ -71,10 +72,12 @@ pub record EdgeKept : Type 0 where
   pub edge : ℤ
   pub live : List PointValue
 
+-- what is kept of points
 abbrev pub edges_kept : EdgeWindow → List PointValue → Option EdgeKept
 edges_kept w [] = None
 edges_kept w (p ∷ ps) = Some (record { first = p.time; edge = edge_of w p ps; live = filter (is_live w (edge_of w p ps)) (p ∷ ps) })
 
+-- what is kept of what came
 abbrev pub edge_kept : EdgeWindow → List Came → Option EdgeKept
 edge_kept w before = edges_kept w (points_in before)
 
@@ -99,6 +102,7 @@ passed w k p = let next = following w p.time in record { first = k.first; edge =
 abbrev pub moved : EdgeWindow → EdgeKept → PointValue → EdgeKept
 moved w k p = record { first = k.first; edge = next_edge w k.edge p.time; live = still_live w k.edge p k.live }
 
+-- a step, by what is kept
 abbrev pub edge_step : EdgeWindow → Option EdgeKept → ℕ → PointValue → Turn (Option EdgeKept)
 edge_step w None port p = record { state = Some (opened w p); said = silence }
 edge_step w (Some k) port p = record { state = Some (moved w k p); said = emitted w k.edge p k.live }

@@ -10,24 +10,31 @@ use Rattle.window_node.specs.Batches.{points_in, last}
 
 -- ---- tests on whole numbers
 
+-- a test of two times that is true, as a fact
 pub le_fact : (a b : ℤ) → int_le a b ≡ true → a ≤ℤ b
 le_fact a b e = grind (arith, ints)
 
+-- and the fact as the test
 pub le_test : (a b : ℤ) → a ≤ℤ b → int_le a b ≡ true
 le_test a b h = grind (arith, ints)
 
+-- a test that is false
 pub above_fact : (a b : ℤ) → int_le a b ≡ false → b <ℤ a
 above_fact a b e = grind (arith, ints)
 
+-- and as the test
 pub above_test : (a b : ℤ) → b <ℤ a → int_le a b ≡ false
 above_test a b h = grind (arith, ints)
 
+-- the strict test
 pub lt_fact : (a b : ℤ) → int_lt a b ≡ true → a <ℤ b
 lt_fact a b e = grind (arith, ints)
 
+-- and as the test
 pub lt_test : (a b : ℤ) → a <ℤ b → int_lt a b ≡ true
 lt_test a b h = grind (arith, ints)
 
+-- the first of two tests that are both true
 pub and_first : (a b : Bool) → (a && b) ≡ true → a ≡ true
 and_first true b e = refl
 and_first false b e = e
@@ -57,11 +64,13 @@ filter_twice p q implied (x ∷ xs) =
 
 -- ---- points
 
+-- the points of what came, and of one point more
 pub points_more : (before : List Came) (port : ℕ) (p : PointValue) → points_in (before ++ (port, p) ∷ []) ≡ points_in before ++ p ∷ []
 points_more before port p = map-append (λ (c : Came). c.1) before ((port, p) ∷ [])
 
 -- the last points of a list are the last ones of its last points, of which no fewer are left
 module _ {A : Type 0} where
+  -- the last points, and one point more
   pub last_more : (a b : ℕ) (xs : List A) (p : A) → a ≤ b + 1 → last a (last b xs ++ p ∷ []) ≡ last a (xs ++ p ∷ [])
   last_more a b xs p le =
       let n = length xs in

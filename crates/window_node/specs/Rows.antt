@@ -39,6 +39,7 @@ Gives says ts given = batches_behind says [] (map (λ t. pos (seconds t)) ts) �
 
 -- ---- with edges
 
+-- what a window of this period and every, aligned or not, filled or not, says of a point behind others
 abbrev pub edges : ℕ → ℕ → Bool → Bool → List PointValue → PointValue → Said
 edges period every align fill_period = edges_say (record { period = seconds period; every = seconds every; align = align; fill_period = fill_period })
 
@@ -60,6 +61,7 @@ FallingTimes = Gives (edges 10 5 false false) (0 ∷ 7 ∷ 1 ∷ 6 ∷ 12 ∷ 17
 
 -- ---- sliding
 
+-- the same of a window that gives at each point
 abbrev pub slides : ℕ → Bool → List PointValue → PointValue → Said
 slides period fill_period before p = said_behind (record { period = seconds period; fill_period = fill_period }) p (before ++ p ∷ [])
 
@@ -74,6 +76,7 @@ FilledPeriod = Gives (slides 10 true) (5 ∷ 1 ∷ 12 ∷ 15 ∷ 14 ∷ []) (bat
 
 -- ---- by number
 
+-- the same of a window of so many points, at each so many
 abbrev pub counts : ℕ → ℕ → Bool → List PointValue → PointValue → Said
 counts period_count every_count fill_period = points_say (record { period_count = period_count; every_count = every_count; fill_period = fill_period })
 

@@ -30,6 +30,7 @@ abbrev pub said_behind : SlidingWindow → PointValue → List PointValue → Sa
 said_behind w p [] = silence
 said_behind w p (first ∷ others) = slid w first.time (greatest first others) p (first ∷ others)
 
+-- what is said of a point, by the points of its group before it
 abbrev pub sliding_says : SlidingWindow → GroupAnswer
 sliding_says w before port p = said_behind w p (points_in before ++ p ∷ [])
 
@@ -45,10 +46,12 @@ pub record SlidingKept : Type 0 where
   pub high : ℤ
   pub live : List PointValue
 
+-- what is kept of points
 abbrev pub points_kept : SlidingWindow → List PointValue → Option SlidingKept
 points_kept w [] = None
 points_kept w (p ∷ ps) = Some (record { first = p.time; high = greatest p ps; live = filter (is_near w (reach w p.time (greatest p ps))) (p ∷ ps) })
 
+-- what is kept of what came
 abbrev pub sliding_kept : SlidingWindow → List Came → Option SlidingKept
 sliding_kept w before = points_kept w (points_in before)
 
@@ -67,9 +70,11 @@ still_near w first high p live =
 abbrev pub slid_on : SlidingWindow → SlidingKept → PointValue → SlidingKept
 slid_on w k p = record { first = k.first; high = int_max k.high p.time; live = still_near w k.first (int_max k.high p.time) p k.live }
 
+-- a step behind the first point
 abbrev pub slid_turn : SlidingWindow → SlidingKept → PointValue → Turn (Option SlidingKept)
 slid_turn w k p = record { state = Some (slid_on w k p); said = slid w k.first (int_max k.high p.time) p (k.live ++ p ∷ []) }
 
+-- a step, by what is kept
 abbrev pub sliding_step : SlidingWindow → Option SlidingKept → ℕ → PointValue → Turn (Option SlidingKept)
 sliding_step w None port p = slid_turn w (started p) p
 sliding_step w (Some k) port p = slid_turn w k p

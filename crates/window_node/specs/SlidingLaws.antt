@@ -58,6 +58,7 @@ near_twice w high next le before p =
     ∙ ap (λ l. l ++ filter (is_near w next) (p ∷ [])) (filter_twice _ _ (λ q h. nearer high next (pos w.period) q.time le h) before)
     ∙ sym (filter-append _ before (p ∷ []))
 
+-- a point that a later point can take is kept
 pub kept_near : (w : SlidingWindow) (first high next : ℤ) → high ≤ℤ next → (before : List PointValue) (p : PointValue)
     → still_near w first next p (filter (is_near w (reach w first high)) before) ≡ filter (is_near w (reach w first next)) (before ++ p ∷ [])
 kept_near w first high next le before p =
@@ -71,6 +72,7 @@ kept_near w first high next le before p =
           ∙ sym (filter-append _ before (p ∷ []))
     ] refl
 
+-- a point takes none but live points
 pub slid_live : (w : SlidingWindow) (first high next : ℤ) → high ≤ℤ next → (before : List PointValue) (p : PointValue)
     → slid w first next p (filter (is_near w (reach w first high)) before ++ p ∷ []) ≡ slid w first next p (before ++ p ∷ [])
 slid_live w first high next le before p =
@@ -84,6 +86,7 @@ slid_live w first high next le before p =
 
 -- ---- the machine goes on as the definition says
 
+-- a turn, by its parts
 abbrev turn_to : ℤ → ℤ → List PointValue → Said → Turn (Option SlidingKept)
 turn_to first high live said = record { state = Some (record { first = first; high = high; live = live }); said = said }
 
@@ -100,5 +103,6 @@ slides_on w (q ∷ qs) port p =
     ∙ ap (turn_to q.time next (filter (is_near w (reach w q.time next)) (q ∷ (qs ++ p ∷ [])))) (slid_live w q.time high next (max_above high p.time) (q ∷ qs) p)
     ∙ ap (λ (h : ℤ). turn_to q.time h (filter (is_near w (reach w q.time h)) (q ∷ (qs ++ p ∷ []))) (slid w q.time h p (q ∷ (qs ++ p ∷ [])))) (sym (greatest_more q qs p))
 
+-- what is kept, and what is said, of one point more
 pub sliding_goes_on : (w : SlidingWindow) (before : List Came) (port : ℕ) (p : PointValue) → sliding_step w (sliding_kept w before) port p ≡ record { state = sliding_kept w (before ++ (port, p) ∷ []); said = sliding_says w before port p }
 sliding_goes_on w before port p = rw (points_more before port p) (slides_on w (points_in before) port p)
