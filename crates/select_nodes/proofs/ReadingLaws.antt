@@ -1,5 +1,5 @@
 -- What is read of points, one point on.
-use Rattle.std.proofs.Common.{◌≡◌, ℕ, ◌+◌, ◌<◌, true, false, cond, List, [], ◌∷◌, ◌++◌, map}
+use Rattle.std.proofs.Common.{◌≡◌, ℕ, ◌+◌, ◌<◌, true, false, List, [], ◌∷◌, ◌++◌, map}
 use Rattle.std.proofs.Common.{Option, Some, None, get_or, length, take, refl, sym, ap, ◌∙◌, arith, append-nil, length-append}
 use Rattle.std.specs.Prelude.{ℤ, pos, ◌+ℤ◌, filter_map, fold, int_lt, unwrap_or}
 use Rattle.std.specs.Cmp.{IsStrictWeakOrder}
@@ -8,8 +8,6 @@ use Rattle.std.specs.Int.{int_wrap, w64}
 use Rattle.std.specs.List.{last_or}
 use Rattle.std.specs.List.Sorted.{IsSortedBy, IsStableBy}
 use Rattle.std.specs.Option.{option_to_list}
-use Rattle.std.specs.Ordering.{int_cmp, is_lt}
-use Rattle.std.specs.declared.cmp.Ordering.TheVariants.{Less, Equal, Greater}
 use Rattle.std.proofs.lemmas.Int.{ints, int_wrap-add_left}
 use Rattle.std.proofs.lemmas.List.{map-append, take_more}
 use Rattle.std.proofs.lemmas.List.Elements.{filter_map-append}
