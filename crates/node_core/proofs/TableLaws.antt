@@ -1,9 +1,9 @@
 -- Entries whose keys differ, in any order, as the map that they make.
-use Rattle.std.proofs.Common.{◌≡◌, ℕ, suc, ◌+◌, ◌<◌, ◌≤◌, Bool, true, false, cond, ◌&&◌, T, List, [], ◌∷◌, map, length, get_or, Option, Some, None, is_some, refl, sym, ap, subst, ◌∙◌, arith, true≢false}
+use Rattle.std.proofs.Common.{◌≡◌, ℕ, suc, ◌+◌, ◌<◌, ◌≤◌, Bool, true, false, cond, ◌&&◌, T, List, [], ◌∷◌, map, length, get_or, Option, Some, None, refl, sym, ap, subst, ◌∙◌, arith, true≢false}
 use Rattle.std.specs.Prelude.{IsPermutation, IsSortedBy}
 use Rattle.std.specs.declared.cmp.Ordering.{Ordering}
 use Rattle.std.specs.declared.cmp.Ordering.TheVariants.{Less, Equal, Greater}
-use Rattle.std.specs.FinMap.{FinMap, find, is_sorted, entries, get, len, insert, from_sorted, from_entries, get-from_entries, get-from_sorted, get-insert, len-empty, len-insert, entries-from_sorted, same_map, slice_cmp-IsAntisymmetric, nat_cmp-IsAntisymmetric}
+use Rattle.std.specs.FinMap.{FinMap, find, is_sorted, entries, get, insert, from_sorted, from_entries, get-from_entries, get-from_sorted, get-insert, entries-from_sorted, same_map, slice_cmp-IsAntisymmetric, nat_cmp-IsAntisymmetric}
 use Rattle.std.specs.FinMap.Entries.{below_all}
 use Rattle.std.specs.Ordering.{is_lt, is_eq, ordering_reverse}
 use Rattle.std.specs.Cmp.Lexicographic.{bytes_decides, nat_list_cmp_total, nat_list_eq_equiv, texts_ties}
@@ -11,8 +11,6 @@ use Rattle.std.specs.List.{IsDistinct, AllByRecursion}
 use Rattle.std.specs.Map.{keys_of, lookup, update_all}
 use Rattle.std.specs.Str.{bytes_eq}
 use Rattle.std.proofs.lemmas.List.Sorted.{Contains-permutation, IsPermutation-map, IsPermutation-sym}
-use Rattle.std.proofs.lemmas.Map.{lookup-none}
-use Rattle.std.proofs.lemmas.Map.Entries.{none_past_head}
 use Rattle.std.proofs.lemmas.Map.Keys.{IsDistinct-IsPermutation, IsDistinct-cons, IsDistinct-head, IsDistinct-tail}
 use Rattle.std.proofs.lemmas.Map.Made.{update_all_none}
 use Rattle.std.proofs.lemmas.Map.Views.{Contains-from_lookup, lookup-from_Contains}
@@ -62,16 +60,6 @@ module _ {X : Type 0} where
       get-lookup new q ∙ h q
       ∙ (λ i. cond ((nat_list_eq_equiv.symm k q ∙ texts_ties q k) i) (Some v) (sym (get-lookup old q) i))
       ∙ sym (get-insert nat_list_cmp_total (from_entries old) k v q))
-
-  -- ---- how many
-
-  pub length-len : (es : List (List ℕ × X)) → IsDistinct bytes_eq (keys_of es) → length es ≡ len (from_entries {R = byte_order} es)
-  length-len [] distinct = sym (len-empty byte_order X)
-  length-len (e ∷ es) distinct =
-      let m = from_entries {R = byte_order} es in
-      let absent : get m e.0 ≡ None = get-lookup es e.0 ∙ lookup-none (bytes_eq e.0) es (none_past_head nat_list_eq_equiv e.0 e es distinct (nat_list_eq_equiv.refl e.0)) in
-      let more : suc (length es) ≡ len m + 1 = omega (arith, length-len es (IsDistinct-tail bytes_eq e.0 (keys_of es) distinct)) in
-      more ∙ sym (len-insert nat_list_cmp_total m e.0 e.1 ∙ ap (λ (o : Option X). cond (is_some o) (len m) (len m + 1)) absent)
 
   -- ---- in the order of the keys
 
