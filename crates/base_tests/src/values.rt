@@ -127,6 +127,9 @@ fn times_are_cut_and_rounded(rt: HostRuntime) -> Result<(), Fail> {
     assert_eq!(rt; round(5, 10), 10);
     assert_eq!(rt; round(-5, 10), 0);
     assert_eq!(rt; round(-6, 10), -10);
-    assert_eq!(rt; round(2, 3), 3);
+    assert_eq!(rt;
+        round(-9_000_000_000_000_000_000, 200_000_000_000_000_000),
+        -8_935_596_800_000_000_000
+    );
     Ok(())
 }
