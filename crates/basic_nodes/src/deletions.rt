@@ -79,12 +79,19 @@ fn left<V: Duplicate + Drop>(
     KeyMap::from_entries(alloc, left)
 }
 
+/// Leaves the names that are none of these.
+fn retain_left(taken: &SharedNames, names: &mut Vec<Text>)
+    ensures { names.new.items ≡ filter (is_left taken.now) names.old.items }
+{
+    names.retain(|name| is_left(taken.as_slice(), name));
+}
+
 /// The names that are none of these.
 fn names_left(taken: &SharedNames, names: Names) -> Names
     ensures { result ≡ filter (is_left taken.now) names }
 {
     let mut items = names.into_items();
-    items.retain(|name| is_left(taken.as_slice(), name));
+    retain_left(taken, &mut items);
     Names::from_items(items)
 }
 
