@@ -5,7 +5,7 @@ ghost use Rattle.node_tests.specs.Chains.{AreReady};
 ghost use Rattle.task_run.specs.Plans.{AreFirstNodes};
 
 use crate::lines::{items, put_effects, put_items};
-use kap_base::{Bytes, Item, ItemList, Text};
+use kap_base::{Bytes, Item, ItemList, SCRIPT_LIMIT, Text};
 use lambda_types::RegexPatterns;
 use node_core::{Items, Node, run};
 use node_set::{ScriptNode, plan_task};
@@ -17,7 +17,6 @@ use task_run::LifePlan;
 use tick_compile::compile;
 
 /// The nodes of a plan.
-#[tactic(auto, using(crate::proofs::ChainLaws::ready))]
 fn nodes_in<N: Node>(plan: LifePlan<N>) -> Vec<N>
     requires { AreFirstNodes N.spec N.state N.first plan.nodes }
     ensures { AreReady N.spec N.state N.first N.ports result.items }
@@ -34,6 +33,9 @@ fn nodes_in<N: Node>(plan: LifePlan<N>) -> Vec<N>
 pub fn nodes_of<N: ScriptNode>(alloc: Global, script: &str) -> Result<Vec<N>, Fail>
     ensures { IfOk result (λ nodes. AreReady N.spec N.state N.first N.ports nodes.items) }
 {
+    if script.len() > SCRIPT_LIMIT {
+        return Err("a long script".into());
+    }
     let mut pats = RegexPatterns::new(alloc, Vec::new(alloc));
     let task = compile(alloc, script.as_bytes(), &mut pats).map_err(|_| "no task")?;
     let id = Text::from_str(alloc, "t")?;
@@ -49,7 +51,6 @@ fn at_port_zero(alloc: Global, items: Vec<Item>) -> Result<Vec<(u32, Item)>, Fai
 }
 
 /// What a node in its first state gives of items; what it does, and how many it drops, is added as text.
-#[tactic(auto, using(crate::proofs::ChainLaws::at_zero))]
 pub fn play<N: Node>(
     alloc: Global,
     node: &mut N,

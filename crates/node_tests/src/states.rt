@@ -76,7 +76,6 @@ fn refuse_parts<N: Node>(
 
 /// Three nodes of one spec: the first is fed, the second takes its state, and the third refuses the parts of its spelling; then
 /// the first two do the same. What the first one gave, before and behind.
-#[tactic(auto)]
 fn hand_over<N: Node>(
     rt: &impl Abort,
     alloc: Global,
