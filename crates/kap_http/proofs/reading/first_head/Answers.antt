@@ -3,10 +3,10 @@ use Rattle.kap_http.specs.Lines.{has_more_lines}
 use Rattle.kap_http.specs.declared.fault.HttpFault.TheVariants as faults
 use Rattle.kap_http.proofs.HeadLaws.{answer_is, whole_gives, method_utf8, bad_gives, long_gives, waits_gives}
 use Rattle.kap_http.proofs.RoomLaws.{may_go_on, overflows}
-use Rattle.kap_http.proofs.reading.first_request.Goals as goal
+use Rattle.kap_http.proofs.reading.first_head.Goals as goal
 
-pub request-requires-clause-method : goal.request-requires-clause-method
-request-requires-clause-method c =
+pub head_of-requires-clause-method : goal.head_of-requires-clause-method
+head_of-requires-clause-method c =
     let of = rw c.in-Ok-Complete.field-0-is at c.in-Ok-Complete.ensures.complete in
     method_utf8 c.front_of-front.result.now c.parse_request.new.headers c.in-Ok-Complete.spans of
 
@@ -14,12 +14,12 @@ pub returns-in-Ok-Complete : goal.returns-in-Ok-Complete
 returns-in-Ok-Complete c ne =
     let within = rw c.in-Ok-Complete.field-0-is at c.in-Ok-Complete.ensures.within in
     let of = rw c.in-Ok-Complete.field-0-is at c.in-Ok-Complete.ensures.complete in
-    let due = answer_is faults.NoMemory c.request.result _ c.request.ensures ne in
-    let is = rw (c.split_at.ensures.front, c.split_at-in-Ok-Complete.ensures.back) at due in
-    whole_gives c.args.bytes.now c.front_of-front.result.now c.parse_request.new.headers c.in-Ok-Complete.spans c.request.result c.front_of-front.ensures.front (search rules) within of is
+    let due = answer_is faults.NoMemory c.head_of.result _ c.head_of.ensures ne in
+    let is = rw c.split_at.ensures.front at due in
+    whole_gives c.args.bytes.now c.front_of-front.result.now c.parse_request.new.headers c.in-Ok-Complete.spans c.head_of.result c.front_of-front.ensures.front (search rules) within of is
 
-pub returns-then-bytes-ge-MOST_HEAD : goal.returns-then-bytes-ge-MOST_HEAD
-returns-then-bytes-ge-MOST_HEAD c _ =
+pub returns-then-bytes-ge-HEAD_LIMIT : goal.returns-then-bytes-ge-HEAD_LIMIT
+returns-then-bytes-ge-HEAD_LIMIT c _ =
     let none = rw c.in-Ok-Partial.field-0-is at c.in-Ok-Partial.ensures.partial in
     long_gives c.args.bytes.now c.front_of-front.result.now c.front_of-front.ensures.front (omega arith) none
 
