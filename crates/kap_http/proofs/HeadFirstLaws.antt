@@ -1,17 +1,16 @@
 -- Reading of a head, and of its request once its bytes are there.
-use Rattle.std.proofs.Common.{◌≡◌, ◌≢◌, ℕ, ◌+◌, ◌<◌, ◌≤◌, Bool, true, false, List, ◌++◌, length, take, drop, map, refl, sym, ap, ◌∙◌, arith, inl, inr, Option, Some, None, Result, Ok, Err, length-append, nat_le}
-use Rattle.std.specs.Prelude.{if◌then◌else◌}
+use Rattle.std.proofs.Common.{◌≡◌, ◌≢◌, ℕ, ◌+◌, ◌<◌, ◌≤◌, Bool, true, false, List, [], ◌++◌, length, drop, map, refl, sym, ap, ◌∙◌, subst, arith, inl, inr, Option, Some, None, Result, Ok, Err, append-nil, length-append, nat_le}
 use Rattle.std.proofs.lemmas.Bool.{leb-true, leb-false, le-leb, lt-leb}
 use Rattle.std.proofs.Math.Seq.{drop-append_seam}
 use Rattle.httparse.specs.Grammar.{print_request}
 use Rattle.httparse.specs.Spans.{name_and_value}
-use Rattle.kap_base.specs.Words.{◌>>=◌, Answers}
+use Rattle.kap_base.specs.Words.{Answers}
 use Rattle.kap_http.specs.declared.fault.HttpFault.{HttpFault}
 use Rattle.kap_http.specs.declared.fault.HttpFault.TheVariants as faults
 use Rattle.kap_http.specs.declared.limits.TheConstants.{HEAD_LIMIT}
 use Rattle.kap_http.specs.HeadValues.{HeadValue}
 use Rattle.kap_http.specs.RequestValues.{RequestValue}
-use Rattle.kap_http.specs.Reading.{ReadResult, HeadResult, found, says, total_of, request_from, request_in, whole_in, request_of, Gives, GivesHead}
+use Rattle.kap_http.specs.Reading.{ReadResult, HeadResult, found, says, whole_in, request_of, Gives, GivesHead}
 use Rattle.kap_http.proofs.HeadLaws.{answer_is}
 use Rattle.kap_http.proofs.OneLaws.{answer, head_stays, len_is, some_bytes}
 
@@ -67,6 +66,18 @@ pub fault_gives : (bytes : List ℕ) (f : HttpFault) → GivesHead bytes (Err f)
 fault_gives bytes f (inl x) = inl (x.0, x.1, x.2, fault_is f (says x.0) x.1 x.3)
 fault_gives bytes f (inr (inl x)) = absurd (cc (x.1))
 fault_gives bytes f (inr (inr x)) = let is : f ≡ faults.Bad = cc (x.1) in inr (inr (x.0, ap (λ (g : HttpFault). Err g) is))
+
+-- ---- what reading a request makes of the head
+
+pub whole_answer : (bytes : List ℕ) (h : HeadValue) (r : ReadResult) → GivesHead bytes (Ok (Some h)) → Answers faults.NoMemory r (Ok (whole_in h bytes)) → r ≢ Err faults.NoMemory → Gives bytes r
+whole_answer bytes h r given answers ne =
+    subst (λ (x : ReadResult). Gives bytes x) (sym (answer_is faults.NoMemory r (Ok (whole_in h bytes)) answers ne)) (subst (λ (x : List ℕ). Gives x (Ok (whole_in h x))) (append-nil bytes) (whole_gives bytes [] h given))
+
+pub fault_answer : (bytes : List ℕ) (f : HttpFault) → (◌≢◌ {A = HeadResult} (Err f) (Err faults.NoMemory) → GivesHead bytes (Err f)) → ◌≢◌ {A = ReadResult} (Err f) (Err faults.NoMemory) → Gives bytes (Err f)
+fault_answer bytes f gives ne = fault_gives bytes f (gives (λ e. ne (lack e)))
+  where
+    lack : ◌≡◌ {A = HeadResult} (Err f) (Err faults.NoMemory) → ◌≡◌ {A = ReadResult} (Err f) (Err faults.NoMemory)
+    lack e = let is : f ≡ faults.NoMemory = cc in ap (λ (g : HttpFault). Err g) is
 
 -- ---- how long what was read is
 

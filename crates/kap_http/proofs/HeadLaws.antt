@@ -1,5 +1,5 @@
 -- What httparse says of a whole head, as this crate says it.
-use Rattle.std.proofs.Common.{◌≡◌, ◌≢◌, ℕ, ◌<◌, ◌≤◌, true, List, ◌++◌, length, take, drop, map, refl, sym, ap, ◌∙◌, subst, arith, inl, inr, Result, Ok, Err, Option, None, IsUtf8}
+use Rattle.std.proofs.Common.{◌≡◌, ◌≢◌, ℕ, ◌<◌, ◌≤◌, true, List, ◌++◌, length, take, drop, map, refl, sym, ap, ◌∙◌, subst, arith, inl, inr, Result, Ok, Err, None, IsUtf8}
 use Rattle.std.proofs.lemmas.List.{length-take, length-map, take-append-drop, drop-append-le, take_all}
 use Rattle.std.proofs.lemmas.Str.{IsUtf8-from_ascii}
 use Rattle.std.proofs.lemmas.Str.Ascii.{IsAscii-from_all}
@@ -11,10 +11,8 @@ use Rattle.httparse.specs.Grammar.{is_token_byte, AllPass, IsToken, RequestHead,
 use Rattle.httparse.specs.Spans.{IsRequestWithin, IsRequestOf, header_bytes, span_bytes, name_and_value, RequestOverflows}
 use Rattle.httparse.proofs.GrammarLemmas.{ReadsRequest-append}
 use Rattle.kap_base.specs.Words.{Answers}
-use Rattle.kap_http.specs.declared.fault.HttpFault.{HttpFault}
 use Rattle.kap_http.specs.declared.fault.HttpFault.TheVariants as faults
 use Rattle.kap_http.specs.declared.limits.TheConstants.{FIELD_LIMIT, HEAD_LIMIT}
-use Rattle.kap_http.specs.HeadValues.{HeadValue}
 use Rattle.kap_http.specs.Fields.{Pair}
 use Rattle.kap_http.specs.Reading.{HeadResult, found, head_of, GivesHead, MayGoOn}
 

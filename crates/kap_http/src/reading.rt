@@ -89,7 +89,14 @@ fn head_of(
     let target = spans.path.of(buffer);
     let size = body_len(buffer, headers, limit_of(target))?;
     let last = is_last(spans.version, buffer, headers);
-    let head = make(alloc, spans.method.of(buffer), target, last, spans.len, size)?;
+    let head = make(
+        alloc,
+        spans.method.of(buffer),
+        target,
+        last,
+        spans.len,
+        size,
+    )?;
     Ok(Some(head))
 }
 
@@ -148,11 +155,7 @@ pub fn read_head(alloc: Global, bytes: &[u8]) -> Result<Option<Head>, HttpFault>
 }
 
 /// The request of a head, where its bytes are there.
-fn whole_in(
-    alloc: Global,
-    head: Head,
-    bytes: &[u8],
-) -> Result<Option<(Request, usize)>, HttpFault>
+fn whole_in(alloc: Global, head: Head, bytes: &[u8]) -> Result<Option<(Request, usize)>, HttpFault>
     ensures { Answers HttpFault.NoMemory result (Ok (whole_in head bytes.now)) }
 {
     let total = head.total();
