@@ -4,7 +4,7 @@ ghost use Rattle.std.specs.Prelude.{◌<◌};
 
 use crate::writes::{WRITE, is_the_write};
 use kap_base::{Bytes, NoMemory};
-use kap_http::{Head, Request, read_head};
+use kap_http::{Head, Request, has_empty_line, read_head};
 use kap_io::{Failed, Link, MemLink};
 use std::alloc::Global;
 use std::test::Fail;
@@ -33,15 +33,15 @@ fn bring<L: Link>(link: &mut L, held: &mut Bytes) -> Result<Brought, NoMemory> {
     }
 }
 
-/// Reads until a head is there.
+/// Reads until a head is whole, which is parsed once.
 fn bring_head<L: Link>(
     alloc: Global,
     link: &mut L,
     held: &mut Bytes,
 ) -> Result<Option<Head>, Fail> {
     for _ in 0..100 {
-        if let Some(head) = read_head(alloc, held.as_slice())? {
-            return Ok(Some(head));
+        if has_empty_line(held.as_slice(), 0) {
+            return Ok(read_head(alloc, held.as_slice())?);
         }
         if bring(link, held)? != Brought::Bytes {
             return Ok(None);
@@ -50,7 +50,7 @@ fn bring_head<L: Link>(
     Ok(None)
 }
 
-/// Reads until the request is there, whose head is parsed once.
+/// Reads until the request is there; what its head says is enough for that.
 fn bring_request<L: Link>(
     alloc: Global,
     link: &mut L,

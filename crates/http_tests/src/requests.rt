@@ -131,20 +131,21 @@ fn head_with(alloc: Global, len: u32) -> Result<String, Fail> {
 #[test]
 fn a_head_has_at_most_16384_bytes(rt: HostRuntime) -> Result<(), Fail> {
     let alloc = rt.alloc();
-    let most = head_with(alloc, 16_384)?;
-    assert_eq!(rt; most.len(), 16_384);
-    assert_eq!(rt; reading(alloc, most.as_bytes()), Found::Whole(16_384));
-    let more = head_with(alloc, 16_385)?;
-    assert_eq!(rt; reading(alloc, more.as_bytes()), Found::Bad);
-    let (front, _) = more.as_bytes().split_at(16_383);
+    let text = head_with(alloc, 16_384)?;
+    let most = text.as_bytes();
+    assert_eq!(rt; reading(alloc, most), Found::Whole(16_384));
+    let (front, _) = most.split_at(most.len().saturating_sub(1));
     assert_eq!(rt; reading(alloc, front), Found::Waits);
+    let more = head_with(alloc, 16_385)?;
+    assert_eq!(rt; more.len(), 16_385);
+    assert_eq!(rt; reading(alloc, more.as_bytes()), Found::Bad);
     Ok(())
 }
 
 #[test]
 fn a_head_tells_how_many_bytes_its_request_has(rt: HostRuntime) -> Result<(), Fail> {
     let alloc = rt.alloc();
-    let (front, _) = WRITE.split_at(WRITE.len() - 6);
+    let (front, _) = WRITE.split_at(WRITE.len().saturating_sub(6));
     let Some(head) = read_head(alloc, front)? else {
         panic!(rt; "no head");
     };
@@ -155,7 +156,7 @@ fn a_head_tells_how_many_bytes_its_request_has(rt: HostRuntime) -> Result<(), Fa
     if head.total() <= WRITE.len() {
         assert!(rt; is_the_write(&head.request(alloc, WRITE)?));
     }
-    let (shorter, _) = front.split_at(front.len() - 1);
+    let (shorter, _) = front.split_at(front.len().saturating_sub(1));
     assert!(rt; read_head(alloc, shorter)?.is_none());
     let large = b"POST / HTTP/1.1\r\nContent-Length: 1048577\r\n\r\n";
     assert_eq!(rt; read_head(alloc, large), Err(HttpFault::Large));
@@ -187,7 +188,7 @@ fn bytes_that_were_seen_are_not_looked_at_again(rt: HostRuntime) {
             assert!(rt; has_empty_line(WRITE, seen));
         }
     }
-    let (front, _) = WRITE.split_at(WRITE.len() - 8);
+    let (front, _) = WRITE.split_at(WRITE.len().saturating_sub(8));
     for seen in 0..front.len() {
         let (before, _) = front.split_at(seen);
         if !has_empty_line(before, 0) {

@@ -90,8 +90,8 @@ pub record CanBeHead (bytes : List ℕ) : Type 0 where
 abbrev pub MayGoOn : List ℕ → Type 0
 MayGoOn bytes = CanBeHead bytes ⊎ EndsInTarget bytes
 
--- The bytes end inside a target, and no bytes behind make a head within the limit of fields: httparse alone says whether
--- they can go on.
+-- The bytes end inside a target, and no bytes behind make a head within the limit of fields: httparse alone says
+-- whether they can go on.
 abbrev pub IsLostInTarget : List ℕ → Type 0
 IsLostInTarget bytes = EndsInTarget bytes × ¬ (CanBeHead bytes)
 

@@ -23,9 +23,9 @@ pub fn one_answer()
         Gives bytes (Ok (Some (r, n))) → (0 < n) × (n ≤ length bytes) }
 {}
 
-/// The law of a head that is read first. Whatever follows the bytes that it was read from, what all of them give is its
-/// request where they are as many as it tells, and None where they are fewer. Bytes that give no head wait for more, or
-/// are refused, as requests do and are.
+/// The law of a head that is read first. Whatever follows the bytes that it was read from, what all of them give is
+/// its request where they are as many as it tells, and None where they are fewer. Where bytes give no head, what they
+/// give is the same, None or the fault.
 pub fn head_first()
     ensures whole { (bytes more : List ℕ) (head : HeadValue) → GivesHead bytes (Ok (Some head)) →
         Gives (bytes ++ more) (Ok (whole_in head (bytes ++ more))) }
@@ -34,10 +34,10 @@ pub fn head_first()
         GivesHead bytes (Err fault) → Gives bytes (Err fault) }
 {}
 
-/// The law of a connection's bytes. They hold one list of requests and stop in one way, but where the rest ends inside a
-/// target that no head has. What comes in pieces holds the requests that the whole holds: those that were read stay, with what follows behind
-/// them, and the next one is read from there; and behind the last, the thousandth and at a fault nothing that follows
-/// is looked at.
+/// The law of a connection's bytes. They hold one list of requests and stop in one way, but where the rest ends inside
+/// a target that no head has. What comes in pieces holds the requests that the whole holds: those that were read stay,
+/// with what follows behind them, and the next one is read from there; and behind the last, the thousandth and at a
+/// fault nothing that follows is looked at.
 pub fn in_pieces()
     ensures more { (bytes more : List ℕ) (requests : List RequestValue) (rest : List ℕ) →
         BeginsWith bytes requests rest → BeginsWith (bytes ++ more) requests (rest ++ more) }
