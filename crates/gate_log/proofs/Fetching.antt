@@ -1,13 +1,14 @@
 -- What stands at a gate of a log whose bodies are known.
 use Rattle.std.proofs.Common.{◌≡◌, ⊎_elim, ℕ, suc, ◌+◌, ◌-◌, ◌<◌, ◌≤◌, List, [], ◌∷◌, ◌++◌, length, take, drop, refl, sym, ◌∙◌, ap, arith, append_assoc, length-append, length-drop}
 use Rattle.std.specs.List.{flat_map}
+use Rattle.std.specs.Prelude.{Option, Result}
 use Rattle.std.specs.declared.result.Result.TheVariants.{Ok, Err}
 use Rattle.std.specs.declared.option.Option.TheVariants.{Some, None}
 use Rattle.std.proofs.lemmas.List.{take_at, drop_at, drop-drop}
 use Rattle.std.proofs.lemmas.Grind.{flat_map-append}
 use Rattle.gate_log.specs.Bodies.{magic, size_bytes, record_of, bytes_of, Fit, IsLog}
 use Rattle.gate_log.specs.Marks.{IsClosed}
-use Rattle.gate_log.specs.Reading.{IsRecord, IsCutOff, StandsAt, BodyAt}
+use Rattle.gate_log.specs.Reading.{IsRecord, IsCutOff, StandsAt, RecordAt, BodyAt}
 use Rattle.gate_log.specs.Unique.{record_unique, size_unique, length-size_bytes}
 use Rattle.gate_log.specs.declared.fault.LogFault.{LogFault}
 use Rattle.gate_log.specs.declared.fault.LogFault.TheVariants.{Header, Torn, DiskFault, Long, NoMemory}
@@ -77,6 +78,14 @@ record_is_next (b ∷ after) at next file bytes from found is =
       omega (arith, found.is_next, ap (λ (l : List ℕ). length l) same.0),
     )
 
+-- what was found at a gate, where no record was
+pub record_fault : (at : ℕ) (file : List ℕ) (fault : LogFault) → StandsAt at file (Err fault) → RecordAt at file (Err fault)
+record_fault at file Header stands = stands
+record_fault at file (Torn offset) stands = stands
+record_fault at file DiskFault stands = tt
+record_fault at file Long stands = stands
+record_fault at file NoMemory stands = tt
+
 -- the bytes behind a gate and a length are its body
 pub fetched_body : (at next : ℕ) (file bytes : List ℕ) (found : IsRecord at next file) → bytes ≡ take (next - (at + 5)) (drop (at + 5) file)
     → bytes ≡ found.body
@@ -91,19 +100,15 @@ module _ (before after : List (List ℕ)) (file : List ℕ) (at : ℕ) (log : Is
   follows : Follows after at file
   follows = (log.gate, log.rest, log.closed, fit_after before after log.fit, tail before after file at log is_at)
 
-  pub last_there : IsClosed (drop at file) → BodyAt (Ok None) after at
-  last_there closed = closed_is_last after at file follows closed
-
-  pub body_there : (next : ℕ) (bytes : List ℕ) (found : IsRecord at next file) → bytes ≡ found.body → BodyAt (Ok (Some (bytes, next))) after at
-  body_there next bytes found is = record_is_next after at next file bytes follows found is
-
-  -- no other fault
-  pub fault_there : (fault : LogFault) → StandsAt at file (Err fault) → BodyAt (Err fault) after at
-  fault_there Header stands = stands
-  fault_there (Torn offset) stands = no_cut after at file follows stands.1
-  fault_there DiskFault stands = tt
-  fault_there Long stands = stands
-  fault_there NoMemory stands = tt
+  -- what was found at the gate is the next of the bodies, or the log's end
+  pub there : (result : Result (Option (List ℕ × ℕ)) LogFault) → RecordAt at file result → BodyAt result after at
+  there (Ok None) found = closed_is_last after at file follows found
+  there (Ok (Some next)) found = record_is_next after at next.1 file next.0 follows found.0 found.1
+  there (Err Header) found = found
+  there (Err (Torn offset)) found = no_cut after at file follows found.1
+  there (Err DiskFault) found = tt
+  there (Err Long) found = found
+  there (Err NoMemory) found = tt
 
   pub inside : at < length file
   inside = omega (

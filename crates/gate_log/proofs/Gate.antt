@@ -1,19 +1,14 @@
 -- What each of the two writes of a record leaves in the file.
 use Rattle.std.proofs.Common.{◌≡◌, inl, inr, ⊎_elim, ℕ, ◌+◌, ◌<◌, ◌^◌, List, [], ◌∷◌, ◌++◌, length, get_or, take, drop, sym, ◌∙◌, ap, subst, arith, append_assoc, length-append, take-append-drop}
 use Rattle.std.proofs.lemmas.Bool.{cases_eq}
-use Rattle.std.proofs.lemmas.List.{take_at, drop_at, drop_more, take-append-le, flat_map_more}
+use Rattle.std.proofs.lemmas.List.{take_at, drop_at, drop_more, take-append-le}
 use Rattle.kap_io.specs.Disk.{Torn, overwritten, padded}
-use Rattle.gate_log.specs.Bodies.{magic, size_bytes, record_of, bytes_of, Fit, IsLog, IsBeforeOrAfter}
+use Rattle.gate_log.specs.Unique.{bytes_push}
+use Rattle.gate_log.specs.Bodies.{size_bytes, bytes_of, Fit, IsLog, IsBeforeOrAfter}
 
 pub fit_push : (bodies : List (List ℕ)) (body : List ℕ) → Fit bodies → length body < 2 ^ 32 → Fit (bodies ++ body ∷ [])
 fit_push [] body fit fits = (fits, tt)
 fit_push (b ∷ bodies) body fit fits = (fit.0, fit_push bodies body fit.1 fits)
-
--- one more record
-pub bytes_push : (bodies : List (List ℕ)) (body rest : List ℕ) → bytes_of (bodies ++ body ∷ []) ++ rest ≡ bytes_of bodies ++ (record_of body ++ rest)
-bytes_push bodies body rest =
-    ap (λ (l : List ℕ). l ++ rest) (sym (flat_map_more record_of magic bodies body))
-    ∙ append_assoc (bytes_of bodies) (record_of body) rest
 
 -- a file of three parts, by its first n bytes, one byte and what is behind
 module _ (front : List ℕ) (at gate : ℕ) (rest : List ℕ) (long : length front ≡ at) where

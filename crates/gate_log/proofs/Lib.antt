@@ -4,4 +4,5 @@ mod Fetching
 mod Filling
 mod Found
 mod Gate
+mod Onward
 mod Run

@@ -3,6 +3,7 @@ pub mod Logs
 pub mod Causes
 pub mod Marks
 pub mod Reading
+pub mod Readers
 pub mod Unique
 pub mod Head
 pub mod Quietly

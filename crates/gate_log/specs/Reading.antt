@@ -74,6 +74,15 @@ Fetched at count file (Err (Torn offset)) = ⊥
 Fetched at count file (Err Header) = ⊥
 Fetched at count file (Err _) = Unit {0}
 
+-- the body behind a gate and the next gate, as they were found
+abbrev pub RecordAt : ℕ → List ℕ → Result (Option (List ℕ × ℕ)) LogFault → Type 0
+RecordAt gate file (Ok None) = IsClosed (drop gate file)
+RecordAt gate file (Ok (Some found)) = (is : IsRecord gate found.1 file) × (found.0 ≡ is.body)
+RecordAt gate file (Err (Torn offset)) = (offset ≡ gate) × IsCutOff gate file
+RecordAt gate file (Err DiskFault) = Unit {0}
+RecordAt gate file (Err NoMemory) = Unit {0}
+RecordAt gate file (Err _) = ⊥
+
 -- the first of the bodies from a gate on, and the next gate; none at the closed gate
 abbrev pub BodyAt : Result (Option (List ℕ × ℕ)) LogFault → List (List ℕ) → ℕ → Type 0
 BodyAt (Ok None) bodies at = bodies ≡ []

@@ -6,6 +6,7 @@ use Rattle.std.specs.Int.{w32, from_be_bytes}
 use Rattle.std.proofs.lemmas.Nat.{from_be_bytes-to_be_bytes_4}
 use Rattle.std.proofs.lemmas.List.{take_at, drop_at, append_cancel_left, flat_map_more}
 use Rattle.gate_log.specs.Head.{head_magic, BeginsClosed, HasNoHead, IsHead}
+use Rattle.gate_log.specs.Readers.{BeginsWith}
 use Rattle.gate_log.specs.Bodies.{magic, size_bytes, record_of, bytes_of, Fit, IsLog, IsShort, IsHeaderless, IsTorn}
 
 pub length-size_bytes : (n : ℕ) → length (size_bytes n) ≡ 4
@@ -23,6 +24,11 @@ length-push bodies body =
       length-append (size_bytes (length body)) body,
       length-size_bytes (length body),
     )
+
+pub bytes_push : (bodies : List (List ℕ)) (body rest : List ℕ) → bytes_of (bodies ++ body ∷ []) ++ rest ≡ bytes_of bodies ++ (record_of body ++ rest)
+bytes_push bodies body rest =
+    ap (λ (l : List ℕ). l ++ rest) (sym (flat_map_more record_of magic bodies body))
+    ∙ append_assoc (bytes_of bodies) (record_of body) rest
 
 pub size_unique : (m n : ℕ) → m < 2 ^ 32 → n < 2 ^ 32 → size_bytes m ≡ size_bytes n → m ≡ n
 unfolding size_bytes
@@ -74,21 +80,26 @@ run_unique (suc m) (suc n) x y x_shut y_shut same = ap (λ (k : ℕ). suc k) (ru
 pub head_unique : (m n : ℕ) (bytes : List ℕ) → IsHead m bytes → IsHead n bytes → m ≡ n
 head_unique m n bytes one two = run_unique m n one.rest two.rest one.ends two.ends (append_cancel_left head_magic _ _ (sym one.is ∙ two.is))
 
--- a log has its nine bytes
-pub header_apart : (bodies : List (List ℕ)) (bytes : List ℕ) → IsLog bodies bytes → IsHeaderless bytes → ⊥
-header_apart bodies bytes log headerless = ⊎_elim (λ few. too_few few) (λ differs. differs same) headerless
+-- bytes that begin as a log does, and have a gate behind that, have a log's first nine bytes
+pub begins_apart : (bodies : List (List ℕ)) (bytes : List ℕ) (front : BeginsWith bodies bytes) → 0 < length front.rest → IsHeaderless bytes → ⊥
+begins_apart bodies bytes front some headerless = ⊎_elim (λ few. too_few few) (λ differs. differs same) headerless
   where
-    whole : bytes ≡ magic ++ (flat_map record_of bodies ++ log.gate ∷ log.rest)
-    whole = log.is ∙ append_assoc magic (flat_map record_of bodies) (log.gate ∷ log.rest)
+    whole : bytes ≡ magic ++ (flat_map record_of bodies ++ front.rest)
+    whole = front.is ∙ append_assoc magic (flat_map record_of bodies) front.rest
 
     same : take 8 bytes ≡ magic
-    same = ap (λ (l : List ℕ). take 8 l) whole ∙ take_at magic (flat_map record_of bodies ++ log.gate ∷ log.rest) 8 refl
+    same = ap (λ (l : List ℕ). take 8 l) whole ∙ take_at magic (flat_map record_of bodies ++ front.rest) 8 refl
 
     too_few : length bytes < 9 → ⊥
-    too_few few = omega (arith, few, ap (λ (l : List ℕ). length l) whole, length-append (flat_map record_of bodies) (log.gate ∷ log.rest))
+    too_few few = omega (arith, few, some, ap (λ (l : List ℕ). length l) whole, length-append (flat_map record_of bodies) front.rest)
+
+-- a log has its nine bytes
+pub header_apart : (bodies : List (List ℕ)) (bytes : List ℕ) → IsLog bodies bytes → IsHeaderless bytes → ⊥
+header_apart bodies bytes log headerless =
+    begins_apart bodies bytes (record { rest = log.gate ∷ log.rest; is = log.is; fit = log.fit }) (omega arith) headerless
 
 -- a whole record isn't one that runs past the end
-record_not_short : (b more rest : List ℕ) → length b < 2 ^ 32 → rest ≡ size_bytes (length b) ++ (b ++ more) → 0 < length more → IsShort rest → ⊥
+pub record_not_short : (b more rest : List ℕ) → length b < 2 ^ 32 → rest ≡ size_bytes (length b) ++ (b ++ more) → 0 < length more → IsShort rest → ⊥
 record_not_short b more rest fits whole some short = ⊎_elim (λ few. too_few few) (λ long. too_long long) short
   where
     total : length rest ≡ 4 + length b + length more
@@ -134,16 +145,8 @@ torn_whole offset bytes torn = torn.is ∙ append_assoc magic (flat_map record_o
 
 -- a torn log has its nine bytes
 pub torn_header_apart : (offset : ℕ) (bytes : List ℕ) → IsTorn offset bytes → IsHeaderless bytes → ⊥
-torn_header_apart offset bytes torn headerless = ⊎_elim (λ few. too_few few) (λ differs. differs same) headerless
-  where
-    whole : bytes ≡ magic ++ (flat_map record_of torn.bodies ++ 165 ∷ torn.rest)
-    whole = torn_whole offset bytes torn
-
-    same : take 8 bytes ≡ magic
-    same = ap (λ (l : List ℕ). take 8 l) whole ∙ take_at magic (flat_map record_of torn.bodies ++ 165 ∷ torn.rest) 8 refl
-
-    too_few : length bytes < 9 → ⊥
-    too_few few = omega (arith, few, ap (λ (l : List ℕ). length l) whole, length-append (flat_map record_of torn.bodies) (165 ∷ torn.rest))
+torn_header_apart offset bytes torn headerless =
+    begins_apart torn.bodies bytes (record { rest = 165 ∷ torn.rest; is = torn.is; fit = torn.fit }) (omega arith) headerless
 
 -- two torn records behind records are one
 rests_unique : (one two : List (List ℕ)) (x y : List ℕ) → Fit one → Fit two → IsShort x → IsShort y

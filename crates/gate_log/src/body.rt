@@ -5,7 +5,7 @@ ghost use Rattle.kap_io.specs.Moments.{Quiet};
 ghost use Rattle.gate_log.specs.Bodies.{IsLog, bytes_of};
 ghost use Rattle.gate_log.specs.Causes.{BodyCause};
 ghost use Rattle.gate_log.specs.Logs.{Rests};
-ghost use Rattle.gate_log.specs.Reading.{BodyAt, Fetched};
+ghost use Rattle.gate_log.specs.Reading.{BodyAt, Fetched, RecordAt};
 
 use crate::fault::LogFault;
 use crate::log::Log;
@@ -37,7 +37,35 @@ fn fetch<D: Disk>(
     Ok(Bytes::from_items(bytes))
 }
 
-/// The body behind the gate at an offset, and the offset of the next gate; none at the closed gate.
+/// The body behind the gate at an offset of a file of this length, and the offset of the next gate; none at a closed gate.
+pub(crate) fn record_at<D: Disk>(
+    alloc: Global,
+    disk: &mut D,
+    part: Part,
+    at: u64,
+    size: u64,
+) -> Result<Option<(Bytes, u64)>, LogFault>
+    ensures found { IsTrue D.tells → size ≡ length (D.seen disk.old part) → at < size
+        → RecordAt at (D.seen disk.old part) result }
+    ensures rises { IfOk result (λ found. IfSome found
+        (λ found. (at < found.1) × (found.1 < size))) }
+    ensures quiet { IsTrue D.tells
+        → Quiet D.seen D.moment D.may_leave D.left_since disk.old disk.new }
+    ensures cause { BodyCause (D.faults disk.old) (D.faults disk.new) result }
+{
+    if size <= at {
+        return Err(LogFault::Torn(at));
+    }
+    match next_gate(disk, part, at, size)? {
+        None => Ok(None),
+        Some(next) => {
+            let body = fetch(alloc, disk, part, at + 5, next - (at + 5))?;
+            Ok(Some((body, next)))
+        }
+    }
+}
+
+/// The same of a file whose length isn't known.
 fn read_body<D: Disk>(
     alloc: Global,
     disk: &mut D,
@@ -53,16 +81,7 @@ fn read_body<D: Disk>(
     ensures cause { BodyCause (D.faults disk.old) (D.faults disk.new) result }
 {
     let size = disk.size(part)?;
-    if size <= at {
-        return Err(LogFault::Torn(at));
-    }
-    match next_gate(disk, part, at, size)? {
-        None => Ok(None),
-        Some(next) => {
-            let body = fetch(alloc, disk, part, at + 5, next - (at + 5))?;
-            Ok(Some((body, next)))
-        }
-    }
+    record_at(alloc, disk, part, at, size)
 }
 
 impl Log {

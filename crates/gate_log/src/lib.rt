@@ -11,6 +11,7 @@ mod log;
 mod mark;
 mod open;
 mod read;
+mod reader;
 mod start;
 mod switching;
 
@@ -18,5 +19,6 @@ pub use fault::LogFault;
 pub use head::{make_head, read_head};
 pub use log::{BODY_LIMIT, Log};
 pub use open::open_log;
+pub use reader::{LogReader, read_log};
 pub use start::make;
 pub use switching::switch;

@@ -32,7 +32,7 @@ fn find_end<D: Disk>(disk: &mut D, part: Part, size: u64) -> Result<u64, LogFaul
 }
 
 /// The size of a file that begins as a log does.
-fn read_start<D: Disk>(disk: &mut D, part: Part) -> Result<u64, LogFault>
+pub(crate) fn read_start<D: Disk>(disk: &mut D, part: Part) -> Result<u64, LogFault>
     ensures some { IfOk result (λ size. 8 < size) }
     ensures found { IsTrue D.tells → StartsAs (D.seen disk.old part) result }
     ensures quiet { IsTrue D.tells

@@ -1,7 +1,8 @@
 //! What requests ask, from targets and bodies that clients send and ones that none should.
 
-use kap_http::{Ask, Reply, Request, read_request, route};
-use std::alloc::{AllocError, Global};
+use crate::words::answer_of;
+use kap_http::{Request, read_request};
+use std::alloc::Global;
 use std::process::Abort;
 use std::test::Fail;
 
@@ -21,42 +22,11 @@ fn request(alloc: Global, line: &str, body: &str) -> Result<Option<Request>, Fai
     }
 }
 
-/// The ask in words.
-fn told(alloc: Global, ask: &Ask) -> Result<String, AllocError> {
-    match ask {
-        Ask::Ping => format!(in alloc; "ping"),
-        Ask::Write(write) => {
-            let lines = write.body.len();
-            format!(in alloc;
-                "write '{}' '{}' {:?} {}",
-                write.db, write.rp, write.precision, lines
-            )
-        }
-        Ask::Tasks => format!(in alloc; "tasks"),
-        Ask::Define(task) => {
-            format!(in alloc; "define '{}' '{}' {}", task.id, task.script, task.enabled)
-        }
-        Ask::Task(task) => format!(in alloc; "task '{}' {:?}", task.id, task.act),
-        Ask::Topics => format!(in alloc; "topics"),
-        Ask::Topic(topic) => format!(in alloc; "topic '{}'", topic.name),
-    }
-}
-
-/// The refusal's body alone: its texts are of one status each.
-fn refused(alloc: Global, reply: &Reply) -> Result<String, Fail> {
-    let text = str::from_utf8(reply.body.as_slice())?;
-    Ok(format!(in alloc; "{} {}", reply.status, text)?)
-}
-
 fn check(rt: &impl Abort, alloc: Global, line: &str, body: &str, due: &str) -> Result<(), Fail> {
     let Some(request) = request(alloc, line, body)? else {
         panic!(rt; "no request");
     };
-    let answer = match route(alloc, &request) {
-        Ok(ask) => told(alloc, &ask)?,
-        Err(reply) => refused(alloc, &reply)?,
-    };
-    assert_eq!(rt; answer.as_str(), due);
+    assert_eq!(rt; answer_of(alloc, &request)?.as_str(), due);
     Ok(())
 }
 
@@ -199,6 +169,37 @@ fn a_body_defines_a_task(rt: HostRuntime) -> Result<(), Fail> {
         bad,
         alloc,
     )
+}
+
+/// A body that defines a task, with so many opened brackets and their closings under a key that is ignored.
+fn nested(alloc: Global, depth: u32) -> Result<String, Fail> {
+    let mut body = String::from_str(alloc, "{\"id\":\"a\",\"script\":\"s\",\"x\":")?;
+    for _ in 0..depth {
+        body.push('[')?;
+    }
+    for _ in 0..depth {
+        body.push(']')?;
+    }
+    body.push('}')?;
+    Ok(body)
+}
+
+#[test]
+fn a_body_is_nested_no_deeper_than_127(rt: HostRuntime) -> Result<(), Fail> {
+    let alloc = rt.alloc();
+    let bad = "400 {\"error\":\"bad body\"}";
+    let most = nested(alloc, 126)?;
+    check_task(&rt, most.as_str(), "define 'a' 's' false", alloc)?;
+    let more = nested(alloc, 127)?;
+    check_task(&rt, more.as_str(), bad, alloc)?;
+    let mut brackets = String::new(alloc);
+    for _ in 0..200 {
+        brackets.push('[')?;
+    }
+    for _ in 0..200 {
+        brackets.push(']')?;
+    }
+    check_task(&rt, brackets.as_str(), bad, alloc)
 }
 
 #[test]

@@ -1,6 +1,8 @@
 //! Reading of requests, from heads that clients send and heads that none should.
 
-use kap_http::{HttpFault, Request, has_empty_line, read_request};
+use crate::clients::head_of;
+use crate::writes::{WRITE, is_the_write};
+use kap_http::{HttpFault, has_empty_line, read_head, read_request};
 use std::alloc::Global;
 use std::process::Abort;
 use std::test::Fail;
@@ -48,17 +50,6 @@ fn check_head(
     let bytes = head(alloc, count, behind)?;
     assert_eq!(rt; reading(alloc, bytes.as_slice()), due);
     Ok(())
-}
-
-/// A write of one point.
-const WRITE: &[u8] =
-    b"POST /kapacitor/v1/write?db=d&rp=r HTTP/1.1\r\nContent-Length: 6\r\n\r\nm x=1i";
-
-fn is_the_write(request: &Request) -> bool {
-    request.method.as_str() == "POST"
-        && request.target.as_str() == "/kapacitor/v1/write?db=d&rp=r"
-        && !request.last
-        && request.body.as_slice() == b"m x=1i".as_slice()
 }
 
 #[test]
@@ -125,6 +116,85 @@ fn bytes_that_no_head_begins_with_are_refused(rt: HostRuntime) {
     // inside a target that isn't UTF-8 the parser says whether bytes can go on
     assert_eq!(rt; reading(alloc, b"GET /\xff\xfe"), Found::Waits);
     assert_eq!(rt; reading(alloc, b"GET /\xff\xfe "), Found::Bad);
+}
+
+/// A head of so many bytes.
+fn head_with(alloc: Global, len: u32) -> Result<String, Fail> {
+    let mut field = String::from_str(alloc, "a: ")?;
+    for _ in 47..len {
+        field.push('b')?;
+    }
+    let line = "POST /kapacitor/v1/write?db=d HTTP/1.1";
+    Ok(head_of(alloc, &[line, field.as_str()])?)
+}
+
+#[test]
+fn a_head_has_at_most_16384_bytes(rt: HostRuntime) -> Result<(), Fail> {
+    let alloc = rt.alloc();
+    let text = head_with(alloc, 16_384)?;
+    let most = text.as_bytes();
+    assert_eq!(rt; reading(alloc, most), Found::Whole(16_384));
+    let (front, _) = most.split_at(most.len().saturating_sub(1));
+    assert_eq!(rt; reading(alloc, front), Found::Waits);
+    let more = head_with(alloc, 16_385)?;
+    assert_eq!(rt; more.len(), 16_385);
+    assert_eq!(rt; reading(alloc, more.as_bytes()), Found::Bad);
+    Ok(())
+}
+
+#[test]
+fn a_head_tells_how_many_bytes_its_request_has(rt: HostRuntime) -> Result<(), Fail> {
+    let alloc = rt.alloc();
+    let (front, _) = WRITE.split_at(WRITE.len().saturating_sub(6));
+    let Some(head) = read_head(alloc, front)? else {
+        panic!(rt; "no head");
+    };
+    assert_eq!(rt; head.len, front.len());
+    assert_eq!(rt; head.size, 6);
+    assert_eq!(rt; head.total(), WRITE.len());
+    assert_eq!(rt; reading(alloc, front), Found::Waits);
+    if head.total() <= WRITE.len() {
+        assert!(rt; is_the_write(&head.request(alloc, WRITE)?));
+    }
+    let (shorter, _) = front.split_at(front.len().saturating_sub(1));
+    assert!(rt; read_head(alloc, shorter)?.is_none());
+    let large = b"POST / HTTP/1.1\r\nContent-Length: 1048577\r\n\r\n";
+    assert_eq!(rt; read_head(alloc, large), Err(HttpFault::Large));
+    Ok(())
+}
+
+#[test]
+fn requests_follow_one_another(rt: HostRuntime) -> Result<(), Fail> {
+    let alloc = rt.alloc();
+    let mut bytes = WRITE.to_vec(alloc)?;
+    bytes.extend_from_slice(b"GET /kapacitor/v1/ping HTTP/1.1\r\n\r\n")?;
+    let Some((request, len)) = read_request(alloc, bytes.as_slice())? else {
+        panic!(rt; "no request");
+    };
+    assert!(rt; is_the_write(&request));
+    let (_, rest) = bytes.split_at(len);
+    let Some((next, _)) = read_request(alloc, rest)? else {
+        panic!(rt; "no request");
+    };
+    assert_eq!(rt; next.target.as_str(), "/kapacitor/v1/ping");
+    Ok(())
+}
+
+#[test]
+fn bytes_that_were_seen_are_not_looked_at_again(rt: HostRuntime) {
+    for seen in 0..WRITE.len() {
+        let (front, _) = WRITE.split_at(seen);
+        if !has_empty_line(front, 0) {
+            assert!(rt; has_empty_line(WRITE, seen));
+        }
+    }
+    let (front, _) = WRITE.split_at(WRITE.len().saturating_sub(8));
+    for seen in 0..front.len() {
+        let (before, _) = front.split_at(seen);
+        if !has_empty_line(before, 0) {
+            assert!(rt; !has_empty_line(front, seen));
+        }
+    }
 }
 
 #[test]

@@ -8,6 +8,7 @@ pub mod HeadLaws
 pub mod RoomLaws
 pub mod EmptyLaws
 pub mod OneLaws
+pub mod HeadFirstLaws
 pub mod StreamLaws
 pub mod SizeLaws
 pub mod QueryLaws

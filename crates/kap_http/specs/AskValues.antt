@@ -4,6 +4,7 @@ use Rattle.kap_base.specs.declared.limits.TheConstants.{SCRIPT_LIMIT}
 use Rattle.kap_base.specs.Texts.{is_empty, is_line, is_task_id}
 use Rattle.kap_http.specs.declared.ask.Precision.{Precision}
 use Rattle.kap_http.specs.declared.ask.TaskAct.{TaskAct}
+use Rattle.kap_http.specs.declared.limits.TheConstants.{HEAD_LIMIT, WRITE_LIMIT}
 
 -- points to be written
 pub record WriteValue : Type 0 where
@@ -16,9 +17,9 @@ pub record WriteValue : Type 0 where
 pub record IsWrite (w : WriteValue) : Type 0 where
   pub db_name : IsTrue (is_line w.db && not (is_empty w.db))
   pub rp_name : IsTrue (is_line w.rp)
-  pub db_len : length w.db ≤ 16384
-  pub rp_len : length w.rp ≤ 16384
-  pub body_len : length w.body ≤ 8388608
+  pub db_len : length w.db ≤ HEAD_LIMIT
+  pub rp_len : length w.rp ≤ HEAD_LIMIT
+  pub body_len : length w.body ≤ WRITE_LIMIT
 
 -- a task to be defined
 pub record DefineValue : Type 0 where
@@ -38,7 +39,7 @@ pub record TaskValue : Type 0 where
 
 -- the id is no longer than a target
 pub record IsTask (t : TaskValue) : Type 0 where
-  pub id : length t.id ≤ 16384
+  pub id : length t.id ≤ HEAD_LIMIT
 
 -- a topic, by its name
 pub record TopicValue : Type 0 where
@@ -46,4 +47,4 @@ pub record TopicValue : Type 0 where
 
 -- the name is no longer than a target
 pub record IsTopic (t : TopicValue) : Type 0 where
-  pub name : length t.name ≤ 16384
+  pub name : length t.name ≤ HEAD_LIMIT

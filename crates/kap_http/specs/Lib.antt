@@ -3,6 +3,7 @@ pub mod Fields
 pub mod Paths
 pub mod Walks
 pub mod RequestValues
+pub mod HeadValues
 pub mod Reading
 pub mod Requests
 pub mod ReplyValues

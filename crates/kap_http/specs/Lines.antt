@@ -1,7 +1,8 @@
 -- How many lines of a head are there.
-use Rattle.std.specs.Prelude.{ℕ, zero, suc, Bool, true, false, not, ◌&&◌, ◌||◌, ◌==◌, List, [], ◌∷◌, Option, Some, None, option_and_then, if◌then◌else◌}
+use Rattle.std.specs.Prelude.{ℕ, zero, suc, ◌+◌, Bool, true, false, not, ◌&&◌, ◌||◌, ◌==◌, List, [], ◌∷◌, Option, Some, None, option_and_then, if◌then◌else◌}
 use Rattle.httparse.specs.Pieces.{is_newline}
 use Rattle.kap_base.specs.Texts.{begins_with, line_feed}
+use Rattle.kap_http.specs.declared.limits.TheConstants.{FIELD_LIMIT}
 
 -- the bytes behind the first line feed
 abbrev pub behind_feed : List ℕ → Option (List ℕ)
@@ -25,9 +26,9 @@ goes_on (Some []) = false
 goes_on (Some (b ∷ [])) = not (b == 13)
 goes_on (Some (b ∷ c ∷ bytes)) = true
 
--- bytes of a head go on behind its first line and 64 fields, and no empty line begins there
+-- bytes of a head go on behind its first line and as many fields as it may have, and no empty line begins there
 unfoldable pub has_more_lines : List ℕ → Bool
-has_more_lines bytes = goes_on (behind_lines 65 (skip_newlines bytes))
+has_more_lines bytes = goes_on (behind_lines (FIELD_LIMIT + 1) (skip_newlines bytes))
 
 -- an empty line stands at the front
 abbrev pub begins_empty : List ℕ → Bool

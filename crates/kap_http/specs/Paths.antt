@@ -3,6 +3,7 @@ use Rattle.std.specs.Prelude.{ℕ, ◌+◌, Bool, true, false, ◌==◌, List, [
 use Rattle.std.specs.List.{position_or_len, before_first}
 use Rattle.form_urlencoded.specs.Form.{split}
 use Rattle.percent_encoding.specs.Percent.{percent_decode}
+use Rattle.kap_http.specs.declared.limits.TheConstants.{BODY_LIMIT, WRITE_LIMIT}
 use Rattle.kap_http.specs.declared.path.Place.{Place}
 use Rattle.kap_http.specs.declared.path.Place.TheVariants as places
 
@@ -90,4 +91,4 @@ leads_to_write (Some (_, name)) = false
 
 -- the most bytes that a body of a request to this target may have: 8 MiB where points are written, else 1 MiB
 abbrev pub limit_of : List ℕ → ℕ
-limit_of target = if leads_to_write (way_of (path_of target)) then 8388608 else 1048576
+limit_of target = if leads_to_write (way_of (path_of target)) then WRITE_LIMIT else BODY_LIMIT

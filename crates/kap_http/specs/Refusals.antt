@@ -1,4 +1,4 @@
--- Why a request is refused, and what is as_reply.
+-- Why a request is refused, and the reply that says so.
 use Rattle.std.specs.Prelude.{ℕ, List, Option, Some, None, Result, Ok, Err, codes}
 use Rattle.kap_http.specs.declared.refusal.Refusal.{Refusal}
 use Rattle.kap_http.specs.declared.refusal.Refusal.TheVariants as refusals

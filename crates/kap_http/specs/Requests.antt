@@ -29,7 +29,8 @@ Requests zero bytes [] stop = stop ≡ behind_most
 Requests zero bytes (r ∷ requests) stop = ⊥
 Requests (suc left) bytes [] stop = StopsAt bytes stop
 Requests (suc left) bytes (r ∷ requests) stop =
-    (n : ℕ) × Gives bytes (Ok (Some (r, n))) × BehindIt r.last requests stop (Requests left (drop n bytes) requests stop)
+    (n : ℕ) × Gives bytes (Ok (Some (r, n)))
+    × BehindIt r.last requests stop (Requests left (drop n bytes) requests stop)
 
 -- the bytes begin with these requests, none of which is the last, and with this rest behind them
 abbrev pub BeginsWith : List ℕ → List RequestValue → List ℕ → Type 0

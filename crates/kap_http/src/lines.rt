@@ -4,6 +4,8 @@ ghost use Rattle.std.specs.Prelude.{◌≡◌, ◌≤◌, false, length, option_
 ghost use Rattle.httparse.specs.Grammar.{HasNoRequest};
 ghost use Rattle.kap_http.specs.Lines.{begins_empty, behind_feed, behind_lines, has_empty_line, has_more_lines, skip_newlines};
 
+use crate::limits::FIELD_LIMIT;
+
 /// The bytes behind the first line feed.
 fn behind_feed(bytes: &[u8]) -> Option<&[u8]>
     ensures { option_map (λ rest. rest.now) result ≡ behind_feed bytes.now }
@@ -20,7 +22,7 @@ fn behind_feed(bytes: &[u8]) -> Option<&[u8]>
 
 /// The bytes behind so many lines.
 #[tactic(auto, using(crate::proofs::LineLaws::lines_step, crate::proofs::LineLaws::lines_stop), unfolding(crate::specs::Lines::behind_lines))]
-fn behind_lines(count: u32, bytes: &[u8]) -> Option<&[u8]>
+fn behind_lines(count: usize, bytes: &[u8]) -> Option<&[u8]>
     ensures { option_map (λ rest. rest.now) result ≡ behind_lines count bytes.now }
 {
     let mut left = count;
@@ -43,12 +45,13 @@ fn skip_newlines(bytes: &[u8]) -> &[u8]
     rest
 }
 
-/// Whether bytes of a head go on behind its first line and 64 fields, and no empty line begins there.
+/// Whether bytes of a head go on behind its first line and as many fields as it may have, and no empty line begins
+/// there.
 #[tactic(auto, unfolding(crate::specs::Lines::has_more_lines))]
 pub(crate) fn has_more_lines(bytes: &[u8]) -> bool
     ensures { result ≡ has_more_lines bytes.now }
 {
-    match behind_lines(65, skip_newlines(bytes)) {
+    match behind_lines(FIELD_LIMIT + 1, skip_newlines(bytes)) {
         Some([]) | Some([b'\r']) | None => false,
         Some(_) => true,
     }
@@ -91,8 +94,8 @@ fn empty_line_behind(bytes: &[u8], seen: usize) -> bool
 }
 
 /// Whether an empty line stands behind some line feed. Where none does, no whole head stands in the bytes: who reads
-/// a head that comes in many pieces looks for it, and reads once it is there, or 16,384 bytes are. The first `seen`
-/// bytes are known to have none, so that each byte is looked at once.
+/// a head that comes in many pieces looks for it, and calls `read_head` once it is there, or `HEAD_LIMIT` bytes are.
+/// The first `seen` bytes are known to have none, so that each byte is looked at once.
 #[tactic(auto, using(crate::proofs::EmptyLaws::no_head))]
 pub fn has_empty_line(bytes: &[u8], seen: usize) -> bool
     requires within { seen ≤ length bytes.now }

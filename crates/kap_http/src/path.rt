@@ -6,6 +6,7 @@ ghost use Rattle.percent_encoding.specs.Percent.{percent_decode};
 ghost use Rattle.kap_http.specs.Paths.{is_part, is_question, is_slash, leads_to_write, limit_of, path_of, query_of, way_of};
 ghost use Rattle.kap_http.specs.Walks.{ends, ends_or_one, only_part, strip, strip_both, walk, walk_version};
 
+use crate::limits::{BODY_LIMIT, WRITE_LIMIT};
 use percent_encoding::percent_decode;
 
 /// Where a path leads.
@@ -207,8 +208,8 @@ pub(crate) fn limit_of(target: &[u8]) -> u64
     ensures { result ≡ limit_of target.now }
 {
     if leads_to_write(path_of(target)) {
-        8_388_608
+        WRITE_LIMIT
     } else {
-        1_048_576
+        BODY_LIMIT
     }
 }

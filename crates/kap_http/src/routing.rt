@@ -11,6 +11,7 @@ ghost use Rattle.kap_http.specs.declared.refusal.Refusal.TheVariants.{NoMemory a
 
 use crate::ask::{Ask, Precision, TaskAct, TaskAsk, TopicAsk, WriteAsk};
 use crate::body::{definition_of, set_of};
+use crate::limits::{HEAD_LIMIT, WRITE_LIMIT};
 use crate::method::{Method, method_of};
 use crate::path::{Place, path_of, query_of, way_of};
 use crate::query::value_of;
@@ -82,8 +83,8 @@ fn database_of(name: Vec<u8>) -> Result<Text, Refusal>
 /// What is to be written.
 #[tactic(auto, unfolding(crate::specs::Routes::write_of))]
 fn write_of(alloc: Global, query: &[u8], body: &Bytes) -> Result<WriteAsk, Refusal>
-    requires query { length query.now ≤ 16384 }
-    requires body { length body.now ≤ 8388608 }
+    requires query { length query.now ≤ HEAD_LIMIT }
+    requires body { length body.now ≤ WRITE_LIMIT }
     ensures { Answers no_memory result (write_of (raw_pairs query.now) body.now) }
 {
     let db = database_of(value_of(alloc, query, b"db")?)?;
@@ -114,7 +115,7 @@ fn name_of(alloc: Global, refusal: Refusal, part: &[u8]) -> Result<Text, Refusal
 }
 
 fn task_of(alloc: Global, act: TaskAct, part: &[u8]) -> Result<Ask, Refusal>
-    requires { length part.now ≤ 16384 }
+    requires { length part.now ≤ HEAD_LIMIT }
     ensures { Answers no_memory result (task_of act part.now) }
 {
     let id = name_of(alloc, Refusal::NoTask, part)?;
@@ -131,8 +132,8 @@ fn ping_ask(method: Method) -> Result<Ask, Refusal>
 }
 
 fn write_ask(alloc: Global, method: Method, query: &[u8], body: &Bytes) -> Result<Ask, Refusal>
-    requires query { length query.now ≤ 16384 }
-    requires body { length body.now ≤ 8388608 }
+    requires query { length query.now ≤ HEAD_LIMIT }
+    requires body { length body.now ≤ WRITE_LIMIT }
     ensures { Answers no_memory result (write_ask method query.now body.now) }
 {
     match method {
@@ -152,7 +153,7 @@ fn tasks_ask(alloc: Global, method: Method, body: &Bytes) -> Result<Ask, Refusal
 }
 
 fn task_ask(alloc: Global, method: Method, part: &[u8], body: &Bytes) -> Result<Ask, Refusal>
-    requires { length part.now ≤ 16384 }
+    requires { length part.now ≤ HEAD_LIMIT }
     ensures { Answers no_memory result (task_ask method part.now body.now) }
 {
     match method {
@@ -180,7 +181,7 @@ fn topics_ask(method: Method) -> Result<Ask, Refusal>
 }
 
 fn topic_ask(alloc: Global, method: Method, part: &[u8]) -> Result<Ask, Refusal>
-    requires { length part.now ≤ 16384 }
+    requires { length part.now ≤ HEAD_LIMIT }
     ensures { Answers no_memory result (topic_ask method part.now) }
 {
     match method {
