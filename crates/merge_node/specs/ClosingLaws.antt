@@ -127,7 +127,6 @@ pub record ClosedMerge (bs : List Stamp) (ms : List Entry) (left : Lists) : Type
   pub empty : AreEmpty left
 
 no-barriers : (bs : List Stamp) (ls : Lists) → AllClosedBy bs ls → has_empty ls ≡ true → bs ≡ []
-
 no-barriers bs [] h e = absurd cc
 no-barriers bs ([] ∷ ls) h e = sym h.0.barriers
 no-barriers bs ((m ∷ l) ∷ ls) h e = no-barriers bs ls h.1 e
