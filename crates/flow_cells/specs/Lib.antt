@@ -7,6 +7,10 @@ pub mod Kept
 pub mod Handled
 -- what the moves of a cell do to it
 pub mod Moves
+-- an edge that is settled, what a cell has to do, and effects that are gathered
+pub mod Settles
+pub mod Looks
+pub mod Gathers
 -- proofs, no definitions
 pub mod OutLaws
 pub mod HandledLaws
@@ -18,3 +22,4 @@ pub mod MadeLaws
 -- what beginning a load does
 pub mod Loads
 pub mod LoadLaws
+pub mod SettleLaws

@@ -7,6 +7,7 @@ use Rattle.edge_queue.specs.Moves.{HeadLoads, TailLoads}
 use Rattle.flow_cells.specs.declared.parts.OutEdge.{OutEdge}
 use Rattle.flow_cells.specs.declared.parts.InEdge.{InEdge}
 use Rattle.flow_cells.specs.declared.parts.CellParts.{CellParts}
+use Rattle.flow_cells.specs.Kept.{gathered}
 
 -- an input whose load begins
 pub record InLoads (a b : InEdge) : Type 0 where
@@ -40,4 +41,5 @@ pub record Begins {N : Type 0} (msgs : List Msg) (c d : CellParts N) : Type 0 wh
   pub passed : d.base.value.passed ≡ c.core.passed
   pub ins : AllZip InLoads c.ins.items d.ins.items
   pub outs : AllZip OutLoads c.core.outs.items d.core.outs.items
+  pub gathered : gathered d.core.gathered ≡ []
   pub spent : d.spent ≡ c.spent

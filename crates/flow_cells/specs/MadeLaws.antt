@@ -24,6 +24,18 @@ pub fresh-received : (ins : List InEdge) → Each IsFresh ins → received_of in
 fresh-received [] h = refl
 fresh-received (e ∷ ins) h = fresh-heads (e ∷ ins) h
 
+fresh-none : (ins : List InEdge) → Each IsFresh ins → Each IsNothing (map (λ (i : InEdge). received i.head) ins)
+fresh-none [] h = tt
+fresh-none (e ∷ ins) h = (h.0, fresh-none ins h.1)
+
+pub nothing-received : (ins : List InEdge) (source : List Msg) → Each IsFresh ins → source ≡ [] → Each IsNothing (received_of ins source)
+nothing-received [] source h e = (e, tt)
+nothing-received (x ∷ ins) source h e = fresh-none (x ∷ ins) h
+
+pub nothing-buffered : (n : ℕ) → Each IsNothing (replicate n [])
+nothing-buffered zero = tt
+nothing-buffered (suc n) = (refl, nothing-buffered n)
+
 pub some-parents : (n : ℕ) → next (replicate (one_or_more n) []) ≡ None
 unfolding next
 some-parents zero = refl

@@ -116,7 +116,7 @@ get-set [] i y lt = absurd (omega arith)
 get-set (x ∷ xs) zero y lt = refl
 get-set (x ∷ xs) (suc i) y lt = get-set xs i y (omega arith)
 
-some-value : {A : Type 0} (x y : A) → ◌≡◌ {A = Option A} (Some x) (Some y) → x ≡ y
+pub some-value : {A : Type 0} (x y : A) → ◌≡◌ {A = Option A} (Some x) (Some y) → x ≡ y
 some-value x y e = cc
 
 -- what holds of the element that was put at a place holds of what stands there

@@ -31,6 +31,7 @@ pub record TakesOne {N : Type 0} (input : ℕ) (c d : CellParts N) : Type 0 wher
   pub takes : TakesAt msg old new
   pub ins : d.ins.items ≡ slice_set c.ins.items input new
   pub outs : AllZip Waits c.core.outs.items d.core.outs.items
+  pub gathered : d.core.gathered ≡ c.core.gathered
   pub base : d.base ≡ c.base
   pub source : d.source ≡ c.source
   pub spent : d.spent ≡ c.spent

@@ -1,12 +1,15 @@
 //! A cell whose type says what it keeps.
 
+use crate::gathering::gather;
 use crate::loads::load;
+use crate::looking::{can_take, is_quiet};
 use crate::making::{add_out, make};
 use crate::moves::{put, take};
 use crate::parts::{CellParts, InEdge, OutEdge};
+use crate::settling::settle;
 use kap_base::{Msg, NoMemory};
 use merge_node::PARENT_LIMIT;
-use node_core::Node;
+use node_core::{Effects, Node};
 use std::alloc::Global;
 use std::marker::Model;
 
@@ -35,12 +38,17 @@ impl<N: Node> Model for Cell<N> {
 }
 
 impl<N: Node> Cell<N> {
-    ghost use Rattle.std.specs.Prelude.{◌≡◌, ◌≤◌, false, true, [], ◌∷◌, ◌++◌, length, IfOk, IsFalse, IsTrue, Ok, OnErr, OnOk};
+    ghost use Rattle.std.specs.Prelude.{◌≡◌, ◌↔◌, ◌<◌, ◌≤◌, false, true, [], ◌∷◌, ◌++◌, length, slice_get, IfOk, IsFalse, IsTrue, Ok, OnErr, OnOk, Some};
     ghost use Rattle.std.specs.List.{AllByRecursion as Each};
+    ghost use Rattle.flow_cells.specs.Gathers.{Gathers};
     ghost use Rattle.flow_cells.specs.Kept.{Keeps};
     ghost use Rattle.flow_cells.specs.Loads.{Begins, IsOwn, NothingWaits};
+    ghost use Rattle.flow_cells.specs.Looks.{CanTake, IsQuiet};
     ghost use Rattle.flow_cells.specs.Made.{HasNothing, IsFresh, IsMade, IsNothing, IsUnused, one_or_more};
     ghost use Rattle.flow_cells.specs.Moves.{KeepsOthers, PutsNone, PutsOne, TakesNone, TakesOne};
+    ghost use Rattle.flow_cells.specs.Settles.{IsFedBy, Settles};
+    ghost use Rattle.flow_cells.specs.declared.parts.InEdge.{InEdge};
+    ghost use Rattle.flow_cells.specs.declared.parts.OutEdge.{OutEdge};
 
     /// A cell of a node with these inputs, on which nothing was received since their load, in the order of its parents;
     /// none for a stream. Its saved state is its state, and the last barrier that it passed has the stamp 0. `NoMemory`
@@ -52,6 +60,10 @@ impl<N: Node> Cell<N> {
         ensures core { IfOk result (λ cell. IsMade N.Node node cell.core) }
         ensures ins { IfOk result (λ cell. cell.ins.items ≡ ins.items) }
         ensures spent { IfOk result (λ cell. cell.spent ≡ false) }
+        ensures nothing { IfOk result HasNothing }
+        ensures empty { IfOk result (λ cell. Each IsNothing cell.buffer) }
+        ensures base { IfOk result (λ cell. cell.base.value.node ≡ node) }
+        ensures keeps { IfOk result (Keeps N.Node) }
     {
         Ok(Cell {
             parts: make(alloc, node, ins)?,
@@ -64,6 +76,7 @@ impl<N: Node> Cell<N> {
         requires unspent { self.old.spent ≡ false }
         requires nothing { HasNothing self.old }
         requires unused { IsUnused out }
+        ensures keeps { Keeps N.Node self.new }
         ensures others { KeepsOthers self.old self.new }
         ensures ok { OnOk result (self.new.core.outs.items ≡ self.old.core.outs.items ++ out ∷ []) }
         ensures err { OnErr result (self.new.core.outs.items ≡ self.old.core.outs.items) }
@@ -76,6 +89,7 @@ impl<N: Node> Cell<N> {
     /// the cell is spent.
     pub fn take(&mut self, alloc: Global, input: u32) -> Result<bool, NoMemory>
         requires { self.old.spent ≡ false }
+        ensures keeps { OnOk result (Keeps N.Node self.new) }
         ensures took { result ≡ Ok true → TakesOne input self.old self.new }
         ensures none { result ≡ Ok false → TakesNone input self.old self.new }
         ensures spent { OnErr result (self.new.spent ≡ true) }
@@ -93,6 +107,7 @@ impl<N: Node> Cell<N> {
     /// waits there, or the ring was full as this call looked. It takes no memory.
     pub fn put(&mut self, out: u32) -> bool
         requires { self.old.spent ≡ false }
+        ensures keeps { Keeps N.Node self.new }
         ensures put { IsTrue result → PutsOne out self.old self.new }
         ensures none { IsFalse result → PutsNone out self.old self.new }
     {
@@ -105,7 +120,9 @@ impl<N: Node> Cell<N> {
         requires unspent { self.old.spent ≡ false }
         requires empty { Each IsNothing self.old.buffer }
         requires sent { Each NothingWaits self.old.core.outs.items }
+        requires gathered { self.old.core.effects ≡ [] }
         requires own { IsOwn self.old.ins.items source.items }
+        ensures keeps { OnOk result (Keeps N.Node self.new) }
         ensures begins { OnOk result (Begins source.items self.old self.new) }
         ensures spent { OnErr result (self.new.spent ≡ true) }
     {
@@ -116,6 +133,100 @@ impl<N: Node> Cell<N> {
                 Err(fault)
             }
         }
+    }
+
+    /// Whether a message can be taken from an input, as far as this cell knows: there is such an input, a message is known
+    /// on its edge, and none waits to be sent.
+    pub fn can_take(&self, input: u32) -> bool
+        ensures yes { IsTrue result → CanTake input self.now }
+        ensures no { IsFalse result → CanTake input self.now → ⊥ }
+    {
+        can_take(&self.parts, input)
+    }
+
+    /// Whether nothing waits to be sent, and no message is known on the edge of an input.
+    pub fn is_quiet(&self) -> bool
+        ensures { IsTrue result ↔ IsQuiet self.now }
+    {
+        is_quiet(&self.parts)
+    }
+
+    /// How many inputs it has.
+    pub fn inputs(&self) -> usize
+        ensures { result ≡ length self.now.ins.items }
+    {
+        self.parts.ins.len()
+    }
+
+    /// How many outs it has.
+    pub fn outs(&self) -> usize
+        ensures { result ≡ length self.now.core.outs.items }
+    {
+        self.parts.core.outs.len()
+    }
+
+    /// The number of the parent of an input.
+    pub fn parent(&self, input: u32) -> u32
+        requires { input < length self.now.ins.items }
+        ensures { (e : InEdge) → slice_get self.now.ins.items input ≡ Some e → result ≡ e.from }
+    {
+        let edge = &self.parts.ins[input as usize];
+        edge.from
+    }
+
+    /// The number of the child that an out feeds.
+    pub fn child(&self, out: u32) -> u32
+        requires { out < length self.now.core.outs.items }
+        ensures { (o : OutEdge) → slice_get self.now.core.outs.items out ≡ Some o
+            → result ≡ o.child }
+    {
+        let edge = &self.parts.core.outs[out as usize];
+        edge.child
+    }
+
+    /// Which input of its child an out feeds.
+    pub fn child_input(&self, out: u32) -> u32
+        requires { out < length self.now.core.outs.items }
+        ensures { (o : OutEdge) → slice_get self.now.core.outs.items out ≡ Some o
+            → result ≡ o.input }
+    {
+        let edge = &self.parts.core.outs[out as usize];
+        edge.input
+    }
+
+    /// Shows both ends of the edge to an input of a child, side by side, what is on it. Nothing is sent or received.
+    pub fn settle(&mut self, child: &mut Cell<N>, input: u32)
+        requires { IsFedBy input self.old child.old }
+        ensures parent { Keeps N.Node self.old → Keeps N.Node self.new }
+        ensures child { Keeps N.Node child.old → Keeps N.Node child.new }
+        ensures settles { Settles input self.old child.old self.new child.new }
+    {
+        settle(&mut self.parts, &mut child.parts, input);
+    }
+
+    /// Puts its effects behind others, where they weren't gathered yet. After NoMemory the cell is spent, and which of
+    /// them stand in `to` is unknown.
+    pub fn gather(&mut self, alloc: Global, to: &mut Effects) -> Result<(), NoMemory>
+        requires { self.old.spent ≡ false }
+        ensures keeps { OnOk result (Keeps N.Node self.new) }
+        ensures gathers { OnOk result (Gathers self.old self.new) }
+        ensures given { OnOk result (to.new ≡ to.old ++ self.old.core.effects) }
+        ensures spent { OnErr result (self.new.spent ≡ true) }
+    {
+        match gather(alloc, &mut self.parts, to) {
+            Ok(()) => Ok(()),
+            Err(fault) => {
+                self.parts.spent = true;
+                Err(fault)
+            }
+        }
+    }
+
+    /// How many inputs its node dropped and counted.
+    pub fn dropped(&self) -> u64
+        ensures { result ≡ N.drops (N.state self.now.core.node) }
+    {
+        self.parts.core.node.dropped()
     }
 
     /// Whether a call on it failed in the middle.

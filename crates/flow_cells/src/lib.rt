@@ -3,14 +3,17 @@
 #![tactic(auto)]
 
 mod cell;
+mod gathering;
 mod laws;
 mod loads;
+mod looking;
 mod making;
 mod moves;
 mod outs;
 mod parts;
 mod reacting;
 mod sends;
+mod settling;
 
 pub use cell::Cell;
 pub use laws::runs_are_folds;

@@ -76,6 +76,7 @@ pub(crate) fn load<N: Node>(
     requires keeps { Keeps N.Node cell.old }
     requires empty { Each IsNothing cell.old.buffer }
     requires sent { Each NothingWaits cell.old.core.outs.items }
+    requires gathered { cell.old.core.effects ≡ [] }
     requires own { IsOwn cell.old.ins.items source.items }
     ensures keeps { OnOk result (Keeps N.Node cell.new) }
     ensures begins { OnOk result (Begins source.items cell.old cell.new) }
@@ -83,7 +84,6 @@ pub(crate) fn load<N: Node>(
     load_ins(&mut cell.ins);
     load_outs(&mut cell.core.outs);
     cell.core.gathered = Gathered::Start;
-    cell.core.effects.clear();
     cell.core.saved.clear();
     cell.core.node.save(&mut cell.core.saved)?;
     cell.base = Snapshot::of(&cell.core);

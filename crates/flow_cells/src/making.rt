@@ -3,7 +3,7 @@
 ghost use Rattle.std.specs.Prelude.{◌≡◌, ◌≤◌, false, [], ◌∷◌, ◌++◌, length, IfOk, OnErr, OnOk};
 ghost use Rattle.std.specs.List.{AllByRecursion as Each};
 ghost use Rattle.flow_cells.specs.Kept.{Keeps};
-ghost use Rattle.flow_cells.specs.Made.{HasNothing, IsFresh, IsMade, IsUnused, one_or_more};
+ghost use Rattle.flow_cells.specs.Made.{HasNothing, IsFresh, IsMade, IsNothing, IsUnused, one_or_more};
 ghost use Rattle.flow_cells.specs.Moves.{KeepsOthers};
 
 use crate::parts::{CellParts, Core, Gathered, InEdge, OutEdge};
@@ -50,6 +50,9 @@ pub(crate) fn make<N: Node>(
     ensures core { IfOk result (λ cell. IsMade N.Node node cell.core) }
     ensures ins { IfOk result (λ cell. cell.ins.items ≡ ins.items) }
     ensures spent { IfOk result (λ cell. cell.spent ≡ false) }
+    ensures nothing { IfOk result HasNothing }
+    ensures empty { IfOk result (λ cell. Each IsNothing cell.buffer) }
+    ensures base { IfOk result (λ cell. cell.base.value.node ≡ node) }
 {
     let buffer = MergeBuf::new(alloc, parents_of(&ins))?;
     let core = make_core(alloc, node)?;

@@ -18,6 +18,7 @@ impl<N: Node> Core<N> {
     fn feed(&mut self, alloc: Global, parent: u32, item: Item) -> Result<(), NoMemory>
         requires { parent < N.ports (N.spec self.old.node) }
         ensures spec { N.spec self.new.node ≡ N.spec self.old.node }
+        ensures gathered { self.new.gathered ≡ self.old.gathered }
         ensures outs { OnOk result (AllZip Waits self.old.outs.items self.new.outs.items) }
         ensures reacts { OnOk result (Reacts N.Node self.old parent (messages.Item item) self.new) }
     {
@@ -31,6 +32,7 @@ impl<N: Node> Core<N> {
     /// Passes a barrier: saves the state, and has the barrier wait at each out.
     fn pass(&mut self, alloc: Global, stamp: Stamp) -> Result<(), NoMemory>
         ensures spec { N.spec self.new.node ≡ N.spec self.old.node }
+        ensures gathered { self.new.gathered ≡ self.old.gathered }
         ensures outs { OnOk result (AllZip Waits self.old.outs.items self.new.outs.items) }
         ensures reacts { OnOk result ((parent : ℕ)
             → Reacts N.Node self.old parent (messages.Barrier stamp) self.new) }
@@ -46,6 +48,7 @@ impl<N: Node> Core<N> {
     pub(crate) fn react(&mut self, alloc: Global, parent: u32, msg: Msg) -> Result<(), NoMemory>
         requires { parent < N.ports (N.spec self.old.node) }
         ensures spec { N.spec self.new.node ≡ N.spec self.old.node }
+        ensures gathered { self.new.gathered ≡ self.old.gathered }
         ensures outs { OnOk result (AllZip Waits self.old.outs.items self.new.outs.items) }
         ensures reacts { OnOk result (Reacts N.Node self.old parent msg self.new) }
     {
@@ -65,6 +68,7 @@ pub(crate) fn handle_all<N: Node>(
 ) -> Result<(), NoMemory>
     requires { length buffer.old ≤ N.ports (N.spec core.old.node) }
     ensures outs { OnOk result (AllZip Waits core.old.outs.items core.new.outs.items) }
+    ensures gathered { OnOk result (core.new.gathered ≡ core.old.gathered) }
     ensures stuck { OnOk result (next buffer.new ≡ None) }
     ensures handles { OnOk result (Handles N.Node core.old buffer.old core.new buffer.new) }
 {

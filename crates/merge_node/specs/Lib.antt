@@ -9,4 +9,5 @@ pub mod BufferLaws
 pub mod RankLaws
 pub mod MergeLaws
 pub mod CallLaws
+pub mod ClosingLaws
 pub mod OrderLaws

@@ -1,7 +1,7 @@
 use Rattle.std.proofs.Common.{◌≡◌, ◌∙◌, ◌<◌, ◌≤◌, ◌++◌, length, refl, sym, ap, subst, arith}
 use Rattle.flow_cells.specs.declared.parts.Core.{Core}
 use Rattle.flow_cells.specs.Runs.{begun}
-use Rattle.flow_cells.specs.Kept.{IsAt, received_of}
+use Rattle.flow_cells.specs.Kept.{IsAt, gathered, received_of}
 use Rattle.flow_cells.specs.Handled.{Handles}
 use Rattle.flow_cells.specs.MoveLaws.{buffer-length, ports-of}
 use Rattle.flow_cells.specs.LoadLaws.{load-keeps, loaded-lists, loads-waits, some-received, with_source-length}
@@ -26,8 +26,8 @@ returns-clause-keeps g c =
       spec = refl;
       state = refl;
       outs = c.load_outs.ensures.given;
-      effects = c.clear.ensures;
-      saved = c.in_ok-save.ensures.ok ∙ ap (λ l. l ++ node.spell (node.spec cell.core.node) (node.state cell.core.node)) c.clear-2.ensures;
+      effects = c.requires.gathered;
+      saved = c.in_ok-save.ensures.ok ∙ ap (λ l. l ++ node.spell (node.spec cell.core.node) (node.state cell.core.node)) c.clear.ensures;
       passed = refl;
     }) in
     let handles : Handles node first buffer c.handle_all.new.core c.handle_all.new.buffer =
@@ -50,5 +50,6 @@ returns-clause-begins g c = record {
   passed = ap (λ (x : Core g.row.N.Denot). x.passed) c.of.ensures;
   ins = c.load_ins.ensures.loads;
   outs = loads-waits c.args.cell.now.core.outs.items c.load_outs.new.outs.items c.handle_all.new.core.outs.items c.load_outs.ensures.loads c.in_ok-handle_all.ensures.outs;
+  gathered = ap gathered c.in_ok-handle_all.ensures.gathered;
   spent = refl;
 }

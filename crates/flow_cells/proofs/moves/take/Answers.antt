@@ -109,6 +109,7 @@ returns-clause-took g c = λ _.
       takes = record { head = c.in-Some.ensures.taken; from = refl; out = refl };
       ins = refl;
       outs = c.in_ok-handle_all.ensures.outs;
+      gathered = c.in_ok-handle_all.ensures.gathered;
       base = refl;
       source = refl;
       spent = refl;

@@ -10,6 +10,7 @@ handling-init g c = record {
   outs = zip-refl Waits Waits-refl c.args.core.now.outs.items;
   handles = Handles-none g.N.Node c.args.core.now c.args.buffer.now;
   parents = refl;
+  gathered = refl;
 }
 
 pub react-requires : goal.react-requires
@@ -34,4 +35,5 @@ handling-preserved g c =
       handles = Handles-more g.N.Node c.args.core.now c.handling.core c.args.buffer.now c.handling.buffer c.next.new.self c.in-Some.parent c.in-Some.msg c.react.new.self
           c.handling.invariant.handles t c.in_ok-react.ensures.spec c.in_ok-react.ensures.reacts;
       parents = (next-less c.handling.buffer _ t).parents ∙ c.handling.invariant.parents;
+      gathered = c.in_ok-react.ensures.gathered ∙ c.handling.invariant.gathered;
     }

@@ -10,6 +10,7 @@ invariant-handling g l = record {
   outs : AllZip Waits l.fn.core.outs.items l.core.outs.items;
   handles : Handles g.N.Node l.fn.core l.fn.buffer l.core l.buffer;
   parents : length l.buffer ≡ length l.fn.buffer;
+  gathered : l.core.gathered ≡ l.fn.core.gathered;
 }
 
 abbrev pub decreases-handling : goal.decreases-handling
