@@ -1,0 +1,7 @@
+pub mod Adding
+pub mod Apart
+pub mod Found
+pub mod Latest
+pub mod Made
+pub mod Reading
+pub mod Rereading

@@ -1,0 +1,7 @@
+pub mod Faults
+pub mod Stores
+pub mod Opening
+pub mod Adding
+pub mod Making
+pub mod Stored
+pub mod Snapshots

@@ -1,0 +1,246 @@
+//! A store, and its opening.
+
+ghost use Rattle.std.specs.Prelude.{◌≡◌, ◌++◌, ◌∷◌, [], ℕ, false, List, IfOk, IsTrue, OnOk, option_map};
+ghost use Rattle.kap_base.specs.Words.{HasRisen};
+ghost use Rattle.kap_io.specs.Moments.{Moments, Quiet};
+ghost use Rattle.store_records.specs.Held.{MayFollow};
+ghost use Rattle.store_records.specs.Histories.{held};
+ghost use Rattle.store_records.specs.Records.{HasForm};
+ghost use Rattle.store_records.specs.declared.rec.Rec.{Rec};
+ghost use Rattle.topic_store.specs.Adding.{AddFault, IsLongOrNot, stands_before_or_after};
+ghost use Rattle.store_kept.specs.Keeping.{kept_of};
+ghost use Rattle.topic_store.specs.Opening.{Finds, IsOnWith, Opens, Refuses, StoreCause};
+ghost use Rattle.topic_store.specs.Snapshots.{SnapOrNot};
+ghost use Rattle.topic_store.specs.Stores.{IsNoStore, IsOn, Stands, numbers_of, store_of};
+
+use crate::fault::{StoreFault, fault_in};
+use crate::opening::{open_part, synced_head};
+use crate::stored::states_at;
+use gate_log::{BODY_LIMIT, Log};
+use kap_base::Bytes;
+use kap_io::{Disk, Part};
+use std::alloc::Global;
+use std::marker::Model;
+use store_kept::{Kept, commit, prepare};
+use store_records::{Life, LifeNumbers, Rec, StoredTask, Transitions, record_body};
+use topic_core::Topics;
+
+/// A store on a disk. What its calls promise stands on the disk on which it was opened, where since then only calls on it changed what
+/// a read gives, or added to what a crash may leave.
+#[derive(Debug, Drop)]
+pub struct Store {
+    alloc: Global,
+    log: Log,
+    kept: Kept,
+}
+
+impl Model for Store {
+    ghost use Rattle.store_kept.specs.Keeping.{kept_of};
+    ghost use Rattle.topic_store.specs.Stores.{StoreState};
+
+    ghost Value = { StoreState };
+
+    ghost view = { λ s. record { log = s.log; kept = kept_of s.kept } };
+}
+
+/// Adds a record to a log, and to what is kept.
+fn add_record<D: Disk>(
+    alloc: Global,
+    log: &mut Log,
+    kept: &mut Kept,
+    disk: &mut D,
+    rec: &Rec,
+) -> Result<(), StoreFault>
+    requires usable { log.old.spent ≡ false }
+    requires form { HasForm rec.now }
+    ensures added { IsTrue D.tells → (rs : List Rec) → MayFollow (held rs) rec.now
+        → IsOn rs (D.seen disk.old) (D.may_leave disk.old) (store_of log.old (kept_of kept.old))
+        → OnOk result (IsOn (rs ++ rec.now ∷ []) (D.seen disk.new) (D.may_leave disk.new)
+        (store_of log.new (kept_of kept.new))) }
+    ensures usable { OnOk result (log.new.spent ≡ false) }
+    ensures any_moment { IsTrue D.tells → (rs : List Rec) → MayFollow (held rs) rec.now
+        → IsOn rs (D.seen disk.old) (D.may_leave disk.old) (store_of log.old (kept_of kept.old))
+        → Moments D.moment D.may_leave D.left_since disk.old disk.new
+        (stands_before_or_after rs rec.now) }
+    ensures long { IsLongOrNot rec.now result }
+    ensures cause { AddFault result disk.old disk.new (store_of log.old (kept_of kept.old))
+        (store_of log.new (kept_of kept.new)) (HasRisen (D.faults disk.old) (D.faults disk.new)) }
+{
+    let body = record_body(alloc, rec)?;
+    if body.len() > BODY_LIMIT {
+        return Err(StoreFault::Long);
+    }
+    let parts = prepare(alloc, kept, log.end(), rec)?;
+    match log.append(disk, body.as_slice()) {
+        Ok(()) => {
+            commit(kept, rec, parts);
+            Ok(())
+        }
+        Err(fault) => Err(fault_in(log.part(), fault)),
+    }
+}
+
+/// The store that the files stand for, and the topics of its transitions.
+fn find_store<D: Disk>(alloc: Global, disk: &mut D) -> Result<(Store, Topics), StoreFault>
+    ensures found { IsTrue D.tells
+        → Finds (IsOnWith (D.seen disk.old) (D.may_leave disk.new)) (D.seen disk.old) result }
+    ensures usable { IfOk result (λ opened. opened.0.log.spent ≡ false) }
+    ensures quiet { IsTrue D.tells
+        → Quiet D.seen D.moment D.may_leave D.left_since disk.old disk.new }
+    ensures cause { StoreCause (D.faults disk.old) (D.faults disk.new) result }
+{
+    let part = synced_head(disk)?;
+    let reached = open_part(alloc, disk, part)?;
+    let store = Store {
+        alloc,
+        log: reached.log,
+        kept: reached.kept,
+    };
+    Ok((store, reached.topics))
+}
+
+/// The store that the files stand for, and the topics of its transitions, for those who go on from its levels. All else is as
+/// `open_store` says.
+pub fn open_with_topics<D: Disk>(alloc: Global, disk: &mut D) -> Result<(Store, Topics), StoreFault>
+    ensures found { IsTrue D.tells
+        → Finds (IsOnWith (D.seen disk.old) (D.may_leave disk.new)) (D.seen disk.old) result }
+    ensures opened { IsTrue D.tells → (rs : List Rec) → Stands rs (D.seen disk.old)
+        → Opens (IsOnWith (D.seen disk.old) (D.may_leave disk.new) rs) result }
+    ensures refused { IsTrue D.tells → (part : Part) (offset : ℕ)
+        → IsNoStore (D.seen disk.old) part offset → Refuses part offset result }
+    ensures usable { IfOk result (λ opened. opened.0.log.spent ≡ false) }
+    ensures quiet { IsTrue D.tells
+        → Quiet D.seen D.moment D.may_leave D.left_since disk.old disk.new }
+    ensures cause { StoreCause (D.faults disk.old) (D.faults disk.new) result }
+{
+    find_store(alloc, disk)
+}
+
+/// The store that the files stand for. It begins with a sync of each file that it reads, reads each record once, and changes nothing.
+/// `NotStore` comes exactly where the files stand for none, and tells the file and the place: the head at 0 where its first bytes
+/// aren't those of a head; the log that the head names at 0 where its first bytes aren't those of a log; else the gate of the first
+/// record that runs past the end of the file, or isn't one, or may not follow those before it, or whose body has more than
+/// `gate_log::BODY_LIMIT` bytes. `DiskFault` comes only where the disk's count of faults rose in this call; `Long` never comes.
+pub fn open_store<D: Disk>(alloc: Global, disk: &mut D) -> Result<Store, StoreFault>
+    ensures found { IsTrue D.tells → Finds (λ rs store.
+        IsOn rs (D.seen disk.old) (D.may_leave disk.new) store) (D.seen disk.old) result }
+    ensures opened { IsTrue D.tells → (rs : List Rec) → Stands rs (D.seen disk.old)
+        → Opens (IsOn rs (D.seen disk.old) (D.may_leave disk.new)) result }
+    ensures refused { IsTrue D.tells → (part : Part) (offset : ℕ)
+        → IsNoStore (D.seen disk.old) part offset → Refuses part offset result }
+    ensures usable { IfOk result (λ store. store.log.spent ≡ false) }
+    ensures quiet { IsTrue D.tells
+        → Quiet D.seen D.moment D.may_leave D.left_since disk.old disk.new }
+    ensures cause { StoreCause (D.faults disk.old) (D.faults disk.new) result }
+{
+    let (store, _topics) = find_store(alloc, disk)?;
+    Ok(store)
+}
+
+impl Store {
+    /// Adds a record, by two writes, each of which is synced. The record may follow those of the store, which `may_define`, `has_task`,
+    /// `is_batch` and `take_transitions` tell: from `Ok` on each image has it as its last. `Long` comes exactly where the record's body
+    /// has more than `gate_log::BODY_LIMIT` bytes; `Long` and `NoMemory` change nothing. After `DiskFault`, which comes only where the
+    /// disk's count of faults rose in this call, the store is spent, and each image has the old records, or these and the new one.
+    pub fn add<D: Disk>(&mut self, disk: &mut D, rec: &Rec) -> Result<(), StoreFault>
+        requires usable { self.old.log.spent ≡ false }
+        requires form { HasForm rec.now }
+        ensures added { IsTrue D.tells → (rs : List Rec) → MayFollow (held rs) rec.now
+            → IsOn rs (D.seen disk.old) (D.may_leave disk.old) self.old
+            → OnOk result (IsOn (rs ++ rec.now ∷ [])
+            (D.seen disk.new) (D.may_leave disk.new) self.new) }
+        ensures usable { OnOk result (self.new.log.spent ≡ false) }
+        ensures any_moment { IsTrue D.tells → (rs : List Rec) → MayFollow (held rs) rec.now
+            → IsOn rs (D.seen disk.old) (D.may_leave disk.old) self.old
+            → Moments D.moment D.may_leave D.left_since disk.old disk.new
+            (stands_before_or_after rs rec.now) }
+        ensures long { IsLongOrNot rec.now result }
+        ensures cause { AddFault result disk.old disk.new self.old self.new
+            (HasRisen (D.faults disk.old) (D.faults disk.new)) }
+    {
+        add_record(self.alloc, &mut self.log, &mut self.kept, disk, rec)
+    }
+
+    /// The tasks, in byte order of their ids.
+    pub fn tasks(&self) -> &[StoredTask]
+        ensures { result.now ≡ self.now.kept.tasks }
+    {
+        &self.kept.tasks
+    }
+
+    /// The lives, in the order of their beginning; the first has the number 1.
+    pub fn lives(&self) -> &[Life]
+        ensures { result.now ≡ self.now.kept.lives }
+    {
+        &self.kept.lives
+    }
+
+    /// How many points are stored.
+    pub fn count(&self) -> u64
+        ensures { result ≡ self.now.kept.points }
+    {
+        self.kept.points
+    }
+
+    /// How many transitions are stored.
+    pub fn trans_count(&self) -> u64
+        ensures { result ≡ self.now.kept.transitions }
+    {
+        self.kept.transitions
+    }
+
+    /// How many records there are of all kinds but transitions and snapshots in the current log.
+    pub fn changes(&self) -> u64
+        ensures { result ≡ self.now.kept.changes }
+    {
+        self.kept.changes
+    }
+
+    /// How many points and transitions were stored before the last snapshot; `None` where there is none.
+    pub fn last_snap(&self) -> Option<(u64, u64)>
+        ensures { result ≡ option_map numbers_of self.now.kept.snap }
+    {
+        match &self.kept.snap {
+            Some(snap) => Some((snap.points, snap.transitions)),
+            None => None,
+        }
+    }
+
+    /// The last snapshot: the offset of its record's gate, the numbers of the lives that were open at it, rising, and the states of
+    /// their cells. `None` comes exactly where there is no snapshot. `DiskFault` comes only
+    /// where the disk's count of faults rose in this call, and `NoMemory` where memory ran out. `NotStore` comes only on a disk that
+    /// doesn't tell what a read gives, at a record that is none.
+    pub fn snap<D: Disk>(
+        &self,
+        disk: &mut D,
+    ) -> Result<Option<(u64, LifeNumbers, Bytes)>, StoreFault>
+        requires usable { self.now.log.spent ≡ false }
+        ensures snap { IsTrue D.tells → (rs : List Rec)
+            → IsOn rs (D.seen disk.old) (D.may_leave disk.old) self.now → SnapOrNot rs result }
+        ensures none { self.now.kept.snap ≡ None → result ≡ Ok None }
+        ensures quiet { IsTrue D.tells
+            → Quiet D.seen D.moment D.may_leave D.left_since disk.old disk.new }
+        ensures cause { StoreCause (D.faults disk.old) (D.faults disk.new) result }
+    {
+        let Some(snap) = &self.kept.snap else {
+            return Ok(None);
+        };
+        let states = states_at(self.alloc, &self.log, disk, snap.at)?;
+        let lives = Vec::from_slice(self.alloc, snap.lives.as_slice())?;
+        Ok(Some((snap.at, LifeNumbers::from_items(lives), states)))
+    }
+
+    /// Whether a call on it failed in the middle. It is then to be opened anew.
+    pub fn spent(&self) -> bool
+        ensures { result ≡ self.now.log.spent }
+    {
+        self.log.spent()
+    }
+
+    /// The current log.
+    pub fn part(&self) -> Part
+        ensures { result ≡ self.now.log.part }
+    {
+        self.log.part()
+    }
+}
