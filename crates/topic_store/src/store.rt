@@ -22,7 +22,7 @@ use kap_io::{Disk, Part};
 use std::alloc::Global;
 use std::marker::Model;
 use store_kept::{Kept, commit, prepare};
-use store_records::{Life, LifeNumbers, Rec, StoredTask, Transitions, record_body};
+use store_records::{Life, LifeNumbers, Rec, StoredTask, record_body};
 use topic_core::Topics;
 
 /// A store on a disk. What its calls promise stands on the disk on which it was opened, where since then only calls on it changed what
