@@ -3,13 +3,7 @@
 ghost use Rattle.std.specs.Prelude.{◌≡◌};
 
 use crate::node::AlertNode;
-
-/// Any value that may go to another thread.
-fn hand_on<T: Send>(value: T) -> T
-    ensures { result ≡ value }
-{
-    value
-}
+use kap_base::hand_on;
 
 /// A node `alert` may go to another thread.
 pub fn send_alert_node(value: AlertNode) -> AlertNode

@@ -19,17 +19,11 @@ pub struct Deletion {
     pub tags: SharedNames,
 }
 
-fn is_same(name: &Text, other: &Text) -> bool
-    ensures { result ≡ bytes_eq name.now other.now }
-{
-    name == other
-}
-
 /// Whether the name is one of these.
 fn is_among(names: &[SharedText], name: &Text) -> bool
     ensures { result ≡ list_any (bytes_eq name.now) names.now }
 {
-    names.iter().any(|other| is_same(name, other.text()))
+    names.iter().any(|other| name.is_same(other.text()))
 }
 
 /// Whether the name is none of these.

@@ -3,13 +3,7 @@
 ghost use Rattle.std.specs.Prelude.{◌≡◌};
 
 use crate::build::BasicNode;
-
-/// Any value that may go to another thread.
-fn hand_on<T: Send>(value: T) -> T
-    ensures { result ≡ value }
-{
-    value
-}
+use kap_base::hand_on;
 
 /// A node of these kinds may go to another thread.
 pub fn send_basic_node(value: BasicNode) -> BasicNode

@@ -3,14 +3,8 @@
 ghost use Rattle.std.specs.Prelude.{◌≡◌};
 
 use crate::nodes::GatherNode;
+use kap_base::hand_on;
 use node_core::Both;
-
-/// Any value that may go to another thread.
-fn hand_on<T: Send>(value: T) -> T
-    ensures { result ≡ value }
-{
-    value
-}
 
 /// One of two that may.
 fn hand_on_one<A: Send, B: Send>(value: Both<A, B>) -> Both<A, B>

@@ -10,3 +10,4 @@ pub mod TestLaws
 pub mod EntryLaws
 pub mod RetainLaws
 pub mod LoopLaws
+pub mod ValueLaws

@@ -9,3 +9,4 @@ pub mod Places
 pub mod Groups
 pub mod Levels
 pub mod Times
+pub mod Values

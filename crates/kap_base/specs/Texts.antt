@@ -5,14 +5,29 @@ use Rattle.std.specs.List.{list_all, list_any}
 use Rattle.std.specs.Str.{is_utf8}
 use Rattle.kap_base.specs.declared.limits.TheConstants.{ID_LIMIT}
 
+-- the byte of a line feed
 abbrev pub line_feed : ℕ
 line_feed = 10
 
+-- the byte of `#`
 abbrev pub number_sign : ℕ
 number_sign = 35
 
+-- the byte of a backslash
 abbrev pub backslash : ℕ
 backslash = 92
+
+-- the byte of `_`
+abbrev pub underscore : ℕ
+underscore = 95
+
+-- the byte of `-`
+abbrev pub hyphen : ℕ
+hyphen = 45
+
+-- the byte of `.`
+abbrev pub full_stop : ℕ
+full_stop = 46
 
 -- there are no bytes
 abbrev pub is_empty : List ℕ → Bool
@@ -52,7 +67,7 @@ is_measurement bytes = not (begins_with number_sign bytes) && is_name bytes
 
 -- what the id of a task is made of: an ASCII letter, a digit, `_`, `-` and `.`
 abbrev pub is_id_byte : ℕ → Bool
-is_id_byte b = is_ascii_alphanumeric b || b == 95 || b == 45 || b == 46
+is_id_byte b = is_ascii_alphanumeric b || b == underscore || b == hyphen || b == full_stop
 
 -- the id of a task: one of those bytes at least, and at most as many as the limit says
 abbrev pub is_task_id : List ℕ → Bool

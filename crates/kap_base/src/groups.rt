@@ -57,9 +57,19 @@ impl Model for Batch {
 
     ghost coded = { Prim.hlevel (codes, key_map_code) };
 
-    ghost view = { λ b. record { name = b.name; group = b.group; tmax = b.tmax; points = b.points } };
+    ghost view = { λ b. record {
+      name = b.name;
+      group = b.group;
+      tmax = b.tmax;
+      points = b.points;
+    } };
 
-    ghost inverse = { λ b. record { name = b.name; group = b.group; tmax = b.tmax; points = b.points } };
+    ghost inverse = { λ b. record {
+      name = b.name;
+      group = b.group;
+      tmax = b.tmax;
+      points = b.points;
+    } };
 
     ghost invariant = { λ b.
         IsBatch (record { name = b.name; group = b.group; tmax = b.tmax; points = b.points }) };

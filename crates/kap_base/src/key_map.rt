@@ -249,10 +249,12 @@ impl<V: Duplicate + Drop> Duplicate for KeyMap<V> {
 
 impl<V: PartialEq> PartialEq for KeyMap<V> {
     ghost eq = { λ m n.
-        pointwise (λ p q. pointwise nat_eq p.0 q.0 && V.eq p.1 q.1) (map.entries m) (map.entries n) };
+        pointwise (λ p q. pointwise nat_eq p.0 q.0 && V.eq p.1 q.1)
+        (map.entries m) (map.entries n) };
 
     ghost laws = { on_per map.entries (lists_per (and_per
-        (on_per (λ p. p.0) (partial_equiv_from_equiv nat_list_eq_equiv)) (on_per (λ p. p.1) V.laws))) };
+        (on_per (λ p. p.0) (partial_equiv_from_equiv nat_list_eq_equiv))
+        (on_per (λ p. p.1) V.laws))) };
 
     fn eq(&self, other: &KeyMap<V>) -> bool {
         self.entries == other.entries

@@ -13,6 +13,7 @@ mod limits;
 mod memory;
 mod point;
 mod rules;
+mod sends;
 mod shared;
 mod text;
 mod times;
@@ -31,11 +32,12 @@ pub use limits::{ID_LIMIT, SCRIPT_LIMIT, TASK_LIMIT, TIME_LIMIT};
 pub use memory::NoMemory;
 pub use point::Point;
 pub use rules::{are_dimensions, is_task_id};
+pub use sends::hand_on;
 pub use shared::{SharedExpr, SharedText};
 pub use text::{Text, TextFault};
 pub use times::{is_time, round, trunc};
 pub use utf8::{bytes_break_in_one_place, utf8_text};
-pub use value::Value;
+pub use value::{Value, values_are_told_apart};
 
 /// A list of bytes.
 pub type Bytes = ItemList<u8>;

@@ -2,7 +2,7 @@
 use Rattle.std.proofs.Common.{◌≡◌, Bool, true, false, ◌||◌, List, [], ◌∷◌, refl, sym, ap, ◌∙◌, subst, arith}
 use Rattle.std.specs.Prelude.{pos, if◌then◌else◌}
 use Rattle.std.specs.Bool.{Decides, one_answer}
-use Rattle.std.specs.Cmp.{IsTotalOrder, booleans_Decides, int_cmp_total, nat_cmp_total, on_total, then_total, tied_itself}
+use Rattle.std.specs.Cmp.{IsTotalOrder, int_cmp_total, nat_cmp_total, on_total, then_total, tied_itself}
 use Rattle.std.specs.FinMap.{int_cmp-IsAntisymmetric, nat_cmp-IsAntisymmetric, slice_cmp-IsAntisymmetric}
 use Rattle.std.specs.List.{list_any}
 use Rattle.std.specs.Ordering.{int_cmp, is_eq, match_ordering, nat_cmp, ordering_then}
@@ -10,31 +10,13 @@ use Rattle.std.specs.Cmp.Lexicographic.{slice_cmp}
 use Rattle.std.specs.declared.cmp.Ordering.{Ordering}
 use Rattle.std.specs.declared.cmp.Ordering.TheVariants.{Less, Equal, Greater}
 use Rattle.std.specs.BTreeSet.{insert_key}
-use Rattle.std.proofs.lemmas.Bool.Decides.{Decides-int_eq}
 use Rattle.std.proofs.lemmas.Cmp.{nat_list_cmp_total}
 use Rattle.std.proofs.lemmas.Int.{ints}
-use Rattle.std.proofs.lemmas.Slice.Eq.{bytes_eq-Decides}
 use Rattle.kap_base.specs.declared.value.Value.{Value}
 use Rattle.kap_base.specs.declared.value.Value.TheVariants.{Int, Bool as Truth, Str}
-use Rattle.select_nodes.specs.Choices.{is_same}
+use Rattle.kap_base.specs.Values.{is_same_value}
+use Rattle.kap_base.proofs.ValueLaws.{values_decided}
 use Rattle.select_nodes.specs.Steps.{KeptKey, KeyValue, compare_keys, is_seen, key_of, seen_key}
-
--- ---- values of one kind that are equal
-
--- a test behind a constructor
-decided : {A B : Type 0} (made : A → B) (a b : A) (r : Bool) → (made a ≡ made b → a ≡ b) → Decides r (a ≡ b) → Decides r (made a ≡ made b)
-decided made a b r back d = (λ e. ap made (d.0 e), λ e. d.1 (back e))
-
-pub same_decided : (a b : Value) → Decides (is_same a b) (a ≡ b)
-same_decided (Int a) (Int b) = decided Int a b (is_same (Int a) (Int b)) (λ e. cc) (Decides-int_eq a b)
-same_decided (Int a) (Truth b) = (λ e. absurd cc, λ e. absurd cc)
-same_decided (Int a) (Str b) = (λ e. absurd cc, λ e. absurd cc)
-same_decided (Truth a) (Int b) = (λ e. absurd cc, λ e. absurd cc)
-same_decided (Truth a) (Truth b) = decided Truth a b (is_same (Truth a) (Truth b)) (λ e. cc) (booleans_Decides a b)
-same_decided (Truth a) (Str b) = (λ e. absurd cc, λ e. absurd cc)
-same_decided (Str a) (Int b) = (λ e. absurd cc, λ e. absurd cc)
-same_decided (Str a) (Truth b) = (λ e. absurd cc, λ e. absurd cc)
-same_decided (Str a) (Str b) = decided Str a b (is_same (Str a) (Str b)) (λ e. cc) (bytes_eq-Decides a b)
 
 -- ---- keys
 
@@ -99,8 +81,8 @@ keys_decided a b = (
   λ e. subst (λ (v : Value). is_eq (compare_keys (key_of a) (key_of v)) ≡ true) e (ap is_eq (tied_itself keys_total (key_of a))),
 )
 
-pub key_same : (a b : Value) → is_eq (compare_keys (key_of a) (key_of b)) ≡ is_same a b
-key_same a b = one_answer (is_eq (compare_keys (key_of a) (key_of b))) (is_same a b) (keys_decided a b) (same_decided a b)
+pub key_same : (a b : Value) → is_eq (compare_keys (key_of a) (key_of b)) ≡ is_same_value a b
+key_same a b = one_answer (is_eq (compare_keys (key_of a) (key_of b))) (is_same_value a b) (keys_decided a b) (values_decided a b)
 
 -- ---- a key more
 
@@ -127,7 +109,7 @@ module _ {K : Type 0} (cmp : K → K → Ordering) (test : K → Bool) (alike : 
 abbrev pub kept_cmp : KeptKey → KeptKey → Ordering
 kept_cmp a b = compare_keys (seen_key a) (seen_key b)
 
-pub seen_more : (ks : List KeptKey) (k : KeptKey) (v w : Value) → seen_key k ≡ key_of w → is_seen (insert_key kept_cmp ks k) v ≡ (is_same v w || is_seen ks v)
+pub seen_more : (ks : List KeptKey) (k : KeptKey) (v w : Value) → seen_key k ≡ key_of w → is_seen (insert_key kept_cmp ks k) v ≡ (is_same_value v w || is_seen ks v)
 seen_more ks k v w is =
     any-insert_key kept_cmp (λ (x : KeptKey). is_eq (compare_keys (key_of v) (seen_key x)))
     (λ a b e. ap (λ (x : KeyValue). is_eq (compare_keys (key_of v) x)) (equal_keys (seen_key a) (seen_key b) e)) ks k

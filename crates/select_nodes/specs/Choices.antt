@@ -1,14 +1,13 @@
 -- What a select gives of the points of a batch: values, and the times of its results.
-use Rattle.std.specs.Prelude.{ℕ, ℤ, pos, ◌+ℤ◌, ◌-ℤ◌, Bool, false, not, if◌then◌else◌, List, []}
-use Rattle.std.specs.Prelude.{◌∷◌, map, filter, fold, length, take, Option, Some, None, option_map, bytes_eq}
+use Rattle.std.specs.Prelude.{ℕ, ℤ, pos, ◌+ℤ◌, ◌-ℤ◌, Bool, not, if◌then◌else◌, List, []}
+use Rattle.std.specs.Prelude.{◌∷◌, map, filter, fold, length, take, Option, Some, None, option_map}
 use Rattle.std.specs.Int.{int_wrap, w64}
 use Rattle.std.specs.List.{last_or}
 use Rattle.std.specs.Option.{option_to_list}
-use Rattle.std.specs.Bool.{beq}
-use Rattle.std.specs.Ordering.{int_eq}
 use Rattle.kap_base.specs.Points.{PointValue}
+use Rattle.kap_base.specs.Values.{is_same_value}
 use Rattle.kap_base.specs.declared.value.Value.{Value}
-use Rattle.kap_base.specs.declared.value.Value.TheVariants.{Int, Bool as Truth, Str}
+use Rattle.kap_base.specs.declared.value.Value.TheVariants.{Int}
 use Rattle.task_graph.specs.declared.spec.Select.{Select}
 use Rattle.task_graph.specs.declared.spec.Select.TheVariants.{Sum, Count, Min, Max, First, Last, Spread, Distinct, Top, Bottom}
 use Rattle.task_graph.specs.declared.spec.SelectSpec.{SelectSpec}
@@ -34,17 +33,10 @@ spread_between _ _ = None
 abbrev pub spread_in : List ReadingValue → Option ℤ
 spread_in rs = spread_between (first (by_rank Highest rs)) (first (by_rank Lowest rs))
 
--- values are of one kind, and equal
-abbrev pub is_same : Value → Value → Bool
-is_same (Int a) (Int b) = int_eq a b
-is_same (Truth a) (Truth b) = beq a b
-is_same (Str a) (Str b) = bytes_eq a b
-is_same _ _ = false
-
 -- each value once, in the order of their first places
 abbrev pub distinct : List Value → List Value
 distinct [] = []
-distinct (v ∷ vs) = v ∷ filter (λ w. not (is_same w v)) (distinct vs)
+distinct (v ∷ vs) = v ∷ filter (λ w. not (is_same_value w v)) (distinct vs)
 
 -- a value at the end of the batch
 abbrev pub at_end : ℤ → Value → PickValue

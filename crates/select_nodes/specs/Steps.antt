@@ -11,7 +11,8 @@ use Rattle.kap_base.specs.declared.value.Value.{Value}
 use Rattle.kap_base.specs.declared.value.Value.TheVariants.{Int, Bool as Truth, Str}
 use Rattle.select_nodes.specs.declared.choices.Choice.{Choice}
 use Rattle.select_nodes.specs.declared.choices.Choice.TheVariants.{One, Many}
-use Rattle.select_nodes.specs.Choices.{at_end, distinct, is_same}
+use Rattle.select_nodes.specs.Choices.{at_end, distinct}
+use Rattle.kap_base.specs.Values.{is_same_value}
 use Rattle.select_nodes.specs.Picks.{PickValue, ReadingValue}
 
 -- the one of two that goes first, where the second came later
@@ -60,5 +61,5 @@ is_seen keys v = list_any (λ k. is_eq (compare_keys (key_of v) (seen_key k))) k
 
 -- the keys are those of these values, and each of these is told once
 pub record Told (tmax : ℤ) (vs : List Value) (keys : List KeptKey) (picks : List PickValue) : Type 0 where
-  pub seen : (v : Value) → is_seen keys v ≡ list_any (is_same v) vs
+  pub seen : (v : Value) → is_seen keys v ≡ list_any (is_same_value v) vs
   pub told : picks ≡ map (at_end tmax) (distinct vs)

@@ -5,7 +5,8 @@ ghost use Rattle.std.specs.FinMap.{get};
 ghost use Rattle.std.specs.Option.{option_to_list};
 ghost use Rattle.kap_base.specs.Points.{is_time};
 ghost use Rattle.kap_base.specs.declared.value.Value.{Value};
-ghost use Rattle.select_nodes.specs.Choices.{at_end, distinct, is_same};
+ghost use Rattle.select_nodes.specs.Choices.{at_end, distinct};
+ghost use Rattle.kap_base.specs.Values.{is_same_value};
 ghost use Rattle.select_nodes.specs.Picks.{values_at};
 ghost use Rattle.select_nodes.specs.Steps.{Told, is_seen, key_of, seen_key};
 
@@ -32,7 +33,7 @@ fn key_of<'a>(value: &'a Value) -> Key<'a>
 fn is_new<'a>(seen: &mut BTreeSet<Key<'a>>, value: &'a Value) -> Result<bool, NoMemory>
     ensures new { IfOk result (λ new. new ≡ not (is_seen seen.old.keys value.now)) }
     ensures seen { OnOk result ((v : Value) → is_seen seen.new.keys v
-        ≡ (is_same v value.now || is_seen seen.old.keys v)) }
+        ≡ (is_same_value v value.now || is_seen seen.old.keys v)) }
 {
     Ok(seen.insert(key_of(value))?)
 }

@@ -1,12 +1,13 @@
 //! What selects answer: laws, and no code.
 
-ghost use Rattle.std.specs.Prelude.{◌≡◌, ◌↔◌, ◌++◌, [], ◌∷◌, if◌then◌else◌, ℕ, IsTrue, List, Some};
+ghost use Rattle.std.specs.Prelude.{◌≡◌, ◌++◌, [], ◌∷◌, if◌then◌else◌, ℕ, List, Some};
 ghost use Rattle.std.specs.List.{list_any};
 ghost use Rattle.std.specs.List.Sorted.{IsSortedBy, IsStableBy};
 ghost use Rattle.kap_base.specs.Groups.{GroupValue, IsGroup, group_of};
 ghost use Rattle.kap_base.specs.declared.value.Value.{Value};
 ghost use Rattle.node_core.specs.Numbering.{stamped};
-ghost use Rattle.select_nodes.specs.Choices.{distinct, is_same};
+ghost use Rattle.select_nodes.specs.Choices.{distinct};
+ghost use Rattle.kap_base.specs.Values.{is_same_value};
 ghost use Rattle.select_nodes.specs.Nodes.{saying_of, seat_of};
 ghost use Rattle.select_nodes.specs.Picks.{PickValue, ReadingValue, first};
 ghost use Rattle.select_nodes.specs.Ranks.{IsFirst, by_rank, goes_before};
@@ -57,12 +58,7 @@ pub fn first_goes_before_all()
 /// A value that comes behind others is told, as the last one, exactly where none of them is the same.
 pub fn values_are_told_once()
     ensures { (vs : List Value) (v : Value) → distinct (vs ++ v ∷ [])
-        ≡ distinct vs ++ (if list_any (is_same v) vs then [] else v ∷ []) }
-{}
-
-/// Values are the same exactly where they are of one kind and equal.
-pub fn values_are_told_apart()
-    ensures { (a b : Value) → IsTrue (is_same a b) ↔ (a ≡ b) }
+        ≡ distinct vs ++ (if list_any (is_same_value v) vs then [] else v ∷ []) }
 {}
 
 /// A result of a batch whose group has the batch's measurement, or none, is of that group.

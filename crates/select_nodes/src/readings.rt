@@ -73,20 +73,13 @@ fn readings_at(alloc: Global, points: &[Point], field: &Text) -> Result<Vec<Read
     Ok(readings)
 }
 
-/// A sum with one integer more, brought into 64 bits.
-#[tactic(auto, using(std::proofs::lemmas::Int::wraps))]
-fn plus(sum: i64, number: i64) -> i64
-    ensures { result ≡ int_wrap w64 (sum +ℤ number) }
-{
-    sum.wrapping_add(number)
-}
-
 /// A sum with what is read at one point more; there is none of no integers.
+#[tactic(auto, using(std::proofs::lemmas::Int::wraps))]
 fn added(sum: Option<i64>, next: Option<Reading>) -> Option<i64>
     ensures { result ≡ added sum next }
 {
     match next {
-        Some(reading) => Some(plus(sum.unwrap_or(0), reading.number)),
+        Some(reading) => Some(sum.unwrap_or(0).wrapping_add(reading.number)),
         None => sum,
     }
 }

@@ -1,27 +1,18 @@
 -- `changeDetect`: the points at which some of a few fields change.
-use Rattle.std.specs.Prelude.{◌≡◌, ℕ, Bool, true, false, not, ◌&&◌, ◌||◌, List, [], ◌∷◌, ◌++◌, map, Option, Some, None, option_map, bytes_eq, refl}
-use Rattle.std.specs.Bool.{beq}
+use Rattle.std.specs.Prelude.{◌≡◌, ℕ, Bool, true, false, not, ◌&&◌, ◌||◌, List, [], ◌∷◌, ◌++◌, map, Option, Some, None, option_map, refl}
 use Rattle.std.specs.FinMap.{get}
 use Rattle.std.specs.List.{list_any}
-use Rattle.std.specs.Ordering.{int_eq}
 use Rattle.std.proofs.Common.{ap, sym, ◌∙◌}
 use Rattle.kap_base.specs.Points.{PointValue}
+use Rattle.kap_base.specs.Values.{is_same_value}
 use Rattle.kap_base.specs.declared.value.Value.{Value}
-use Rattle.kap_base.specs.declared.value.Value.TheVariants.{Int, Bool as Truth, Str}
 use Rattle.node_core.specs.Groups.{Came, GroupAnswer}
 use Rattle.node_core.specs.Meaning.{Turn, passed_if}
 use Rattle.state_nodes.specs.Words.{last, last_push}
 
 -- ---- a field
 
--- two values of one kind that are equal
-abbrev pub is_same_value : Value → Value → Bool
-is_same_value (Int a) (Int b) = int_eq a b
-is_same_value (Truth a) (Truth b) = beq a b
-is_same_value (Str a) (Str b) = bytes_eq a b
-is_same_value _ _ = false
-
--- the same of what stands at a field: a value, or nothing
+-- what stands at a field is the same: values that are, or nothing at both
 abbrev pub is_same : Option Value → Option Value → Bool
 is_same None None = true
 is_same None (Some b) = false

@@ -1,6 +1,6 @@
 ghost use Rattle.std.specs.Prelude.{◌≡◌, IfOk, OnOk, Some};
 ghost use Rattle.std.specs.FinMap.{get};
-ghost use Rattle.state_nodes.specs.ChangeDetects.{are_still, change_detect_goes_on, change_detect_says, change_detect_step, is_change_from, is_same, is_same_value, last_values, values_at};
+ghost use Rattle.state_nodes.specs.ChangeDetects.{are_still, change_detect_goes_on, change_detect_says, change_detect_step, is_change_from, is_same, last_values, values_at};
 ghost use Rattle.node_core.specs.Meaning.{passed_if};
 
 use kap_base::{Duplicate, Fields, ItemList, NoMemory, Point, SharedText, Text, Value};
@@ -19,36 +19,13 @@ pub struct ChangeDetect {
 /// What stands at the fields of a group's last point, in their order; nothing before the first point.
 pub type LastValues = Option<ItemList<Option<Value>>>;
 
-/// Whether the values are of one kind, and equal.
-fn is_same_value(one: &Value, other: &Value) -> bool
-    ensures { result ≡ is_same_value one.now other.now }
-{
-    match one {
-        Value::Int(a) => match other {
-            Value::Int(b) => *a == *b,
-            Value::Bool(_) => false,
-            Value::Str(_) => false,
-        },
-        Value::Bool(a) => match other {
-            Value::Bool(b) => *a == *b,
-            Value::Int(_) => false,
-            Value::Str(_) => false,
-        },
-        Value::Str(a) => match other {
-            Value::Str(b) => a == b,
-            Value::Int(_) => false,
-            Value::Bool(_) => false,
-        },
-    }
-}
-
 /// Whether this stands at a field still.
 fn is_still(fields: &Fields, name: &Text, kept: &Option<Value>) -> bool
     ensures { result ≡ is_same kept.now (get fields.now name.now) }
 {
     match fields.get(name) {
         Some(value) => match kept {
-            Some(kept) => is_same_value(kept, value),
+            Some(kept) => kept.is_same(value),
             None => false,
         },
         None => kept.is_none(),

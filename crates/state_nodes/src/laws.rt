@@ -44,6 +44,6 @@ pub fn states_are_read_again()
 
 /// What stands at a field is the same at two points exactly where it is of one kind and equal, or is missing at both.
 #[tactic(auto, using(crate::proofs::ChangeLaws::same_exactly))]
-pub fn values_are_told_apart()
+pub fn fields_are_told_apart()
     ensures { (a b : Option Value) → IsTrue (is_same a b) ↔ (a ≡ b) }
 {}

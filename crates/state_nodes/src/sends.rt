@@ -3,14 +3,8 @@
 ghost use Rattle.std.specs.Prelude.{◌≡◌};
 
 use crate::build::StateNode;
+use kap_base::hand_on;
 use node_core::Both;
-
-/// Any value that may go to another thread.
-fn hand_on<T: Send>(value: T) -> T
-    ensures { result ≡ value }
-{
-    value
-}
 
 /// One of five that may.
 fn hand_on_one<A: Send, B: Send, C: Send, D: Send, E: Send>(

@@ -13,12 +13,6 @@ use line_points::{LineFault, print_line, read_stored};
 use state_code::{CodeFault, Cursor, put_bytes, put_u32};
 use std::alloc::Global;
 
-fn is_same(text: &Text, other: &Text) -> bool
-    ensures { result ≡ bytes_eq text.now other.now }
-{
-    text == other
-}
-
 fn is_bytes(bytes: &[u8], other: &[u8]) -> bool
     ensures { result ≡ bytes_eq bytes.now other.now }
 {
@@ -29,10 +23,10 @@ fn is_bytes(bytes: &[u8], other: &[u8]) -> bool
 fn is_of(db: &Text, rp: &Text, point: &Point) -> bool
     ensures { result ≡ is_of db.now rp.now point.now }
 {
-    if !is_same(&point.db, db) {
+    if !point.db.is_same(db) {
         return false;
     }
-    if !is_same(&point.rp, rp) {
+    if !point.rp.is_same(rp) {
         return false;
     }
     if !point.dims.as_slice().is_empty() {
