@@ -20,6 +20,7 @@ watch_more alert watch (d ∷ cs) c = watch_more alert (watched alert watch d.1)
 turn : Said → Watch → Turn Watch
 turn said watch = record { state = watch; said = said }
 
+-- what is kept, and what is said, of one point more
 pub alert_goes_on : (alert : Alert) (before : List Came) (port : ℕ) (p : PointValue)
     → alert_step alert (watch_in alert before) port p ≡ record { state = watch_in alert (before ++ (port, p) ∷ []); said = alert_says alert before port p }
 unfolding turn

@@ -24,11 +24,13 @@ said_at alert before now p =
 abbrev pub said_behind : Alert → Watch → PointValue → Said
 said_behind alert watch p = said_at alert watch.level (watched alert watch p).level p
 
+-- what is said of a point, by the points of its group before it
 abbrev pub alert_says : Alert → GroupAnswer
 alert_says alert before port p = said_behind alert (watch_in alert before) p
 
 -- ---- the machine
 
+-- a step, by what is kept
 abbrev pub alert_step : Alert → Watch → ℕ → PointValue → Turn Watch
 alert_step alert watch port p = record { state = watched alert watch p; said = said_behind alert watch p }
 
@@ -52,5 +54,6 @@ alert_of task name spec =
 abbrev pub AlertSeat : Type 0
 AlertSeat = Seat (Grouped Alert)
 
+-- this alert, in this life and with this number
 abbrev pub seat_of : ℕ → ℕ → Alert → AlertSeat
 seat_of life node alert = record { life = life; node = node; kind = record { rule = alert } }

@@ -17,6 +17,7 @@ use Rattle.kap_base.specs.Levels.{same_level}
 
 -- ---- which events there are
 
+-- the level is OK
 abbrev pub is_fine : Level → Bool
 is_fine Fine = true
 is_fine Info = false
@@ -79,6 +80,7 @@ id_of alert level p = text_of (facts_of alert level p []) alert.id
 abbrev pub message_of : Alert → Level → PointValue → List ℕ
 message_of alert level p = text_of (facts_of alert level p (id_of alert level p)) alert.message
 
+-- the event of a point at a level: its topic, id, level and time, and its message
 abbrev pub event_of : Alert → Level → PointValue → Event
 event_of alert level p =
     record { topic = alert.topic; id = id_of alert level p; level = level; time = p.time; message = message_of alert level p }

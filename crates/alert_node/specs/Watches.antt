@@ -25,6 +25,7 @@ number_of counts Info = counts.info
 number_of counts Warning = counts.warn
 number_of counts Critical = counts.crit
 
+-- the numbers with one more at a level; OK has none
 abbrev pub one_more : Counts → Level → Counts
 one_more counts Fine = counts
 one_more counts Info = record counts { info = counts.info + 1 }

@@ -4,4 +4,6 @@
 #[cfg(test)]
 mod codes;
 #[cfg(test)]
+mod topics;
+#[cfg(test)]
 mod values;

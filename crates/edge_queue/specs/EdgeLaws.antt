@@ -9,24 +9,31 @@ use Rattle.edge_queue.specs.Moves.{HeadLoads, HeadLooked, Puts, SameHead, SameTa
 
 -- ---- the same ends
 
+-- every tail is the same tail as itself
 pub SameTail-refl : (a : Tail) → SameTail a a
 SameTail-refl a = record { ring = ((refl, refl, refl, refl), refl); base = refl }
 
+-- every head is the same head as itself
 pub SameHead-refl : (a : Head) → SameHead a a
 SameHead-refl a = record { ring = ((refl, refl, refl, refl), refl); base = refl }
 
+-- two moves that each leave a tail the same leave it the same together
 pub SameTail-trans : {a b c : Tail} → SameTail a b → SameTail b c → SameTail a c
 SameTail-trans p q = record { ring = ((cc, cc, cc, cc), cc); base = q.base ∙ p.base }
 
+-- two moves that each leave a head the same leave it the same together
 pub SameHead-trans : {a b c : Head} → SameHead a b → SameHead b c → SameHead a c
 SameHead-trans p q = record { ring = ((cc, cc, cc, cc), cc); base = q.base ∙ p.base }
 
+-- a look that finds nothing new leaves a tail as it is
 pub TailLooked-refl : (a : Tail) → TailLooked a a
 TailLooked-refl a = record { same = SameTail-refl a; ring_sent = refl; sent = refl; free = omega arith }
 
+-- a look that finds nothing new leaves a head as it is
 pub HeadLooked-refl : (a : Head) → HeadLooked a a
 HeadLooked-refl a = record { same = SameHead-refl a; ring_received = refl; received = refl; known = ([], append-nil (known a)) }
 
+-- two looks of a tail, one after the other, are one look
 pub TailLooked-trans : {a b c : Tail} → TailLooked a b → TailLooked b c → TailLooked a c
 TailLooked-trans {a = a} {b = b} {c = c} p q = record {
   same = SameTail-trans p.same q.same;
@@ -44,6 +51,7 @@ Puts-looked {msg = msg} {a = a} {b = b} {c = c} l p = record {
   free = let x : free a ≤ free b = l.free in let y : free b ≤ free c + 1 = p.free in omega (arith, x, y);
 }
 
+-- the same tail has the same capacity
 pub SameTail-capacity : {a b : Tail} → SameTail a b → edge_capacity b ≡ edge_capacity a
 SameTail-capacity s = s.ring.1
 
@@ -51,6 +59,7 @@ SameTail-capacity s = s.ring.1
 pub IsPaired-same : {t t' : Tail} {h h' : Head} → IsPaired t h → SameTail t t' → SameHead h h' → IsPaired t' h'
 IsPaired-same p a b = (cc, cc, cc, cc)
 
+-- ends that stay themselves, and keep their loads, stay those of one edge and its load
 pub IsEdge-same : {t t' : Tail} {h h' : Head} → IsEdge t h → SameTail t t' → SameHead h h' → IsEdge t' h'
 IsEdge-same e a b = record {
   pair = IsPaired-same e.pair a b;
@@ -105,9 +114,11 @@ IsEdge-loaded t t' h h' e s none a b = record {
   loaded = rw (a.base, b.base) (settled_empty t h s none);
 }
 
+-- the capacity of an edge is the same behind the start of a load
 pub TailLoads-capacity : (t t' : Tail) → TailLoads t t' → edge_capacity t' ≡ edge_capacity t
 TailLoads-capacity t t' a = ap (λ p. producer_capacity p) a.ring
 
+-- a settled edge is settled behind the start of a load
 pub IsSettled-loaded : (t t' : Tail) (h h' : Head) → IsSettled t h → TailLoads t t' → HeadLoads h h' → IsSettled t' h'
 IsSettled-loaded t t' h h' s a b =
     let sent_is : ring_sent t' ≡ ring_sent t = ap (λ p. pushed p) a.ring in

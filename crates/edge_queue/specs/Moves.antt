@@ -12,6 +12,7 @@ pub record SameTail (a b : Tail) : Type 0 where
   pub ring : SameProducer a.producer b.producer
   pub base : b.base.value ≡ a.base.value
 
+-- the same head of the same edge, with the same load
 pub record SameHead (a b : Head) : Type 0 where
   pub ring : SameConsumer a.consumer b.consumer
   pub base : b.base.value ≡ a.base.value

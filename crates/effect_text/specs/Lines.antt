@@ -44,6 +44,7 @@ abbrev pub what_lines : List ℕ → List ℕ → List Event → What → List �
 what_lines id node events (what.Line p) = out_line id node p
 what_lines id node events (what.Event e) = flat_map transition_line (new_transitions events e)
 
+-- the lines of an effect that comes behind these events, with the names of its task and its node
 abbrev pub effect_lines : List TaskNames → List Event → Effect → List ℕ
 effect_lines tasks events e = what_lines (id_of tasks e.life) (node_of tasks e.life e.node) events e.what
 

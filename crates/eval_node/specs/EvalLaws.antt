@@ -21,6 +21,7 @@ counts_more results counts (d ∷ cs) c = counts_more results (evaluated results
 turn : Said → List ℕ → Turn (List ℕ)
 turn said counts = record { state = counts; said = said }
 
+-- what is kept, and what is said, of one point more
 pub eval_goes_on : (eval : EvalSpec Tree) (before : List Came) (port : ℕ) (p : PointValue)
     → eval_step eval (counts_in eval before) port p ≡ record { state = counts_in eval (before ++ (port, p) ∷ []); said = eval_says eval before port p }
 unfolding turn

@@ -48,6 +48,7 @@ counts_behind results counts (c ∷ cs) = counts_behind results (evaluated resul
 abbrev pub counts_in : EvalSpec Tree → List Came → List ℕ
 counts_in eval before = counts_behind eval.results [] before
 
+-- what is said of a point, by the points of its group before it
 abbrev pub eval_says : EvalSpec Tree → GroupAnswer
 eval_says eval before port p = said_of eval (evaluated eval.results (counts_in eval before) p).point
 
@@ -69,6 +70,7 @@ evaluations eval place points = evaluations_behind eval place [] points
 
 -- ---- the machine
 
+-- a step, by what is kept
 abbrev pub eval_step : EvalSpec Tree → List ℕ → ℕ → PointValue → Turn (List ℕ)
 eval_step eval counts port p = let r = evaluated eval.results counts p in record { state = r.counts; said = said_of eval r.point }
 
@@ -76,5 +78,6 @@ eval_step eval counts port p = let r = evaluated eval.results counts p in record
 abbrev pub EvalSeat : Type 0
 EvalSeat = Seat (Grouped (EvalSpec Tree))
 
+-- this `eval`, in this life and with this number
 abbrev pub seat_of : ℕ → ℕ → EvalSpec Tree → EvalSeat
 seat_of life node eval = record { life = life; node = node; kind = record { rule = eval } }

@@ -13,6 +13,7 @@ abbrev pub first_count : List ℕ → ℕ
 first_count [] = 0
 first_count (k ∷ ks) = k
 
+-- the numbers of the lambdas behind the first
 abbrev pub other_counts : List ℕ → List ℕ
 other_counts [] = []
 other_counts (k ∷ ks) = ks

@@ -11,14 +11,17 @@ use Rattle.flow_cells.specs.Runs.{Run, run, reacted}
 use Rattle.flow_cells.specs.Kept.{IsAt}
 use Rattle.flow_cells.specs.Handled.{Handles, Reacts}
 
+-- a run over two lists is a run over the first, and then over the second
 pub run-append : {S : Type 0} (step : S → Input → Move S) (r : Run S) (xs ys : List Entry) → run step r (xs ++ ys) ≡ run step (run step r xs) ys
 run-append step r [] ys = refl
 run-append step r (x ∷ xs) ys = run-append step (reacted step r x.0 x.1) xs ys
 
 module _ {N P S : Type 0} (g : Ghosts N P S) where
+  -- where nothing came, nothing was handled
   pub Handles-none : (c : Core N) (b : Lists) → Handles g c b c b
   Handles-none c b = record { handled = []; merged = done; at = λ r h. h; spec = refl }
 
+  -- one message more was handled: the one that was next
   pub Handles-more : (c d : Core N) (b e e' : Lists) (parent : ℕ) (m : Msg) (d' : Core N) → Handles g c b d e → next e ≡ Some (record { parent = parent; msg = m; rest = e' }) → g.spec d'.node ≡ g.spec d.node → Reacts g d parent m d' → Handles g c b d' e'
   Handles-more c d b e e' parent m d' h t same react_ok =
       let Goal : P → Type 0 = λ p. (r : Run S) → IsAt g p r d → IsAt g p (reacted (g.step p) r parent m) d' in

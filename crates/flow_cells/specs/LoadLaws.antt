@@ -50,10 +50,12 @@ loaded-lists (e ∷ ins) (n ∷ new) old source buffer len none z fresh own =
     ap (λ (s : List Msg). with_source s buffer) own ∙ with_source-none buffer
     ∙ both-empty buffer (map (λ (i : InEdge). received i.head) (n ∷ new)) none (fresh-nothing (n ∷ new) fresh) (len ∙ heads-long (e ∷ ins) (n ∷ new) z)
 
+-- there is at least one list of received messages
 pub some-received : (ins : List InEdge) (source : List Msg) → 0 < length (received_of ins source)
 some-received [] source = omega arith
 some-received (e ∷ ins) source = omega arith
 
+-- there are as many lists with the points and barriers of a load as without
 pub with_source-length : (source : List Msg) (ls : Lists) → length (with_source source ls) ≡ length ls
 with_source-length source [] = refl
 with_source-length source (l ∷ ls) = refl
@@ -71,6 +73,7 @@ loads-waits (x ∷ xs) (y ∷ ys) [] p q = absurd q
 loads-waits (x ∷ xs) (y ∷ ys) (z ∷ zs) p q = (loads_waits x y z p.0 q.0, loads-waits xs ys zs p.1 q.1)
 
 module _ {N P S : Type 0} (g : Ghosts N P S) where
+  -- a load that began, and all that is determined handled, leave a core that keeps what a cell keeps
   pub load-keeps : (base first last : Core N) (lists b e : Lists) → base ≡ first → IsAt g (g.spec first.node) (begun (g.state first.node) first.passed) first → Handles g first b last e → b ≡ lists → next e ≡ None → length b ≤ g.ports (g.spec first.node) → KeptBy g base lists e last
   load-keeps base first last lists b e same at h is stuck ports =
       let long : length e ≡ length b = merges-length h.merged in

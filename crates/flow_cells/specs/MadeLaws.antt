@@ -28,14 +28,17 @@ fresh-none : (ins : List InEdge) → Each IsFresh ins → Each IsNothing (map (�
 fresh-none [] h = tt
 fresh-none (e ∷ ins) h = (h.0, fresh-none ins h.1)
 
+-- where no input received a message, and a load has none, no list has one
 pub nothing-received : (ins : List InEdge) (source : List Msg) → Each IsFresh ins → source ≡ [] → Each IsNothing (received_of ins source)
 nothing-received [] source h e = (e, tt)
 nothing-received (x ∷ ins) source h e = fresh-none (x ∷ ins) h
 
+-- empty buffers have no message
 pub nothing-buffered : (n : ℕ) → Each IsNothing (replicate n [])
 nothing-buffered zero = tt
 nothing-buffered (suc n) = (refl, nothing-buffered n)
 
+-- where all buffers are empty, no message is next
 pub some-parents : (n : ℕ) → next (replicate (one_or_more n) []) ≡ None
 unfolding next
 some-parents zero = refl
@@ -76,6 +79,7 @@ module _ {N P S : Type 0} (g : Ghosts N P S) where
     passed = refl;
   })
 
+  -- the core of a cell that is made keeps what a cell keeps
   pub made-keeps : (n : N) (c base : Core N) (ins : List InEdge) (source : List Msg) (buffer : Lists) → base ≡ c → IsMade g n c → Each IsFresh ins → source ≡ [] → buffer ≡ replicate (one_or_more (length ins)) [] → one_or_more (length ins) ≤ g.ports (g.spec n) → KeptBy g base (received_of ins source) buffer c
   made-keeps n c base ins source buffer same m fresh none is ports =
       let lists : received_of ins source ≡ replicate (one_or_more (length ins)) [] = ap (received_of ins) none ∙ fresh-received ins fresh in

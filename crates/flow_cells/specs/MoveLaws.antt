@@ -34,11 +34,13 @@ heads-same [] i e d lt is = refl
 heads-same (x ∷ ins) zero e d lt is = ap (λ (l : List Msg). l ∷ heads ins) is
 heads-same (x ∷ ins) (suc i) e d lt is = ap (λ (ls : Lists). received x.head ∷ ls) (heads-same ins i e d (omega arith) is)
 
+-- where a message was taken from an input, it is put behind those that were received there
 pub received_of-took : (ins : List InEdge) (source : List Msg) (i : ℕ) (e d : InEdge) (m : Msg) → i < length ins → received e.head ≡ received (get_or ins i d).head ++ m ∷ [] → received_of (set ins i e) source ≡ put i m (received_of ins source)
 received_of-took [] source i e d m lt is = absurd (omega arith)
 received_of-took (x ∷ ins) source zero e d m lt is = heads-took (x ∷ ins) zero e d m lt is
 received_of-took (x ∷ ins) source (suc i) e d m lt is = heads-took (x ∷ ins) (suc i) e d m lt is
 
+-- where an input has the same received messages, all lists are the same
 pub received_of-same : (ins : List InEdge) (source : List Msg) (i : ℕ) (e d : InEdge) → i < length ins → received e.head ≡ received (get_or ins i d).head → received_of (set ins i e) source ≡ received_of ins source
 received_of-same [] source i e d lt is = absurd (omega arith)
 received_of-same (x ∷ ins) source zero e d lt is = heads-same (x ∷ ins) zero e d lt is
@@ -53,6 +55,7 @@ received_of-length [] source = omega arith
 received_of-length (x ∷ ins) source = let h : length (heads ins) ≡ length ins = heads-length ins in omega (arith, h)
 
 module _ {N P S : Type 0} (g : Ghosts N P S) where
+  -- there are as many buffers as lists of received messages
   pub buffer-length : {base : Core N} {lists buffer : Lists} {c : Core N} → KeptBy g base lists buffer c → length buffer ≡ length lists
   buffer-length k = merges-length k.merged
 
@@ -63,6 +66,7 @@ module _ {N P S : Type 0} (g : Ghosts N P S) where
       let b : length ins ≤ length (received_of ins source) = received_of-length ins source in
       omega (arith, a, b, lt)
 
+  -- a core that keeps what a cell keeps has at most as many buffers as its node has ports
   pub ports-of : (base : Core N) (lists buffer : Lists) (c : Core N) → KeptBy g base lists buffer c → length buffer ≤ g.ports (g.spec c.node)
   ports-of base lists buffer c k = subst (λ (p : P). length buffer ≤ g.ports p) (sym k.at.spec) k.ports
 
@@ -105,17 +109,21 @@ module _ {N P S : Type 0} (g : Ghosts N P S) where
 
 -- ---- places
 
+-- an input that is as it was is one from which nothing was taken
 pub Still-refl : (e : InEdge) → Still e e
 Still-refl e = record { head = HeadLooked-refl e.head; from = refl; out = refl }
 
+-- an out that is as it was is one on which nothing was put
 pub Eases-refl : (o : OutEdge) → Eases o o
 Eases-refl o = record { tail = TailLooked-refl o.tail; unsent = refl; child = refl; input = refl }
 
+-- the element that was put at a place stands there
 pub get-set : {A : Type 0} (xs : List A) (i : ℕ) (y : A) → i < length xs → slice_get (set xs i y) i ≡ Some y
 get-set [] i y lt = absurd (omega arith)
 get-set (x ∷ xs) zero y lt = refl
 get-set (x ∷ xs) (suc i) y lt = get-set xs i y (omega arith)
 
+-- where two elements are found as one, they are the same
 pub some-value : {A : Type 0} (x y : A) → ◌≡◌ {A = Option A} (Some x) (Some y) → x ≡ y
 some-value x y e = cc
 
@@ -130,5 +138,6 @@ pub given-sent : (given : List Msg) (a b : OutEdge) → SendsOn a b → IsGiven 
 given-sent given a b s h =
     ap (λ (l : List Msg). l ++ b.unsent) s.put.sent ∙ append_assoc (sent a.tail) (s.msg ∷ []) b.unsent ∙ ap (λ (l : List Msg). sent a.tail ++ l) (sym s.unsent) ∙ h
 
+-- what was given out is the same behind a look at an out
 pub given-looked : (given : List Msg) (a b : OutEdge) → LooksOn a b → IsGiven given a → IsGiven given b
 given-looked given a b s h = ap (λ (l : List Msg). l ++ b.unsent) s.tail.sent ∙ ap (λ (l : List Msg). sent a.tail ++ l) s.unsent ∙ h

@@ -28,6 +28,7 @@ module _ {S : Type 0} (step : S → Input → Move S) where
       record r { state = m.state; outs = r.outs ++ item_msgs m.given.items; effects = r.effects ++ m.given.effects }
   reacted r parent (messages.Barrier b) = record r { outs = r.outs ++ messages.Barrier b ∷ []; saved = r.state; passed = b }
 
+  -- the run goes on over a list of messages, one after the other
   abbrev pub run : Run S → List Entry → Run S
   run r [] = r
   run r (x ∷ xs) = run (reacted r x.0 x.1) xs
@@ -44,6 +45,7 @@ longer k m (Some l) = Some ((k, m) ∷ l)
 longer k (messages.Item x) None = None
 longer k (messages.Barrier b) None = Some []
 
+-- what stands before the last barrier of a list, if it has one
 abbrev pub before_last : List Entry → Option (List Entry)
 before_last [] = None
 before_last ((k, m) ∷ xs) = longer k m (before_last xs)

@@ -24,6 +24,7 @@ pub is-true : (b : Bool) → IsTrue b → b ≡ true
 is-true true h = refl
 is-true false h = absurd cc
 
+-- a test that fails, as a fact
 pub is-false : (b : Bool) → IsFalse b → b ≡ false
 is-false true h = absurd cc
 is-false false h = refl

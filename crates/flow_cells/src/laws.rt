@@ -25,7 +25,8 @@ pub fn runs_are_folds<N: Node>()
         ≡ items r.outs ++ item_msgs (fold (N.step p) r.state (inputs handled)).given.items }
     ensures saved { (p : N.Spec) (r : Run N.State) (handled : List Entry)
         → (run (N.step p) r handled).saved ≡ state_at (N.step p) r (before_last handled) }
-    ensures barriers { (p : N.Spec) (r : Run N.State) (handled : List Entry) (parent : ℕ) (b : Stamp)
+    ensures barriers { (p : N.Spec) (r : Run N.State) (handled : List Entry)
+        (parent : ℕ) (b : Stamp)
         → (run (N.step p) r (handled ++ (parent, messages.Barrier b) ∷ [])).outs
         ≡ (run (N.step p) r handled).outs ++ messages.Barrier b ∷ [] }
 {}

@@ -9,6 +9,7 @@ use Rattle.gate_log.specs.Head.{head_magic, BeginsClosed, HasNoHead, IsHead}
 use Rattle.gate_log.specs.Readers.{BeginsWith}
 use Rattle.gate_log.specs.Bodies.{magic, size_bytes, record_of, bytes_of, Fit, IsLog, IsShort, IsHeaderless, IsTorn}
 
+-- the size of a record takes four bytes
 pub length-size_bytes : (n : ℕ) → length (size_bytes n) ≡ 4
 unfolding size_bytes
 length-size_bytes n = refl
@@ -25,11 +26,13 @@ length-push bodies body =
       length-size_bytes (length body),
     )
 
+-- the bytes of one more record stand behind those of the others
 pub bytes_push : (bodies : List (List ℕ)) (body rest : List ℕ) → bytes_of (bodies ++ body ∷ []) ++ rest ≡ bytes_of bodies ++ (record_of body ++ rest)
 bytes_push bodies body rest =
     ap (λ (l : List ℕ). l ++ rest) (sym (flat_map_more record_of magic bodies body))
     ∙ append_assoc (bytes_of bodies) (record_of body) rest
 
+-- sizes with the same four bytes are one
 pub size_unique : (m n : ℕ) → m < 2 ^ 32 → n < 2 ^ 32 → size_bytes m ≡ size_bytes n → m ≡ n
 unfolding size_bytes
 size_unique m n fits_m fits_n same = sym (from_be_bytes-to_be_bytes_4 m fits_m) ∙ ap (λ (l : List ℕ). from_be_bytes w32 l) same
@@ -62,6 +65,7 @@ records_unique (a ∷ one) (b ∷ two) g h x y fit_one fit_two g_shut h_shut sam
     let rest : one ≡ two = records_unique one two g h x y fit_one.1 fit_two.1 g_shut h_shut split.1 in
     ap (λ (l : List ℕ). l ∷ one) split.0 ∙ ap (λ (l : List (List ℕ)). b ∷ l) rest
 
+-- bytes are those of one log at most
 pub log_unique : (one two : List (List ℕ)) (bytes : List ℕ) → IsLog one bytes → IsLog two bytes → one ≡ two
 log_unique one two bytes is_one is_two =
     records_unique one two is_one.gate is_two.gate is_one.rest is_two.rest is_one.fit is_two.fit is_one.closed is_two.closed

@@ -149,6 +149,7 @@ module _ (j : JoinSpec) where
   none_above : (cs : List Came) (t r : ℤ) → is_below t (latest j cs) ≡ false → t <ℤ r → with_time j r (on_time j cs) ≡ []
   none_above cs t r e lt = none_with t r (on_time j cs) (any-on_time (λ b. int_lt t (rounded j b)) [] cs (latest_tells cs t ∙ e)) lt
 
+  -- a point that isn't late is the last of those with its rounded time
   pub with_own : (cs : List Came) (c : Came) → is_late j cs c ≡ false
       → with_time j (rounded j c) (on_time j (cs ++ c ∷ [])) ≡ with_time j (rounded j c) (on_time j cs) ++ c ∷ []
   with_own cs c e =
@@ -301,6 +302,7 @@ module _ (j : JoinSpec) where
             ∙ append-nil (heard j before)))
       ] refl
 
+-- what is kept, and what is said, of one point more
 pub join_goes_on : (j : JoinSpec) (before : List Came) (port : ℕ) (p : PointValue)
     → join_step j (join_kept j before) port p ≡ record { state = join_kept j (before ++ (port, p) ∷ []); said = join_says j before port p }
 join_goes_on = goes_on

@@ -32,6 +32,7 @@ rounded j c = rounded_time j.tolerance c.1.time
 abbrev pub is_heard : JoinSpec → Came → Bool
 is_heard j c = nat_lt c.0 (parents j) && is_time (rounded j c)
 
+-- the points that came from a parent with a rounded time in range, in order
 abbrev pub heard : JoinSpec → List Came → List Came
 heard j cs = filter (is_heard j) cs
 
@@ -39,6 +40,7 @@ heard j cs = filter (is_heard j) cs
 abbrev pub is_late : JoinSpec → List Came → Came → Bool
 is_late j before c = list_any (λ b. int_lt (rounded j c) (rounded j b)) before
 
+-- the point, unless it is late
 abbrev pub unless_late : JoinSpec → List Came → Came → List Came
 unless_late j before c = if is_late j before c then [] else c ∷ []
 
@@ -47,6 +49,7 @@ abbrev pub on_time_behind : JoinSpec → List Came → List Came → List Came
 on_time_behind j before [] = []
 on_time_behind j before (c ∷ cs) = unless_late j before c ++ on_time_behind j (before ++ c ∷ []) cs
 
+-- the points that aren't late, in order
 abbrev pub on_time : JoinSpec → List Came → List Came
 on_time j cs = on_time_behind j [] cs
 

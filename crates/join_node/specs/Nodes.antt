@@ -32,38 +32,47 @@ saying_of (Join spec) = in_groups (join_says spec)
 abbrev pub GatherSeat : Type 0
 GatherSeat = Both (Seat (Alone UnionRule)) (Seat (Grouped JoinRule))
 
+-- a `union` of so many parents, in this life and with this number
 abbrev pub union_seat : ℕ → ℕ → ℕ → Option (List ℕ) → Seat (Alone UnionRule)
 union_seat life node count rename = record { life = life; node = node; kind = record { plain = record { parents = count; rename = rename } } }
 
+-- a `join` of this spec, in this life and with this number
 abbrev pub join_seat : ℕ → ℕ → JoinSpec → Seat (Grouped JoinRule)
 join_seat life node spec = record { life = life; node = node; kind = record { rule = record { spec = spec } } }
 
+-- a node of this spec, in this life and with this number
 abbrev pub seat_of : ℕ → ℕ → GatherSpec → GatherSeat
 seat_of life node (Union count rename) = One (union_seat life node count rename)
 seat_of life node (Join spec) = Other (join_seat life node spec)
 
 -- ---- what is seen of a node
 
+-- the seat answers what the kind says
 pub answers : (life node : ℕ) (spec : GatherSpec)
     → ◌≡◌ {A = Answer} (either (λ s. stamped s.life s.node (λ before x. union_says s.kind.plain.rename x.0 x.1))
     (λ s. stamped s.life s.node (in_groups (join_says s.kind.rule.spec))) (seat_of life node spec)) (stamped life node (saying_of spec))
 answers life node (Union count rename) = refl
 answers life node (Join spec) = refl
 
+-- it has this life
 pub lives : (life node : ℕ) (spec : GatherSpec) → either (λ s. s.life) (λ s. s.life) (seat_of life node spec) ≡ life
 lives life node (Union count rename) = refl
 lives life node (Join spec) = refl
 
+-- and this number
 pub numbers : (life node : ℕ) (spec : GatherSpec) → either (λ s. s.node) (λ s. s.node) (seat_of life node spec) ≡ node
 numbers life node (Union count rename) = refl
 numbers life node (Join spec) = refl
 
+-- it has a port for each parent
 pub ports : (life node : ℕ) (spec : GatherSpec) → either (λ s. s.kind.plain.parents) (λ s. parents s.kind.rule.spec) (seat_of life node spec) ≡ parents_of spec
 ports life node (Union count rename) = refl
 ports life node (Join spec) = refl
 
+-- it takes points
 pub takes_points : (life node : ℕ) (spec : GatherSpec) → ◌≡◌ {A = Body → Bool} (either (λ s. is_point) (λ s. is_point) (seat_of life node spec)) is_point
 takes_points life node (Union count rename) = refl
 takes_points life node (Join spec) = refl
 
+-- what is seen of a seat
 pub ruleset seen = (answers, lives, numbers, ports, takes_points)

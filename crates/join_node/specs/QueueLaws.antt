@@ -12,6 +12,7 @@ and-false : (a b : Bool) → b ≡ false → (a && b) ≡ false
 and-false true b e = e
 and-false false b e = refl
 
+-- nothing is both true and false
 pub no_both : (b : Bool) → b ≡ true → b ≡ false → ⊥
 no_both b t f = absurd cc
 
@@ -50,6 +51,7 @@ sets_next cols e =
     ∙ ap (λ (l : List Set). set_at 0 cols ∷ l) (numbers-map (λ k. set_at k cols) 0 (most (rests cols))
     ∙ (λ i. map (λ k. set_rest k cols i) (numbers_from 0 (most (rests cols)))))
 
+-- where no parent has a point there are no sets
 pub sets_none : (cols : Columns) → has_points cols ≡ false → sets cols ≡ []
 sets_none cols e = ap (λ (n : ℕ). map (λ k. set_at k cols) (numbers_from 0 n)) (most-none cols e)
 
@@ -240,12 +242,14 @@ other_port q port lt = grind (arith, nat_tests)
 later_port : (q port j : ℕ) → q ≡ port + suc j → (q == port) ≡ false
 later_port q port j is = grind (arith, nat_tests)
 
+-- a test of equal ports is true
 pub same_port : (q port : ℕ) → q ≡ port → (q == port) ≡ true
 same_port q port is = grind (arith, nat_tests)
 
 points-other : (port q : ℕ) (cs : List Came) (p : PointValue) → (q == port) ≡ false → points_at port (cs ++ (q, p) ∷ []) ≡ points_at port cs
 points-other port q cs p e = points-more port q cs p ∙ ap (λ (b : Bool). points_at port cs ++ cond b (p ∷ []) []) e ∙ append-nil (points_at port cs)
 
+-- a point of a parent comes behind those that the parent gave before
 pub points_own : (port q : ℕ) (cs : List Came) (p : PointValue) → (q == port) ≡ true → points_at port (cs ++ (q, p) ∷ []) ≡ points_at port cs ++ p ∷ []
 points_own port q cs p e = points-more port q cs p ∙ ap (λ (b : Bool). points_at port cs ++ cond b (p ∷ []) []) e
 
@@ -293,9 +297,11 @@ none_wait : (n : ℕ) → waiting (replicate n []) ≡ replicate n []
 none_wait zero = refl
 none_wait (suc n) = refl
 
+-- where nothing came, nothing waits
 pub no_columns : (n : ℕ) → replicate n [] ≡ waiting (columns n [])
 no_columns n = sym (ap waiting (none_at 0 n) ∙ none_wait n)
 
+-- emptied queues are the same with and without their first points
 pub emptied_rests : (cols : Columns) → emptied (rests cols) ≡ emptied cols
 emptied_rests [] = refl
 emptied_rests (ps ∷ cols) = ap (λ (l : Columns). [] ∷ l) (emptied_rests cols)
@@ -316,5 +322,6 @@ emptied-columns : (k n : ℕ) (cs : List Came) → emptied (columns_from k n cs)
 emptied-columns k zero cs = refl
 emptied-columns k (suc n) cs = ap (λ (l : Columns). [] ∷ l) (emptied-columns (suc k) n cs)
 
+-- emptied queues are those where nothing came
 pub emptied_is : (n : ℕ) (cs : List Came) → emptied (waiting (columns n cs)) ≡ waiting (columns n [])
 emptied_is n cs = emptied-waiting (columns n cs) ∙ emptied-columns 0 n cs ∙ no_columns n

@@ -43,6 +43,7 @@ pub record Placed : Type 0 where
 abbrev pub settled : Columns → Placed
 settled queues = if is_ready queues then record { queues = rests queues; filled = Some (set_at 0 queues) } else record { queues = queues; filled = None }
 
+-- the queues with a point behind those of its parent, and the set that it fills, which goes
 abbrev pub place : ℕ → PointValue → Columns → Placed
 place port p queues = settled (push port p queues)
 
@@ -51,16 +52,19 @@ abbrev pub waiting_in : List PointValue → Columns → Columns
 waiting_in [] others = [] ∷ others
 waiting_in (p ∷ ps) others = if is_ready others then waiting_in ps (rests others) else (p ∷ ps) ∷ others
 
+-- the points that aren't in full sets, parent by parent
 abbrev pub waiting : Columns → Columns
 waiting [] = []
 waiting (ps ∷ others) = waiting_in ps others
 
 -- ---- groups
 
+-- what is kept of a group: the greatest rounded time, and the points that wait there
 pub record JoinKept : Type 0 where
   pub time : ℤ
   pub queues : Columns
 
+-- what is kept of points, of which this is the greatest rounded time
 abbrev pub kept_at : JoinSpec → List Came → ℤ → JoinKept
 kept_at j cs time = record { time = time; queues = waiting (columns_at j time cs) }
 
@@ -93,5 +97,6 @@ moved j (Some kept) time port p =
     else if int_lt kept.time time then risen j kept time port p
     else arrived j time [] kept.queues port p
 
+-- a step, by what is kept
 abbrev pub join_step : JoinSpec → Option JoinKept → ℕ → PointValue → Turn (Option JoinKept)
 join_step j kept port p = if is_heard j (port, p) then moved j kept (rounded j (port, p)) port p else record { state = kept; said = a_drop }

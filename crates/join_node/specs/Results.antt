@@ -16,6 +16,7 @@ use Rattle.join_node.specs.Sets.{Set}
 
 -- ---- fields
 
+-- the name of a field, and its value
 abbrev pub Entry : Type 0
 Entry = List ℕ × Value
 
@@ -86,6 +87,7 @@ joined j time s first = record {
   time = time;
 }
 
+-- what is given out for a set with this first present point; nothing where none is present
 abbrev pub result_by : JoinSpec → ℤ → Set → Option PointValue → List Body
 result_by j time s None = []
 result_by j time s (Some first) = bodies.Point (joined j time s first) ∷ []

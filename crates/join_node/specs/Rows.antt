@@ -24,6 +24,7 @@ at millis = record { db = []; rp = []; name = []; tags = empty; fields = empty; 
 abbrev pub from_a : ℕ → Came
 from_a millis = (0, at millis)
 
+-- of the other parent
 abbrev pub from_b : ℕ → Came
 from_b millis = (1, at millis)
 
@@ -37,6 +38,7 @@ abbrev pub given : JoinSpec → ℕ → List (Option PointValue × Option PointV
 given j time [] = []
 given j time (s ∷ ss) = result_of j (pos (time * 1000000000)) (s.0 ∷ s.1 ∷ []) ++ given j time ss
 
+-- this is said of these points, one after the other, where sets are filled so
 abbrev pub Says : Fill → List Came → List Said → Type 0
 Says fill cs said = said_behind (seconds_joined fill) [] cs ≡ said
 

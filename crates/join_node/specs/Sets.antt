@@ -42,5 +42,6 @@ sets cols = map (λ k. set_at k cols) (numbers_from 0 (most cols))
 abbrev pub is_full : Set → Bool
 is_full s = list_all is_some s
 
+-- some parent's point is missing
 abbrev pub is_open : Set → Bool
 is_open s = not (is_full s)

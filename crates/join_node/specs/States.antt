@@ -9,21 +9,27 @@ use Rattle.state_code.specs.Laws.{pair_spelled, list_spelled, as_parts, tested_b
 use Rattle.join_node.specs.Queues.{JoinKept}
 use Rattle.join_node.specs.Sets.{Columns}
 
+-- what is kept as a tuple: the greatest rounded time and the points that wait
 abbrev pub kept_parts : JoinKept → ℤ × Columns
 kept_parts k = (k.time, k.queues)
 
+-- what is kept, from these parts
 abbrev pub kept_from : ℤ × Columns → JoinKept
 kept_from p = record { time = p.0; queues = p.1 }
 
+-- its parts have a spelling, and its time is in range
 abbrev pub FitsKept : JoinKept → Type 0
 FitsKept k = FitsPair (FitsSigned w64) (FitsList (FitsList FitsPoint)) (kept_parts k) × IsTrue (is_time k.time)
 
+-- its parts one behind the other
 abbrev pub spell_kept : JoinKept → List ℕ
 spell_kept k = spell_pair spell_i64 (spell_list (spell_list spell_point)) (kept_parts k)
 
+-- the parts that stand there, where their time is in range
 abbrev pub read_kept : Reading JoinKept
 read_kept = read_where (λ k. is_time k.time) (read_as kept_from (read_pair read_i64 (read_list (read_list read_point))))
 
+-- what is spelled is read again, and only that
 pub kept_spelled : IsSpelling FitsKept spell_kept read_kept
 kept_spelled = tested_by (as_parts (pair_spelled i64_spelled (list_spelled (list_spelled point_spelled))) kept_from kept_parts (λ k. refl) (λ p. refl))
     (λ k. is_time k.time)

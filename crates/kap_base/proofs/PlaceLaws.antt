@@ -10,14 +10,7 @@ use Rattle.std.proofs.lemmas.Cmp.{nat_list_cmp_total}
 use Rattle.std.proofs.lemmas.Bool.{cases_lt}
 use Rattle.kap_base.specs.Maps.{byte_order}
 use Rattle.kap_base.specs.Places.{StandsAt, WouldStandAt}
-
-left : (a b : Bool) → (a && b) ≡ true → a ≡ true
-left true b e = refl
-left false b e = e
-
-right : (a b : Bool) → (a && b) ≡ true → b ≡ true
-right true b e = e
-right false b e = absurd (true≢false (sym e))
+use Rattle.kap_base.proofs.TestLaws.{first_of, second_of}
 
 less : (o : Ordering) → is_lt o ≡ true → o ≡ Less
 less Less e = refl
@@ -47,15 +40,15 @@ module _ {X : Type 0} where
   -- each later entry stands above a key that stands below all of them
   below_at : (x : List ℕ) (es : List (List ℕ × X)) (i : ℕ) (d : List ℕ × X) → below_all byte_order x es ≡ true → i < length es → byte_order x (get_or es i d).0 ≡ Less
   below_at x [] i d h lt = absurd (omega arith)
-  below_at x (e ∷ es) zero d h lt = less _ (left _ _ h)
-  below_at x (e ∷ es) (suc i) d h lt = below_at x es i d (right _ _ h) (omega arith)
+  below_at x (e ∷ es) zero d h lt = less _ (first_of _ _ h)
+  below_at x (e ∷ es) (suc i) d h lt = below_at x es i d (second_of _ _ h) (omega arith)
 
   keys_rise : (es : List (List ℕ × X)) (i j : ℕ) (d : List ℕ × X) → is_sorted byte_order es ≡ true → i < j → j < length es → byte_order (get_or es i d).0 (get_or es j d).0 ≡ Less
   keys_rise [] i j d h lt within = absurd (omega arith)
   keys_rise (e ∷ es) zero zero d h lt within = absurd (omega arith)
-  keys_rise (e ∷ es) zero (suc j) d h lt within = below_at e.0 es j d (left _ _ h) (omega arith)
+  keys_rise (e ∷ es) zero (suc j) d h lt within = below_at e.0 es j d (first_of _ _ h) (omega arith)
   keys_rise (e ∷ es) (suc i) zero d h lt within = absurd (omega arith)
-  keys_rise (e ∷ es) (suc i) (suc j) d h lt within = keys_rise es i j d (right _ _ h) (omega arith) (omega arith)
+  keys_rise (e ∷ es) (suc i) (suc j) d h lt within = keys_rise es i j d (second_of _ _ h) (omega arith) (omega arith)
 
   -- the comparisons with a key rise along entries in order, as a search by halves asks
   comparisons_rise : (es : List (List ℕ × X)) (k : List ℕ) → is_sorted byte_order es ≡ true → IsNonDecreasingBy (λ e. ordering_index (byte_order e.0 k)) es
@@ -70,8 +63,8 @@ module _ {X : Type 0} where
       let t : byte_order k e.0 ≡ Equal = reversed e.0 k Equal (tie e) in
       record { within = lt; value = λ d. rw t refl; put = λ v d. rw t refl }
   stands (e ∷ es) k (suc at) h lt tie =
-      let r = stands es k at (right _ _ h) (omega arith) tie in
-      let t : byte_order k e.0 ≡ Greater = above e.0 (get_or es at e).0 k (below_at e.0 es at e (left _ _ h) (omega arith)) (tie e) in
+      let r = stands es k at (second_of _ _ h) (omega arith) tie in
+      let t : byte_order k e.0 ≡ Greater = above e.0 (get_or es at e).0 k (below_at e.0 es at e (first_of _ _ h) (omega arith)) (tie e) in
       record { within = lt; value = λ d. rw t (r.value d); put = λ v d. rw t (ap (λ (l : List (List ℕ × X)). e ∷ l) (r.put v d)) }
 
   would_stand : (es : List (List ℕ × X)) (k : List ℕ) (at : ℕ) → at ≤ length es → ((j : ℕ) (d : List ℕ × X) → j < at → byte_order (get_or es j d).0 k ≡ Less) → ((j : ℕ) (d : List ℕ × X) → at ≤ j → j < length es → byte_order (get_or es j d).0 k ≡ Greater) → WouldStandAt k es at

@@ -10,6 +10,7 @@ use Rattle.kap_base.specs.declared.limits.TheConstants.{TIME_LIMIT}
 use Rattle.kap_base.specs.Texts.{is_line, is_name, is_measurement}
 use Rattle.kap_base.specs.Maps.{KeyMap, byte_order}
 
+-- a point: its database, policy, measurement, tags, fields, dimensions, whether its group has its name, and its time
 pub record PointValue : Type 0 where
   pub db : List ℕ
   pub rp : List ℕ

@@ -43,5 +43,6 @@ mutual
   all_back NoTrees = refl
   all_back (MoreTrees first rest) = ap (λ t. MoreTrees t (trees_of (of_trees rest))) (back first) ∙ ap (MoreTrees first) (all_back rest)
 
+-- trees as codes: each is that of one expression
 abbrev pub tree_code : Coded Tree
 tree_code = code_by Expr expr.the_row.coded of_tree tree_of back

@@ -7,12 +7,15 @@ use Rattle.kap_http.specs.declared.limits.TheConstants.{BODY_LIMIT, WRITE_LIMIT}
 use Rattle.kap_http.specs.declared.path.Place.{Place}
 use Rattle.kap_http.specs.declared.path.Place.TheVariants as places
 
+-- the byte `/`
 abbrev pub slash : ℕ
 slash = 47
 
+-- the byte is a `/`
 abbrev pub is_slash : ℕ → Bool
 is_slash b = b == slash
 
+-- the byte is a `?`
 abbrev pub is_question : ℕ → Bool
 is_question b = b == 63
 

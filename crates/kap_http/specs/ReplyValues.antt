@@ -3,6 +3,7 @@ use Rattle.std.specs.Prelude.{ℕ, Bool, ◌||◌, ◌&&◌, not, ◌==◌, List
 use Rattle.std.specs.List.{list_any}
 use Rattle.kap_base.specs.Texts.{is_empty}
 
+-- a reply: its status, its body, and whether it is the last one of its connection
 pub record ReplyValue : Type 0 where
   pub status : ℕ
   pub body : List ℕ
@@ -12,6 +13,7 @@ pub record ReplyValue : Type 0 where
 abbrev pub statuses : List ℕ
 statuses = 200 ∷ 204 ∷ 400 ∷ 404 ∷ 405 ∷ 409 ∷ 413 ∷ 500 ∷ 503 ∷ []
 
+-- replies may have this status
 abbrev pub is_status : ℕ → Bool
 is_status status = list_any (λ s. status == s) statuses
 

@@ -3,6 +3,7 @@ use Rattle.std.specs.Prelude.{ℕ, ◌≤◌, Bool, List, length}
 use Rattle.kap_http.specs.Paths.{limit_of}
 use Rattle.kap_http.specs.declared.limits.TheConstants.{HEAD_LIMIT}
 
+-- a request: its method, its target, whether it is the last one of its connection, and its body
 pub record RequestValue : Type 0 where
   pub method : List ℕ
   pub target : List ℕ

@@ -82,17 +82,20 @@ task_of act part = do
 
 -- ---- by path and method
 
+-- what a ping asks: a GET or a HEAD, no other method
 abbrev pub ping_ask : Method → AskResult
 ping_ask methods.Get = Ok asks.Ping
 ping_ask methods.Head = Ok asks.Ping
 ping_ask _ = Err refusals.NoMethod
 
+-- what is asked where points are written: to write those of the body, by POST
 abbrev pub write_ask : Method → List ℕ → List ℕ → AskResult
 write_ask methods.Post query body = do
   write ← write_of (raw_pairs query) body
   Ok (asks.Write write)
 write_ask _ query body = Err refusals.NoMethod
 
+-- what is asked of all tasks: to list them, by GET, or to define the one in the body, by POST
 abbrev pub tasks_ask : Method → List ℕ → AskResult
 tasks_ask methods.Get body = Ok asks.Tasks
 tasks_ask methods.Post body = do
@@ -100,6 +103,7 @@ tasks_ask methods.Post body = do
   Ok (asks.Define task)
 tasks_ask _ body = Err refusals.NoMethod
 
+-- what is asked of the task that this part names: GET shows it, PATCH sets its status, DELETE deletes it
 abbrev pub task_ask : Method → List ℕ → List ℕ → AskResult
 task_ask methods.Get part body = task_of acts.Show part
 task_ask methods.Patch part body = do
@@ -108,10 +112,12 @@ task_ask methods.Patch part body = do
 task_ask methods.Delete part body = task_of acts.Delete part
 task_ask _ part body = Err refusals.NoMethod
 
+-- what is asked of all topics: to list them, by GET
 abbrev pub topics_ask : Method → AskResult
 topics_ask methods.Get = Ok asks.Topics
 topics_ask _ = Err refusals.NoMethod
 
+-- what is asked of the topic that this part names: to show it, by GET
 abbrev pub topic_ask : Method → List ℕ → AskResult
 topic_ask methods.Get part = do
   name ← name_of refusals.NoPath part
@@ -127,6 +133,7 @@ ask_at places.Task method part r = task_ask method part r.body
 ask_at places.Topics method part r = topics_ask method
 ask_at places.Topic method part r = topic_ask method part
 
+-- what a request asks at the place its path leads to; it is refused where there is no such place
 abbrev pub ask_on : Option Way → RequestValue → AskResult
 ask_on None r = Err refusals.NoPath
 ask_on (Some way) r = ask_at way.0 (method_of r.method) way.1 r

@@ -9,6 +9,7 @@ use Rattle.kap_io.specs.declared.disk_work.DiskCall.{DiskCall}
 use Rattle.kap_io.specs.declared.disk_work.DiskWork.{DiskWork}
 use Rattle.kap_io.specs.declared.disk_work.DiskWork.TheVariants.{Size, Read, Write, Cut, Sync}
 
+-- a file that is padded has at least so many bytes, and keeps all of its own
 pub length-padded : (n : ℕ) (file : List ℕ) → length (padded n file) ≡ max n (length file)
 length-padded n file = omega (arith, length-append file (replicate (n - length file) 0), length-replicate {A = ℕ} (n - length file) 0)
 
@@ -79,6 +80,7 @@ pub leaves_content : (start : List ℕ) (works : List DiskWork) → Leaves start
 leaves_content start [] = refl
 leaves_content start (work ∷ works) = (content start works, leaves_content start works, becomes_changed work (content start works))
 
+-- what the disk holds is one of the images that it may leave
 pub memory_reads_as : (disk : MemDiskState) → leaves disk (holds disk)
 memory_reads_as disk = λ part. leaves_content (file_of disk.start part) (works part (newest_first disk.calls.noted))
 
@@ -86,6 +88,7 @@ counts_now : (start : FileBytes) (t : ℕ) (calls : List DiskCall) (c : Image) �
 counts_now start t [] c now = now
 counts_now start t (call ∷ calls) c now = inl now
 
+-- an image of now is one of those since any moment
 pub memory_counts_now : (disk : MemDiskState) (t : ℕ) (c : Image) → leaves disk c → left_from disk t c
 memory_counts_now disk t c now = counts_now disk.start t (newest_first disk.calls.noted) c now
 
@@ -94,5 +97,6 @@ only_now start [] c left = left
 only_now start (call ∷ calls) c (inl now) = now
 only_now start (call ∷ calls) c (inr earlier) = absurd (omega (arith, earlier.0))
 
+-- the images since this moment are those of now
 pub memory_only_now : (disk : MemDiskState) (c : Image) → left_from disk (moment_of disk) c → leaves disk c
 memory_only_now disk c left = only_now disk.start (newest_first disk.calls.noted) c left

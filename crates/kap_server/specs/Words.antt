@@ -1,7 +1,7 @@
 -- The words of a command line.
 use Rattle.std.specs.Prelude.{ℕ, Bool, true, false, not, ◌&&◌, ◌==◌, List, [], ◌∷◌, map, slice_index, Option, Some, None, codes, string_bytes, if◌then◌else◌}
 use Rattle.std.specs.Str.{bytes_eq}
-use Rattle.kap_base.specs.Texts.{is_task_id}
+use Rattle.kap_base.specs.Texts.{hyphen, is_task_id}
 use Rattle.kap_server.specs.declared.words.Request.{Request as LentRequest}
 use Rattle.kap_server.specs.declared.words.Request.TheVariants as lent
 
@@ -29,7 +29,7 @@ request_of (lent.Replay counts words) = Replay counts (pairs_of (map string_byte
 
 -- the word begins with `--`, as options do
 abbrev pub is_option : List ℕ → Bool
-is_option word = slice_index word 0 == 45 && slice_index word 1 == 45
+is_option word = slice_index word 0 == hyphen && slice_index word 1 == hyphen
 
 -- each word but each second one is the id of a task, and has one behind it
 abbrev pub are_pairs : List (List ℕ) → Bool

@@ -94,7 +94,8 @@ pub fn command<S: Source, K: Sink, P: Patterns>(
     // Its status is that of the text that the input gives, unless memory ran out or a device failed.
     ensures check_status { (text : List ℕ) (status : Status)
         → AsksToCheck (map string_bytes words.now) → S.left input.old ≡ Some text
-        → ChecksTo (refusal_of result (P.refused pats.new)) text status → IsUnlessFailed result status }
+        → ChecksTo (refusal_of result (P.refused pats.new)) text status
+        → IsUnlessFailed result status }
     // Of a replay the text of what the nodes give for the points is written, as the status says; or the first pair that
     // is no task is refused, before anything is read or written.
     ensures ran { (counts : Bool) (pairs : List Pair)

@@ -20,7 +20,7 @@ use std::alloc::Global;
 use task_run::LifePlan;
 
 /// From how many bytes on the text that is due is written.
-const PIECE: usize = 65_536;
+const DUE_LIMIT: usize = 65_536;
 
 /// Writes the text that is due.
 fn write_due<K: Sink>(out: &mut K, text: &mut Bytes) -> Result<(), Failed>
@@ -41,7 +41,7 @@ fn write_piece<K: Sink>(out: &mut K, text: &mut Bytes, all: bool) -> Result<(), 
     ensures err { OnErr result (AppendsPrefix (K.written out.old) (K.written out.new) text.old) }
     ensures cause { HasCause (K.faults out.old) (K.faults out.new) result }
 {
-    if all || PIECE <= text.len() {
+    if all || DUE_LIMIT <= text.len() {
         write_due(out, text)?;
     }
     Ok(())

@@ -18,7 +18,9 @@ const HELP: &str = "kapd PLACE COMMAND ..
 
 PLACE is `-`. Commands:
 
-  check                       reads a script from standard input, and writes its canonical form
+  check                       reads a script from standard input, looks at its tokens, grammar, names, nodes with
+                              their arguments and properties, lambdas with their patterns, and graph, and writes
+                              its canonical form
   replay [--counts] ID SCRIPT [ID SCRIPT]..
                               reads a recording from standard input, and writes what the tasks do at its points
 

@@ -7,6 +7,7 @@ use Rattle.std.specs.Str.Pattern.{LacksTextAt, FindsText}
 use Rattle.std.proofs.lemmas.Bool.Decides.{Decides-eqb, nat_tests}
 use Rattle.std.proofs.lemmas.Slice.Eq.{starts_is}
 use Rattle.std.proofs.lemmas.Str.{IsUtf8-from_is_utf8, is_utf8-from_IsUtf8, IsUtf8-drop, IsCharBoundary-from_drop}
+use Rattle.kap_base.proofs.TestLaws.{first_of, second_of}
 use Rattle.lambda_fns.specs.Texts.{first_place, is_border}
 
 starts_true : (a s rest : List ℕ) → s ≡ a ++ rest → starts_with nat_eq s a ≡ true
@@ -57,14 +58,6 @@ pub border_fact : (s : List ℕ) (i : ℕ) → is_border s i ≡ true → IsChar
 border_fact s i e =
     let within = first_of (nat_le i (length s)) (is_utf8 (drop i s)) e in
     IsCharBoundary-from_drop s i (le_fact i (length s) within) (IsUtf8-from_is_utf8 (drop i s) (second_of (nat_le i (length s)) (is_utf8 (drop i s)) e))
-  where
-    first_of : (a b : Bool) → (a && b) ≡ true → a ≡ true
-    first_of true b e = refl
-    first_of false b e = absurd cc
-
-    second_of : (a b : Bool) → (a && b) ≡ true → b ≡ true
-    second_of true b e = e
-    second_of false b e = absurd cc
 
 pub not_border : (s : List ℕ) (i : ℕ) → ¬ (IsCharBoundary s i) → is_border s i ≡ false
 not_border s i h = fails (is_border s i) (λ e. h (border_fact s i e))

@@ -65,6 +65,9 @@ impl<T: Drop> From<AllocFailed<T>> for PatternFault {
     }
 }
 
+/// About how many bytes a state of a program takes, with its transitions and with the room that a search needs for it.
+const STATE_SIZE: usize = 128;
+
 impl Pattern {
     /// The pattern of a text. `Refused` where `regex` reads none in it.
     pub(crate) fn read(alloc: Global, text: &Text) -> Result<Pattern, PatternFault>
@@ -78,6 +81,12 @@ impl Pattern {
             program,
             cache,
         })
+    }
+
+    /// About how many bytes its program and the room for a search take: by the number of its states.
+    pub(crate) fn size(&self) -> usize {
+        let states = self.program.dfa.nfa.states.len();
+        states.saturating_mul(STATE_SIZE)
     }
 
     /// The text that it was read in, without slashes.

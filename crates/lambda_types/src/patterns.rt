@@ -30,10 +30,16 @@ pub trait Patterns {
         ensures counted { AtMostOneMore (refusals self.old) (refusals self.new) };
 }
 
-/// Patterns by `regex`. It numbers its builds from 1, and refuses besides those whose numbers it was given.
+/// About how many bytes all patterns that were built may take together. So a script that uses a large pattern again and
+/// again is refused, and doesn't take the machine's memory.
+const PATTERN_ROOM: usize = 64 << 20;
+
+/// Patterns by `regex`. It numbers its builds from 1, and refuses besides those whose numbers it was given, and those that
+/// would take too much beside the ones that it built.
 #[derive(Drop)]
 pub struct RegexPatterns {
     fails: Vec<u64>,
+    room: usize,
     builds: u64,
     refusals: u64,
     refused: Vec<u8>,
@@ -59,6 +65,7 @@ impl RegexPatterns {
     {
         RegexPatterns {
             fails,
+            room: PATTERN_ROOM,
             builds: 0,
             refusals: 0,
             refused: Vec::new(alloc),
@@ -103,7 +110,13 @@ impl Patterns for RegexPatterns {
             return Err(self.refuse(text));
         }
         match Pattern::read(alloc, text) {
-            Ok(pattern) => Ok(pattern),
+            Ok(pattern) => match self.room.checked_sub(pattern.size()) {
+                Some(room) => {
+                    self.room = room;
+                    Ok(pattern)
+                }
+                None => Err(self.refuse(text)),
+            },
             Err(PatternFault::Refused) => Err(self.refuse(text)),
             Err(PatternFault::NoMemory) => Err(PatternFault::NoMemory),
         }

@@ -21,6 +21,7 @@ decimal_point = 46
 abbrev pub small_e : ℕ
 small_e = 101
 
+-- the byte of `E`
 abbrev pub capital_e : ℕ
 capital_e = 69
 

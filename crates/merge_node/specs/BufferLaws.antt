@@ -13,6 +13,7 @@ join (l ∷ ls) (y ∷ ys) = (l ++ y) ∷ join ls ys
 
 -- ---- what is next
 
+-- where two messages taken are both the one that is next, they are the same
 pub some-same : (s t : Taken) → ◌≡◌ {A = Option Taken} (Some s) (Some t) → s ≡ t
 some-same s t e = cc
 
@@ -33,10 +34,12 @@ pub next-full : (ls : Lists) (t : Taken) → next ls ≡ Some t → has_empty ls
 unfolding next
 next-full ls t e = full-of (has_empty ls) (next_by (least 0 ls) ls) t e
 
+-- a message that is next is the least item among the fronts, or else the barrier of all
 pub next-by : (ls : Lists) (t : Taken) → next ls ≡ Some t → next_by (least 0 ls) ls ≡ Some t
 unfolding next
 next-by ls t e = by-of (has_empty ls) (next_by (least 0 ls) ls) t e
 
+-- where each parent has one buffered, the least item, or else the barrier of all, is next
 pub next-from : (ls : Lists) (t : Taken) → has_empty ls ≡ false → next_by (least 0 ls) ls ≡ Some t → next ls ≡ Some t
 unfolding next
 next-from ls t h e = from-of (has_empty ls) (next_by (least 0 ls) ls) t h e
@@ -102,10 +105,12 @@ next-join ls ys t e =
 
 -- ---- one list after the other
 
+-- what is given of buffers is given of them with more behind each, and what is left has it too
 pub merges-join : {ls rest : Lists} {ms : List Entry} (ys : Lists) → Merges ls ms rest → Merges (join ls ys) ms (join rest ys)
 merges-join ys done = done
 merges-join ys (more t e h) = more (record { parent = t.parent; msg = t.msg; rest = join t.rest ys }) (next-join _ ys t e) (merges-join ys h)
 
+-- what is given of buffers, and then of what is left of them, is given one behind the other
 pub merges-trans : {a b c : Lists} {ms ns : List Entry} → Merges a ms b → Merges b ns c → Merges a (ms ++ ns) c
 merges-trans done h = h
 merges-trans (more t e g) h = more t e (merges-trans g h)
@@ -113,6 +118,7 @@ merges-trans (more t e g) h = more t e (merges-trans g h)
 abbrev entry : Taken → Entry
 entry t = (t.parent, t.msg)
 
+-- what is given in the end goes on behind what is given so far, and is merged of what is left of it
 pub record Ahead (b c : Lists) (ms ns : List Entry) : Type 0 where
   pub later : List Entry
   pub whole : ns ≡ ms ++ later
@@ -149,6 +155,7 @@ without_fronts-length : (ls : Lists) → length (without_fronts ls) ≡ length l
 without_fronts-length [] = refl
 without_fronts-length (l ∷ ls) = ap suc (without_fronts-length ls)
 
+-- putting a message keeps the number of parents
 pub put-length : (k : ℕ) (m : Msg) (ls : Lists) → length (put k m ls) ≡ length ls
 put-length k m [] = refl
 put-length zero m (l ∷ ls) = refl
@@ -204,9 +211,11 @@ next_by-less ls None t e =
 next_by-less ls (Some f) t e =
     taken-less f.parent (front f.parent ls) (without_front f.parent ls) ls t (λ m g. (front-within f.parent ls m g, without_front-total f.parent ls m g)) (without_front-length f.parent ls) e
 
+-- the message that is next is of one of the parents, and leaves fewer messages
 pub next-less : (ls : Lists) (t : Taken) → next ls ≡ Some t → Less ls t
 next-less ls t e = next_by-less ls (least 0 ls) t (next-by ls t e)
 
+-- giving messages keeps the number of parents
 pub merges-length : {a b : Lists} {ms : List Entry} → Merges a ms b → length b ≡ length a
 merges-length done = refl
 merges-length (more {ls = ls} t e h) = merges-length h ∙ (next-less ls t e).parents
@@ -219,10 +228,12 @@ lone k m zero = []
 lone zero m (suc n) = (m ∷ []) ∷ replicate n []
 lone (suc k) m (suc n) = [] ∷ lone k m n
 
+-- buffers with nothing behind each are the same buffers
 pub join-nothing : (ls : Lists) → join ls (replicate (length ls) []) ≡ ls
 join-nothing [] = refl
 join-nothing (l ∷ ls) = rw (append-nil l, join-nothing ls) refl
 
+-- putting a message joins it behind the others of its parent
 pub put-join : (k : ℕ) (m : Msg) (ls : Lists) → put k m ls ≡ join ls (lone k m (length ls))
 unfolding lone
 put-join k m [] = refl
@@ -253,6 +264,7 @@ said-some (Some t) ls rest parent m e h =
     let q : t.msg ≡ m = ap (λ (x : Entry). x.1) both in
     rw (← p, ← q, h) refl
 
+-- the answer of a call tells which message is next, and what is left
 pub next-some : (ls rest : Lists) (parent : ℕ) (m : Msg) → Some (parent, m) ≡ said (next ls) → rest ≡ left_of (next ls) ls → next ls ≡ Some (record { parent = parent; msg = m; rest = rest })
 next-some ls rest parent m e h = said-some (next ls) ls rest parent m e h
 
@@ -260,5 +272,6 @@ said-none : (o : Option Taken) → None ≡ said o → o ≡ None
 said-none None e = refl
 said-none (Some t) e = absurd cc
 
+-- where the answer of a call tells of no message, none is next
 pub next-none : (ls : Lists) → None ≡ said (next ls) → next ls ≡ None
 next-none ls e = said-none (next ls) e

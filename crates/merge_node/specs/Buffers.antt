@@ -47,6 +47,7 @@ pub record Taken : Type 0 where
   pub msg : Msg
   pub rest : Lists
 
+-- a message of a parent and what is left, where there is one
 abbrev pub taken : ℕ → Option Msg → Lists → Option Taken
 taken k None rest = None
 taken k (Some m) rest = Some (record { parent = k; msg = m; rest = rest })
@@ -66,6 +67,7 @@ abbrev pub said : Option Taken → Option Entry
 said None = None
 said (Some t) = Some (t.parent, t.msg)
 
+-- what is left behind a message that is next, or everything where none is
 abbrev pub left_of : Option Taken → Lists → Lists
 left_of None ls = ls
 left_of (Some t) ls = t.rest

@@ -27,6 +27,7 @@ later (l ∷ ls) (w ∷ ws) are =
     let r = later ls ws are.1 in
     record { ys = are.0.0 ∷ r.ys; is = ap (λ (x : List Msg). x ∷ join ls r.ys) are.0.1 ∙ ap (λ (x : Lists). w ∷ x) r.is }
 
+-- what calls have given so far is the front of what is merged of the whole lists
 pub calls_front : (bs : List Stamp) (all whole buffered : Lists) (given : List Entry) → Calls all given buffered → AreFronts all whole → AreMergeable bs whole → IsPrefix given (merge whole)
 calls_front bs all whole buffered given calls fronts are =
     let r = later all whole fronts in
@@ -58,6 +59,7 @@ closed-by : (ls : Lists) (o : Option Front) (t : Taken) → AreClosed ls → nex
 closed-by ls None t h e = closed-taken 0 (front 0 ls) (without_fronts ls) t (closed-fronts ls h) e
 closed-by ls (Some f) t h e = closed-taken f.parent (front f.parent ls) (without_front f.parent ls) t (closed-front f.parent ls h) e
 
+-- where a barrier stands behind each item, one does behind each item that is left
 pub merges-closed : {ls left : Lists} {given : List Entry} → AreClosed ls → Merges ls given left → AreClosed left
 merges-closed h done = h
 merges-closed {ls = ls} h (more t e m) = merges-closed (closed-by ls (least 0 ls) t h (next-by ls t e)) m
@@ -109,6 +111,7 @@ merges-whole bs ls left given are closed merges stuck =
     let empty : AreEmpty left = stuck-empty f.left_barriers left f.are (merges-closed closed merges) stuck in
     sym (f.is ∙ ap (λ (xs : List Entry). given ++ xs) (merge-empty left empty) ∙ append-nil given)
 
+-- where calls have given all they can of whole closed lists, that is what is merged of them
 pub calls_whole : (bs : List Stamp) (whole buffered : Lists) (given : List Entry) → Calls whole given buffered → AreMergeable bs whole → AreClosed whole → next buffered ≡ None → given ≡ merge whole
 calls_whole bs whole buffered given calls are closed stuck = merges-whole bs whole buffered given are closed (calls-merge calls) stuck
 

@@ -116,11 +116,13 @@ entry_barriers [] = []
 entry_barriers ((k, messages.Item x) ∷ xs) = entry_barriers xs
 entry_barriers ((k, messages.Barrier b) ∷ xs) = b ∷ entry_barriers xs
 
+-- a barrier stands behind each item among entries
 abbrev pub EntriesClosed : List Entry → Type 0
 EntriesClosed [] = ⊤
 EntriesClosed ((k, messages.Item x) ∷ xs) = (entry_barriers xs ≡ [] → ⊥) × EntriesClosed xs
 EntriesClosed ((k, messages.Barrier b) ∷ xs) = EntriesClosed xs
 
+-- merged to the end: these barriers once each, one behind each item, and nothing left
 pub record ClosedMerge (bs : List Stamp) (ms : List Entry) (left : Lists) : Type 0 where
   pub barriers : entry_barriers ms ≡ bs
   pub closed : EntriesClosed ms

@@ -74,6 +74,7 @@ full-by ls best false h e =
       next = ap (λ (b : Bool). cond b None (next_by (least 0 ls) ls)) h ∙ ap (λ (o : Option Front). next_by o ls) same;
     }
 
+-- where a look finds something, each parent has something, and the look is of what is next
 pub looked_full : (ls : Lists) (best : Option Front) → Some best ≡ looked ls → Full ls best
 looked_full ls best e = full-by ls best (has_empty ls) refl e
 

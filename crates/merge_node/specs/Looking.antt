@@ -8,5 +8,6 @@ use Rattle.merge_node.specs.Buffers.{has_empty, lower, least}
 abbrev pub looked_from : Option Front → ℕ → Lists → Option (Option Front)
 looked_from best k ls = if has_empty ls then None else Some (lower best (least k ls))
 
+-- a look at all fronts: none where a parent has nothing buffered, else the least item, if there is one
 abbrev pub looked : Lists → Option (Option Front)
 looked ls = looked_from None 0 ls

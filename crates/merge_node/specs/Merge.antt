@@ -78,6 +78,7 @@ IsClosed [] = ⊤
 IsClosed (messages.Item x ∷ l) = (barriers l ≢ []) × IsClosed l
 IsClosed (messages.Barrier b ∷ l) = IsClosed l
 
+-- a barrier stands behind each item of each list
 abbrev pub AreClosed : Lists → Type 0
 AreClosed [] = ⊤
 AreClosed (l ∷ ls) = IsClosed l × AreClosed ls
@@ -89,6 +90,7 @@ abbrev pub PrecedesAll : Entry → List Entry → Type 0
 PrecedesAll x [] = ⊤
 PrecedesAll x (y ∷ ys) = ((rank x.1 < rank y.1) ⊎ ((rank x.1 ≡ rank y.1) × (x.0 ≤ y.0))) × PrecedesAll x ys
 
+-- each entry stands before all that follow it
 abbrev pub AreOrdered : List Entry → Type 0
 AreOrdered [] = ⊤
 AreOrdered (x ∷ xs) = PrecedesAll x xs × AreOrdered xs

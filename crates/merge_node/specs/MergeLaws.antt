@@ -267,11 +267,13 @@ more-by : (bs : List Stamp) (ls : Lists) (o : Option Front) (t : Taken) → AreM
 more-by bs ls None t are full e by = barrier-more bs ls t are full e by
 more-by bs ls (Some f) t are full e by = item-more bs ls f t are full e by
 
+-- the message that is next comes first of what is merged, and the rest is merged of what is left
 pub next-more : (bs : List Stamp) (ls : Lists) (t : Taken) → AreMergeable bs ls → next ls ≡ Some t → OneMore ls t
 next-more bs ls t are e = more-by bs ls (least 0 ls) t are (next-full ls t e) refl (next-by ls t e)
 
 -- ---- all that is given
 
+-- what is merged of lists is what is given, and then what is merged of the mergeable lists that are left
 pub record GoesOn (ls : Lists) (given : List Entry) (left : Lists) : Type 0 where
   pub left_barriers : List Stamp
   pub are : AreMergeable left_barriers left

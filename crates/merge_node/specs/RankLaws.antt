@@ -12,14 +12,17 @@ abbrev pub AllAbove : ℕ → List Entry → Type 0
 AllAbove r [] = ⊤
 AllAbove r (x ∷ xs) = (r ≤ rank x.1) × AllAbove r xs
 
+-- where the entries of two lists all stand at a rank or behind it, those of both together do
 pub above-append : (r : ℕ) (xs ys : List Entry) → AllAbove r xs → AllAbove r ys → AllAbove r (xs ++ ys)
 above-append r [] ys a b = b
 above-append r (x ∷ xs) ys a b = (a.0, above-append r xs ys a.1 b)
 
+-- where entries stand at a rank or behind it, they stand so for each lower rank
 pub above-less : (r s : ℕ) (xs : List Entry) → r ≤ s → AllAbove s xs → AllAbove r xs
 above-less r s [] le a = tt
 above-less r s (x ∷ xs) le a = let h : s ≤ rank x.1 = a.0 in (omega (arith, h, le), above-less r s xs le a.1)
 
+-- where entries and one more stand at a rank or behind it, they do when the one is put among them
 pub above-placed : (r : ℕ) (x : Entry) (ys : List Entry) → r ≤ rank x.1 → AllAbove r ys → AllAbove r (placed x ys)
 above-placed r x [] h a = (h, tt)
 above-placed r x (y ∷ ys) h a = elim (leb (rank x.1) (rank y.1)) as (λ t. AllAbove r (cond t (x ∷ y ∷ ys) (y ∷ placed x ys))) [
@@ -27,10 +30,12 @@ above-placed r x (y ∷ ys) h a = elim (leb (rank x.1) (rank y.1)) as (λ t. All
   | false ↦ (a.0, above-placed r x ys h a.1)
 ]
 
+-- sorted entries stand at a rank or behind it where the entries do
 pub above-sorted : (r : ℕ) (xs : List Entry) → AllAbove r xs → AllAbove r (sorted xs)
 above-sorted r [] a = tt
 above-sorted r (x ∷ xs) a = above-placed r x (sorted xs) a.0 (above-sorted r xs a.1)
 
+-- an entry that stands before all others, or with them, is put in front of them
 pub placed-low : (x : Entry) (ys : List Entry) → AllAbove (rank x.1) ys → placed x ys ≡ x ∷ ys
 placed-low x [] a = refl
 placed-low x (y ∷ ys) a = cond-true (leb (rank x.1) (rank y.1)) (x ∷ y ∷ ys) (y ∷ placed x ys) (le-leb (rank x.1) (rank y.1) a.0)
@@ -47,15 +52,18 @@ sorted-front (p ∷ pre) x post a b =
 
 -- ---- lists in order
 
+-- a list in order from a rank on is in order from each lower rank on
 pub rises-less : (r s : ℕ) (l : List Msg) → r ≤ s → RisesFrom s l → RisesFrom r l
 rises-less r s [] le h = tt
 rises-less r s (m ∷ l) le h = let k : s ≤ rank m = h.0 in (omega (arith, k, le), h.1)
 
+-- the items of a list in order from a rank on stand at it or behind it
 pub above-items : (k r : ℕ) (l : List Msg) → RisesFrom r l → AllAbove r (of_parent k (items l))
 above-items k r [] h = tt
 above-items k r (messages.Item x ∷ l) h = (h.0, above-items k r l (rises-less r (rank (messages.Item x)) l h.0 h.1))
 above-items k r (messages.Barrier b ∷ l) h = above-items k r l (rises-less r (rank (messages.Barrier b)) l h.0 h.1)
 
+-- the barriers of a list in order from a rank on stand at it or behind it
 pub above-barriers : (r : ℕ) (l : List Msg) → RisesFrom r l → AllAbove r (of_barriers (barriers l))
 above-barriers r [] h = tt
 above-barriers r (messages.Item x ∷ l) h = above-barriers r l (rises-less r (rank (messages.Item x)) l h.0 h.1)
@@ -71,6 +79,7 @@ abbrev pub AllRise : ℕ → Lists → Type 0
 AllRise r [] = ⊤
 AllRise r (l ∷ ls) = RisesFrom r l × AllRise r ls
 
+-- the items of lists in order from a rank on stand at it or behind it, from whichever parent
 pub above-items_from : (k r : ℕ) (ls : Lists) → AllRise r ls → AllAbove r (items_from k ls)
 above-items_from k r [] h = tt
 above-items_from k r (l ∷ ls) h = above-append r (of_parent k (items l)) (items_from (k + 1) ls) (above-items k r l h.0) (above-items_from (k + 1) r ls h.1)

@@ -29,7 +29,8 @@ impl Model for MergeBuf {
 
     ghost view = { λ b. b.buffers.items };
 
-    ghost invariant = { λ b. (0 < length b.buffers.items) × (length b.buffers.items ≤ PARENT_LIMIT) };
+    ghost invariant = { λ b. (0 < length b.buffers.items)
+        × (length b.buffers.items ≤ PARENT_LIMIT) };
 }
 
 /// An empty buffer for each parent.

@@ -64,6 +64,7 @@ dotted of_id at bytes =
     then listed of_id at (before_first ends_name bytes)
     else Err (faults.Action at)
 
+-- the byte of a double quote
 abbrev pub is_quote : ℕ → Bool
 is_quote b = b == 34
 
@@ -84,10 +85,11 @@ indexed at body =
     option_map_or (λ p. option_map_or (λ q. if are_spaces q.1 then of_key at (without_spaces p.0) q.0 else Err (faults.Action at)) (cut_at_quote p.1) (Err (faults.Action at)))
     (cut_at_quote body) (Err (faults.Action at))
 
--- the action between the braces at the place `at`, or its fault
+-- the same by what stands behind the first spaces: a name behind a dot, or an indexed key
 abbrev pub action_of_words : Bool → ℕ → List ℕ → List ℕ → Result Action TemplateFault
 action_of_words of_id at body [] = indexed at body
 action_of_words of_id at body (b ∷ bytes) = if b == 46 then dotted of_id at bytes else indexed at body
 
+-- the action between the braces at the place `at`, whatever spaces it begins with, or its fault
 abbrev pub action_at : Bool → ℕ → List ℕ → Result Action TemplateFault
 action_at of_id at body = action_of_words of_id at body (without_spaces body)

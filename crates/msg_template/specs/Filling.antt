@@ -36,6 +36,7 @@ abbrev pub dimensions_text : List (List ℕ × List ℕ) → List ℕ
 dimensions_text [] = codes "nil"
 dimensions_text (d ∷ ds) = dimension_text d ++ flat_map comma_dimension ds
 
+-- a group as text: each dimension with its value, `nil` where there are none
 abbrev pub group_text : GroupValue → List ℕ
 group_text group = dimensions_text (zip group.dims group.values)
 

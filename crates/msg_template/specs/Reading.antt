@@ -18,9 +18,11 @@ pub record Cut (mark text before behind : List ℕ) : Type 0 where
   pub is : text ≡ before ++ (mark ++ behind)
   pub first : (k : ℕ) → k < length before → LacksTextAt mark text k
 
+-- the mark that an action begins with
 abbrev pub opening : List ℕ
 opening = codes "{{"
 
+-- the mark that an action ends with
 abbrev pub closing : List ℕ
 closing = codes "}}"
 

@@ -21,6 +21,7 @@ action_spelling actions.Time = codes ".Time"
 action_spelling (actions.Tag key) = keyed (codes "index .Tags ") key
 action_spelling (actions.Field key) = keyed (codes "index .Fields ") key
 
+-- so many spaces
 abbrev pub spaces : ℕ → List ℕ
 spaces n = replicate n 32
 

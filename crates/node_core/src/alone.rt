@@ -58,7 +58,8 @@ impl<P: Plain + Drop> Kind for Alone<P> {
 
     ghost says = { λ k before s x h. refl };
 
-    ghost stays = { λ k s x h. alone_stays s (P.says k.plain x.0 x.1) (P.silent k.plain x.0 x.1 h) };
+    ghost stays = { λ k s x h. alone_stays s (P.says k.plain x.0 x.1)
+        (P.silent k.plain x.0 x.1 h) };
 
     fn first(&self, alloc: Global) {
         let _ = alloc;

@@ -47,11 +47,14 @@ impl<A: Node, B: Node> Node for Both<A, B> {
 
     ghost folds = { folds_both A.step B.step A.first B.first A.answer B.answer A.folds B.folds };
 
-    ghost counts = { counts_both A.step B.step A.first B.first A.drops B.drops A.answer B.answer A.counts B.counts };
+    ghost counts = { counts_both A.step B.step A.first B.first A.drops B.drops
+        A.answer B.answer A.counts B.counts };
 
-    ghost spelled = { both_spelled A.fits B.fits A.spell B.spell A.read B.read A.spelled B.spelled };
+    ghost spelled = { both_spelled A.fits B.fits A.spell B.spell A.read B.read
+        A.spelled B.spelled };
 
-    ghost stamped = { stamped_both A.life A.number B.life B.number A.answer B.answer A.stamped B.stamped };
+    ghost stamped = { stamped_both A.life A.number B.life B.number A.answer B.answer
+        A.stamped B.stamped };
 
     ghost stays = { stays_both A.takes B.takes A.step B.step A.stays B.stays };
 

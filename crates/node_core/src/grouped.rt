@@ -31,11 +31,14 @@ impl<R: Rule + Drop> Kind for Grouped<R> {
 
     ghost kept = { λ k. KeptCells (R.kept k.rule) };
 
-    ghost begins = { λ k. groups_begin (R.step k.rule) (R.kept k.rule) (R.answer k.rule) (R.goes_on k.rule) };
+    ghost begins = { λ k. groups_begin (R.step k.rule) (R.kept k.rule) (R.answer k.rule)
+        (R.goes_on k.rule) };
 
-    ghost goes_on = { λ k. groups_go_on (R.step k.rule) (R.kept k.rule) (R.answer k.rule) (R.goes_on k.rule) };
+    ghost goes_on = { λ k. groups_go_on (R.step k.rule) (R.kept k.rule) (R.answer k.rule)
+        (R.goes_on k.rule) };
 
-    ghost says = { λ k. groups_say (R.step k.rule) (R.kept k.rule) (R.answer k.rule) (R.goes_on k.rule) };
+    ghost says = { λ k. groups_say (R.step k.rule) (R.kept k.rule) (R.answer k.rule)
+        (R.goes_on k.rule) };
 
     ghost stays = { λ k. groups_stay (R.kept k.rule []) (R.step k.rule) };
 

@@ -68,8 +68,8 @@ pub trait Node: Drop {
         ensures spec { spec self.new ≡ spec self.old }
         ensures state { OnOk result
             (state self.new ≡ (step (spec self.old) (state self.old) (port, item)).state) }
-        ensures items { OnOk result
-            (out.new ≡ out.old ++ (step (spec self.old) (state self.old) (port, item)).given.items) }
+        ensures items { OnOk result (out.new
+            ≡ out.old ++ (step (spec self.old) (state self.old) (port, item)).given.items) }
         ensures effects { OnOk result (effects.new
             ≡ effects.old ++ (step (spec self.old) (state self.old) (port, item)).given.effects) };
 

@@ -201,8 +201,8 @@ impl<K: Kind + Drop> Node for Numbered<K> {
 
     ghost stamped = { λ s. is_stamped s.life s.node (K.saying s.kind) };
 
-    ghost stays = { λ s r x h.
-        running_stays s.life s.node (K.step s.kind) r x (K.stays s.kind r.inner (x.0, x.1.body) h) };
+    ghost stays = { λ s r x h. running_stays s.life s.node (K.step s.kind) r x
+        (K.stays s.kind r.inner (x.0, x.1.body) h) };
 
     fn feed(
         &mut self,

@@ -34,33 +34,43 @@ AnySpec = Both StateSeat (Both (Both WindowSeat AlertSeat) (Both (Both BasicSeat
 
 -- ---- of each family of kinds
 
+-- a node of the basic kinds as one of any kind
 abbrev pub in_basic : BasicSeat → AnySpec
 in_basic seat = Other (Other (One (One seat)))
 
+-- an eval node as one of any kind
 abbrev pub in_eval : EvalSeat → AnySpec
 in_eval seat = Other (Other (One (Other seat)))
 
+-- a node with a state as one of any kind
 abbrev pub in_state : StateSeat → AnySpec
 in_state seat = One seat
 
+-- a node that gathers several parents, a union or a join, as one of any kind
 abbrev pub in_gather : GatherSeat → AnySpec
 in_gather seat = Other (Other (Other (One seat)))
 
+-- a window as a node of any kind
 abbrev pub in_window : WindowSeat → AnySpec
 in_window seat = Other (One (One seat))
 
+-- a select node as one of any kind
 abbrev pub in_select : SelectSeat → AnySpec
 in_select seat = Other (Other (Other (Other seat)))
 
+-- an alert as a node of any kind
 abbrev pub in_alert : AlertSeat → AnySpec
 in_alert seat = Other (One (Other seat))
 
+-- a node of a basic kind, in this life and with this number
 abbrev pub basic_spec : ℕ → ℕ → BasicSpec → AnySpec
 basic_spec life number spec = in_basic (basic_seat life number (kind_of spec))
 
+-- a node with a state, in this life and with this number
 abbrev pub state_spec : ℕ → ℕ → StateSpec → AnySpec
 state_spec life number spec = in_state (state_seat life number spec)
 
+-- a union or a join, in this life and with this number
 abbrev pub gather_spec : ℕ → ℕ → GatherSpec → AnySpec
 gather_spec life number spec = in_gather (gather_seat life number spec)
 

@@ -25,6 +25,7 @@ use Rattle.join_node.specs.Joins.{parents}
 use Rattle.node_set.specs.Nodes.{AnySpec, any_spec, basic_spec, in_alert, in_eval, in_select, in_window, node_spec, state_spec}
 use Rattle.node_set.specs.Tasks.{Sits}
 
+-- the life in which a node runs
 abbrev pub any_life : AnySpec → ℕ
 any_life =
     either
@@ -32,6 +33,7 @@ any_life =
     (either (either (either (λ s. s.life) (either (λ s. s.life) (λ s. s.life))) (λ s. s.life))
     (either (either (either (λ s. s.life) (λ s. s.life)) (λ s. s.life)) (either (either (λ s. s.life) (λ s. s.life)) (λ s. s.life))))
 
+-- the number of a node in its task
 abbrev pub any_number : AnySpec → ℕ
 any_number =
     either
@@ -39,6 +41,7 @@ any_number =
     (either (either (either (λ s. s.node) (either (λ s. s.node) (λ s. s.node))) (λ s. s.node))
     (either (either (either (λ s. s.node) (λ s. s.node)) (λ s. s.node)) (either (either (λ s. s.node) (λ s. s.node)) (λ s. s.node))))
 
+-- how many ports a node has: a union and a join one for each parent, each other node one
 abbrev pub any_ports : AnySpec → ℕ
 any_ports =
     either

@@ -17,9 +17,9 @@ use Rattle.line_points.specs.Print.{Print}
 use Rattle.line_points.proofs.PrintLaws.{decimal_digits}
 use Rattle.line_points.proofs.PrintedLaws.{prints_again}
 use Rattle.kap_base.proofs.TestLaws.{first_of, second_of, first_false, second_false, not_true}
-use Rattle.recording_file.specs.Lines.{is_feed, raw_lines, all_lines, record_text}
+use Rattle.recording_file.specs.Lines.{is_feed, raw_lines, all_lines}
 use Rattle.recording_file.specs.Recording.{IsName, AreGroups, Recording}
-use Rattle.recording_file.specs.Printed.{IsRecordable, read_again}
+use Rattle.recording_file.specs.Printed.{IsRecordable, read_again, record_text}
 use Rattle.recording_file.proofs.LineLaws.{some_raw, all_more}
 
 -- ---- lines

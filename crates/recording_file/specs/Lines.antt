@@ -1,12 +1,11 @@
 -- The lines of bytes.
-use Rattle.std.specs.Prelude.{ℕ, Bool, ◌==◌, nat_lt, length, List, [], ◌∷◌, ◌++◌, if◌then◌else◌}
+use Rattle.std.specs.Prelude.{ℕ, Bool, ◌==◌, nat_lt, length, List, [], ◌∷◌, if◌then◌else◌}
 use Rattle.std.specs.List.{slice_split}
 use Rattle.kap_base.specs.Texts.{line_feed, is_empty}
-use Rattle.kap_base.specs.Points.{PointValue}
 use Rattle.line_points.specs.declared.line.TheConstants.{LINE_LIMIT}
 use Rattle.line_points.specs.Body.{without_return}
-use Rattle.line_points.specs.Print.{Print}
 
+-- the byte of a line feed
 abbrev pub is_feed : ℕ → Bool
 is_feed b = b == line_feed
 
@@ -35,7 +34,3 @@ abbrev pub last_part : List (List ℕ) → List ℕ
 last_part [] = []
 last_part (last ∷ []) = last
 last_part (line ∷ next ∷ more) = last_part (next ∷ more)
-
--- the three lines of a point, each with its line feed
-abbrev pub record_text : PointValue → List ℕ
-record_text p = p.db ++ (line_feed ∷ (p.rp ++ (line_feed ∷ (Print p ++ line_feed ∷ []))))

@@ -1,9 +1,14 @@
--- Points whose records are read again.
-use Rattle.std.specs.Prelude.{◌≡◌, ◌≤◌, false, [], length}
+-- The records of points, and which of them are read again.
+use Rattle.std.specs.Prelude.{◌≡◌, ◌≤◌, ℕ, false, List, [], ◌∷◌, ◌++◌, length}
 use Rattle.kap_base.specs.Points.{PointValue, IsPoint}
+use Rattle.kap_base.specs.Texts.{line_feed}
 use Rattle.line_points.specs.declared.line.TheConstants.{LINE_LIMIT}
 use Rattle.line_points.specs.Body.{without_return}
 use Rattle.line_points.specs.Print.{Print}
+
+-- the three lines of a point, each with its line feed
+abbrev pub record_text : PointValue → List ℕ
+record_text p = p.db ++ (line_feed ∷ (p.rp ++ (line_feed ∷ (Print p ++ line_feed ∷ []))))
 
 -- no line of the point's record is too long, and its database and policy don't end in a carriage return
 pub record IsRecordable (p : PointValue) : Type 0 where

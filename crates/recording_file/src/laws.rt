@@ -2,9 +2,8 @@ ghost use Rattle.std.specs.Prelude.{◌≡◌, ◌≤◌, ◌++◌, ◌↔◌, �
 ghost use Rattle.std.specs.List.{flat_map};
 ghost use Rattle.kap_base.specs.Points.{PointValue};
 ghost use Rattle.recording_file.specs.declared.lines.TheConstants.{RECORDING_LIMIT};
-ghost use Rattle.recording_file.specs.Lines.{record_text};
 ghost use Rattle.recording_file.specs.Recording.{Recording, Ended, GoesOn, reading_of, reading_so_far};
-ghost use Rattle.recording_file.specs.Printed.{IsRecordable, read_again};
+ghost use Rattle.recording_file.specs.Printed.{IsRecordable, read_again, record_text};
 
 /// The law of recordings. Reading bytes ends between two groups exactly where they are a recording, and gives its points. It does
 /// nothing: its contract is that law.

@@ -91,7 +91,7 @@ impl Lines {
         requires { size ≤ length self.now.bytes }
         ensures { result ≡ is_long (without_return (take size self.now.bytes)) }
     {
-        let (line, _) = self.window.held().split_at(size);
+        let (line, _) = self.window.bytes().split_at(size);
         LINE_LIMIT < without_return(line).len()
     }
 
@@ -160,7 +160,7 @@ impl Lines {
         let count = self.window.fill(source)?;
         let before = Snapshot::of(&self.got);
         self.got = GotBytes::More(before, Snapshot::of(&self.window), Snapshot::of(&size));
-        let (_, piece) = self.window.held().split_at(size);
+        let (_, piece) = self.window.bytes().split_at(size);
         self.feeds = last_feeds(piece, self.passed.saturating_add(size as u64), self.feeds);
         self.ended = count == 0;
         Ok(count != 0)
@@ -198,7 +198,7 @@ impl Lines {
     {
         let mut searched = 0;
         'finding: loop {
-            let held = self.window.held();
+            let held = self.window.bytes();
             let end = line_end(held, searched);
             if end < held.len() {
                 let size = self.checked_size(end)?;
@@ -218,7 +218,7 @@ impl Lines {
         ensures text { result.now ≡ without_return (take size self.now.bytes) }
         ensures one_line { IsTrue (not (has_line_feed result.now)) }
     {
-        let (line, _) = self.window.held().split_at(size);
+        let (line, _) = self.window.bytes().split_at(size);
         without_return(line)
     }
 
@@ -227,7 +227,7 @@ impl Lines {
         requires { IsLine self.old size }
         ensures { Passes self.old self.new size }
     {
-        let count = size.saturating_add(1).min(self.window.held().len());
+        let count = size.saturating_add(1).min(self.window.bytes().len());
         self.window.skip(count);
         self.line += 1;
         self.passed += count as u64;

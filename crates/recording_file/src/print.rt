@@ -1,5 +1,5 @@
 ghost use Rattle.std.specs.Prelude.{◌≡◌, IfOk};
-ghost use Rattle.recording_file.specs.Lines.{record_text};
+ghost use Rattle.recording_file.specs.Printed.{record_text};
 
 use kap_base::{Bytes, NoMemory, Point};
 use line_points::put_line;

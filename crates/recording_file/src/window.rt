@@ -43,7 +43,7 @@ impl Window {
     }
 
     /// The bytes that it holds.
-    pub fn held(&self) -> &[u8]
+    pub fn bytes(&self) -> &[u8]
         ensures { result.now ≡ self.now }
     {
         let (filled, _) = self.buffer.split_at(self.end);

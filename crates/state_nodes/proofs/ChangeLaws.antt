@@ -1,6 +1,7 @@
 -- What stands at fields, and whether it still does.
 use Rattle.std.proofs.Common.{◌≡◌, ℕ, Bool, true, false, ◌&&◌, not, List, [], ◌∷◌, Option, Some, None, refl, ap, ◌↔◌, IsTrue}
 use Rattle.std.specs.Bool.{Decides}
+use Rattle.kap_base.proofs.TestLaws.{first_of, second_of}
 use Rattle.kap_base.specs.Points.{PointValue}
 use Rattle.kap_base.proofs.ValueLaws.{decided, values_decided}
 use Rattle.kap_base.specs.declared.value.Value.{Value}
@@ -15,22 +16,14 @@ same_decided (Some a) (Some b) = decided Some a b (is_same (Some a) (Some b)) (�
 pub same_exactly : (a b : Option Value) → IsTrue (is_same a b) ↔ (a ≡ b)
 same_exactly a b = same_decided a b
 
-left : (a b : Bool) → (a && b) ≡ true → a ≡ true
-left true b e = refl
-left false b e = absurd cc
-
-right : (a b : Bool) → (a && b) ≡ true → b ≡ true
-right true b e = e
-right false b e = absurd cc
-
 -- where all stand there still, they are what stands there
 pub still_are : (names : List (List ℕ)) (values : List (Option Value)) (p : PointValue) → are_still names values p ≡ true → values ≡ values_at names p
 still_are [] [] p e = refl
 still_are [] (v ∷ values) p e = absurd cc
 still_are (name ∷ names) [] p e = absurd cc
 still_are (name ∷ names) (v ∷ values) p e =
-    let here : v ≡ value_at p name = (same_decided v (value_at p name)).0 (left (is_same v (value_at p name)) (are_still names values p) e) in
-    let rest = still_are names values p (right (is_same v (value_at p name)) (are_still names values p) e) in
+    let here : v ≡ value_at p name = (same_decided v (value_at p name)).0 (first_of (is_same v (value_at p name)) (are_still names values p) e) in
+    let rest = still_are names values p (second_of (is_same v (value_at p name)) (are_still names values p) e) in
     (λ i. here i ∷ rest i)
 
 not_not : (b : Bool) → not b ≡ false → b ≡ true

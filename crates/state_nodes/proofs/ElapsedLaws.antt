@@ -4,6 +4,7 @@ use Rattle.std.specs.Int.{w64, w128}
 use Rattle.std.proofs.Math.Nat.{div-lt_iff_lt-mul}
 use Rattle.std.proofs.lemmas.Bool.Decides.{nat_tests}
 use Rattle.std.proofs.lemmas.Int.{fits_signed_from_abs, quot_is, to_z-of_z}
+use Rattle.kap_base.proofs.TestLaws.{first_of, second_of}
 use Rattle.task_graph.specs.Sorts.{is_span, is_unit}
 use Rattle.task_graph.specs.declared.sorts.TheConstants.{SPAN_LIMIT, UNIT_LIMIT}
 
@@ -24,19 +25,11 @@ quotient_below a d short long = omega (arith, abs_quotient a d, below (unsigned_
 quotient_fits : (a : ℤ) (d : ℕ) → unsigned_abs a ≤ 2 ^ 64 → 1000 ≤ d → FitsSigned w64 (int_div a (pos d))
 quotient_fits a d short long = fits_signed_from_abs w64 (int_div a (pos d)) (quotient_below a d short long)
 
-left : (a b : Bool) → (a && b) ≡ true → a ≡ true
-left true b e = refl
-left false b e = absurd cc
-
-right : (a b : Bool) → (a && b) ≡ true → b ≡ true
-right true b e = e
-right false b e = absurd cc
-
 long_unit : (d : ℕ) → IsTrue (is_unit d) → 1000 ≤ d
-long_unit d rule = let e : nat_le UNIT_LIMIT d ≡ true = left (nat_le UNIT_LIMIT d) (is_span d) rule in grind (arith, nat_tests)
+long_unit d rule = let e : nat_le UNIT_LIMIT d ≡ true = first_of (nat_le UNIT_LIMIT d) (is_span d) rule in grind (arith, nat_tests)
 
 short_unit : (d : ℕ) → IsTrue (is_unit d) → d < 2 ^ 63
-short_unit d rule = let e : nat_le d SPAN_LIMIT ≡ true = right (nat_le UNIT_LIMIT d) (is_span d) rule in grind (arith, nat_tests)
+short_unit d rule = let e : nat_le d SPAN_LIMIT ≡ true = second_of (nat_le UNIT_LIMIT d) (is_span d) rule in grind (arith, nat_tests)
 
 -- what the code divides
 abbrev pub divided : ℤ → ℤ → ℤ

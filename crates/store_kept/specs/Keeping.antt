@@ -19,6 +19,7 @@ pub record KeptValue : Type 0 where
   pub snap : Option Snapshot
   pub marks : List Mark
 
+-- what is kept, seen as lists
 abbrev pub kept_of : Kept → KeptValue
 kept_of k = record {
   tasks = k.tasks.items;
@@ -30,6 +31,7 @@ kept_of k = record {
   marks = k.marks.items;
 }
 
+-- what is kept of a store without records
 abbrev pub kept_nothing : KeptValue
 kept_nothing = record { tasks = []; lives = []; points = 0; transitions = 0; changes = 0; snap = None; marks = [] }
 
@@ -42,6 +44,7 @@ pub record IsMark (rs : List Rec) (m : Mark) : Type 0 where
   pub points : m.points ≡ length (held before).points
   pub transitions : m.transitions ≡ length (held before).transitions
 
+-- each is a mark of these records
 abbrev pub AreMarks : List Rec → List Mark → Type 0
 AreMarks rs [] = ⊤
 AreMarks rs (m ∷ marks) = IsMark rs m × AreMarks rs marks

@@ -15,6 +15,7 @@ pub record StandsLast (id : List ℕ) (lives : List Life) (at : ℕ) : Type 0 wh
   pub open_of : is_open_of id life ≡ true
   pub none_behind : list_any (is_open_of id) behind ≡ false
 
+-- the place of the last of the task's lives that is open, or None where none is
 abbrev pub IsLastOpen : List ℕ → List Life → Option ℕ → Type 0
 IsLastOpen id lives None = list_any (is_open_of id) lives ≡ false
 IsLastOpen id lives (Some at) = StandsLast id lives at

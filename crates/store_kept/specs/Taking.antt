@@ -33,6 +33,7 @@ pub record Takes (rs : List Rec) (body : List ℕ) (k : KeptValue) (topics : Top
   pub body_of : IsBodyOf next body
   pub holds : Holds (rs ++ next ∷ []) k topics
 
+-- the body is taken in, or it is that of no record that may follow
 abbrev pub TakesOrNot : List Rec → List ℕ → KeptValue → TopicsValue → Bool → Type 0
 TakesOrNot rs body k topics true = Takes rs body k topics
 TakesOrNot rs body k topics false = (r : Rec) → IsBodyOf r body → MayFollow (held rs) r → ⊥

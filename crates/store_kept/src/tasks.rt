@@ -25,7 +25,8 @@ fn first_behind(tasks: &[StoredTask], id: &Text) -> Option<usize>
 
 /// Where the first task stands whose id is greater, or their end.
 fn place_of(tasks: &[StoredTask], id: &Text) -> usize
-    ensures place { result ≡ position_or_len (λ other. is_lt (byte_order id.now other.id)) tasks.now }
+    ensures place { result
+        ≡ position_or_len (λ other. is_lt (byte_order id.now other.id)) tasks.now }
     ensures within { result ≤ length tasks.now }
 {
     match first_behind(tasks, id) {

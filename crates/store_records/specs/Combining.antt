@@ -6,6 +6,7 @@ use Rattle.state_code.specs.Spelling.{IsBytes, IsSpelling, Reading, Stands, read
 abbrev pub read_behind : {A B : Type 0} → Reading A → (A → Reading B) → Reading (A × B)
 read_behind a b bytes = read_then (a bytes) (λ x rest. read_then (b x rest) (λ y rest. value_then (x, y) rest))
 
+-- what was found, and the bytes behind it, or None where nothing was
 abbrev pub found_then : {B : Type 0} → Option B → List ℕ → Option (B × List ℕ)
 found_then None rest = None
 found_then (Some y) rest = value_then y rest
@@ -21,6 +22,7 @@ pub record Parted {A B : Type 0} (r : Option (A × List ℕ)) (f : A → List �
   pub first : r ≡ Some (value, rest)
   pub second : f value rest ≡ Some y
 
+-- a reading that succeeds has a first part, and then the rest of it
 pub parted : {A B : Type 0} (r : Option (A × List ℕ)) (f : A → List ℕ → Option (B × List ℕ)) (y : B × List ℕ) → read_then r f ≡ Some y → Parted r f y
 parted None f y e = absurd cc
 parted (Some r) f y e = record { value = r.0; rest = r.1; first = refl; second = e }
@@ -28,6 +30,7 @@ parted (Some r) f y e = record { value = r.0; rest = r.1; first = refl; second =
 same_pair : {A : Type 0} (p q : A × List ℕ) → Some p ≡ Some q → p ≡ q
 same_pair p q e = cc
 
+-- values that are read with the same bytes behind them stand at the same place
 pub stands_at : {A : Type 0} {Fits : A → Type 0} {spell : A → List ℕ} (bytes : List ℕ) (x y : A) (r t : List ℕ) → value_then x r ≡ value_then y t → Stands Fits spell bytes x r → Stands Fits spell bytes y t
 stands_at {A = A} {Fits = Fits} {spell = spell} bytes x y r t e stands =
     let both = same_pair {A = A} (x, r) (y, t) e in
@@ -46,6 +49,7 @@ module _ {A B : Type 0} {FitsA : A → Type 0} {spell_a : A → List ℕ} {read_
         rest_bytes = second.rest_bytes;
       })
 
+  -- two values of which the second depends on the first are spelled one behind the other
   pub behind_spelled : IsSpelling (λ p. FitsA p.0 × FitsB p.0 p.1) (λ p. spell_a p.0 ++ spell_b p.1) (read_behind read_a read_b)
   behind_spelled = record {
     again = λ p rest fits. rw (append_assoc, a.again p.0 (spell_b p.1 ++ rest) fits.0, (b p.0).again p.1 rest fits.1) refl;
@@ -71,6 +75,7 @@ module _ {A B : Type 0} {FitsA : A → Type 0} {spell_a : A → List ℕ} {read_
         rest_bytes = subst IsBytes found.1 first.rest_bytes;
       }
 
+  -- values are spelled as what stands for them is
   pub some_spelled : IsSpelling FitsB (λ y. spell_a (g y)) (read_some f read_a)
   some_spelled = record {
     again = λ y rest fits. rw (a.again (g y) rest (there y fits).0, (there y fits).1) refl;

@@ -66,6 +66,7 @@ back db rp line p fits e =
       is.1,
     )
 
+-- what is spelled is read again, and only that
 pub point_spelled : (db rp : List ℕ) → IsSpelling (FitsPoint db rp) spell_point (read_point db rp)
 point_spelled db rp = some_spelled text_spelled (FitsPoint db rp) (canonical_point db rp) Print (there db rp) (back db rp)
 
@@ -77,12 +78,15 @@ Names = List ℕ × List ℕ
 abbrev pub are_lines : Names → Bool
 are_lines names = is_line names.0 && is_line names.1
 
+-- both are UTF-8 of fewer than 2^32 bytes, without a line feed
 abbrev pub FitsNames : Names → Type 0
 FitsNames names = FitsPair FitsText FitsText names × IsTrue (are_lines names)
 
+-- database and policy, one behind the other
 abbrev pub spell_names : Names → List ℕ
 spell_names = spell_pair spell_bytes spell_bytes
 
+-- and the database and the policy that stand there, where neither has a line feed
 abbrev pub read_names : Reading Names
 read_names = read_where are_lines (read_pair read_text read_text)
 
@@ -90,6 +94,7 @@ read_names = read_where are_lines (read_pair read_text read_text)
 abbrev pub Batch : Type 0
 Batch = Names × List PointValue
 
+-- the database and the policy have a spelling, and each point has one under these
 abbrev pub FitsBatch : Batch → Type 0
 FitsBatch batch = FitsNames batch.0 × FitsList (FitsPoint batch.0.0 batch.0.1) batch.1
 
@@ -97,8 +102,10 @@ FitsBatch batch = FitsNames batch.0 × FitsList (FitsPoint batch.0.0 batch.0.1) 
 abbrev pub spell_batch : Batch → List ℕ
 spell_batch batch = spell_names batch.0 ++ spell_list spell_point batch.1
 
+-- and the database, the policy and the points whose canonical lines stand there
 abbrev pub read_batch : Reading Batch
 read_batch = read_behind read_names (λ names. read_list (read_point names.0 names.1))
 
+-- what is spelled is read again, and only that
 pub batch_spelled : IsSpelling FitsBatch spell_batch read_batch
 batch_spelled = behind_spelled (tested_by (pair_spelled text_spelled text_spelled) are_lines) (λ names. FitsList (FitsPoint names.0 names.1)) (spell_list spell_point) (λ names. read_list (read_point names.0 names.1)) (λ names. list_spelled (point_spelled names.0 names.1))

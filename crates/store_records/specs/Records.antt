@@ -17,12 +17,15 @@ use Rattle.store_records.specs.declared.rec.Rec.TheVariants as kinds
 abbrev pub Definition : Type 0
 Definition = List ℕ × (List ℕ × Bool)
 
+-- id and script are UTF-8 of fewer than 2^32 bytes
 abbrev pub FitsDefinition : Definition → Type 0
 FitsDefinition = FitsPair FitsText (FitsPair FitsText (λ b. ⊤))
 
+-- id, script, and whether it is enabled, one behind the other
 abbrev pub spell_definition : Definition → List ℕ
 spell_definition = spell_pair spell_bytes (spell_pair spell_bytes spell_bool)
 
+-- and the definition whose parts stand there
 abbrev pub read_definition : Reading Definition
 read_definition = read_pair read_text (read_pair read_text read_bool)
 
@@ -30,23 +33,29 @@ read_definition = read_pair read_text (read_pair read_text read_bool)
 abbrev pub Snapshot : Type 0
 Snapshot = ℕ × (ℕ × List ℕ)
 
+-- both numbers are below 2^64, and the states are those of cells
 abbrev pub FitsSnapshot : Snapshot → Type 0
 FitsSnapshot = FitsPair (λ n. n < 2 ^ 64) (FitsPair (λ n. n < 2 ^ 64) AreStates)
 
+-- both numbers and the states, one behind the other
 abbrev pub spell_snapshot : Snapshot → List ℕ
 spell_snapshot = spell_pair (spell_number w64) (spell_pair (spell_number w64) spell_states)
 
+-- and the snapshot whose parts stand there
 abbrev pub read_snapshot : Reading Snapshot
 read_snapshot = read_pair (read_number w64) (read_pair (read_number w64) read_states)
 
 -- ---- each kind of record, by what it holds
 
+-- the record of a definition
 abbrev pub define_of : Definition → Rec
 define_of x = kinds.Define x.0 x.1.0 x.1.1
 
+-- the record of a batch
 abbrev pub batch_of : Batch → Rec
 batch_of x = kinds.Batch x.0.0 x.0.1 x.1
 
+-- the record of a snapshot
 abbrev pub snap_of : Snapshot → Rec
 snap_of x = kinds.Snap x.0 x.1.0 x.1.1
 
@@ -71,24 +80,31 @@ spell_record (kinds.Batch db rp points) = 5 ∷ spell_batch ((db, rp), points)
 spell_record (kinds.Trans transitions) = 6 ∷ spell_list spell_transition transitions
 spell_record (kinds.Snap points trans states) = 7 ∷ spell_snapshot (points, (trans, states))
 
+-- a record that defines a task, behind its byte
 abbrev pub read_define : Reading Rec
 read_define = read_as define_of read_definition
 
+-- a record that enables a task, behind its byte
 abbrev pub read_enable : Reading Rec
 read_enable = read_as kinds.Enable read_text
 
+-- a record that disables a task, behind its byte
 abbrev pub read_disable : Reading Rec
 read_disable = read_as kinds.Disable read_text
 
+-- a record that deletes a task, behind its byte
 abbrev pub read_delete : Reading Rec
 read_delete = read_as kinds.Delete read_text
 
+-- a record of points, behind its byte
 abbrev pub read_points : Reading Rec
 read_points = read_as batch_of read_batch
 
+-- a record of transitions, behind its byte
 abbrev pub read_trans : Reading Rec
 read_trans = read_as kinds.Trans (read_list read_transition)
 
+-- a record of a snapshot, behind its byte
 abbrev pub read_snap : Reading Rec
 read_snap = read_as snap_of read_snapshot
 
@@ -157,5 +173,6 @@ record_only (suc (suc (suc (suc (suc (suc zero))))) ∷ bytes) r rest fits e = v
 record_only (suc (suc (suc (suc (suc (suc (suc zero)))))) ∷ bytes) r rest fits e = variant snapshot_spelled 7 snap_of (λ x h. h) (λ x. refl) bytes r rest fits e
 record_only (suc (suc (suc (suc (suc (suc (suc (suc n))))))) ∷ bytes) r rest fits e = absurd cc
 
+-- what is spelled is read again, and only that
 pub record_spelled : IsSpelling FitsRecord spell_record read_record
 record_spelled = record { again = record_again; only = record_only }

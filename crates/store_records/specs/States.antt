@@ -39,6 +39,7 @@ states_only whole bytes rest fits e =
       rest_bytes = first.rest_bytes;
     })
 
+-- what is spelled is read again, and only that
 pub states_spelled : IsSpelling AreStates spell_states read_states
 states_spelled = record { again = states_again; only = states_only }
 
@@ -50,6 +51,7 @@ pub record Gathered (count : ℕ) (old new : Place) (bytes : List ℕ) : Type 0 
   pub long : length cells ≡ count
   pub offset : new.offset + length new.rest ≡ old.offset + length old.rest
 
+-- so many states are gathered, or they don't stand there, unless memory ran out
 abbrev pub GathersOrNot : ℕ → Place → Place → Result (List ℕ) CodeFault → Type 0
 GathersOrNot count old new (Ok bytes) = Gathered count old new bytes
 GathersOrNot count old new (Err (At offset)) = read_many read_bytes count old.rest ≡ None

@@ -51,5 +51,6 @@ abbrev pub differs : Flow → Option Flow → Bool
 differs taken None = false
 differs taken (Some given) = is_other_flow taken given
 
+-- the child takes batches where its parent gives points, or the reverse
 abbrev pub is_wrong_kind : {L : Type 0} → Spec L → Spec L → Bool
 is_wrong_kind child parent = differs (takes child) (gives parent)

@@ -64,6 +64,7 @@ abbrev pub fault_from : {L : Type 0} → List (NodeSpec L) → ℕ → List (Nod
 fault_from nodes number [] = None
 fault_from nodes number (node ∷ rest) = first (node_fault nodes number node) (fault_from nodes (number + 1) rest)
 
+-- the fault of the lowest node that has one
 abbrev pub first_graph_fault : {L : Type 0} → List (NodeSpec L) → Option GraphFault
 first_graph_fault nodes = fault_from nodes 0 nodes
 

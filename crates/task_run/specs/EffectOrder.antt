@@ -7,6 +7,7 @@ use Rattle.task_run.specs.Graphs.{Placed}
 abbrev pub Comes : Effect → Effect → Type 0
 Comes a b = (a.stamp.0 < b.stamp.0) ⊎ ((a.stamp.0 ≡ b.stamp.0) × ((a.life < b.life) ⊎ ((a.life ≡ b.life) × (a.node ≤ b.node))))
 
+-- it comes before each of these effects
 abbrev pub ComesBefore : Effect → List Effect → Type 0
 ComesBefore a [] = ⊤
 ComesBefore a (b ∷ effects) = Comes a b × ComesBefore a effects

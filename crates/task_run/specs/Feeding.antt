@@ -69,6 +69,7 @@ takes-here p takes = let same : (p == p) ≡ true = grind (arith, nat_tests) in 
 takes-other : (i p : ℕ) (takes : List ℕ) → (p == i) ≡ false → takes_of i (p ∷ takes) ≡ takes_of i takes
 takes-other i p takes e = rw e (omega arith)
 
+-- a list is taken by two lists together as often as by the one and the other
 pub takes_of-append : (i : ℕ) (xs ys : List ℕ) → takes_of i (xs ++ ys) ≡ takes_of i xs + takes_of i ys
 takes_of-append i [] ys = omega arith
 takes_of-append i (x ∷ xs) ys = let rest = takes_of-append i xs ys in omega arith
@@ -100,6 +101,7 @@ holds_rest outs p takes shelves e new within left kept holds i d lt = elim (p ==
 ] refl
 
 module _ {S : Type 0} (step : S → Input → Move S) where
+  -- a node ran: it was fed what its parents gave out, and what is to be taken later is still there
   pub record NodeRan (before after : S) (outs : List (List Item)) (parents rest : List ℕ) (shelves : List Shelf) (out0 out : List Item) (effects0 effects : List Effect) : Type 0 where
     pub fed : Fed step before after (at_ports 0 (picked outs parents)) out0 out effects0 effects
     pub holds : Holds outs rest shelves

@@ -79,5 +79,6 @@ merged-below n (suc m) lists le =
     let low : m ≤ n = omega arith in
     rw flat_map-append (up_to_append of_input n _ _ (merged-below n m lists low) (up_to_append of_input n _ _ (ports-up_to n (suc m) 0 lists le) tt))
 
+-- lists merged up to a stamp have no stamp above it
 pub merged_up_to : (n : ℕ) (lists : List (List Item)) → StampsUpTo of_input n (merged n lists)
 merged_up_to n lists = let low : n ≤ n = omega arith in merged-below n n lists low

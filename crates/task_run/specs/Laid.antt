@@ -31,6 +31,7 @@ abbrev pub readers_at : List Shelf → ℕ → ℕ
 readers_at shelves i = get_or (map (λ s. s.readers) shelves) i 0
 
 module _ {N : Type 0} where
+  -- the cell of a node with its parents
   abbrev pub cell_of : N × List ℕ → Cell N
   cell_of p = record { node = p.0; parents = p.1 }
 
@@ -51,6 +52,7 @@ module _ {S : Type 0} (step : S → Input → Move S) where
     pub holds : Holds (outs ++ (fold step before (at_ports 0 (picked outs parents))).given.items ∷ []) rest shelves
 
 module _ {N P : Type 0} (spec : N → P) where
+  -- a cell as a node of a graph with its parents
   abbrev pub placed_cell : Cell N → Placed P
   placed_cell c = record { spec = spec c.node; parents = c.parents }
 

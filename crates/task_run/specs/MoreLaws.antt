@@ -23,26 +23,33 @@ pub record Part : Type 0 where
   pub old : Given
   pub more : Given
 
+-- all that a node gave, with what it gives with the next stamp
 abbrev pub whole : Part → Given
 whole t = also t.old t.more
 
+-- what a node gave so far has the stamps up to n, and what it gives then has the next one
 pub record IsPart (n : ℕ) (t : Part) : Type 0 where
   pub old : GivenUpTo n t.old
   pub more : GivenAt (suc n) t.more
 
+-- each of these is such a part
 abbrev pub AreParts : ℕ → List Part → Type 0
 AreParts n [] = ⊤
 AreParts n (t ∷ ts) = IsPart n t × AreParts n ts
 
+-- what the nodes gave so far
 abbrev pub olds : List Part → List Given
 olds ts = map (λ t. t.old) ts
 
+-- what the nodes give with the next stamp
 abbrev pub mores : List Part → List Given
 mores ts = map (λ t. t.more) ts
 
+-- all that the nodes gave, with what they give with the next stamp
 abbrev pub wholes : List Part → List Given
 wholes ts = map whole ts
 
+-- these parts with one more behind them are parts too
 pub parts-more : (n : ℕ) (ts : List Part) (t : Part) → AreParts n ts → IsPart n t → AreParts n (ts ++ t ∷ [])
 parts-more n [] t are is = (is, tt)
 parts-more n (u ∷ ts) t are is = (are.0, parts-more n ts t are.1 is)
@@ -69,6 +76,7 @@ pub record Source (n : ℕ) : Type 0 where
   pub new : List Item
   pub grows : Grows n old more new
 
+-- what a node takes grows by what its parents give with the next stamp
 pub lists-more : (n : ℕ) (source : Source n) (ts : List Part) → AreParts n ts → (parents : List ℕ)
     → merged (suc n) (lists_of source.new (outs_of (wholes ts)) parents) ≡ merged n (lists_of source.old (outs_of (olds ts)) parents) ++ at_ports 0 (lists_of source.more (outs_of (mores ts)) parents)
 lists-more n source ts are [] = merged_more n (λ i. source.old) (λ i. source.more) (λ i. source.new) (λ i. source.grows) (0 ∷ [])
@@ -100,6 +108,7 @@ module _ {P : Type 0} (answer : P → Answer) (life number : P → ℕ) (stamped
   part-whole n source ts are node =
       rw (lists-more n source ts are node.parents) (given-append (answer node.spec) [] (merged n (lists_of source.old (outs_of (olds ts)) node.parents)) (at_ports 0 (lists_of source.more (outs_of (mores ts)) node.parents)))
 
+  -- the parts of these nodes, where those are the parts of the earlier ones
   abbrev pub parts_behind : (n : ℕ) → Source n → List Part → List (Placed P) → List Part
   parts_behind n source ts [] = []
   parts_behind n source ts (node ∷ nodes) = let t = part n source ts node in t ∷ parts_behind n source (ts ++ t ∷ []) nodes

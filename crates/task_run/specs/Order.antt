@@ -7,6 +7,7 @@ use Rattle.node_core.specs.Meaning.{Input}
 abbrev pub Precedes : Input → Input → Type 0
 Precedes x y = (x.1.stamp.0 < y.1.stamp.0) ⊎ ((x.1.stamp.0 ≡ y.1.stamp.0) × (x.0 ≤ y.0))
 
+-- it precedes each of these
 abbrev pub PrecedesAll : Input → List Input → Type 0
 PrecedesAll x [] = ⊤
 PrecedesAll x (y ∷ ys) = Precedes x y × PrecedesAll x ys

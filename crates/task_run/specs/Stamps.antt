@@ -8,9 +8,11 @@ use Rattle.node_core.specs.Meaning.{Input}
 abbrev pub of_item : Item → ℕ
 of_item i = i.stamp.0
 
+-- the stamp of an effect
 abbrev pub of_effect : Effect → ℕ
 of_effect e = e.stamp.0
 
+-- the stamp of what came at a port
 abbrev pub of_input : Input → ℕ
 of_input x = x.1.stamp.0
 

@@ -18,13 +18,13 @@ use Rattle.tick_compile.specs.declared.node_fault.NodeFault.{NodeFault}
 use Rattle.tick_compile.specs.declared.node_fault.NodeFault.TheVariants as nodes
 use Rattle.tick_compile.specs.declared.script_fault.ScriptFault.TheVariants.{Lambda, NoFrom}
 use Rattle.tick_compile.specs.Nodes.{specs_from}
-use Rattle.tick_compile.specs.Scripts.{IsRefusedAt, Refuses}
+use Rattle.tick_compile.specs.Scripts.{IsRefusedPattern, Refuses}
 use Rattle.tick_compile.specs.Tasks.{compiled, finished, has_from, of_node, raised, typed, well_joined, with_from}
-use Rattle.tick_compile.specs.Typing.{arg_fault, firsts, lambda_fault, node_fault, node_of, prop_fault, takes_conditions, type_fault}
+use Rattle.tick_compile.specs.Typing.{arg_fault, firsts, lambda_fault, node_of, node_type_fault, prop_fault, takes_conditions, type_fault}
 
 -- each refused pattern of which the fault speaks is the one that is refused
 abbrev Told : Option Refusal → Option TypeFault → Type 0
-Told refused o = (at : ℕ) → o ≡ Some (Pattern at) → IsRefusedAt refused at
+Told refused o = (at : ℕ) → o ≡ Some (Pattern at) → IsRefusedPattern refused at
 
 either_first : (a b : Option TypeFault) (f : TypeFault) → first a b ≡ Some f → (a ≡ Some f) ⊎ (b ≡ Some f)
 either_first (Some g) b f is = inl is
@@ -33,7 +33,7 @@ either_first None b f is = inr is
 first_told : (refused : Option Refusal) (a b : Option TypeFault) → Told refused a → Told refused b → Told refused (first a b)
 first_told refused a b p q at is = ⊎_elim (λ (l : a ≡ Some (Pattern at)). p at l) (λ (r : b ≡ Some (Pattern at)). q at r) (either_first a b (Pattern at) is)
 
-tree_told : (refused : Option Refusal) (tree : Tree) (at : ℕ) → IsRefusedTree refused tree at → IsRefusedAt refused at
+tree_told : (refused : Option Refusal) (tree : Tree) (at : ℕ) → IsRefusedTree refused tree at → IsRefusedPattern refused at
 tree_told refused (LitTree (lits.Regex text) place) at told = (text, told.0 ∙ ap (λ (p : ℕ). Some (record { text = text; at = p })) told.1)
 tree_told refused (LitTree (lits.Int number) place) at told = elim told [ ]
 tree_told refused (LitTree (lits.Dur span) place) at told = elim told [ ]
@@ -71,14 +71,14 @@ all_told refused fault each (x ∷ xs) at is = first_told refused (fault x) (fir
 prop_told : (refused : Option Refusal) (condition : Bool) (prop : PropTree) → Told refused (prop_fault refused condition prop)
 prop_told refused condition prop = all_told refused (arg_fault refused condition) (arg_told refused condition) prop.args
 
-node_told : (refused : Option Refusal) (node : NodeTree) → Told refused (node_fault refused node)
+node_told : (refused : Option Refusal) (node : NodeTree) → Told refused (node_type_fault refused node)
 node_told refused node =
     first_told refused (firsts (arg_fault refused (takes_conditions node.kind)) node.args) (firsts (prop_fault refused (takes_conditions node.kind)) node.props)
     (all_told refused (arg_fault refused (takes_conditions node.kind)) (arg_told refused (takes_conditions node.kind)) node.args)
     (all_told refused (prop_fault refused (takes_conditions node.kind)) (prop_told refused (takes_conditions node.kind)) node.props)
 
 type_told : (refused : Option Refusal) (nodes : List NodeTree) → Told refused (type_fault refused nodes)
-type_told refused nodes = all_told refused (node_fault refused) (node_told refused) nodes
+type_told refused nodes = all_told refused (node_type_fault refused) (node_told refused) nodes
 
 -- a fault of compiling is that of its first step that has one
 either_step : {A B E : Type 0} (r : Result A E) (f : A → Result B E) (e : E) → (r >>= f) ≡ Err e → (r ≡ Err e) ⊎ ((x : A) × (f x ≡ Err e))
@@ -127,6 +127,6 @@ compiled_fault refused bind t is =
     (either_step read (λ specs. typed (type_fault refused bind.nodes) >>= λ _. finished specs) (Lambda t) is)
 
 -- a text is refused for a pattern only where that is the refused one
-pub pattern_is_refused : (refused : Option Refusal) (text : List ℕ) (at : ℕ) → Refuses refused text (Lambda (Pattern at)) → IsRefusedAt refused at
+pub pattern_is_refused : (refused : Option Refusal) (text : List ℕ) (at : ℕ) → Refuses refused text (Lambda (Pattern at)) → IsRefusedPattern refused at
 pattern_is_refused refused text at (inl misread) = elim misread [ ]
 pattern_is_refused refused text at (inr written) = type_told refused written.«bound».nodes at (compiled_fault refused written.«bound» (Pattern at) written.nodes)

@@ -3,6 +3,7 @@ use Rattle.std.proofs.Common.{◌≡◌, ◌&&◌, ◌<◌, ◌+◌, ℕ, zero, 
 use Rattle.std.specs.Prelude.{IfOk, IsTrue, take}
 use Rattle.std.specs.List.{list_all}
 use Rattle.std.proofs.lemmas.Bool.Decides.{nat_tests}
+use Rattle.kap_base.proofs.TestLaws.{bind_ok, both, first_of, second_of}
 use Rattle.kap_base.specs.Tree.{Tree}
 use Rattle.kap_base.specs.Words.{◌>>=◌}
 use Rattle.kap_base.specs.declared.dbrp.Dbrp.{Dbrp}
@@ -22,22 +23,6 @@ use Rattle.tick_compile.specs.Nodes.{node_name, node_spec, nodes_above, nodes_in
 use Rattle.tick_compile.specs.Rows.{no_props}
 use Rattle.tick_compile.specs.Typing.{given_of, node_of}
 
-bind_ok : {A B E : Type 0} (r : Result A E) (f : A → Result B E) (y : B) → (r >>= f) ≡ Ok y → (x : A) × (r ≡ Ok x) × (f x ≡ Ok y)
-bind_ok (Ok x) f y e = (x, refl, e)
-bind_ok (Err d) f y e = absurd cc
-
-both_true : (a b : Bool) → a ≡ true → b ≡ true → (a && b) ≡ true
-both_true true b p q = q
-both_true false b p q = absurd cc
-
-first_true : (a b : Bool) → (a && b) ≡ true → a ≡ true
-first_true true b p = refl
-first_true false b p = absurd cc
-
-second_true : (a b : Bool) → (a && b) ≡ true → b ≡ true
-second_true true b p = p
-second_true false b p = absurd cc
-
 -- a node behind so many fits its parents, all earlier
 abbrev one_behind : {L : Type 0} → ℕ → NodeSpec L → Bool
 one_behind number node = is_fit (length node.parents) node.spec && list_all (λ p. nat_lt p number) node.parents
@@ -45,16 +30,16 @@ one_behind number node = is_fit (length node.parents) node.spec && list_all (λ 
 more_behind : {L : Type 0} (number : ℕ) (nodes : List (NodeSpec L)) (node : NodeSpec L) (n : ℕ) → n ≡ number + length nodes → are_behind number nodes ≡ true → one_behind n node ≡ true → are_behind number (nodes ++ node ∷ []) ≡ true
 more_behind number [] node n e behind one =
     let same : n ≡ number = omega (arith, e) in
-    both_true (one_behind number node) true (subst (λ (m : ℕ). one_behind m node ≡ true) same one) refl
+    both (one_behind number node) true (subst (λ (m : ℕ). one_behind m node ≡ true) same one) refl
 more_behind number (x ∷ nodes) node n e behind one =
-    both_true (one_behind number x) (are_behind (number + 1) (nodes ++ node ∷ [])) (first_true (one_behind number x) (are_behind (number + 1) nodes) behind)
-    (more_behind (number + 1) nodes node n (omega (arith, e)) (second_true (one_behind number x) (are_behind (number + 1) nodes) behind) one)
+    both (one_behind number x) (are_behind (number + 1) (nodes ++ node ∷ [])) (first_of (one_behind number x) (are_behind (number + 1) nodes) behind)
+    (more_behind (number + 1) nodes node n (omega (arith, e)) (second_of (one_behind number x) (are_behind (number + 1) nodes) behind) one)
 
 shape_more : {L : Type 0} (nodes : List (NodeSpec L)) (node : NodeSpec L) → has_shape nodes ≡ true → one_behind (length nodes) node ≡ true → has_shape (nodes ++ node ∷ []) ≡ true
 shape_more [] node shape one = absurd cc
 shape_more (x ∷ nodes) node shape one =
-    both_true _ (are_behind 1 (nodes ++ node ∷ [])) (first_true _ (are_behind 1 nodes) shape)
-    (more_behind 1 nodes node (length (x ∷ nodes)) (omega arith) (second_true _ (are_behind 1 nodes) shape) one)
+    both _ (are_behind 1 (nodes ++ node ∷ [])) (first_of _ (are_behind 1 nodes) shape)
+    (more_behind 1 nodes node (length (x ∷ nodes)) (omega arith) (second_of _ (are_behind 1 nodes) shape) one)
 
 args_below : (number : ℕ) (args : List ArgTree) → AllSettled number args → list_all (λ p. nat_lt p number) (nodes_in (map given_of args)) ≡ true
 args_below number [] settled = refl
@@ -63,7 +48,7 @@ args_below number (StarArg at ∷ args) settled = args_below number args settled
 args_below number (LambdaArg body at ∷ args) settled = args_below number args settled.1
 args_below number (NodeArg n at ∷ args) settled =
     let lt : n < number = settled.0 in
-    both_true (nat_lt n number) _ (grind (arith, nat_tests)) (args_below number args settled.1)
+    both (nat_lt n number) _ (grind (arith, nat_tests)) (args_below number args settled.1)
 
 -- what is known of a node that isn't the stream
 record IsOther (node : Node Tree) (spec : NodeSpec Tree) : Type 0 where
@@ -81,16 +66,16 @@ other dbrps (suc n) node spec lt is =
 -- all, or the first alone
 fewer_below : (test : ℕ → Bool) (b : Bool) (p : ℕ) (ps : List ℕ) → list_all test (p ∷ ps) ≡ true → list_all test (cond b (p ∷ ps) (take 1 (p ∷ ps))) ≡ true
 fewer_below test true p ps all = all
-fewer_below test false p ps all = both_true (test p) true (first_true (test p) (list_all test ps) all) refl
+fewer_below test false p ps all = both (test p) true (first_of (test p) (list_all test ps) all) refl
 
 node_behind : (dbrps : List Dbrp) (number : ℕ) (node : NodeTree) (spec : NodeSpec Tree) → 0 < number → node.parent < number → AllSettled number node.args → node_spec dbrps number (node_of node) ≡ Ok spec → one_behind number spec ≡ true
 node_behind dbrps number node spec some parent args is =
     let known = other dbrps number (node_of node) spec some is in
     let first : nat_lt node.parent number ≡ true = grind (arith, nat_tests) in
-    let above : list_all (λ p. nat_lt p number) (nodes_above (node_of node)) ≡ true = both_true (nat_lt node.parent number) _ first (args_below number node.args args) in
+    let above : list_all (λ p. nat_lt p number) (nodes_above (node_of node)) ≡ true = both (nat_lt node.parent number) _ first (args_below number node.args args) in
     let all = fewer_below (λ p. nat_lt p number) (takes_nodes spec.spec) node.parent (nodes_in (map given_of node.args)) above in
     subst (λ (ps : List ℕ). (is_fit (length ps) spec.spec && list_all (λ p. nat_lt p number) ps) ≡ true) (sym known.parents)
-    (both_true (is_fit (length (parents_of spec.spec (nodes_above (node_of node)))) spec.spec) _ known.stands all)
+    (both (is_fit (length (parents_of spec.spec (nodes_above (node_of node)))) spec.spec) _ known.stands all)
 
 all_shaped : (dbrps : List Dbrp) (count : ℕ) (nodes : List NodeTree) (read : List (NodeSpec Tree)) (number : ℕ) → length read ≡ number → 0 < number → has_shape read ≡ true → NodesSettled count number nodes
     → (specs : List (NodeSpec Tree)) → specs_from dbrps read (map node_of nodes) ≡ Ok specs → has_shape specs ≡ true

@@ -47,6 +47,7 @@ other_rows =
     ∷ row (codes "noRecoveries") nothing (λ _ alert. record alert { no_recoveries = true })
     ∷ []
 
+-- the properties that an alert has
 abbrev pub alert_rows : {L : Type 0} → List (Row L (AlertSpec L))
 alert_rows = level_rows ++ (reset_rows ++ other_rows)
 
@@ -56,6 +57,7 @@ handlers =
     codes "email" ∷ codes "slack" ∷ codes "pagerDuty" ∷ codes "post" ∷ codes "tcp" ∷ codes "exec" ∷ codes "telegram" ∷ codes "victorOps"
     ∷ codes "opsGenie" ∷ codes "hipChat" ∷ codes "sensu" ∷ codes "snmpTrap" ∷ []
 
+-- the name is that of a handler that an alert has in Kapacitor, and not here
 abbrev pub is_handler : List ℕ → Bool
 is_handler name = list_any (bytes_eq name) handlers
 
@@ -63,9 +65,11 @@ is_handler name = list_any (bytes_eq name) handlers
 abbrev pub alert_sets : {L : Type 0} → AlertSpec L → Setting L → Result (AlertSpec L) NodeFault
 alert_sets alert prop = if is_handler prop.name then Err (Handler prop.at) else set_by alert_rows alert prop
 
+-- no conditions of levels
 abbrev pub no_conditions : {L : Type 0} → Conditions L
 no_conditions = record { info = None; warn = None; crit = None }
 
+-- an alert of which no property is set
 abbrev pub no_alert : {L : Type 0} → AlertSpec L
 no_alert = record {
   levels = no_conditions;

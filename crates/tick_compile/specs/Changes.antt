@@ -24,12 +24,14 @@ abbrev pub kept : List (List ℕ) → Keep
 kept [] = keeps.All
 kept (name ∷ names) = keeps.Names (name ∷ names)
 
+-- the properties of an eval node: the names of its results, and the fields that it keeps
 abbrev pub eval_rows : {L : Type 0} → List (Row L EvalProps)
 eval_rows =
     row (codes "as") (each as_name) (λ names eval. record eval { names = names })
     ∷ row (codes "keep") (each as_text) (λ names eval. record eval { keep = kept names })
     ∷ []
 
+-- an eval node of which no property is set: it keeps its results alone
 abbrev pub no_eval : EvalProps
 no_eval = record { names = []; keep = keeps.Results }
 
@@ -49,6 +51,7 @@ eval_spec node =
 abbrev pub group_by_rows : {L : Type 0} → List (Row L GroupBySpec)
 group_by_rows = row (codes "byMeasurement") nothing (λ _ group. record group { by_measurement = true }) ∷ []
 
+-- what a groupBy node is given, or its first fault
 abbrev pub group_by_spec : {L : Type 0} → Node L → Result (Spec L) NodeFault
 group_by_spec node =
     needed node.at (dimensions node.args) >>= λ d. all_set (set_by group_by_rows) (record { dims = d; by_measurement = false }) node.props >>= λ group. Ok (specs.GroupBy group)
@@ -60,9 +63,11 @@ log_rows =
     ∷ row (codes "prefix") (one as_text) (λ s log. record log { prefix = Some s })
     ∷ []
 
+-- a log node of which no property is set
 abbrev pub no_log : LogSpec
 no_log = record { level = None; prefix = None }
 
+-- what a log node is given, or its first fault
 abbrev pub log_spec : {L : Type 0} → Node L → Result (Spec L) NodeFault
 log_spec node = needed node.at (nothing node.args) >>= λ _. all_set (set_by log_rows) no_log node.props >>= λ log. Ok (specs.Log log)
 
@@ -73,6 +78,7 @@ default_rows =
     ∷ row (codes "tag") (pair as_name as_name) (λ given settings. settings ++ defaults.Tag given.0 given.1 ∷ [])
     ∷ []
 
+-- what a default node is given, or its first fault: its settings in the order of the script
 abbrev pub default_spec : {L : Type 0} → Node L → Result (Spec L) NodeFault
 default_spec node = needed node.at (nothing node.args) >>= λ _. all_set (set_by default_rows) [] node.props >>= λ settings. Ok (specs.Default settings)
 
@@ -83,6 +89,7 @@ delete_rows =
     ∷ row (codes "tag") (one as_text) (λ s settings. settings ++ deletes.Tag s ∷ [])
     ∷ []
 
+-- what a delete node is given, or its first fault: its settings in the order of the script
 abbrev pub delete_spec : {L : Type 0} → Node L → Result (Spec L) NodeFault
 delete_spec node = needed node.at (nothing node.args) >>= λ _. all_set (set_by delete_rows) [] node.props >>= λ settings. Ok (specs.Delete settings)
 

@@ -13,10 +13,12 @@ abbrev pub of_lex : LexFault → ScriptFault
 of_lex lexes.NoMemory = NoMemory
 of_lex fault = Lex fault
 
+-- a fault of the grammar as one of the script
 abbrev pub of_parse : ParseFault → ScriptFault
 of_parse parses.NoMemory = NoMemory
 of_parse fault = Parse fault
 
+-- a fault of the names as one of the script
 abbrev pub of_name : VarFault → ScriptFault
 of_name names.NoMemory = NoMemory
 of_name fault = Name fault

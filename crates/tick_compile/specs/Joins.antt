@@ -27,6 +27,7 @@ union_spec node =
     needed node.at (each as_node node.args) >>= λ nodes. fitting node.at (nat_lt 0 (length nodes)) nodes >>= λ _.
     all_set (set_by rename_rows) None node.props >>= λ name. Ok (specs.Union name)
 
+-- the properties of a join
 abbrev pub join_rows : {L : Type 0} → List (Row L JoinSpec)
 join_rows =
     row (codes "as") (each as_name) (λ names join. record join { prefixes = names })
@@ -36,6 +37,7 @@ join_rows =
     ∷ row (codes "delimiter") (one as_line) (λ s join. record join { delimiter = Some s })
     ∷ []
 
+-- a join of which no property is set
 abbrev pub no_join : JoinSpec
 no_join = record { prefixes = []; tolerance = 0; fill = fills.None; stream_name = None; delimiter = None }
 

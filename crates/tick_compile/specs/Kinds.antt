@@ -56,5 +56,6 @@ spec_by (Some (State kind)) node = state_spec kind node
 spec_by (Some (Select select)) node = select_spec select node
 spec_by (Some (Rank rank)) node = rank_spec rank node
 
+-- what a node is given, by the kind that its name names, or its first fault
 abbrev pub spec_of : {L : Type 0} → Node L → Result (Spec L) NodeFault
 spec_of node = spec_by (kind_named node.kind) node

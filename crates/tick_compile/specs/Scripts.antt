@@ -54,5 +54,5 @@ abbrev pub Refuses : Option Refusal → List ℕ → ScriptFault → Type 0
 Refuses refused text fault = IsMisread text fault ⊎ IsMiswritten refused text fault
 
 -- the pattern at this place is the refused one
-abbrev pub IsRefusedAt : Option Refusal → ℕ → Type 0
-IsRefusedAt refused at = (pattern : List ℕ) × (refused ≡ Some (record { text = pattern; at = at }))
+abbrev pub IsRefusedPattern : Option Refusal → ℕ → Type 0
+IsRefusedPattern refused at = (pattern : List ℕ) × (refused ≡ Some (record { text = pattern; at = at }))

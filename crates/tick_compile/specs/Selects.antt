@@ -30,15 +30,18 @@ select_named name =
 abbrev pub rank_named : List ℕ → Option Rank
 rank_named name = if bytes_eq name (codes "top") then Some Top else (if bytes_eq name (codes "bottom") then Some Bottom else None)
 
+-- the properties of a select node
 abbrev pub select_rows : {L : Type 0} → List (Row L SelectProps)
 select_rows =
     row (codes "as") (one as_name) (λ s props. record props { name = Some s })
     ∷ row (codes "usePointTimes") nothing (λ _ props. record props { use_point_times = true })
     ∷ []
 
+-- a select node of which no property is set
 abbrev pub no_select : SelectProps
 no_select = record { name = None; use_point_times = false }
 
+-- a select node that chooses so from this field, with these properties
 abbrev pub selected : {L : Type 0} → Select → List ℕ → SelectProps → Spec L
 selected select field props = specs.Select (record { select = select; field = field; name = props.name; use_point_times = props.use_point_times })
 
@@ -47,6 +50,7 @@ abbrev pub select_spec : {L : Type 0} → Select → Node L → Result (Spec L) 
 select_spec select node =
     needed node.at (one as_text node.args) >>= λ field. all_set (set_by select_rows) no_select node.props >>= λ props. Ok (selected select field props)
 
+-- the first so many points of a rank
 abbrev pub ranked : Rank → ℕ → Select
 ranked Top n = selects.Top n
 ranked Bottom n = selects.Bottom n

@@ -63,10 +63,11 @@ as_default (Lit (lits.Bool truth)) = Some (defaults.Bool truth)
 as_default (Lit (lits.Str text)) = option_map defaults.Str (tested is_line text)
 as_default _ = None
 
--- what stands for a point that is missing: 'none', 'null' or a number
+-- what stands for a point that is missing, by its name: 'none' or 'null'
 abbrev pub fill_named : List ℕ → Option Fill
 fill_named text = if bytes_eq text (codes "none") then Some fills.None else (if bytes_eq text (codes "null") then Some fills.Null else None)
 
+-- what stands for a point that is missing: 'none', 'null' or a number
 abbrev pub as_fill : {L : Type 0} → Given L → Option Fill
 as_fill (Lit (lits.Str text)) = fill_named text
 as_fill (Lit (lits.Int number)) = Some (fills.Number number)

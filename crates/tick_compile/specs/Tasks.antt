@@ -28,6 +28,7 @@ of_node (nodes.Handler at) = Handler at
 of_node (nodes.Template at fault) = Template at fault
 of_node nodes.NoMemory = NoMemory
 
+-- what is made of a node, or its fault as one of the script
 abbrev pub raised : {A : Type 0} → Result A NodeFault → Result A ScriptFault
 raised (Ok x) = Ok x
 raised (Err fault) = Err (of_node fault)
@@ -42,6 +43,7 @@ abbrev pub well_joined : Option GraphFault → Result (Unit {0}) ScriptFault
 well_joined None = Ok tt
 well_joined (Some fault) = Err (Graph fault)
 
+-- the node is a `from`
 abbrev pub is_from : {L : Type 0} → Spec L → Bool
 is_from (From from) = true
 is_from _ = false
@@ -50,9 +52,11 @@ is_from _ = false
 abbrev pub has_from : {L : Type 0} → List (NodeSpec L) → Bool
 has_from specs = list_any (λ node. is_from node.spec) specs
 
+-- the nodes, or the fault that there is no `from` among them
 abbrev pub with_from : {L : Type 0} → List (NodeSpec L) → Result (List (NodeSpec L)) ScriptFault
 with_from specs = if has_from specs then Ok specs else Err NoFrom
 
+-- the nodes, or the first fault of them as a whole: of their graph, else that there is no `from`
 abbrev pub finished : {L : Type 0} → List (NodeSpec L) → Result (List (NodeSpec L)) ScriptFault
 finished specs = well_joined (first_graph_fault specs) >>= λ _. with_from specs
 
@@ -63,6 +67,7 @@ abbrev pub compiled_nodes : Option Refusal → List Dbrp → List NodeTree → R
 compiled_nodes refused dbrps nodes =
     raised (specs_from dbrps [] (map node_of nodes)) >>= λ specs. typed (type_fault refused nodes) >>= λ _. finished specs
 
+-- the nodes of the task of a bound script, where this pattern is refused, or its first fault
 abbrev pub compiled : Option Refusal → BoundTree → Result (List (NodeSpec Tree)) ScriptFault
 compiled refused «bound» = compiled_nodes refused «bound».dbrps «bound».nodes
 
@@ -70,6 +75,7 @@ compiled refused «bound» = compiled_nodes refused «bound».dbrps «bound».no
 abbrev pub checked : {A : Type 0} → Result A ScriptFault → Result (Unit {0}) ScriptFault
 checked specs = specs >>= λ _. Ok tt
 
+-- the nodes of a task
 abbrev pub NodeSpecTrees : Type 0
 NodeSpecTrees = List (NodeSpec Tree)
 

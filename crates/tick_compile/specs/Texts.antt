@@ -34,6 +34,7 @@ want_name wants.Ref = codes "Ref"
 want_name wants.Dot = codes "Dot"
 want_name wants.Operand = codes "Operand"
 
+-- what is said of a fault of the tokens
 abbrev pub lex_text : LexFault → List ℕ
 lex_text (lexes.BadChar at) = with_place (codes "Lex.BadChar") at
 lex_text (lexes.OpenString at) = with_place (codes "Lex.OpenString") at
@@ -46,12 +47,14 @@ lex_text (lexes.WideDuration at) = with_place (codes "Lex.WideDuration") at
 lex_text (lexes.UserFunction at) = with_place (codes "Lex.UserFunction") at
 lex_text lexes.NoMemory = codes "Lex.NoMemory"
 
+-- what is said of a fault of the grammar
 abbrev pub parse_text : ParseFault → List ℕ
 parse_text (parses.Expected want at) = with_place (codes "Parse.Expected." ++ want_name want) at
 parse_text (parses.Deep at) = with_place (codes "Parse.Deep") at
 parse_text (parses.TooMany at) = with_place (codes "Parse.TooMany") at
 parse_text parses.NoMemory = codes "Parse.NoMemory"
 
+-- what is said of a fault of the names
 abbrev pub name_text : VarFault → List ℕ
 name_text (names.Unknown at) = with_place (codes "Name.Unknown") at
 name_text (names.Twice at) = with_place (codes "Name.Twice") at
@@ -66,6 +69,7 @@ template_text at (templates.Action place) = with_place (codes "Template.Action")
 template_text at (templates.Field place) = with_place (codes "Template.Field") at
 template_text at templates.NoMemory = codes "Template.NoMemory"
 
+-- what is said of a fault of a lambda's types
 abbrev pub type_text : TypeFault → List ℕ
 type_text (types.Mismatch at) = with_place (codes "Lambda.Mismatch") at
 type_text (types.Arity at) = with_place (codes "Lambda.Arity") at
@@ -100,5 +104,6 @@ fault_text (Graph fault) = graph_text fault
 fault_text NoFrom = codes "NoFrom"
 fault_text NoMemory = codes "NoMemory"
 
+-- what is said of a fault of a script
 abbrev pub text_of_fault : ScriptFault → List ℕ
 text_of_fault fault = codes "script: " ++ fault_text fault

@@ -27,21 +27,23 @@ abbrev pub firsts : {A : Type 0} → (A → Option TypeFault) → List A → Opt
 firsts fault [] = None
 firsts fault (x ∷ xs) = first (fault x) (firsts fault xs)
 
+-- the fault of a lambda that is an argument; no other argument has one
 abbrev pub arg_fault : Option Refusal → Bool → ArgTree → Option TypeFault
 arg_fault refused condition (LambdaArg body at) = lambda_fault refused condition body at
 arg_fault refused condition _ = None
 
+-- the first fault of the lambdas that a property is given
 abbrev pub prop_fault : Option Refusal → Bool → PropTree → Option TypeFault
 prop_fault refused condition prop = firsts (arg_fault refused condition) prop.args
 
--- a node's arguments, and then its properties in the order of the script
-abbrev pub node_fault : Option Refusal → NodeTree → Option TypeFault
-node_fault refused node =
+-- the first fault of a node's lambdas: of its arguments, then of its properties in the order of the script
+abbrev pub node_type_fault : Option Refusal → NodeTree → Option TypeFault
+node_type_fault refused node =
     first (firsts (arg_fault refused (takes_conditions node.kind)) node.args) (firsts (prop_fault refused (takes_conditions node.kind)) node.props)
 
 -- the first fault of a script's lambdas
 abbrev pub type_fault : Option Refusal → List NodeTree → Option TypeFault
-type_fault refused nodes = firsts (node_fault refused) nodes
+type_fault refused nodes = firsts (node_type_fault refused) nodes
 
 -- what is given, without its place
 abbrev pub given_of : ArgTree → Given Tree
@@ -50,17 +52,19 @@ given_of (StarArg at) = givens.Star
 given_of (LambdaArg body at) = givens.Lambda body
 given_of (NodeArg number at) = givens.Node number
 
+-- a property with what it is given, without the places of that
 abbrev pub setting_of : PropTree → Setting Tree
 setting_of prop = record { name = prop.name; args = map given_of prop.args; at = prop.at }
 
+-- a node with what it is given, without the places of that
 abbrev pub node_of : NodeTree → Node Tree
 node_of node = record { kind = node.kind; parent = node.parent; args = map given_of node.args; props = map setting_of node.props; at = node.at }
 
 -- This value where no pattern is refused and there is no fault; else the first fault, where the pattern of which it speaks is the
 -- one that was refused last.
-abbrev pub Finds : {A : Type 0} → A → (Option Refusal → Option TypeFault) → List ℕ → Result A TypeFault → Type 0
-Finds value fault refused (Ok x) = (x ≡ value) × (fault None ≡ None)
-Finds value fault refused (Err f) = FailsBy fault refused f
+abbrev pub FindsTyped : {A : Type 0} → A → (Option Refusal → Option TypeFault) → List ℕ → Result A TypeFault → Type 0
+FindsTyped value fault refused (Ok x) = (x ≡ value) × (fault None ≡ None)
+FindsTyped value fault refused (Err f) = FailsBy fault refused f
 
 -- No pattern was refused; else the count rose by one at most, and did so where the fault is a refused pattern.
 abbrev pub Counts : {A : Type 0} → Result A TypeFault → ℕ → ℕ → Type 0

@@ -23,6 +23,7 @@ window_rows =
     ∷ row (codes "everyCount") (one as_count) (λ n window. record window { every_count = Some n })
     ∷ []
 
+-- a window of which no property is set
 abbrev pub no_window : WindowProps
 no_window = record { period = None; every = None; align = false; fill_period = false; period_count = None; every_count = None }
 
@@ -46,6 +47,7 @@ counted_form window = option_map (λ n. Counted n (unwrap_or window.every_count 
 abbrev pub window_form : WindowProps → Option WindowSpec
 window_form window = if is_counted window then (if is_timed window then None else counted_form window) else timed_form window
 
+-- what a window node is given, or its first fault
 abbrev pub window_spec : {L : Type 0} → Node L → Result (Spec L) NodeFault
 window_spec node =
     needed node.at (nothing node.args) >>= λ _. all_set (set_by window_rows) no_window node.props >>= λ window.

@@ -5,7 +5,7 @@ ghost use Rattle.lambda_types.specs.Faults.{Refusal};
 ghost use Rattle.lambda_types.specs.declared.fault.TypeFault.TheVariants.{Pattern};
 ghost use Rattle.kap_base.specs.declared.limits.TheConstants.{SCRIPT_LIMIT};
 ghost use Rattle.tick_parser.specs.Trees.{StmtTree};
-ghost use Rattle.tick_compile.specs.Scripts.{Accepts, IsRefusedAt, Parses, Refuses};
+ghost use Rattle.tick_compile.specs.Scripts.{Accepts, IsRefusedPattern, Parses, Refuses};
 ghost use Rattle.tick_compile.specs.declared.script_fault.ScriptFault.{ScriptFault};
 ghost use Rattle.tick_compile.specs.declared.script_fault.ScriptFault.TheVariants.{Lambda};
 ghost use Rattle.tick_compile.specs.declared.tasks.Task.{Task};
@@ -21,7 +21,7 @@ pub fn scripts_have_one_answer()
     ensures apart { (refused : Option Refusal) (text : List ℕ) (task : Task) (fault : ScriptFault) →
         Accepts refused text task → Refuses refused text fault → ⊥ }
     ensures pattern { (refused : Option Refusal) (text : List ℕ) (at : ℕ) →
-        Refuses refused text (Lambda (Pattern at)) → IsRefusedAt refused at }
+        Refuses refused text (Lambda (Pattern at)) → IsRefusedPattern refused at }
     ensures some { (refused : Option Refusal) (text : List ℕ) → length text ≤ SCRIPT_LIMIT →
         ((task : Task) × Accepts refused text task)
         ⊎ ((fault : ScriptFault) × Refuses refused text fault) }

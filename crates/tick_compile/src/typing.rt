@@ -3,7 +3,7 @@
 ghost use Rattle.std.specs.Prelude.{◌≡◌, map};
 ghost use Rattle.lambda_types.specs.Sets.{types_of};
 ghost use Rattle.tick_vars.specs.Nodes.{arg_tree, arg_trees, node_tree, node_trees, prop_tree};
-ghost use Rattle.tick_compile.specs.Typing.{Counts, Finds, arg_fault, firsts, given_of, lambda_fault, node_fault, node_of, prop_fault, setting_of, takes_conditions, type_fault};
+ghost use Rattle.tick_compile.specs.Typing.{Counts, FindsTyped, arg_fault, firsts, given_of, lambda_fault, node_of, node_type_fault, prop_fault, setting_of, takes_conditions, type_fault};
 
 use crate::given::{Args, Given, Node, Setting, Settings};
 use kap_base::{Duplicate, ItemList, SharedExpr, Text};
@@ -33,7 +33,7 @@ fn typed_lambda<P: Patterns>(
     condition: bool,
     pats: &mut P,
 ) -> Result<Lambda, TypeFault>
-    ensures finds { Finds body.now (λ r. lambda_fault r condition body.now at)
+    ensures finds { FindsTyped body.now (λ r. lambda_fault r condition body.now at)
         (P.refused pats.new) result }
     ensures counts { Counts result (P.refusals pats.old) (P.refusals pats.new) }
 {
@@ -51,7 +51,7 @@ fn typed_arg<P: Patterns>(
     condition: bool,
     pats: &mut P,
 ) -> Result<Given<Lambda>, TypeFault>
-    ensures finds { Finds (given_of (arg_tree arg.now))
+    ensures finds { FindsTyped (given_of (arg_tree arg.now))
         (λ r. arg_fault r condition (arg_tree arg.now)) (P.refused pats.new) result }
     ensures counts { Counts result (P.refusals pats.old) (P.refusals pats.new) }
 {
@@ -71,7 +71,7 @@ fn typed_args<P: Patterns>(
     condition: bool,
     pats: &mut P,
 ) -> Result<Args<Lambda>, TypeFault>
-    ensures finds { Finds (map given_of (arg_trees args.now))
+    ensures finds { FindsTyped (map given_of (arg_trees args.now))
         (λ r. firsts (arg_fault r condition) (arg_trees args.now)) (P.refused pats.new) result }
     ensures counts { Counts result (P.refusals pats.old) (P.refusals pats.new) }
 {
@@ -89,7 +89,7 @@ fn typed_prop<P: Patterns>(
     condition: bool,
     pats: &mut P,
 ) -> Result<Setting<Lambda>, TypeFault>
-    ensures finds { Finds (setting_of (prop_tree prop.now))
+    ensures finds { FindsTyped (setting_of (prop_tree prop.now))
         (λ r. prop_fault r condition (prop_tree prop.now)) (P.refused pats.new) result }
     ensures counts { Counts result (P.refusals pats.old) (P.refusals pats.new) }
 {
@@ -107,7 +107,7 @@ fn typed_props<P: Patterns>(
     condition: bool,
     pats: &mut P,
 ) -> Result<Settings<Lambda>, TypeFault>
-    ensures finds { Finds (map setting_of (map prop_tree props.now))
+    ensures finds { FindsTyped (map setting_of (map prop_tree props.now))
         (λ r. firsts (prop_fault r condition) (map prop_tree props.now)) (P.refused pats.new) result }
     ensures counts { Counts result (P.refusals pats.old) (P.refusals pats.new) }
 {
@@ -124,8 +124,8 @@ fn typed_node<P: Patterns>(
     node: &RawNode,
     pats: &mut P,
 ) -> Result<Node<Lambda>, TypeFault>
-    ensures finds { Finds (node_of (node_tree node.now)) (λ r. node_fault r (node_tree node.now))
-        (P.refused pats.new) result }
+    ensures finds { FindsTyped (node_of (node_tree node.now))
+        (λ r. node_type_fault r (node_tree node.now)) (P.refused pats.new) result }
     ensures counts { Counts result (P.refusals pats.old) (P.refusals pats.new) }
 {
     let condition = takes_conditions(&node.kind);
@@ -146,7 +146,7 @@ pub(crate) fn typed_nodes<P: Patterns>(
     nodes: &[RawNode],
     pats: &mut P,
 ) -> Result<ItemList<Node<Lambda>>, TypeFault>
-    ensures finds { Finds (map node_of (node_trees nodes.now))
+    ensures finds { FindsTyped (map node_of (node_trees nodes.now))
         (λ r. type_fault r (node_trees nodes.now)) (P.refused pats.new) result }
     ensures counts { Counts result (P.refusals pats.old) (P.refusals pats.new) }
 {

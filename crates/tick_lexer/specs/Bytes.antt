@@ -1,6 +1,7 @@
 -- Classes of bytes, and what stands at the front of a text.
 use Rattle.std.specs.Prelude.{◌≡◌, ℕ, Bool, true, false, eqb, leb, ◌&&◌, ◌||◌, List, [], ◌∷◌}
 
+-- a decimal digit of ASCII
 abbrev pub is_digit : ℕ → Bool
 is_digit b = leb 48 b && leb b 57
 

@@ -32,6 +32,7 @@ abbrev pub named : List ℕ → List ℕ → Found
 named name rest =
     cond (bytes_eq name (codes "lambda") && starts is_colon rest) (Took Lambda (length name + 1)) (Took (word_kind name) (length name))
 
+-- a word that begins with this text: a name, a keyword, or `lambda:`
 abbrev pub word : List ℕ → Found
 word text = let name = take_while is_word text in named name (drop (length name) text)
 
@@ -46,10 +47,12 @@ unit_at tail =
     (cond (starts (eqb 100) tail) (Some Day)
     (cond (starts (eqb 119) tail) (Some Week) None))))))
 
+-- the integer of these digits, or the fault that it is too wide
 abbrev pub integer : ℕ → List ℕ → Found
 integer at digits =
     cond (ltb (digits_value 10 digits) (2 ^ 63)) (Took (Literal (Int (pos (digits_value 10 digits)))) (length digits)) (Bad (WideInt at))
 
+-- the duration of these digits in this unit, or the fault that it is too wide
 abbrev pub duration : ℕ → List ℕ → units.Unit → Found
 duration at digits unit =
     cond (leb (digits_value 10 digits * unit_nanos unit) DURATION_LIMIT) (Took (Literal (Dur (pos (digits_value 10 digits * unit_nanos unit)))) (length digits + length (unit_bytes unit))) (Bad (WideDuration at))
@@ -66,6 +69,7 @@ numeral at digits tail =
     (cond (starts is_dot tail) (Bad (FloatLiteral at))
     (measured at digits tail (unit_at tail)))
 
+-- a number that begins with this text: an integer or a duration
 abbrev pub number : ℕ → List ℕ → Found
 number at text = let digits = take_while is_digit text in numeral at digits (drop (length digits) text)
 
@@ -74,6 +78,7 @@ pub data Scan : Type 0 where
   Endless : Scan
   Shut : (text : List ℕ) (bytes : ℕ) → Scan
 
+-- what a quote opened, with one more byte before it that adds this to the text
 abbrev pub grown : List ℕ → Scan → Scan
 grown front Endless = Endless
 grown front (Shut text bytes) = Shut (front ++ text) (bytes + 1)
@@ -84,13 +89,16 @@ scan quote [] behind = Endless
 scan quote (b ∷ bs) false = cond (eqb b quote) (Shut [] 1) (cond (eqb b 92) (grown [] (scan quote bs true)) (grown (b ∷ []) (scan quote bs false)))
 scan quote (b ∷ bs) true = cond (eqb b quote) (grown (b ∷ []) (scan quote bs false)) (cond (eqb b 92) (grown (92 ∷ []) (scan quote bs true)) (grown (92 ∷ b ∷ []) (scan quote bs false)))
 
+-- the token of the text that a quote opened, or this fault where it has no end
 abbrev pub shut : (List ℕ → Kind) → LexFault → Scan → Found
 shut kind fault Endless = Bad fault
 shut kind fault (Shut text bytes) = Took (kind text) (bytes + 1)
 
+-- the token that this quote opened, up to the next one that no backslash escapes, or this fault
 abbrev pub quoted : (List ℕ → Kind) → LexFault → ℕ → List ℕ → Found
 quoted kind fault quote rest = shut kind fault (scan quote rest false)
 
+-- a count with this many more, where there is one
 abbrev pub plus : ℕ → Option ℕ → Option ℕ
 plus k None = None
 plus k (Some n) = Some (k + n)
@@ -100,6 +108,7 @@ abbrev pub before_three : List ℕ → Option ℕ
 before_three [] = None
 before_three (b ∷ bs) = cond (starts_three (b ∷ bs)) (Some 0) (plus 1 (before_three bs))
 
+-- a string behind three single quotes, whose text has this many bytes, or no end
 abbrev pub tripled : ℕ → List ℕ → Option ℕ → Found
 tripled at rest None = Bad (OpenString at)
 tripled at rest (Some n) = Took (Literal (Str (take n rest))) (n + 6)
@@ -113,6 +122,7 @@ string at b rest =
 abbrev pub paired : (ℕ → Bool) → Kind → (ℕ → Bool) → Kind → Kind → List ℕ → Found
 paired p first q second alone rest = cond (starts p rest) (Took first 2) (cond (starts q rest) (Took second 2) (Took alone 1))
 
+-- an operator or a punctuation mark that begins with this byte
 abbrev pub sign : ℕ → ℕ → List ℕ → Found
 sign at b rest =
     cond (eqb b 40) (Took OpenParen 1)
@@ -139,6 +149,7 @@ mark pattern at b rest =
     (cond (eqb b 47 && pattern) (quoted (λ text. Literal (Regex text)) (OpenRegex at) b rest)
     (sign at b rest)))
 
+-- what stands at the front of a text: a word, a number, a quote, a sign or a pattern
 abbrev pub front : Bool → ℕ → List ℕ → Found
 front pattern at [] = Bad (BadChar at)
 front pattern at (b ∷ rest) = cond (is_letter b) (word (b ∷ rest)) (cond (is_digit b) (number at (b ∷ rest)) (mark pattern at b rest))

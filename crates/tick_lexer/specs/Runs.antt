@@ -15,6 +15,7 @@ abbrev pub IsFound : Result Front LexFault → Found → Type 0
 IsFound (Ok front) found = found ≡ Took front.kind front.bytes
 IsFound (Err fault) found = (fault ≡ NoMemory) ⊎ (found ≡ Bad fault)
 
+-- what is found behind a quote: the text and its bytes, or no end
 abbrev pub IsScan : Option Quoted → Scan → Type 0
 IsScan None found = found ≡ Endless
 IsScan (Some quoted) found = found ≡ Shut quoted.text quoted.bytes
@@ -29,6 +30,7 @@ abbrev pub onwards : List ℕ → ℕ → Scan → Scan
 onwards text bytes Endless = Endless
 onwards text bytes (Shut more count) = Shut (text ++ more) (bytes + count)
 
+-- whether a comment, `//`, stands first
 abbrev pub begins_comment : List ℕ → Bool
 begins_comment [] = false
 begins_comment (b ∷ bs) = eqb b 47 && starts is_slash bs

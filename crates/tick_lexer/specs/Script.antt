@@ -120,6 +120,7 @@ pub data Ending : Type 0 where
   Whole : Ending
   Fault : (fault : LexFault) → Ending
 
+-- behind this place the text has only a last gap, or its first fault is this one
 abbrev pub EndsIn : Ending → Bool → ℕ → List ℕ → Type 0
 EndsIn Whole pattern at text = IsGap true text Between
 EndsIn (Fault fault) pattern at text = Fails pattern at text fault

@@ -118,21 +118,27 @@ Spelled Comma s = s ≡ codes ","
 Spelled Dot s = s ≡ codes "."
 Spelled Pipe s = s ≡ codes "|"
 
+-- a dot
 abbrev pub is_dot : ℕ → Bool
 is_dot b = eqb b 46
 
+-- a colon
 abbrev pub is_colon : ℕ → Bool
 is_colon b = eqb b 58
 
+-- a single quote
 abbrev pub is_single_quote : ℕ → Bool
 is_single_quote b = eqb b 39
 
+-- a slash
 abbrev pub is_slash : ℕ → Bool
 is_slash b = eqb b 47
 
+-- an equals sign
 abbrev pub is_equals : ℕ → Bool
 is_equals b = eqb b 61
 
+-- a tilde
 abbrev pub is_tilde : ℕ → Bool
 is_tilde b = eqb b 126
 

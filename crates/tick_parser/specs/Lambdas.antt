@@ -126,6 +126,7 @@ step deep wide (OperandRead stack tree count) token = after deep wide stack tree
 step deep wide (Ended tree) token = Ended tree
 step deep wide (Stopped fault) token = Stopped fault
 
+-- the state behind these tokens
 abbrev pub run : ℕ → ℕ → List Token → State → State
 run deep wide [] state = state
 run deep wide (token ∷ tokens) state = run deep wide tokens (step deep wide state token)
@@ -135,6 +136,7 @@ pub data Answer : Type 0 where
   Got : (tree : Tree) → Answer
   Refuses : (fault : ParseFault) → Answer
 
+-- the lambda where nothing is open, or the fault that a parenthesis is
 abbrev pub done_at : ℕ → List Frame → Tree → Answer
 done_at at [] tree = Got tree
 done_at at _ tree = Refuses (Expected WantClose at)

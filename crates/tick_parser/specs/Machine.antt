@@ -78,6 +78,7 @@ abbrev pub opens_context : Context → ℕ
 opens_context (Variable name at) = 0
 opens_context (Argument chain call args) = 1
 
+-- how many parentheses are open in all these places
 abbrev pub opens : List Context → ℕ
 opens [] = 0
 opens (context ∷ stack) = opens stack + opens_context context
@@ -142,6 +143,7 @@ abbrev pub signed : List StmtTree → List Context → Context → ℕ → ℕ �
 signed done stack context place at (Some lit) = ValueRead done stack context (LitVal lit place)
 signed done stack context place at None = Stopped (Expected Value at)
 
+-- a token behind a minus before a value: a literal
 abbrev pub number : List StmtTree → List Context → Context → ℕ → ℕ → Kind → State
 number done stack context place at (Literal lit) = signed done stack context place at (minus lit)
 number done stack context place at _ = Stopped (Expected Value at)
@@ -162,23 +164,27 @@ within many done stack context place at kind (lambdas.Ended tree) = settle many 
 within many done stack context place at kind (lambdas.Stopped fault) = Stopped fault
 within many done stack context place at kind inner = InLambda done stack context place inner
 
--- a token that is a name, an equals sign, a dot, a reference
+-- a token behind `var`: a name
 abbrev pub declare : List StmtTree → ℕ → ℕ → Kind → State
 declare done place at (Ident name) = NameRead done name place
 declare done place at _ = Stopped (Expected Name at)
 
+-- a token behind the name of a variable: an equals sign
 abbrev pub assign : List StmtTree → List ℕ → ℕ → ℕ → Kind → State
 assign done name place at Assign = ValueNext done [] (Variable name place)
 assign done name place at _ = Stopped (Expected Equal at)
 
+-- a token behind the first reference of a dbrp statement: a dot
 abbrev pub dotted : List StmtTree → List ℕ → ℕ → ℕ → Kind → State
 dotted done db place at Dot = DotRead done db place
 dotted done db place at _ = Stopped (Expected WantDot at)
 
+-- a token behind the dot of a dbrp statement: its second reference
 abbrev pub target : List StmtTree → List ℕ → ℕ → ℕ → Kind → State
 target done db place at (Reference rp) = Between (done ++ DbrpStmt db rp place ∷ [])
 target done db place at _ = Stopped (Expected Ref at)
 
+-- a token behind `|` or a dot in a chain: the name of a node or a property
 abbrev pub link : List StmtTree → List Context → Chain → Bool → ℕ → Kind → State
 link done stack chain node at (Ident name) = CallRead done stack chain (record { node = node; name = name; at = at })
 link done stack chain node at _ = Stopped (Expected Name at)
@@ -202,6 +208,7 @@ step deep wide many (CallRead done stack chain call) token = opening deep done s
 step deep wide many (ParenRead done stack chain call) token = opened done stack chain call token.start token.kind
 step deep wide many (Stopped fault) token = Stopped fault
 
+-- the state behind these tokens
 abbrev pub run : ℕ → ℕ → ℕ → List Token → State → State
 run deep wide many [] state = state
 run deep wide many (token ∷ tokens) state = run deep wide many tokens (step deep wide many state token)

@@ -95,11 +95,13 @@ abbrev mutual
   depth_joints NoJoints = 0
   depth_joints (MoreJoints node name args at rest) = max (depth_vals args + 1) (depth_joints rest)
 
+-- how many parentheses and unary operators are open at most in a statement
 abbrev pub depth_stmt : StmtTree → ℕ
 depth_stmt (VarStmt name value at) = depth_val value
 depth_stmt (DbrpStmt db rp at) = 0
 depth_stmt (ChainStmt head links at) = depth_joints links
 
+-- how many parentheses and unary operators are open at most in a script
 abbrev pub depth_script : List StmtTree → ℕ
 depth_script [] = 0
 depth_script (stmt ∷ script) = max (depth_stmt stmt) (depth_script script)
@@ -120,11 +122,13 @@ abbrev mutual
   width_joints NoJoints = 0
   width_joints (MoreJoints node name args at rest) = max (width_vals args) (width_joints rest)
 
+-- how many binary operators a lambda of this statement has at most
 abbrev pub width_stmt : StmtTree → ℕ
 width_stmt (VarStmt name value at) = width_val value
 width_stmt (DbrpStmt db rp at) = 0
 width_stmt (ChainStmt head links at) = width_joints links
 
+-- how many binary operators a lambda of this script has at most
 abbrev pub width_script : List StmtTree → ℕ
 width_script [] = 0
 width_script (stmt ∷ script) = max (width_stmt stmt) (width_script script)

@@ -14,6 +14,7 @@ use Rattle.tick_parser.specs.declared.fault.ParseFault.{ParseFault}
 use Rattle.tick_parser.specs.declared.fault.ParseFault.TheVariants.{NoMemory}
 use Rattle.tick_parser.specs.Lambdas as lambdas
 
+-- what is open, as the reader of lambdas holds it
 abbrev pub frame_of : Frame → lambdas.Frame
 frame_of (Minus at) = lambdas.Minus at
 frame_of (Negation at) = lambdas.Negation at
@@ -26,9 +27,11 @@ abbrev pub frames_onto : List Frame → List lambdas.Frame → List lambdas.Fram
 frames_onto [] onto = onto
 frames_onto (frame ∷ frames) onto = frames_onto frames (frame_of frame ∷ onto)
 
+-- all that is open, the innermost first
 abbrev pub frames_of : Stack → List lambdas.Frame
 frames_of stack = frames_onto stack.frames.items []
 
+-- an operand that was read, over what is open
 abbrev pub held_of : HeldOperand → lambdas.HeldOperand
 held_of held = record { stack = frames_of held.stack; tree = tree_of held.tree }
 
@@ -36,11 +39,13 @@ held_of held = record { stack = frames_of held.stack; tree = tree_of held.tree }
 abbrev pub IsCounted : Stack → Type 0
 IsCounted stack = stack.open ≡ lambdas.opens (frames_of stack)
 
+-- the lambda so far, as a state of the reader
 abbrev pub lambda_of : OpenLambda → lambdas.State
 lambda_of (OperandNext stack) = lambdas.OperandNext (frames_of stack) stack.count
 lambda_of (CallOpened stack) = lambdas.CallOpened (frames_of stack) stack.count
 lambda_of (OperandRead stack tree) = lambdas.OperandRead (frames_of stack) (tree_of tree) stack.count
 
+-- the code's count of what is open in this lambda is right
 abbrev pub IsCountedLambda : OpenLambda → Type 0
 IsCountedLambda (OperandNext stack) = IsCounted stack
 IsCountedLambda (CallOpened stack) = IsCounted stack

@@ -14,12 +14,15 @@ use Rattle.tick_parser.specs.Trees.{joints_tree, script_tree, val_tree, vals_tre
 use Rattle.tick_parser.specs.Stack.{lambda_of, IsCountedLambda}
 use Rattle.tick_parser.specs.Machine as machine
 
+-- a chain of which more may come
 abbrev pub chain_of : Chain → machine.Chain
 chain_of chain = record { head = chain.head; links = joints_tree chain.links; at = chain.at }
 
+-- a node or a property whose arguments come
 abbrev pub call_of : Call → machine.Call
 call_of call = record { node = call.node; name = call.name; at = call.at }
 
+-- where a value stands
 abbrev pub context_of : Context → machine.Context
 context_of (Variable name at) = machine.Variable name at
 context_of (Argument chain call args) = machine.Argument (chain_of chain) (call_of call) (vals_tree args)
@@ -29,6 +32,7 @@ abbrev pub contexts_onto : List Context → List machine.Context → List machin
 contexts_onto [] onto = onto
 contexts_onto (context ∷ contexts) onto = contexts_onto contexts (context_of context ∷ onto)
 
+-- where the chain stands, the innermost first
 abbrev pub contexts_of : Nesting → List machine.Context
 contexts_of open_chain = contexts_onto open_chain.stack.items []
 
@@ -40,6 +44,7 @@ IsCounted open_chain = open_chain.count ≡ machine.opens (contexts_of open_chai
 abbrev pub IsCountedAt : Nesting → Context → Type 0
 IsCountedAt open_chain context = open_chain.count ≡ machine.opens (contexts_of open_chain) + machine.opens_context (context_of context)
 
+-- what the code holds, as a state of the reader of scripts
 abbrev pub state_of : State → machine.State
 state_of (Between done) = machine.Between (script_tree done.items)
 state_of (VarRead done at) = machine.VarRead (script_tree done.items) at
@@ -55,6 +60,7 @@ state_of (LinkRead o chain node) = machine.LinkRead (script_tree o.done.items) (
 state_of (CallRead o chain call) = machine.CallRead (script_tree o.done.items) (contexts_of o) (chain_of chain) (call_of call)
 state_of (ParenRead o chain call) = machine.ParenRead (script_tree o.done.items) (contexts_of o) (chain_of chain) (call_of call)
 
+-- the code's count of open parentheses is right in this state
 abbrev pub IsCountedState : State → Type 0
 IsCountedState (ValueNext o context) = IsCountedAt o context
 IsCountedState (MinusRead o context at) = IsCountedAt o context
