@@ -135,6 +135,10 @@ module _ {T : Type 0} (stored : Rec → List T) (before behind : List Rec) (skip
         }
 
     module _ (read : HasRead stored before behind skip wanted gate left piece) where
+      -- the records that were read, and those behind them
+      pub split_at : (rs : List Rec) → rs ≡ before ++ behind → rs ≡ (before ++ read.passed) ++ read.rest
+      split_at rs split = split ∙ ap (λ (l : List Rec). before ++ l) read.split ∙ sym (append_assoc before read.passed read.rest)
+
       pub reads_on : (r : Rec) (next later : ℕ) (more : List T) → RecordOrNot (Ok (Some (r, next))) (before ++ read.passed) read.rest
           → later ≡ left - length (stored r) → more ≡ piece ++ take (wanted - length piece) (drop left (stored r))
           → HasRead stored before behind skip wanted next later more
