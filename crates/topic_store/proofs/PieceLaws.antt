@@ -1,15 +1,13 @@
 -- Pieces of what records store.
-use Rattle.std.proofs.Common.{◌≡◌, ◌⊎◌, ⊎_elim, ℕ, zero, suc, ◌+◌, ◌-◌, ◌<◌, ◌≤◌, min, List, [], ◌∷◌, ◌++◌, length, take, drop, refl, sym, ap, ◌∙◌, subst, arith, append_assoc, length-append, Ok, Err}
+use Rattle.std.proofs.Common.{◌≡◌, ⊎_elim, ℕ, zero, suc, ◌-◌, ◌<◌, ◌≤◌, min, List, [], ◌∷◌, ◌++◌, length, take, drop, refl, sym, ap, ◌∙◌, subst, arith, append_assoc, length-append, Ok, Err}
 use Rattle.std.proofs.Math.Seq.{drop-append-add, drop-nil, take-nil}
-use Rattle.std.specs.Prelude.{Option, Some, None}
+use Rattle.std.specs.Prelude.{Some}
 use Rattle.std.specs.List.{flat_map, slice_get}
 use Rattle.std.proofs.lemmas.List.{append-nil, length-drop, length-take, take_min}
 use Rattle.std.proofs.lemmas.Grind.{flat_map-append}
-use Rattle.kap_base.specs.Points.{PointValue}
 use Rattle.kap_io.specs.Disk.{Image}
 use Rattle.gate_log.specs.Bodies.{IsLog}
 use Rattle.gate_log.specs.Logs.{LogState, Rests}
-use Rattle.topic_core.specs.declared.transition.Transition.{Transition}
 use Rattle.store_records.specs.Held.{Held, after, nothing, points_in, transitions_in}
 use Rattle.store_records.specs.Histories.{end_of, first_gate, held, held_from, next_gate}
 use Rattle.store_records.specs.declared.rec.Rec.{Rec}
@@ -90,6 +88,13 @@ leads stored rs m is before number start count from = ⊎_elim
     (λ first. record { before = []; behind = rs; split = refl; at_gate = first.0; number_is = omega (arith, first.1) }) from
 
 -- ---- the loop
+
+-- what is put behind a piece, where the room and the items are these
+pub put_is : {T : Type 0} (piece more items others : List T) (skip room wanted : ℕ) → more ≡ piece ++ take room (drop skip items)
+    → room ≡ wanted - length piece → items ≡ others → more ≡ piece ++ take (wanted - length piece) (drop skip others)
+put_is {T = T} piece more items others skip room wanted put room_is items_are =
+    put ∙ ap (λ (n : ℕ). piece ++ take n (drop skip items)) room_is
+    ∙ ap (λ (l : List T). piece ++ take (wanted - length piece) (drop skip l)) items_are
 
 module _ {T : Type 0} (stored : Rec → List T) (before behind : List Rec) (skip wanted : ℕ) where
   -- no record is read so far

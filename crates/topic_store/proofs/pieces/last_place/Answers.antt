@@ -1,4 +1,4 @@
-use Rattle.std.proofs.Common.{◌≡◌, ◌-◌, List, length, take, sym, ap, ◌∙◌, Some}
+use Rattle.std.proofs.Common.{◌-◌, List, length, sym, ap, ◌∙◌}
 use Rattle.std.specs.List.{slice_get}
 use Rattle.store_kept.specs.declared.kept.Mark.{Mark}
 use Rattle.topic_store.proofs.PieceLaws.{last_mark}

@@ -1,4 +1,4 @@
-use Rattle.std.proofs.Common.{◌≡◌, ℕ, ◌-◌, ◌<◌, ◌≤◌, ◌++◌, List, drop, length, map, take, sym, ap, ◌∙◌, subst, arith}
+use Rattle.std.proofs.Common.{◌≡◌, ℕ, ◌-◌, ◌<◌, ◌≤◌, ◌++◌, List, drop, length, map, take, ap, ◌∙◌, subst, arith}
 use Rattle.std.specs.Prelude.{Option, Ok}
 use Rattle.std.specs.List.{flat_map}
 use Rattle.std.proofs.lemmas.Result.{err_from_is_err_and}
@@ -6,7 +6,7 @@ use Rattle.kap_io.specs.Moments.{quiet_images, quiet_then}
 use Rattle.store_records.specs.Records.{spell_record}
 use Rattle.store_records.specs.declared.rec.Rec.{Rec}
 use Rattle.topic_store.specs.Stored.{RecordOrNot}
-use Rattle.topic_store.proofs.PieceLaws.{not_ended, piece_fault, reads_on, split_at, still_rests, whole}
+use Rattle.topic_store.proofs.PieceLaws.{not_ended, piece_fault, put_is, reads_on, split_at, still_rests, whole}
 use Rattle.topic_store.proofs.Rereading.{none_of}
 use Rattle.topic_store.proofs.pieces.piece_from.Goals as goal
 
@@ -28,9 +28,8 @@ reading-preserved g c =
           omega (arith, c.saturating_sub-skip.ensures, c.len-count.ensures, ap (λ (l : List g.row.T.Denot). length l) c.stored_in-items.ensures) in
           let room : c.args.wanted - c.len-in-reading.result ≡ c.args.wanted - length piece =
           omega (arith, c.len-in-reading.ensures, c.reading.piece.ok) in
-          let more : c.put_behind.new.piece.items ≡ piece ++ take (c.args.wanted - length piece) (drop c.reading.skip (stored c.in-Some.rec)) =
-          c.in_ok-put_behind.ensures ∙ ap (λ (n : ℕ). piece ++ take n (drop c.reading.skip c.stored_in-items.result)) room
-          ∙ ap (λ (l : List g.row.T.Denot). piece ++ take (c.args.wanted - length piece) (drop c.reading.skip l)) c.stored_in-items.ensures in
+          let more = put_is piece c.put_behind.new.piece.items c.stored_in-items.result (stored c.in-Some.rec) c.reading.skip
+          (c.args.wanted - c.len-in-reading.result) c.args.wanted c.in_ok-put_behind.ensures room c.stored_in-items.ensures in
           reads_on stored before behind c.args.start.skip c.args.wanted c.reading.gate c.reading.skip piece so c.in-Some.rec c.in-Some.next
           c.saturating_sub-skip.result c.put_behind.new.piece.items there fewer more;
       quiet = λ tells. quiet_then g.D.Disk.seen g.D.Disk.moment g.D.Disk.may_leave g.D.Disk.left_since _ _ _ (c.reading.invariant.quiet tells)
