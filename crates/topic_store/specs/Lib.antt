@@ -5,3 +5,4 @@ pub mod Adding
 pub mod Making
 pub mod Stored
 pub mod Snapshots
+pub mod Pieces

@@ -3,6 +3,7 @@
 
 mod fault;
 mod opening;
+mod pieces;
 mod start;
 mod store;
 mod stored;

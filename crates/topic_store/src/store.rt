@@ -10,19 +10,21 @@ ghost use Rattle.store_records.specs.declared.rec.Rec.{Rec};
 ghost use Rattle.topic_store.specs.Adding.{AddFault, IsLongOrNot, stands_before_or_after};
 ghost use Rattle.store_kept.specs.Keeping.{kept_of};
 ghost use Rattle.topic_store.specs.Opening.{Finds, IsOnWith, Opens, Refuses, StoreCause};
+ghost use Rattle.topic_store.specs.Pieces.{PieceOrNot, piece_behind};
 ghost use Rattle.topic_store.specs.Snapshots.{SnapOrNot};
 ghost use Rattle.topic_store.specs.Stores.{IsNoStore, IsOn, Stands, numbers_of, store_of};
 
 use crate::fault::{StoreFault, fault_in};
 use crate::opening::{open_part, synced_head};
+use crate::pieces::{piece_from, piece_len, points_start, transitions_start};
 use crate::stored::states_at;
 use gate_log::{BODY_LIMIT, Log};
-use kap_base::Bytes;
+use kap_base::{Bytes, Points};
 use kap_io::{Disk, Part};
 use std::alloc::Global;
 use std::marker::Model;
 use store_kept::{Kept, commit, prepare};
-use store_records::{Life, LifeNumbers, Rec, StoredTask, record_body};
+use store_records::{Life, LifeNumbers, Rec, StoredTask, Transitions, record_body};
 use topic_core::Topics;
 
 /// A store on a disk. What its calls promise stands on the disk on which it was opened, where since then only calls on it changed what
@@ -228,6 +230,39 @@ impl Store {
         let states = states_at(self.alloc, &self.log, disk, snap.at)?;
         let lives = Vec::from_slice(self.alloc, snap.lives.as_slice())?;
         Ok(Some((snap.at, LifeNumbers::from_items(lives), states)))
+    }
+
+    /// The points behind this number, from the one numbered `after + 1` on: 4,096, or all where there are no more. They are numbered
+    /// from 1, in the order in which they were stored. `DiskFault` comes only where the disk's count of faults rose in this call, and
+    /// `NoMemory` where memory ran out. `NotStore` comes only on a disk that doesn't tell what a read gives, at a record that is none.
+    pub fn points<D: Disk>(&self, disk: &mut D, after: u64) -> Result<Points, StoreFault>
+        requires usable { self.now.log.spent ≡ false }
+        ensures points { IsTrue D.tells → (rs : List Rec)
+            → IsOn rs (D.seen disk.old) (D.may_leave disk.old) self.now
+            → PieceOrNot (piece_behind after (held rs).points) result }
+        ensures quiet { IsTrue D.tells
+            → Quiet D.seen D.moment D.may_leave D.left_since disk.old disk.new }
+        ensures cause { StoreCause (D.faults disk.old) (D.faults disk.new) result }
+    {
+        let start = points_start(&self.kept.marks, after);
+        let wanted = piece_len(self.kept.points, after);
+        piece_from(self.alloc, &self.log, disk, start, wanted)
+    }
+
+    /// The transitions behind this number, from the one numbered `after + 1` on: 4,096, or all where there are no more. All else is as
+    /// `points` says.
+    pub fn transitions<D: Disk>(&self, disk: &mut D, after: u64) -> Result<Transitions, StoreFault>
+        requires usable { self.now.log.spent ≡ false }
+        ensures transitions { IsTrue D.tells → (rs : List Rec)
+            → IsOn rs (D.seen disk.old) (D.may_leave disk.old) self.now
+            → PieceOrNot (piece_behind after (held rs).transitions) result }
+        ensures quiet { IsTrue D.tells
+            → Quiet D.seen D.moment D.may_leave D.left_since disk.old disk.new }
+        ensures cause { StoreCause (D.faults disk.old) (D.faults disk.new) result }
+    {
+        let start = transitions_start(&self.kept.marks, after);
+        let wanted = piece_len(self.kept.transitions, after);
+        piece_from(self.alloc, &self.log, disk, start, wanted)
     }
 
     /// Whether a call on it failed in the middle. It is then to be opened anew.

@@ -19,7 +19,7 @@ use std::alloc::Global;
 use store_records::{Rec, read_record};
 
 /// That no record of a store stands at this gate of the log, on a disk that doesn't tell what a read gives.
-fn no_record(log: &Log, gate: u64) -> StoreFault
+pub(crate) fn no_record(log: &Log, gate: u64) -> StoreFault
     ensures { result ≡ StoreFault.NotStore log.now.part gate }
 {
     StoreFault::NotStore {
