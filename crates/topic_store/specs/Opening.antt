@@ -28,6 +28,7 @@ pub record StoreCause {T : Type 0} (before now : ℕ) (result : Result T StoreFa
 
 -- ---- the head
 
+-- the part that a head names; or there is no head, told at the head's offset 0; or the disk failed or memory ran out
 abbrev pub NamesOrNot : Image → Result Part StoreFault → Type 0
 NamesOrNot files (Ok part) = IsNamed files part
 NamesOrNot files (Err (NotStore there offset)) = (there ≡ Head) × (offset ≡ 0) × HasNoHead (files Head)
@@ -65,6 +66,7 @@ pub record AreRead (seen : Image) (images : Image → Type 0) (log : LogState) (
   pub short : AreShort records
   pub holds : Holds records k topics
 
+-- the records of a log are read; or the part is no log of records, told at its first faulty place; or the disk failed
 abbrev pub ReadsOrNot : Part → Image → (Image → Type 0) → Result Reached StoreFault → Type 0
 ReadsOrNot part seen images (Ok reached) = AreRead seen images reached.log (kept_of reached.kept) reached.topics
 ReadsOrNot part seen images (Err (NotStore there offset)) = (there ≡ part) × IsNoLog offset (seen part)

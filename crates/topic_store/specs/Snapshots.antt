@@ -35,6 +35,7 @@ pub record IsLastSnap (rs : List Rec) (found : ℕ × List ℕ × List ℕ) : Ty
   pub lives : found.1 ≡ open_from 1 (held snap.before).lives
   pub states : found.2 ≡ snap.states
 
+-- the last snapshot among the records, None where there is none, unless the disk failed or memory ran out
 abbrev pub SnapOrNot : List Rec → Result (Option (ℕ × List ℕ × List ℕ)) StoreFault → Type 0
 SnapOrNot rs (Ok None) = list_any is_snap rs ≡ false
 SnapOrNot rs (Ok (Some found)) = IsLastSnap rs found
@@ -42,6 +43,7 @@ SnapOrNot rs (Err DiskFault) = ⊤
 SnapOrNot rs (Err NoMemory) = ⊤
 SnapOrNot rs (Err fault) = ⊥
 
+-- it is these states, unless the disk failed or memory ran out
 abbrev pub StatesOrNot : List ℕ → Result (List ℕ) StoreFault → Type 0
 StatesOrNot states (Ok found) = found ≡ states
 StatesOrNot states (Err DiskFault) = ⊤

@@ -41,6 +41,7 @@ pub record StoreState : Type 0 where
   pub log : LogState
   pub kept : KeptValue
 
+-- the store of a log and of what is kept of its records
 abbrev pub store_of : LogState → KeptValue → StoreState
 store_of log kept = record { log = log; kept = kept }
 
