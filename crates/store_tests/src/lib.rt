@@ -8,6 +8,8 @@ mod calls;
 #[cfg(test)]
 mod items;
 #[cfg(test)]
+mod making;
+#[cfg(test)]
 mod pieces;
 #[cfg(test)]
 mod records;

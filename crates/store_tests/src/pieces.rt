@@ -5,6 +5,7 @@ use crate::items::{point, transition};
 use kap_base::{Level, Points};
 use kap_io::{Disk, DiskCall, DiskWork, MemDisk, Part};
 use std::alloc::Global;
+use std::ops::Range;
 use std::process::Abort;
 use std::test::Fail;
 use store_records::{Rec, Transitions};
@@ -16,11 +17,10 @@ fn write(
     alloc: Global,
     store: &mut Store,
     disk: &mut MemDisk,
-    first: i64,
-    last: i64,
+    times: Range<i64>,
 ) -> Result<(), Fail> {
     let mut batch = Points::new(alloc);
-    for time in first..=last {
+    for time in times {
         batch.push(point(rt, alloc, &format!(in alloc; "m x=1i {time}")?)?)?;
     }
     let rec = Rec::Batch {
@@ -36,11 +36,10 @@ fn tell(
     alloc: Global,
     store: &mut Store,
     disk: &mut MemDisk,
-    first: u64,
-    last: u64,
+    numbers: Range<u64>,
 ) -> Result<(), Fail> {
     let mut batch = Transitions::new(alloc);
-    for number in first..=last {
+    for number in numbers {
         batch.push(match number % 2 {
             0 => transition(alloc, number, Level::Critical, Level::Fine)?,
             _ => transition(alloc, number, Level::Fine, Level::Critical)?,
@@ -53,9 +52,11 @@ fn tell(
 fn with_points(rt: &impl Abort, alloc: Global) -> Result<MemDisk, Fail> {
     let mut disk = made(alloc)?;
     let mut store = open_store(alloc, &mut disk)?;
-    for batch in 0..20i64 {
-        let before = batch * 1000;
-        write(rt, alloc, &mut store, &mut disk, before + 1, before + 1000)?;
+    let mut first = 1i64;
+    for _ in 0..20 {
+        let behind = first.wrapping_add(1000);
+        write(rt, alloc, &mut store, &mut disk, first..behind)?;
+        first = behind;
     }
     Ok(disk)
 }
@@ -117,9 +118,9 @@ fn transitions_come_in_pieces(rt: HostRuntime) -> Result<(), Fail> {
     let alloc = rt.alloc();
     let mut disk = made(alloc)?;
     let mut store = open_store(alloc, &mut disk)?;
-    tell(alloc, &mut store, &mut disk, 1, 3000)?;
-    tell(alloc, &mut store, &mut disk, 3001, 6000)?;
-    tell(alloc, &mut store, &mut disk, 6001, 9000)?;
+    tell(alloc, &mut store, &mut disk, 1..3001)?;
+    tell(alloc, &mut store, &mut disk, 3001..6001)?;
+    tell(alloc, &mut store, &mut disk, 6001..9001)?;
     let pieces = [
         (0, 4096),
         (4904, 4096),

@@ -13,7 +13,7 @@ use Rattle.store_records.specs.Histories.{end_of, first_gate, held, held_from, n
 use Rattle.store_records.specs.declared.rec.Rec.{Rec}
 use Rattle.store_kept.specs.Keeping.{AreMarks, IsMark}
 use Rattle.store_kept.specs.declared.kept.Mark.{Mark}
-use Rattle.topic_store.specs.Pieces.{HasRead, IsFrom, LeadsTo, PieceOrNot, piece_behind}
+use Rattle.topic_store.specs.Pieces.{HasPassed, IsFrom, LeadsTo, PieceOrNot, piece_behind}
 use Rattle.topic_store.specs.Stored.{RecordOrNot}
 use Rattle.topic_store.specs.declared.fault.StoreFault.{StoreFault}
 use Rattle.topic_store.specs.declared.fault.StoreFault.TheVariants.{NotStore, DiskFault, Long, NoMemory}
@@ -98,7 +98,7 @@ put_is {T = T} piece more items others skip room wanted put room_is items_are =
 
 module _ {T : Type 0} (stored : Rec → List T) (before behind : List Rec) (skip wanted : ℕ) where
   -- no record is read so far
-  pub begun : (gate : ℕ) (piece : List T) → gate ≡ end_of before → piece ≡ [] → HasRead stored before behind skip wanted gate skip piece
+  pub begun : (gate : ℕ) (piece : List T) → gate ≡ end_of before → piece ≡ [] → HasPassed stored before behind skip wanted gate skip piece
   begun gate piece at none = record {
     passed = [];
     rest = behind;
@@ -113,7 +113,7 @@ module _ {T : Type 0} (stored : Rec → List T) (before behind : List Rec) (skip
     more_read : (passed rest : List Rec) → behind ≡ passed ++ rest → piece ≡ take wanted (drop skip (flat_map stored passed))
         → left ≡ skip - length (flat_map stored passed) → (r : Rec) (next later : ℕ) (more : List T)
         → RecordOrNot (Ok (Some (r, next))) (before ++ passed) rest → later ≡ left - length (stored r)
-        → more ≡ piece ++ take (wanted - length piece) (drop left (stored r)) → HasRead stored before behind skip wanted next later more
+        → more ≡ piece ++ take (wanted - length piece) (drop left (stored r)) → HasPassed stored before behind skip wanted next later more
     more_read passed [] split is left_is r next later more there later_is more_is = absurd there
     more_read passed (q ∷ rest) split is left_is r next later more there later_is more_is =
         let so_far = flat_map stored passed in
@@ -139,14 +139,14 @@ module _ {T : Type 0} (stored : Rec → List T) (before behind : List Rec) (skip
           );
         }
 
-    module _ (read : HasRead stored before behind skip wanted gate left piece) where
+    module _ (read : HasPassed stored before behind skip wanted gate left piece) where
       -- the records that were read, and those behind them
       pub split_at : (rs : List Rec) → rs ≡ before ++ behind → rs ≡ (before ++ read.passed) ++ read.rest
       split_at rs split = split ∙ ap (λ (l : List Rec). before ++ l) read.split ∙ sym (append_assoc before read.passed read.rest)
 
       pub reads_on : (r : Rec) (next later : ℕ) (more : List T) → RecordOrNot (Ok (Some (r, next))) (before ++ read.passed) read.rest
           → later ≡ left - length (stored r) → more ≡ piece ++ take (wanted - length piece) (drop left (stored r))
-          → HasRead stored before behind skip wanted next later more
+          → HasPassed stored before behind skip wanted next later more
       reads_on r next later more there later_is more_is =
           more_read read.passed read.rest read.split read.piece_is read.left_is r next later more there later_is more_is
 

@@ -1,6 +1,6 @@
 //! Points and transitions read back, a piece at a time.
 
-ghost use Rattle.std.specs.Prelude.{◌≡◌, ◌-◌, ◌≤◌, ◌++◌, ℕ, List, OnOk, drop, false, length, map, min, take, IsTrue};
+ghost use Rattle.std.specs.Prelude.{◌≡◌, ◌-◌, ◌≤◌, ◌++◌, ℕ, List, IfOk, OnOk, drop, false, length, map, min, take, IsTrue};
 ghost use Rattle.std.specs.List.{flat_map};
 ghost use Rattle.kap_io.specs.Moments.{Quiet};
 ghost use Rattle.gate_log.specs.Logs.{Rests};
@@ -159,6 +159,7 @@ pub(crate) fn piece_from<T: Numbered, D: Disk>(
         → rs ≡ before ++ behind → start.gate ≡ end_of before
         → wanted ≤ length (drop start.skip (flat_map T.stored behind))
         → PieceOrNot (take wanted (drop start.skip (flat_map T.stored behind))) result }
+    ensures few { IfOk result (λ piece. length piece ≤ wanted) }
     ensures quiet { IsTrue D.tells
         → Quiet D.seen D.moment D.may_leave D.left_since disk.old disk.new }
     ensures cause { StoreCause (D.faults disk.old) (D.faults disk.new) result }

@@ -1,6 +1,6 @@
 //! A store, and its opening.
 
-ghost use Rattle.std.specs.Prelude.{◌≡◌, ◌++◌, ◌∷◌, [], ℕ, false, List, IfOk, IsTrue, OnOk, option_map};
+ghost use Rattle.std.specs.Prelude.{◌≡◌, ◌≤◌, ◌++◌, ◌∷◌, [], ℕ, false, length, List, IfOk, IsTrue, OnOk, option_map};
 ghost use Rattle.kap_base.specs.Words.{HasRisen};
 ghost use Rattle.kap_io.specs.Moments.{Moments, Quiet};
 ghost use Rattle.store_records.specs.Held.{MayFollow};
@@ -240,6 +240,7 @@ impl Store {
         ensures points { IsTrue D.tells → (rs : List Rec)
             → IsOn rs (D.seen disk.old) (D.may_leave disk.old) self.now
             → PieceOrNot (piece_behind after (held rs).points) result }
+        ensures few { IfOk result (λ piece. length piece ≤ 4096) }
         ensures quiet { IsTrue D.tells
             → Quiet D.seen D.moment D.may_leave D.left_since disk.old disk.new }
         ensures cause { StoreCause (D.faults disk.old) (D.faults disk.new) result }
@@ -256,6 +257,7 @@ impl Store {
         ensures transitions { IsTrue D.tells → (rs : List Rec)
             → IsOn rs (D.seen disk.old) (D.may_leave disk.old) self.now
             → PieceOrNot (piece_behind after (held rs).transitions) result }
+        ensures few { IfOk result (λ piece. length piece ≤ 4096) }
         ensures quiet { IsTrue D.tells
             → Quiet D.seen D.moment D.may_leave D.left_since disk.old disk.new }
         ensures cause { StoreCause (D.faults disk.old) (D.faults disk.new) result }

@@ -1,6 +1,7 @@
-use Rattle.std.proofs.Common.{◌≡◌, ℕ, ◌-◌, ◌<◌, ◌≤◌, ◌++◌, List, drop, length, map, take, ap, ◌∙◌, subst, arith}
+use Rattle.std.proofs.Common.{◌≡◌, ℕ, ◌-◌, ◌<◌, ◌≤◌, ◌++◌, List, drop, length, length-append, map, take, ap, ◌∙◌, subst, arith}
 use Rattle.std.specs.Prelude.{Option, Ok}
 use Rattle.std.specs.List.{flat_map}
+use Rattle.std.proofs.lemmas.List.{length-take}
 use Rattle.std.proofs.lemmas.Result.{err_from_is_err_and}
 use Rattle.kap_io.specs.Moments.{quiet_images, quiet_then}
 use Rattle.store_records.specs.Records.{spell_record}
@@ -32,6 +33,15 @@ reading-preserved g c =
           (c.args.wanted - c.len-in-reading.result) c.args.wanted c.in_ok-put_behind.ensures room c.stored_in-items.ensures in
           reads_on stored before behind c.args.start.skip c.args.wanted c.reading.gate c.reading.skip piece so c.in-Some.rec c.in-Some.next
           c.saturating_sub-skip.result c.put_behind.new.piece.items there fewer more;
+      few = omega (
+        arith,
+        ap (λ (l : List g.row.T.Denot). length l) c.in_ok-put_behind.ensures,
+        length-append piece (take (c.args.wanted - c.len-in-reading.result) (drop c.reading.skip c.stored_in-items.result)),
+        length-take (c.args.wanted - c.len-in-reading.result) (drop c.reading.skip c.stored_in-items.result),
+        c.len-in-reading.ensures,
+        c.reading.piece.ok,
+        c.reading.invariant.few,
+      );
       quiet = λ tells. quiet_then g.D.Disk.seen g.D.Disk.moment g.D.Disk.may_leave g.D.Disk.left_since _ _ _ (c.reading.invariant.quiet tells)
           (c.record_at.ensures.quiet tells);
       faults = omega (arith, c.reading.invariant.faults, c.record_at.ensures.cause.later);
