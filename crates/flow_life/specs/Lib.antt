@@ -32,3 +32,4 @@ pub mod LoadLaws
 pub mod GatherLaws
 pub mod SplitLaws
 pub mod MakingLaws
+pub mod StartLaws

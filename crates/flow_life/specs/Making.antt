@@ -14,6 +14,10 @@ use Rattle.flow_life.specs.Wired.{Feeds, IsFed, IsUnspent, outs_of, parents_of, 
 abbrev pub nodes_of : {N : Type 0} → List (CellParts N) → List N
 nodes_of cells = map (λ c. c.core.node) cells
 
+-- the stamp of the last barrier that each cell passed
+abbrev pub passed_of : {N : Type 0} → List (CellParts N) → List ℕ
+passed_of cells = map (λ c. c.core.passed.0) cells
+
 -- an out feeds one of the inputs of the cell that comes next
 pub record FeedsNext (ins : List InEdge) (cell parent i : ℕ) (o : OutEdge) : Type 0 where
   pub edge : InEdge
@@ -30,6 +34,10 @@ pub record IsWiredWith {N : Type 0} (new : List InEdge) (cells : List (CellParts
   pub even : (f : ℕ → ℕ) → sum_of_all f (parents_of cells) + sum_of f (map (λ (e : InEdge). e.from) new) ≡ sum_by_out f 0 (outs_of cells)
 
 module _ {N P S : Type 0} (g : Ghosts N P S) where
+  -- the saved state of a cell is its state
+  abbrev pub IsSaved : CellParts N → Type 0
+  IsSaved c = c.core.saved ≡ g.spell (g.spec c.core.node) (g.state c.core.node)
+
   -- cells on which nothing was received since the load, with the inputs of the one that comes next
   pub record AreBlank (ins : List InEdge) (cells : List (CellParts N)) : Type 0 where
     pub keeps : Each (Keeps g) cells

@@ -50,7 +50,7 @@ impl<N: Node> Life<N> {
     ghost use Rattle.flow_life.specs.Gathers.{effects_of};
     ghost use Rattle.flow_life.specs.Lives.{IsLife};
     ghost use Rattle.flow_life.specs.Loads.{IsGathered, LoadsFrom, plan_now};
-    ghost use Rattle.flow_life.specs.Making.{nodes_of};
+    ghost use Rattle.flow_life.specs.Making.{IsSaved, nodes_of, passed_of};
     ghost use Rattle.flow_life.specs.Settling.{Grows};
     ghost use Rattle.flow_life.specs.Steps.{AreQuiet, HasEmptyBuffers, IsEnabled, SomeEnabled, moves_of, one_if};
     ghost use Rattle.flow_life.specs.Streams.{AreStreams, CarriesPrefixes, CarriesStreams, plans_of, stream_length};
@@ -68,7 +68,8 @@ impl<N: Node> Life<N> {
     }
 
     /// Adds a cell of a node with these parents, which stand before it, where nothing was received since the load. Edges
-    /// have room for 1 to 65,536 messages. After NoMemory the life is spent.
+    /// have room for 1 to 65,536 messages. The last barrier that the new cell passed has the stamp 0. The life is at rest
+    /// with nothing to gather, and each cell's saved state is its state. After NoMemory the life is spent.
     pub fn add(
         &mut self,
         alloc: Global,
@@ -87,6 +88,10 @@ impl<N: Node> Life<N> {
         ensures nodes { OnOk result (nodes_of self.new.cells ≡ nodes_of self.old.cells ++ node ∷ []) }
         ensures parents { OnOk result (parents_of self.new.cells
             ≡ parents_of self.old.cells ++ parents.now ∷ []) }
+        ensures passed { OnOk result (passed_of self.new.cells ≡ passed_of self.old.cells ++ 0 ∷ []) }
+        ensures rest { OnOk result (AreQuiet self.new.cells) }
+        ensures gathered { OnOk result (Each IsGathered self.new.cells) }
+        ensures saved { OnOk result (Each (IsSaved N.Node) self.new.cells) }
         ensures unspent { OnOk result (self.new.spent ≡ false) }
         ensures spent { OnErr result (self.new.spent ≡ true) }
     {
@@ -193,6 +198,7 @@ impl<N: Node> Life<N> {
         ensures gathers { OnOk result (AllZip Gathers self.old.cells self.new.cells) }
         ensures gathered { OnOk result (Each IsGathered self.new.cells) }
         ensures plans { OnOk result (plans_of N.Node self.new.cells ≡ plans_of N.Node self.old.cells) }
+        ensures count { OnOk result (moves_of self.new.cells ≡ moves_of self.old.cells) }
         ensures given { OnOk result (to.new ≡ to.old ++ effects_of self.old.cells) }
         ensures unspent { OnOk result (self.new.spent ≡ false) }
         ensures spent { OnErr result (self.new.spent ≡ true) }

@@ -5,7 +5,9 @@ ghost use Rattle.std.specs.List.{AllByRecursion as Each};
 ghost use Rattle.flow_cells.specs.Made.{HasNothing, one_or_more};
 ghost use Rattle.flow_cells.specs.declared.parts.InEdge.{InEdge};
 ghost use Rattle.flow_life.specs.Lives.{IsLife};
-ghost use Rattle.flow_life.specs.Making.{AreBlank, nodes_of};
+ghost use Rattle.flow_life.specs.Loads.{IsGathered};
+ghost use Rattle.flow_life.specs.Making.{AreBlank, IsSaved, nodes_of, passed_of};
+ghost use Rattle.flow_life.specs.Steps.{AreQuiet};
 ghost use Rattle.flow_life.specs.Wired.{parents_of};
 
 use edge_queue::{CAPACITY_LIMIT, pair};
@@ -41,6 +43,7 @@ fn add_edge<N: Node>(
     ensures count { length cells.new ≡ length cells.old }
     ensures nodes { OnOk result (nodes_of cells.new ≡ nodes_of cells.old) }
     ensures parents { OnOk result (parents_of cells.new ≡ parents_of cells.old) }
+    ensures passed { OnOk result (passed_of cells.new ≡ passed_of cells.old) }
     ensures from { OnOk result (map (λ (e : InEdge). e.from) ins.new.items
         ≡ map (λ (e : InEdge). e.from) ins.old.items ++ parent ∷ []) }
 {
@@ -83,6 +86,10 @@ pub(crate) fn add_cell<N: Node>(
     ensures nodes { OnOk result (nodes_of cells.new.items ≡ nodes_of cells.old.items ++ node ∷ []) }
     ensures parents { OnOk result (parents_of cells.new.items
         ≡ parents_of cells.old.items ++ parents.now ∷ []) }
+    ensures passed { OnOk result (passed_of cells.new.items ≡ passed_of cells.old.items ++ 0 ∷ []) }
+    ensures rest { OnOk result (AreQuiet cells.new.items) }
+    ensures gathered { OnOk result (Each IsGathered cells.new.items) }
+    ensures saved { OnOk result (Each (IsSaved N.Node) cells.new.items) }
 {
     let mut ins = Vec::new(alloc);
     'adding: for parent in parents {

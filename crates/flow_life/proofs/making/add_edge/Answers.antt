@@ -58,3 +58,10 @@ returns-clause-parents g c =
     let mover = get_or cells c.args.parent c.index-cells-parent.result in
     let at : slice_get cells c.args.parent ≡ Some mover = get-here cells c.args.parent c.index-cells-parent.result (omega arith) in
     map-set (λ (x : CellParts g.row.N.Denot). map (λ (e : InEdge). e.from) x.ins.items) cells c.args.parent mover c.add_out.new.self at (ap (λ v. map (λ (e : InEdge). e.from) v.items) c.in_ok-add_out.ensures.others.ins)
+
+pub returns-clause-passed : goal.returns-clause-passed
+returns-clause-passed g c =
+    let cells = c.args.cells.now in
+    let mover = get_or cells c.args.parent c.index-cells-parent.result in
+    let at : slice_get cells c.args.parent ≡ Some mover = get-here cells c.args.parent c.index-cells-parent.result (omega arith) in
+    map-set (λ (x : CellParts g.row.N.Denot). x.core.passed.0) cells c.args.parent mover c.add_out.new.self at (ap (λ v. v.0) c.in_ok-add_out.ensures.others.passed)
