@@ -1,19 +1,19 @@
 -- While something is left to do, some step can be made.
-use Rattle.std.proofs.Common.{◌≡◌, ℕ, zero, suc, ◌+◌, ◌<◌, ◌≤◌, Bool, true, false, List, [], ◌∷◌, map, length, Option, Some, None, refl, sym, ap, subst, ◌∙◌, inl, inr, ⊎_elim, arith}
+use Rattle.std.proofs.Common.{◌≡◌, ℕ, zero, suc, ◌<◌, ◌≤◌, Bool, true, false, List, [], ◌∷◌, length, Some, refl, subst, ◌∙◌, inl, inr, ⊎_elim, arith}
 use Rattle.std.specs.Prelude.{◌||◌, ◌⊎◌, is_some, nat_lt, slice_get}
-use Rattle.std.specs.List.{AllByRecursion as Each, list_any}
+use Rattle.std.specs.List.{list_any}
 use Rattle.std.proofs.lemmas.Bool.{lt-ltb}
 use Rattle.kap_base.specs.declared.items.Msg.{Msg}
-use Rattle.edge_queue.specs.Edges.{IsSettled, edge_capacity, free, known}
+use Rattle.edge_queue.specs.Edges.{IsSettled, edge_capacity, known}
 use Rattle.flow_cells.specs.declared.parts.OutEdge.{OutEdge}
 use Rattle.flow_cells.specs.declared.parts.InEdge.{InEdge}
 use Rattle.flow_cells.specs.declared.parts.CellParts.{CellParts}
 use Rattle.flow_cells.specs.Outs.{has_unsent}
-use Rattle.flow_cells.specs.Looks.{CanTake, IsQuiet, has_known, knows_some}
+use Rattle.flow_cells.specs.Looks.{has_known, knows_some}
 use Rattle.flow_life.specs.declared.steps.Step.TheVariants as steps
 use Rattle.flow_life.specs.Places.{in_of, out_of}
 use Rattle.flow_life.specs.PlaceLaws.{CellOfIn, cell-of_in, found-same, out-at}
-use Rattle.flow_life.specs.Steps.{AreQuiet, CanPutAt, CanTakeAt, SomeEnabled}
+use Rattle.flow_life.specs.Steps.{AreQuiet, SomeEnabled}
 use Rattle.flow_life.specs.Wired.{Feeds, IsFed, IsWired}
 
 true-or-false : (b : Bool) → (b ≡ true) ⊎ (b ≡ false)

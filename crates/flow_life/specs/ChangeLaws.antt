@@ -1,7 +1,5 @@
 -- Whatever one move does to the two ends of one edge, the edges of a net stay wired.
-use Rattle.std.proofs.Common.{◌≡◌, ℕ, zero, suc, ◌+◌, ◌<◌, ◌≤◌, List, [], ◌∷◌, map, length, set, Option, Some, None, refl, sym, ap, subst, ◌∙◌, inl, inr, ⊎_elim, arith}
-use Rattle.std.specs.Prelude.{◌⊎◌, slice_get}
-use Rattle.std.specs.List.{AllByRecursion as Each, AllZip}
+use Rattle.std.proofs.Common.{◌≡◌, ℕ, suc, ◌<◌, List, Some, refl, sym, ap, subst, ◌∙◌, ⊎_elim, arith}
 use Rattle.edge_queue.specs.declared.ends.Tail.{Tail}
 use Rattle.edge_queue.specs.Edges.{IsEdge, IsSettled, edge_capacity}
 use Rattle.edge_queue.specs.Moves.{SameHead, SameTail, TailLooked}
@@ -12,7 +10,7 @@ use Rattle.flow_cells.specs.declared.parts.CellParts.{CellParts}
 use Rattle.flow_cells.specs.Handled.{Waits}
 use Rattle.flow_cells.specs.Moves.{Eases}
 use Rattle.flow_life.specs.Places.{Both, in_of, out_of}
-use Rattle.flow_life.specs.PlaceLaws.{Other, both-left, both-refl, both-right, both-trans, found-same, same_places}
+use Rattle.flow_life.specs.PlaceLaws.{Other, both-left, both-right, both-trans, found-same, same_places}
 use Rattle.flow_life.specs.Wired.{Feeds, IsFed, IsWired, outs_of, parents_of, sum_by_out, sum_of_all}
 
 -- an out on whose edge nothing was put; what waits there may change

@@ -1,14 +1,13 @@
 -- Gathering effects leaves cells that are ready, and all else as it was.
-use Rattle.std.proofs.Common.{◌≡◌, ℕ, zero, suc, ◌+◌, List, [], ◌∷◌, map, length, Option, Some, None, refl, sym, ap, subst, ◌∙◌, arith}
+use Rattle.std.proofs.Common.{◌≡◌, ℕ, zero, suc, List, [], ◌∷◌, map, length, refl, ap, ◌∙◌, arith}
 use Rattle.std.specs.Prelude.{slice_get}
 use Rattle.std.specs.List.{AllByRecursion as Each, AllZip}
 use Rattle.node_core.specs.declared.node.Node.{Ghosts}
-use Rattle.flow_cells.specs.declared.parts.OutEdge.{OutEdge}
 use Rattle.flow_cells.specs.declared.parts.InEdge.{InEdge}
 use Rattle.flow_cells.specs.declared.parts.CellParts.{CellParts}
 use Rattle.flow_cells.specs.Gathers.{Gathers}
 use Rattle.flow_cells.specs.Kept.{Keeps}
-use Rattle.flow_life.specs.Places.{Both, in_of, out_of}
+use Rattle.flow_life.specs.Places.{in_of, out_of}
 use Rattle.flow_life.specs.PlaceLaws.{both-refl}
 use Rattle.flow_life.specs.ChangeLaws.{Calm, Calm-refl, wired-calm}
 use Rattle.flow_life.specs.Loads.{IsGathered}

@@ -1,11 +1,10 @@
 -- Every graph has its streams, and only these: each node's is made of those before it.
-use Rattle.std.proofs.Common.{◌≡◌, ℕ, zero, suc, ◌+◌, ◌<◌, ◌≤◌, List, [], ◌∷◌, ◌++◌, map, length, get_or, Option, Some, None, refl, sym, ap, subst, ◌∙◌, append-nil, append_assoc, length-append, arith}
+use Rattle.std.proofs.Common.{◌≡◌, ℕ, zero, suc, ◌+◌, ◌<◌, List, [], ◌∷◌, ◌++◌, map, length, get_or, Option, Some, None, refl, sym, ap, subst, ◌∙◌, append_assoc, length-append, arith}
 use Rattle.std.specs.List.{AllByRecursion as Each, AllZip}
 use Rattle.kap_base.specs.declared.items.Msg.{Msg}
 use Rattle.merge_node.specs.Merge.{AreClosed, AreMergeable, Entry, Lists, merge}
 use Rattle.merge_node.specs.Buffers.{Merges, Taken, done, more, next}
-use Rattle.merge_node.specs.BufferLaws.{Less, merges-same, next-less, total}
-use Rattle.flow_cells.specs.Runs.{Run}
+use Rattle.merge_node.specs.BufferLaws.{merges-same, next-less, total}
 use Rattle.flow_cells.specs.declared.parts.InEdge.{InEdge}
 use Rattle.flow_cells.specs.declared.parts.CellParts.{CellParts}
 use Rattle.node_core.specs.declared.node.Node.{Ghosts}
@@ -91,6 +90,28 @@ module _ {S : Type 0} where
   -- every graph has its streams
   pub graph_streams : (plans : List (Plan S)) → IsGraph plans → HasStreams plans
   graph_streams plans graph = let r = solve 0 [] plans refl graph in record { streams = r.rest; are = r.are }
+
+  only-behind : (n : ℕ) (ss : List (List Msg)) (plans : List (Plan S)) (xs ys : List (List Msg)) → length ss ≡ n → IsGraphFrom n plans → AllZip (IsStream (ss ++ xs)) plans xs → AllZip (IsStream (ss ++ ys)) plans ys → xs ≡ ys
+  only-behind n ss [] [] [] len graph a b = refl
+  only-behind n ss [] [] (y ∷ ys) len graph a b = absurd b
+  only-behind n ss [] (x ∷ xs) ys len graph a b = absurd a
+  only-behind n ss (p ∷ ps) [] ys len graph a b = absurd a
+  only-behind n ss (p ∷ ps) (x ∷ xs) [] len graph a b = absurd b
+  only-behind n ss (p ∷ ps) (x ∷ xs) (y ∷ ys) len graph a b =
+      let h : Each (λ (q : ℕ). q < length ss) p.parents = subst (λ (k : ℕ). Each (λ (q : ℕ). q < k) p.parents) (sym len) graph.0 in
+      let into = streams_into ss p.parents p.source in
+      let u : Merges into a.0.merged a.0.rest = subst (λ (ls : Lists). Merges ls a.0.merged a.0.rest) (into-front ss (x ∷ xs) p.parents p.source h) a.0.merges in
+      let v : Merges into b.0.merged b.0.rest = subst (λ (ls : Lists). Merges ls b.0.merged b.0.rest) (into-front ss (y ∷ ys) p.parents p.source h) b.0.merges in
+      let same : a.0.merged ≡ b.0.merged = merges-same u a.0.stuck v b.0.stuck in
+      let here : x ≡ y = a.0.is ∙ ap (λ (m : List Entry). (run_from p m).outs) same ∙ sym b.0.is in
+      let behind : xs ≡ ys = only-behind (suc n) (ss ++ x ∷ []) ps xs ys (length-append ss (x ∷ []) ∙ omega (arith, len)) graph.1
+      (subst (λ (l : List (List Msg)). AllZip (IsStream l) ps xs) (sym (append_assoc ss (x ∷ []) xs)) a.1)
+      (subst (λ (l : List (List Msg)). AllZip (IsStream l) ps ys) (sym (append_assoc ss (x ∷ []) ys)) (subst (λ (z : List Msg). AllZip (IsStream (ss ++ z ∷ ys)) ps ys) (sym here) b.1)) in
+      ap (λ (z : List Msg). z ∷ xs) here ∙ ap (λ (l : List (List Msg)). y ∷ l) behind
+
+  -- and no others
+  pub only_streams : (plans : List (Plan S)) (xs ys : List (List Msg)) → IsGraph plans → AreStreams plans xs → AreStreams plans ys → xs ≡ ys
+  only_streams plans xs ys graph a b = only-behind 0 [] plans xs ys refl graph a b
 
   -- where the streams of its parents are in order, what a node handles in whole is their merge
   pub merged_whole : (bs : List Stamp) (ss : List (List Msg)) (p : Plan S) (s : List Msg) → (t : IsStream ss p s) → AreMergeable bs (streams_into ss p.parents p.source) → AreClosed (streams_into ss p.parents p.source) → t.merged ≡ merge (streams_into ss p.parents p.source)

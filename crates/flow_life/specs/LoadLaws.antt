@@ -1,9 +1,7 @@
 -- A load that begins leaves cells that are ready, and counts anew.
-use Rattle.std.proofs.Common.{◌≡◌, ℕ, zero, suc, ◌+◌, ◌<◌, ◌≤◌, List, [], ◌∷◌, map, length, Option, Some, None, refl, sym, ap, subst, ◌∙◌, arith}
-use Rattle.std.specs.Prelude.{slice_get}
+use Rattle.std.proofs.Common.{◌≡◌, ℕ, zero, suc, ◌<◌, List, [], ◌∷◌, map, length, Some, refl, sym, ap, subst, ◌∙◌, arith}
 use Rattle.std.specs.List.{AllByRecursion as Each, AllZip}
 use Rattle.kap_base.specs.declared.items.Msg.{Msg}
-use Rattle.kap_base.specs.declared.items.Stamp.{Stamp}
 use Rattle.node_core.specs.declared.node.Node.{Ghosts}
 use Rattle.merge_node.specs.Merge.{IsClosed, barriers}
 use Rattle.merge_node.specs.ClosingLaws.{IsClosedBy}
@@ -13,10 +11,10 @@ use Rattle.flow_cells.specs.declared.parts.OutEdge.{OutEdge}
 use Rattle.flow_cells.specs.declared.parts.InEdge.{InEdge}
 use Rattle.flow_cells.specs.declared.parts.CellParts.{CellParts}
 use Rattle.flow_cells.specs.Kept.{Keeps}
-use Rattle.flow_cells.specs.Loads.{Begins, InLoads, IsOwn, NothingWaits, OutLoads}
+use Rattle.flow_cells.specs.Loads.{InLoads, IsOwn, NothingWaits, OutLoads}
 use Rattle.flow_cells.specs.Looks.{IsQuiet}
 use Rattle.flow_life.specs.Places.{Both, in_of, out_of}
-use Rattle.flow_life.specs.PlaceLaws.{CellOfIn, Other, both-left, both-right, cell-of_in, each-get, each-of, found-same, zip-both}
+use Rattle.flow_life.specs.PlaceLaws.{CellOfIn, Other, both-left, both-right, cell-of_in, each-get, each-of, zip-both}
 use Rattle.flow_life.specs.Streams.{Plan, plan_of, plans_of}
 use Rattle.flow_life.specs.Wired.{Feeds, IsFed, IsReady, IsUnspent, IsWired, outs_of, parents_of, sum_by_out, sum_of_all}
 use Rattle.flow_life.specs.Steps.{AreQuiet, HasEmptyBuffers, moves_of, received_count, sent_count}

@@ -1,11 +1,11 @@
 -- What a cell's putting a message, and the settling behind it, make of a net.
-use Rattle.std.proofs.Common.{◌≡◌, ℕ, zero, suc, ◌+◌, ◌<◌, ◌≤◌, List, [], ◌∷◌, ◌++◌, map, length, set, Some, None, refl, sym, ap, subst, ◌∙◌, inl, inr, ⊎_elim, arith}
+use Rattle.std.proofs.Common.{◌≡◌, ℕ, suc, ◌+◌, ◌<◌, ◌≤◌, List, ◌∷◌, map, length, set, Some, refl, sym, ap, subst, ◌∙◌, ⊎_elim, arith}
 use Rattle.std.proofs.lemmas.List.{length-set}
-use Rattle.std.specs.Prelude.{◌⊎◌, slice_get}
+use Rattle.std.specs.Prelude.{slice_get}
 use Rattle.std.specs.List.{AllByRecursion as Each, AllZip}
 use Rattle.kap_base.specs.declared.items.Msg.{Msg}
 use Rattle.node_core.specs.declared.node.Node.{Ghosts}
-use Rattle.edge_queue.specs.Edges.{IsPaired, IsSettled, edge_capacity, free, known, received, sent}
+use Rattle.edge_queue.specs.Edges.{IsPaired, IsSettled, edge_capacity, free, known, sent}
 use Rattle.edge_queue.specs.Moves.{HeadLooked}
 use Rattle.edge_queue.specs.EdgeLaws.{IsPaired-same, SameHead-refl, SameHead-trans, put_had_room}
 use Rattle.flow_life.specs.StreamLaws.{prefix-trans}
@@ -16,14 +16,14 @@ use Rattle.flow_cells.specs.Outs.{SendsOn}
 use Rattle.flow_cells.specs.OutLaws.{each-set, zip-weaker}
 use Rattle.flow_cells.specs.Kept.{Keeps}
 use Rattle.flow_cells.specs.MoveLaws.{Still-refl}
-use Rattle.flow_cells.specs.Moves.{Eases, IsStuck, KeepsOthers, PutsNone, PutsOne, Still}
-use Rattle.flow_life.specs.Places.{Both, in_of, out_of}
-use Rattle.flow_life.specs.PlaceLaws.{Other, both-refl, both-right, each-get, found-same, get-set, get-set_other, get-within, in-at, ins-set, map-set, out-at, outs-set, same_place, same_places, zip-both, zip-length}
-use Rattle.flow_life.specs.Streams.{plan_of, plans_of}
-use Rattle.flow_life.specs.Wired.{Feeds, IsFed, IsReady, IsUnspent, IsWired}
+use Rattle.flow_cells.specs.Moves.{Eases, IsStuck, PutsNone, PutsOne, Still}
+use Rattle.flow_life.specs.Places.{in_of, out_of}
+use Rattle.flow_life.specs.PlaceLaws.{Other, both-refl, both-right, each-get, found-same, get-set, get-set_other, get-within, in-at, ins-set, out-at, outs-set, same_places, zip-both, zip-length}
+use Rattle.flow_life.specs.Streams.{plans_of}
+use Rattle.flow_life.specs.Wired.{IsFed, IsReady, IsUnspent, IsWired}
 use Rattle.flow_life.specs.Steps.{CanPutAt, moves_of, received_count, sent_count}
-use Rattle.flow_life.specs.Settling.{HasEdge, SameReceived, SameSent, Sends, SettlesIn}
-use Rattle.flow_life.specs.ChangeLaws.{Calm, Calm-refl, Changes, Ends, SameIn, SameOut, SettledEnds, Then, eases_calm, settled-map, then-settled, wired-calm, wired-changes}
+use Rattle.flow_life.specs.Settling.{HasEdge, SameReceived, Sends, SettlesIn}
+use Rattle.flow_life.specs.ChangeLaws.{Calm, Calm-refl, Ends, SameIn, SameOut, SettledEnds, Then, eases_calm, settled-map, then-settled, wired-calm, wired-changes}
 use Rattle.flow_life.specs.CountLaws.{moves-set, one-more, sent-calm, sent-set}
 use Rattle.flow_life.specs.AliveLaws.{Across, across}
 use Rattle.flow_life.specs.StepLaws.{Made, both-found, calm_sent, counts-set, places, parents-set, plans-set, sent-out, settle-ends, settle-moves, settle-plans, settle-unspent, still-in}

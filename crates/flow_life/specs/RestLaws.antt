@@ -1,7 +1,7 @@
 -- At rest each edge has carried its stream whole, and nothing is left in a buffer.
-use Rattle.std.proofs.Common.{◌≡◌, ℕ, zero, suc, ◌+◌, ◌<◌, ◌≤◌, Bool, true, false, List, [], ◌∷◌, ◌++◌, map, length, get_or, Option, Some, None, refl, sym, ap, subst, ◌∙◌, append-nil, append_assoc, arith}
-use Rattle.std.specs.Prelude.{⊤, ◌||◌, is_some, nat_lt, slice_get}
-use Rattle.std.specs.List.{AllByRecursion as Each, AllZip, list_any}
+use Rattle.std.proofs.Common.{◌≡◌, ℕ, zero, suc, ◌<◌, Bool, true, false, List, [], ◌∷◌, ◌++◌, map, length, get_or, Some, refl, sym, ap, subst, ◌∙◌, append-nil, append_assoc, arith}
+use Rattle.std.specs.Prelude.{◌||◌, is_some, nat_lt, slice_get}
+use Rattle.std.specs.List.{AllByRecursion as Each, list_any}
 use Rattle.std.proofs.lemmas.Bool.{lt-ltb}
 use Rattle.kap_base.specs.declared.items.Item.{Item}
 use Rattle.kap_base.specs.declared.items.Msg.{Msg}
@@ -10,7 +10,7 @@ use Rattle.kap_base.specs.declared.items.Stamp.{Stamp}
 use Rattle.node_core.specs.declared.node.Node.{Ghosts}
 use Rattle.node_core.specs.Meaning.{Input, Move}
 use Rattle.merge_node.specs.Merge.{Entry, IsClosed, Lists, barriers}
-use Rattle.merge_node.specs.Buffers.{Merges, next}
+use Rattle.merge_node.specs.Buffers.{Merges}
 use Rattle.merge_node.specs.BufferLaws.{merges-same}
 use Rattle.merge_node.specs.CallLaws.{AreEmpty}
 use Rattle.merge_node.specs.ClosingLaws.{AllClosedBy, ClosedMerge, EntriesClosed, IsClosedBy, entry_barriers, merged-closed}
@@ -19,16 +19,16 @@ use Rattle.edge_queue.specs.EdgeLaws.{settled_since}
 use Rattle.flow_cells.specs.declared.parts.OutEdge.{OutEdge}
 use Rattle.flow_cells.specs.declared.parts.InEdge.{InEdge}
 use Rattle.flow_cells.specs.declared.parts.CellParts.{CellParts}
-use Rattle.flow_cells.specs.Outs.{has_unsent, item_msgs}
-use Rattle.flow_cells.specs.Looks.{IsQuiet, has_known, knows_some}
+use Rattle.flow_cells.specs.Outs.{item_msgs}
+use Rattle.flow_cells.specs.Looks.{IsQuiet, knows_some}
 use Rattle.flow_cells.specs.Made.{IsNothing}
 use Rattle.flow_cells.specs.Runs.{Run, begun, reacted, run}
-use Rattle.flow_cells.specs.Kept.{IsAt, IsGiven, Keeps, received_of, run_of}
+use Rattle.flow_cells.specs.Kept.{IsAt, Keeps, received_of, run_of}
 use Rattle.flow_life.specs.Places.{in_of, out_of}
-use Rattle.flow_life.specs.PlaceLaws.{CellOfIn, CellOfOut, cell-of_in, cell-of_out, each-get, each-of, found-same, get-within, in-at, out-at}
+use Rattle.flow_life.specs.PlaceLaws.{CellOfIn, CellOfOut, cell-of_in, cell-of_out, each-get, each-of, found-same, in-at}
 use Rattle.flow_life.specs.Streams.{AreStreams, CarriesStreams, IsStream, Plan, plan_of, plans_of, run_from, streams_at, streams_into}
-use Rattle.flow_life.specs.StreamLaws.{Beside, beside, get-map, get-or, given_out, sent-given}
-use Rattle.flow_life.specs.Wired.{IsFed, IsReady, IsWired}
+use Rattle.flow_life.specs.StreamLaws.{beside, get-map, get-or, given_out, sent-given}
+use Rattle.flow_life.specs.Wired.{IsFed, IsReady}
 use Rattle.flow_life.specs.Steps.{AreQuiet, HasEmptyBuffers}
 use Rattle.flow_life.specs.Graphs.{IsClosedFor, IsLoaded}
 

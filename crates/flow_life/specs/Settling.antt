@@ -1,5 +1,5 @@
 -- The edge of an input is settled in a list of cells, and one list grows by one message.
-use Rattle.std.specs.Prelude.{◌≡◌, ℕ, ◌<◌, ⊤, List, [], ◌∷◌, ◌++◌, Some, slice_get, slice_set}
+use Rattle.std.specs.Prelude.{◌≡◌, ℕ, ◌<◌, List, [], ◌∷◌, ◌++◌, Some, slice_get, slice_set}
 use Rattle.kap_base.specs.declared.items.Msg.{Msg}
 use Rattle.edge_queue.specs.Edges.{IsPaired, received, sent}
 use Rattle.flow_cells.specs.declared.parts.OutEdge.{OutEdge}

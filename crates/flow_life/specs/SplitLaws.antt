@@ -1,11 +1,9 @@
 -- Two cells of a list that is split between them.
-use Rattle.std.proofs.Common.{◌≡◌, ℕ, zero, suc, ◌+◌, ◌<◌, List, [], ◌∷◌, ◌++◌, length, get_or, set, Some, None, refl, sym, ap, subst, ◌∙◌, arith}
+use Rattle.std.proofs.Common.{◌≡◌, ℕ, zero, suc, ◌<◌, List, [], ◌∷◌, ◌++◌, length, get_or, set, Some, refl, sym, ap, subst, ◌∙◌, arith}
 use Rattle.std.specs.Prelude.{slice_get}
 use Rattle.std.specs.List.{AllByRecursion as Each}
-use Rattle.flow_cells.specs.declared.parts.InEdge.{InEdge}
 use Rattle.flow_cells.specs.declared.parts.CellParts.{CellParts}
 use Rattle.flow_cells.specs.Settles.{IsFedBy, Settles}
-use Rattle.flow_life.specs.Places.{in_of, out_of}
 use Rattle.flow_life.specs.PlaceLaws.{CellOfIn, CellOfOut, cell-of_in, cell-of_out, found-same, get-within}
 use Rattle.flow_life.specs.Settling.{HasEdge, SettlesIn}
 

@@ -1,8 +1,7 @@
 -- Cells that received nothing since their load have nothing to do, and stand where they began.
-use Rattle.std.proofs.Common.{◌≡◌, ℕ, zero, suc, Bool, true, false, List, [], ◌∷◌, ◌++◌, map, length, Some, None, refl, sym, ap, subst, ◌∙◌, arith}
-use Rattle.std.specs.Prelude.{◌||◌, is_some, slice_get}
-use Rattle.std.specs.List.{AllByRecursion as Each, list_any}
-use Rattle.kap_base.specs.declared.items.Effect.{Effect}
+use Rattle.std.proofs.Common.{◌≡◌, ℕ, suc, false, List, [], ◌∷◌, ◌++◌, map, Some, None, refl, sym, subst, ◌∙◌}
+use Rattle.std.specs.Prelude.{slice_get}
+use Rattle.std.specs.List.{AllByRecursion as Each}
 use Rattle.kap_base.specs.declared.items.Msg.{Msg}
 use Rattle.node_core.specs.declared.node.Node.{Ghosts}
 use Rattle.merge_node.specs.Merge.{Entry, Lists}

@@ -1,14 +1,13 @@
 -- What a cell's move and the settling behind it make of a net.
-use Rattle.std.proofs.Common.{◌≡◌, ℕ, zero, suc, ◌+◌, ◌<◌, ◌≤◌, Bool, true, false, List, [], ◌∷◌, ◌++◌, map, length, set, Option, Some, None, refl, sym, ap, subst, ◌∙◌, inl, inr, ⊎_elim, arith}
+use Rattle.std.proofs.Common.{◌≡◌, ℕ, zero, suc, ◌+◌, ◌<◌, Bool, true, false, List, [], ◌∷◌, ◌++◌, map, length, set, Option, Some, None, refl, sym, ap, subst, ◌∙◌, ⊎_elim, arith}
 use Rattle.std.proofs.lemmas.List.{length-set}
 use Rattle.std.specs.Prelude.{nat_lt, slice_get}
 use mathlib.Core.List.{IsPrefix}
-use Rattle.std.specs.List.{AllByRecursion as Each, AllZip}
+use Rattle.std.specs.List.{AllByRecursion as Each}
 use Rattle.kap_base.specs.declared.items.Msg.{Msg}
 use Rattle.node_core.specs.declared.node.Node.{Ghosts}
-use Rattle.edge_queue.specs.Edges.{IsSettled, edge_capacity, free, known, received, sent}
-use Rattle.edge_queue.specs.Moves.{HeadLooked, Puts, TailLooked, Takes}
-use Rattle.edge_queue.specs.EdgeLaws.{IsPaired-same, SameHead-trans, SameTail-trans, put_had_room}
+use Rattle.edge_queue.specs.Edges.{known, received, sent}
+use Rattle.edge_queue.specs.EdgeLaws.{IsPaired-same, SameHead-trans, SameTail-trans}
 use Rattle.flow_cells.specs.declared.parts.OutEdge.{OutEdge}
 use Rattle.flow_cells.specs.declared.parts.InEdge.{InEdge}
 use Rattle.flow_cells.specs.declared.parts.CellParts.{CellParts}
@@ -17,18 +16,15 @@ use Rattle.flow_cells.specs.OutLaws.{each-set, zip-weaker}
 use Rattle.flow_cells.specs.Handled.{Waits}
 use Rattle.flow_cells.specs.Kept.{Keeps}
 use Rattle.flow_cells.specs.Looks.{CanTake, knows_some}
-use Rattle.flow_cells.specs.MoveLaws.{Still-refl}
 use Rattle.flow_cells.specs.Moves.{Eases, KnowsNone, Still, TakesAt, TakesNone, TakesOne}
-use Rattle.flow_cells.specs.Settles.{KeepsAll, Settles}
 use Rattle.flow_life.specs.Places.{Both, in_of, out_of}
 use Rattle.flow_life.specs.PlaceLaws.{Other, both-refl, both-right, each-get, found-same, get-set, get-set_other, get-within, in-at, ins-set, map-set, out-at, outs-set, same_places, zip-both, zip-length}
-use Rattle.flow_life.specs.Streams.{Plan, plan_of, plans_of}
-use Rattle.flow_life.specs.Wired.{Feeds, IsFed, IsReady, IsUnspent, IsWired, outs_of, parents_of}
-use Rattle.flow_life.specs.Steps.{CanPutAt, CanTakeAt, moves_of, received_count, sent_count}
-use Rattle.flow_life.specs.Settling.{HasEdge, Receives, SameReceived, SameSent, Sends, SettlesIn}
-use Rattle.flow_life.specs.ChangeLaws.{Calm, Calm-refl, Changes, Ends, SameIn, SameOut, SettledEnds, Then, eases_calm, settled-map, then-settled, waits_calm, wired-calm, wired-changes}
+use Rattle.flow_life.specs.Streams.{plan_of, plans_of}
+use Rattle.flow_life.specs.Wired.{IsFed, IsReady, IsUnspent, IsWired, outs_of, parents_of}
+use Rattle.flow_life.specs.Steps.{moves_of, received_count, sent_count}
+use Rattle.flow_life.specs.Settling.{HasEdge, Receives, SameSent, SettlesIn}
+use Rattle.flow_life.specs.ChangeLaws.{Calm, Calm-refl, Ends, SameIn, SameOut, SettledEnds, Then, settled-map, then-settled, waits_calm, wired-changes}
 use Rattle.flow_life.specs.CountLaws.{moves-set, one-more, received-set, sent-calm, sent-set}
-use Rattle.flow_life.specs.AliveLaws.{Across, across}
 
 -- ---- settling
 

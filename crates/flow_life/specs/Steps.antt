@@ -1,7 +1,6 @@
 -- Which steps are enabled, how much was sent and received, and when nothing is left to do.
 use Rattle.std.specs.Prelude.{◌≡◌, ℕ, ◌+◌, ◌<◌, Bool, if◌then◌else◌, List, [], ◌∷◌, Some, length, slice_get}
 use Rattle.std.specs.List.{AllByRecursion as Each}
-use Rattle.kap_base.specs.declared.items.Msg.{Msg}
 use Rattle.edge_queue.specs.Edges.{edge_capacity, known, received, sent}
 use Rattle.flow_cells.specs.declared.parts.OutEdge.{OutEdge}
 use Rattle.flow_cells.specs.declared.parts.InEdge.{InEdge}

@@ -1,15 +1,15 @@
 -- What each edge has carried is a prefix of the stream of its parent, and at rest the whole.
-use Rattle.std.proofs.Common.{◌≡◌, ℕ, zero, suc, ◌+◌, ◌<◌, ◌≤◌, List, [], ◌∷◌, ◌++◌, map, length, get_or, Some, None, refl, sym, ap, subst, ◌∙◌, append-nil, append_assoc, arith}
+use Rattle.std.proofs.Common.{◌≡◌, ℕ, zero, suc, ◌<◌, List, [], ◌∷◌, ◌++◌, map, get_or, Some, refl, sym, ap, subst, ◌∙◌, append-nil, append_assoc, arith}
 use Rattle.std.specs.Prelude.{slice_get}
-use Rattle.std.specs.List.{AllByRecursion as Each, AllZip}
+use Rattle.std.specs.List.{AllZip}
 use mathlib.Core.List.{IsPrefix}
 use Rattle.kap_base.specs.declared.items.Msg.{Msg}
 use Rattle.kap_base.specs.declared.items.Msg.TheVariants as messages
 use Rattle.node_core.specs.declared.node.Node.{Ghosts}
 use Rattle.node_core.specs.Meaning.{Input, Move}
 use Rattle.merge_node.specs.Merge.{Entry, Lists}
-use Rattle.merge_node.specs.Buffers.{Merges, next}
-use Rattle.merge_node.specs.BufferLaws.{Ahead, join, merges-ahead, merges-join, merges-same}
+use Rattle.merge_node.specs.Buffers.{Merges}
+use Rattle.merge_node.specs.BufferLaws.{Ahead, join, merges-ahead, merges-join}
 use Rattle.edge_queue.specs.Edges.{known, received, sent}
 use Rattle.edge_queue.specs.EdgeLaws.{settled_since}
 use Rattle.flow_cells.specs.declared.parts.OutEdge.{OutEdge}
@@ -20,9 +20,9 @@ use Rattle.flow_cells.specs.Runs.{Run, begun, reacted, run}
 use Rattle.flow_cells.specs.HandledLaws.{run-append}
 use Rattle.flow_cells.specs.Kept.{IsGiven, Keeps, received_of, run_of}
 use Rattle.flow_life.specs.Places.{in_of, out_of}
-use Rattle.flow_life.specs.PlaceLaws.{CellOfIn, CellOfOut, cell-of_in, cell-of_out, each-get, found-same, in-at, out-at}
-use Rattle.flow_life.specs.Streams.{AreStreams, CarriesPrefixes, CarriesStreams, IsStream, Plan, plan_of, plans_of, run_from, streams_at, streams_into}
-use Rattle.flow_life.specs.Wired.{IsFed, IsReady, IsWired}
+use Rattle.flow_life.specs.PlaceLaws.{CellOfOut, cell-of_out, each-get, found-same, in-at}
+use Rattle.flow_life.specs.Streams.{AreStreams, CarriesPrefixes, IsStream, Plan, plan_of, plans_of, run_from, streams_at, streams_into}
+use Rattle.flow_life.specs.Wired.{IsFed, IsReady}
 
 -- ---- prefixes
 

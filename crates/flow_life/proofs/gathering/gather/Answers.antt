@@ -1,4 +1,4 @@
-use Rattle.std.proofs.Common.{◌≡◌, sym, subst}
+use Rattle.std.proofs.Common.{sym, subst}
 use Rattle.flow_life.specs.Graphs.{IsLoaded}
 use Rattle.flow_life.specs.GatherLaws.{all-gathered, moves-gathered, plans-gathered, ready-gathered}
 use Rattle.flow_life.proofs.gathering.gather.Goals as goal

@@ -1,4 +1,3 @@
-use Rattle.std.proofs.Common.{◌≡◌}
 use Rattle.flow_life.specs.LoadLaws.{can-load, loaded-closed, moves-loaded, plans-loaded, ready-loaded}
 use Rattle.flow_life.specs.StreamLaws.{carries_prefixes}
 use Rattle.flow_life.proofs.loads.load.Goals as goal

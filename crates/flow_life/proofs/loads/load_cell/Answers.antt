@@ -1,4 +1,4 @@
-use Rattle.std.proofs.Common.{◌≡◌, sym, subst, arith}
+use Rattle.std.proofs.Common.{sym, subst, arith}
 use Rattle.flow_cells.specs.Loads.{IsOwn}
 use Rattle.flow_life.specs.LoadLaws.{all-own, none-own}
 use Rattle.flow_life.proofs.loads.load_cell.Goals as goal

@@ -1,4 +1,3 @@
-use Rattle.std.proofs.Common.{◌≡◌}
 use Rattle.flow_life.specs.StreamLaws.{carries_prefixes}
 use Rattle.flow_life.proofs.playing.play.Goals as goal
 

@@ -1,7 +1,6 @@
-use Rattle.std.proofs.Common.{◌≡◌, Result, Ok, Err, sym, subst}
+use Rattle.std.proofs.Common.{Result, Ok, Err, sym, subst}
 use Rattle.std.specs.Prelude.{OnOk}
 use Rattle.flow_life.specs.Graphs.{IsLoaded}
-use Rattle.flow_life.specs.Lives.{IsLife}
 use Rattle.flow_life.specs.StreamLaws.{carries_prefixes}
 use Rattle.flow_life.proofs.playing.step.Goals as goal
 

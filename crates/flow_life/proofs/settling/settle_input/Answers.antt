@@ -1,4 +1,4 @@
-use Rattle.std.proofs.Common.{◌≡◌, ◌<◌, List, ◌++◌, length, get_or, set, sym, subst}
+use Rattle.std.proofs.Common.{◌<◌, length, set, subst}
 use Rattle.std.specs.List.{AllByRecursion as Each}
 use Rattle.flow_cells.specs.Kept.{Keeps}
 use Rattle.flow_cells.specs.OutLaws.{each-at, each-set}

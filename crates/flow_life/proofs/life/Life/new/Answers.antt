@@ -1,4 +1,4 @@
-use Rattle.std.proofs.Common.{◌≡◌, sym, subst}
+use Rattle.std.proofs.Common.{sym, subst}
 use Rattle.flow_life.specs.Lives.{IsLife}
 use Rattle.flow_life.specs.MakingLaws.{life-none}
 use Rattle.flow_life.proofs.life.Life.new.Goals as goal
