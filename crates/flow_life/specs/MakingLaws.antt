@@ -40,6 +40,10 @@ unused-tail t e = drop-none _ (ring_sent t) e
 pub fresh-head : (h : Head) → ring_received h ≡ [] → received h ≡ []
 fresh-head h e = drop-none _ (ring_received h) e
 
+-- what holds of one holds of its equal
+pub holds-of : {A : Type 0} (P : A → Type 0) (x y : A) → y ≡ x → P x → P y
+holds-of P x y e p = subst P (sym e) p
+
 -- ---- one element more
 
 -- what stands in a list with one element more
@@ -57,6 +61,10 @@ get-kept (z ∷ xs) ys (suc k) x e = get-kept xs ys k x e
 get-last : {A : Type 0} (xs : List A) (y : A) → slice_get (xs ++ y ∷ []) (length xs) ≡ Some y
 get-last [] y = refl
 get-last (x ∷ xs) y = get-last xs y
+
+-- what a function makes of a list with one element more
+pub map-push : {A B : Type 0} (f : A → B) (xs : List A) (x : A) (ys : List A) (bs : List B) (b : B) → ys ≡ xs ++ x ∷ [] → map f xs ≡ bs → f x ≡ b → map f ys ≡ bs ++ b ∷ []
+map-push f xs x ys bs b e h k = ap (map f) e ∙ map-append f xs (x ∷ []) ∙ ap (λ l. l ++ f x ∷ []) h ∙ ap (λ y. bs ++ y ∷ []) k
 
 sum-push : (f : ℕ → ℕ) (ps : List ℕ) (p : ℕ) → sum_of f (ps ++ p ∷ []) ≡ sum_of f ps + f p
 sum-push f [] p = omega arith

@@ -1,14 +1,14 @@
-use Rattle.std.proofs.Common.{◌≡◌, ℕ, List, [], ◌∷◌, ◌++◌, drop, get_or, length, map, take, refl, sym, ap, subst, ◌∙◌, arith}
+use Rattle.std.proofs.Common.{◌≡◌, ℕ, List, [], ◌∷◌, ◌++◌, drop, get_or, length, map, take, refl, sym, ap, ◌∙◌, arith}
 use Rattle.std.specs.List.{AllByRecursion as Each}
 use Rattle.flow_life.specs.Lives.{IsLife}
 use Rattle.flow_life.specs.Making.{AreBlank, nodes_of, passed_of}
 use Rattle.flow_life.specs.Wired.{parents_of}
-use Rattle.std.proofs.lemmas.List.{map-append, take_more}
+use Rattle.std.proofs.lemmas.List.{take_more}
 use Rattle.std.proofs.Math.Seq.{take-append_seam, take-length}
 use Rattle.flow_cells.specs.declared.parts.CellParts.{CellParts}
 use Rattle.flow_cells.specs.declared.parts.InEdge.{InEdge}
 use Rattle.flow_cells.specs.Made.{HasNothing}
-use Rattle.flow_life.specs.MakingLaws.{blank-first, life-cell}
+use Rattle.flow_life.specs.MakingLaws.{blank-first, holds-of, life-cell, map-push}
 use Rattle.flow_life.specs.SplitLaws.{each-append}
 use Rattle.flow_life.specs.StartLaws.{nothing-gathered, nothing-quiet, nothing-saved}
 use Rattle.flow_life.proofs.making.add_cell.Given as given
@@ -17,7 +17,7 @@ use Rattle.flow_life.proofs.making.add_cell.Goals.{In_ok-push}
 
 pub adding-init : goal.adding-init
 adding-init g c = record {
-  blank = subst (λ (l : List InEdge). AreBlank g.N.Node l c.args.cells.now.items) {x = []} {y = c.new-ins.result.items} (sym c.new-ins.ensures.items) (blank-first g.N.Node c.args.cells.now.items c.requires.life.ready c.requires.nothing);
+  blank = holds-of (λ (l : List InEdge). AreBlank g.N.Node l c.args.cells.now.items) [] c.new-ins.result.items c.new-ins.ensures.items (blank-first g.N.Node c.args.cells.now.items c.requires.life.ready c.requires.nothing);
   count = refl;
   from = ap (map (λ (e : InEdge). e.from)) c.new-ins.ensures.items;
   nodes = refl;
@@ -36,7 +36,7 @@ adding-preserved g c =
     let len : c.adding.cells.len ≡ length new = c.adding.cells.ok.0 ∙ ap length (sym old) ∙ sym e.count in
     let back : take c.adding.cells.len (new ++ drop (length new) items) ≡ new = ap (λ (n : ℕ). take n (new ++ drop (length new) items)) len ∙ take-append_seam new (drop (length new) items) in
     record {
-      blank = subst (λ (l : List (CellParts g.row.N.Denot)). AreBlank g.N.Node c.add_edge.new.ins.items l) {x = new} {y = take c.adding.cells.len (new ++ drop (length new) items)} (sym back) e.blank;
+      blank = holds-of (AreBlank g.N.Node c.add_edge.new.ins.items) new (take c.adding.cells.len (new ++ drop (length new) items)) back e.blank;
       count = ap length back ∙ e.count ∙ ap length old ∙ i.count;
       from = e.from ∙ ap (λ (l : List ℕ). l ++ get_or parents c.adding.parent-index 0 ∷ []) i.from ∙ sym (take_more parents c.adding.parent-index 0 (omega arith));
       nodes = ap nodes_of back ∙ e.nodes ∙ ap nodes_of old ∙ i.nodes;
@@ -47,43 +47,35 @@ adding-preserved g c =
 life : (g : given.Over) (c : goal.In_ok-push g) → IsLife g.N.Node c.push.new.self.items
 life g c =
     let e = c.in_ok-cell.ensures in
-    subst (IsLife g.N.Node) {x = c.adding.cells.items ++ c.in_ok-cell.cell ∷ []} {y = c.push.new.self.items} (sym c.in_ok-push.ensures.items)
+    holds-of (IsLife g.N.Node) (c.adding.cells.items ++ c.in_ok-cell.cell ∷ []) c.push.new.self.items c.in_ok-push.ensures.items
     (life-cell g.N.Node c.adding.cells.items c.in_ok-cell.cell c.adding.ins.items c.adding.invariant.blank e.keeps e.spent e.nothing e.ins e.core.outs)
 
 nothing : (g : given.Over) (c : goal.In_ok-push g) → Each HasNothing c.push.new.self.items
 nothing g c =
-    subst (Each HasNothing) {x = c.adding.cells.items ++ c.in_ok-cell.cell ∷ []} {y = c.push.new.self.items} (sym c.in_ok-push.ensures.items)
+    holds-of (Each HasNothing) (c.adding.cells.items ++ c.in_ok-cell.cell ∷ []) c.push.new.self.items c.in_ok-push.ensures.items
     (each-append HasNothing c.adding.cells.items (c.in_ok-cell.cell ∷ []) c.adding.invariant.blank.nothing (c.in_ok-cell.ensures.nothing, tt))
 
 pub add_edge-requires-clause-blank : goal.add_edge-requires-clause-blank
-add_edge-requires-clause-blank g c = subst (AreBlank g.N.Node c.adding.ins.items) {x = c.adding.cells.items} {y = c.deref_mut.result.now} (sym c.deref_mut.ensures.value) c.adding.invariant.blank
+add_edge-requires-clause-blank g c = holds-of (AreBlank g.N.Node c.adding.ins.items) c.adding.cells.items c.deref_mut.result.now c.deref_mut.ensures.value c.adding.invariant.blank
 
 pub returns-clause-nodes : goal.returns-clause-nodes
 returns-clause-nodes g c =
-    let cells = c.adding.cells.items in
-    let cell = c.in_ok-cell.cell in
-    ap nodes_of c.in_ok-push.ensures.items ∙ map-append (λ (x : CellParts g.row.N.Denot). x.core.node) cells (cell ∷ [])
-    ∙ ap (λ l. l ++ cell.core.node ∷ []) c.adding.invariant.nodes
-    ∙ ap (λ n. nodes_of c.args.cells.now.items ++ n ∷ []) c.in_ok-cell.ensures.core.node
+    map-push (λ (x : CellParts g.row.N.Denot). x.core.node) c.adding.cells.items c.in_ok-cell.cell c.push.new.self.items (nodes_of c.args.cells.now.items) c.args.node
+    c.in_ok-push.ensures.items c.adding.invariant.nodes c.in_ok-cell.ensures.core.node
 
 pub returns-clause-parents : goal.returns-clause-parents
 returns-clause-parents g c =
-    let cells = c.adding.cells.items in
-    let cell = c.in_ok-cell.cell in
-    let all : c.adding.parent-index ≡ length c.args.parents.now = omega arith in
-    let from : map (λ (e : InEdge). e.from) cell.ins.items ≡ c.args.parents.now =
-    ap (map (λ (e : InEdge). e.from)) c.in_ok-cell.ensures.ins ∙ c.adding.invariant.from ∙ ap (λ (n : ℕ). take n c.args.parents.now) all ∙ take-length c.args.parents.now in
-    ap parents_of c.in_ok-push.ensures.items ∙ map-append (λ (x : CellParts g.row.N.Denot). map (λ (e : InEdge). e.from) x.ins.items) cells (cell ∷ [])
-    ∙ ap (λ (l : List (List ℕ)). l ++ map (λ (e : InEdge). e.from) cell.ins.items ∷ []) c.adding.invariant.parents
-    ∙ ap (λ (l : List ℕ). parents_of c.args.cells.now.items ++ l ∷ []) from
+    let parents = c.args.parents.now in
+    let all : c.adding.parent-index ≡ length parents = omega arith in
+    let from : map (λ (e : InEdge). e.from) c.in_ok-cell.cell.ins.items ≡ parents =
+    ap (map (λ (e : InEdge). e.from)) c.in_ok-cell.ensures.ins ∙ c.adding.invariant.from ∙ ap (λ (n : ℕ). take n parents) all ∙ take-length parents in
+    map-push (λ (x : CellParts g.row.N.Denot). map (λ (e : InEdge). e.from) x.ins.items) c.adding.cells.items c.in_ok-cell.cell c.push.new.self.items (parents_of c.args.cells.now.items) parents
+    c.in_ok-push.ensures.items c.adding.invariant.parents from
 
 pub returns-clause-passed : goal.returns-clause-passed
 returns-clause-passed g c =
-    let cells = c.adding.cells.items in
-    let cell = c.in_ok-cell.cell in
-    ap passed_of c.in_ok-push.ensures.items ∙ map-append (λ (x : CellParts g.row.N.Denot). x.core.passed.0) cells (cell ∷ [])
-    ∙ ap (λ (l : List ℕ). l ++ cell.core.passed.0 ∷ []) c.adding.invariant.passed
-    ∙ ap (λ (n : ℕ). passed_of c.args.cells.now.items ++ n ∷ []) c.in_ok-cell.ensures.core.passed
+    map-push (λ (x : CellParts g.row.N.Denot). x.core.passed.0) c.adding.cells.items c.in_ok-cell.cell c.push.new.self.items (passed_of c.args.cells.now.items) 0
+    c.in_ok-push.ensures.items c.adding.invariant.passed c.in_ok-cell.ensures.core.passed
 
 pub returns-clause-life : goal.returns-clause-life
 returns-clause-life g c = life g (goal.at.returns-clause-life g c).In_ok-push

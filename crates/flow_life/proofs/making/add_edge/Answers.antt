@@ -9,7 +9,7 @@ use Rattle.flow_cells.specs.OutLaws.{get-here}
 use Rattle.flow_life.specs.Making.{AreBlank}
 use Rattle.flow_life.specs.PlaceLaws.{each-get, map-set}
 use Rattle.flow_life.specs.Wired.{IsUnspent}
-use Rattle.flow_life.specs.MakingLaws.{blank-edge, fresh-head, unused-tail}
+use Rattle.flow_life.specs.MakingLaws.{blank-edge, fresh-head, holds-of, unused-tail}
 use Rattle.flow_life.proofs.making.add_edge.Goals as goal
 
 pub add_out-requires-clause-unspent : goal.add_out-requires-clause-unspent
@@ -42,7 +42,7 @@ returns-clause-blank g c =
     let child : c.in_ok-child.child ≡ length cells = c.in_ok-child.ensures in
     let input : c.in_ok-input.input ≡ length ins = c.in_ok-input.ensures ∙ c.len.ensures ∙ c.args.ins.now.ok.0 in
     let out : c.in_ok-out.out ≡ length mover.core.outs.items = c.in_ok-out.ensures ∙ c.outs.ensures in
-    subst (λ (l : List InEdge). AreBlank g.N.Node l (set cells c.args.parent d)) {x = ins ++ e ∷ []} {y = c.push.new.self.items} (sym c.in_ok-push.ensures.items)
+    holds-of (λ (l : List InEdge). AreBlank g.N.Node l (set cells c.args.parent d)) (ins ++ e ∷ []) c.push.new.self.items c.in_ok-push.ensures.items
     (blank-edge g.N.Node ins cells c.args.parent mover d o e c.requires.blank at added.keeps added.others added.ok made.edge made.settled some child input refl out (fresh-head c.in_ok-tail.head made.empty.1))
 
 pub returns-clause-nodes : goal.returns-clause-nodes
