@@ -13,8 +13,8 @@ use node_core::{Effects, Node};
 use std::alloc::Global;
 use std::marker::Model;
 
-/// The cells of one graph. Its type says that each keeps what a cell keeps, that both ends know what is on each edge, and
-/// that the last load ended with a barrier, unless it is spent.
+/// The cells of one graph. Its type says that each keeps what a cell keeps, that both ends know what is on each edge,
+/// and that the last load ended with a barrier, unless it is spent.
 #[derive(Drop)]
 pub struct Life<N: Node> {
     // In the order of its graph's nodes.
@@ -67,9 +67,9 @@ impl<N: Node> Life<N> {
         }
     }
 
-    /// Adds a cell of a node with these parents, which stand before it, where nothing was received since the load. Edges
-    /// have room for 1 to 65,536 messages. The last barrier that the new cell passed has the stamp 0. The life is at rest
-    /// with nothing to gather, and each cell's saved state is its state. After NoMemory the life is spent.
+    /// Adds a cell of a node with these parents, which stand before it, where nothing was received since the load.
+    /// Edges have room for 1 to 65,536 messages. The last barrier that the new cell passed has the stamp 0. The life is
+    /// at rest with nothing to gather, and each cell's saved state is its state. After NoMemory the life is spent.
     pub fn add(
         &mut self,
         alloc: Global,
@@ -85,10 +85,12 @@ impl<N: Node> Life<N> {
         requires some { 0 < capacity }
         requires limit { capacity ≤ CAPACITY_LIMIT }
         ensures nothing { OnOk result (Each HasNothing self.new.cells) }
-        ensures nodes { OnOk result (nodes_of self.new.cells ≡ nodes_of self.old.cells ++ node ∷ []) }
+        ensures nodes { OnOk result (nodes_of self.new.cells
+            ≡ nodes_of self.old.cells ++ node ∷ []) }
         ensures parents { OnOk result (parents_of self.new.cells
             ≡ parents_of self.old.cells ++ parents.now ∷ []) }
-        ensures passed { OnOk result (passed_of self.new.cells ≡ passed_of self.old.cells ++ 0 ∷ []) }
+        ensures passed { OnOk result (passed_of self.new.cells
+            ≡ passed_of self.old.cells ++ 0 ∷ []) }
         ensures rest { OnOk result (AreQuiet self.new.cells) }
         ensures gathered { OnOk result (Each IsGathered self.new.cells) }
         ensures saved { OnOk result (Each (IsSaved N.Node) self.new.cells) }
@@ -104,13 +106,14 @@ impl<N: Node> Life<N> {
         }
     }
 
-    /// Makes a step. `false` comes exactly where it isn't enabled: there is no such cell, input or out, the edge is empty or
-    /// a message waits to be sent (take), or none waits or the edge has no free place (put). After NoMemory the life is
-    /// spent.
+    /// Makes a step. `false` comes exactly where it isn't enabled: there is no such cell, input or out, the edge is
+    /// empty or a message waits to be sent (take), or none waits or the edge has no free place (put). After NoMemory
+    /// the life is spent.
     pub fn step(&mut self, alloc: Global, next: Step) -> Result<bool, NoMemory>
         requires { self.old.spent ≡ false }
         ensures prefixes { OnOk result (CarriesPrefixes N.Node self.new.cells) }
-        ensures plans { OnOk result (plans_of N.Node self.new.cells ≡ plans_of N.Node self.old.cells) }
+        ensures plans { OnOk result (plans_of N.Node self.new.cells
+            ≡ plans_of N.Node self.old.cells) }
         ensures yes { IfOk result (λ made. IsTrue made → IsEnabled self.old.cells next) }
         ensures no { IfOk result (λ made. IsFalse made → IsEnabled self.old.cells next → ⊥) }
         ensures grows { IfOk result (λ made. IsTrue made
@@ -133,7 +136,8 @@ impl<N: Node> Life<N> {
     pub fn play(&mut self, alloc: Global, steps: &[Step]) -> Result<u64, NoMemory>
         requires { self.old.spent ≡ false }
         ensures prefixes { OnOk result (CarriesPrefixes N.Node self.new.cells) }
-        ensures plans { OnOk result (plans_of N.Node self.new.cells ≡ plans_of N.Node self.old.cells) }
+        ensures plans { OnOk result (plans_of N.Node self.new.cells
+            ≡ plans_of N.Node self.old.cells) }
         ensures count { IfOk result (λ made. moves_of self.new.cells
             ≡ moves_of self.old.cells + made) }
         ensures unspent { OnOk result (self.new.spent ≡ false) }
@@ -148,8 +152,8 @@ impl<N: Node> Life<N> {
         }
     }
 
-    /// Whether nothing is pending, unsent, buffered or on an edge. While it isn't so, some step is enabled; where it is so,
-    /// each edge has carried its stream.
+    /// Whether nothing is pending, unsent, buffered or on an edge. While it isn't so, some step is enabled; where it is
+    /// so, each edge has carried its stream.
     pub fn at_rest(&self) -> bool
         requires { self.now.spent ≡ false }
         ensures rest { IsTrue result → AreQuiet self.now.cells }
@@ -167,8 +171,8 @@ impl<N: Node> Life<N> {
     }
 
     /// A load begins, with points and barriers, one behind each point: from now on what is sent, received and done is
-    /// counted anew, each node from the state in which it is. Streams handle the points and barriers in this call. After
-    /// NoMemory the life is spent.
+    /// counted anew, each node from the state in which it is. Streams handle the points and barriers in this call.
+    /// After NoMemory the life is spent.
     pub fn load(&mut self, alloc: Global, source: &[Msg]) -> Result<(), NoMemory>
         requires unspent { self.old.spent ≡ false }
         requires rest { AreQuiet self.old.cells }
@@ -191,13 +195,14 @@ impl<N: Node> Life<N> {
         }
     }
 
-    /// Puts the effects of all cells behind others, where they weren't gathered yet. After NoMemory the life is spent, and
-    /// which of them stand in `to` is unknown.
+    /// Puts the effects of all cells behind others, where they weren't gathered yet. After NoMemory the life is spent,
+    /// and which of them stand in `to` is unknown.
     pub fn gather(&mut self, alloc: Global, to: &mut Effects) -> Result<(), NoMemory>
         requires { self.old.spent ≡ false }
         ensures gathers { OnOk result (AllZip Gathers self.old.cells self.new.cells) }
         ensures gathered { OnOk result (Each IsGathered self.new.cells) }
-        ensures plans { OnOk result (plans_of N.Node self.new.cells ≡ plans_of N.Node self.old.cells) }
+        ensures plans { OnOk result (plans_of N.Node self.new.cells
+            ≡ plans_of N.Node self.old.cells) }
         ensures count { OnOk result (moves_of self.new.cells ≡ moves_of self.old.cells) }
         ensures given { OnOk result (to.new ≡ to.old ++ effects_of self.old.cells) }
         ensures unspent { OnOk result (self.new.spent ≡ false) }
