@@ -1,0 +1,14 @@
+-- what each node of a graph gives out in whole
+pub mod Streams
+-- the messages of a load
+pub mod Messages
+-- what loads make of the nodes of a graph
+pub mod Loads
+-- proofs, no definitions
+pub mod MessageLaws
+pub mod PortLaws
+pub mod MergedLaws
+pub mod RunLaws
+pub mod SpanLaws
+pub mod GraphLaws
+pub mod LoadedLaws
