@@ -153,3 +153,9 @@ module _ {P S : Type 0} (answer : P → Answer) (life number : P → ℕ) (stamp
   }
   loaded_stands (more {points} {acts} {outs} {done} new upto marks plans streams effects after before last are graph of streams_are does ends same) =
       loaded-more points new upto marks acts after outs done plans streams effects (loaded_stands before) last are graph of streams_are does ends same
+
+  -- and counted what the nodes drop of all points
+  pub loaded_drops : (drops : S → ℕ) → ((p : P) (xs : List Input) → drops (fold (step p) (first p) xs).state ≡ (given (answer p) xs).drops)
+      → {points : List PointValue} {acts : List (Active P S)} {outs : ℕ → List Msg} {done : ℕ → List Effect} → Loaded first step points acts outs done
+      → map (λ a. drops a.state) acts ≡ map (λ g. g.drops) (graph_gives answer points (map placed acts))
+  loaded_drops drops counts {points} {acts} l = dropped_at answer life number stamped first step folds drops counts points acts (loaded_stands l).at

@@ -1,11 +1,19 @@
 //! Laws of nets, and no code.
 
-ghost use Rattle.std.specs.Prelude.{◌≡◌, ◌≤◌, [], ◌∷◌, ◌++◌, List, length};
+ghost use Rattle.std.specs.Prelude.{◌≡◌, ℕ, ◌≤◌, [], ◌∷◌, ◌++◌, List, length, map, slice_index_or};
 ghost use Rattle.kap_base.specs.Points.{PointValue};
+ghost use Rattle.kap_base.specs.declared.items.Effect.{Effect};
+ghost use Rattle.kap_base.specs.declared.items.Msg.{Msg};
 ghost use Rattle.kap_base.specs.declared.items.Stamp.{Stamp};
+ghost use Rattle.node_core.specs.Meaning.{nothing};
 ghost use Rattle.merge_node.specs.Merge.{IsClosed, RisesFrom, barriers, items};
 ghost use Rattle.flow_cells.specs.Outs.{item_msgs};
+ghost use Rattle.task_run.specs.Active.{Active, IsAt, placed};
+ghost use Rattle.task_run.specs.Graphs.{graph_gives, outs_of};
+ghost use Rattle.flow_core.specs.Loads.{Loaded};
 ghost use Rattle.flow_core.specs.Messages.{AreMarksOf, load_messages, stamped_up_to};
+
+use node_core::Node;
 
 /// The messages of a load have the points, with the stamps that end at the last one, and the barriers of the marks and of the last
 /// stamp, all of them in the order of their stamps, each barrier behind the points up to it, and one behind each point.
@@ -20,4 +28,28 @@ pub fn loads_have_messages()
         → length points ≤ upto.0 → RisesFrom 0 (load_messages points upto marks) }
     ensures closed { (points : List PointValue) (upto : Stamp) (marks : List Stamp)
         → IsClosed (load_messages points upto marks) }
+{}
+
+/// Loads, one after the other, each in the states that the one before left, make of the nodes of a graph what the nodes' functions
+/// make of all points: what each node has given out, barriers aside, its effects, its state, and how many inputs it dropped.
+pub fn loads_go_on<N: Node>()
+    ensures outs { (points : List PointValue) (acts : List (Active N.Spec N.State))
+        (outs : ℕ → List Msg) (done : ℕ → List Effect) (node : ℕ)
+        → Loaded N.first N.step points acts outs done
+        → items (outs node) ≡ item_msgs
+        (slice_index_or (outs_of (graph_gives N.answer points (map placed acts))) node []) }
+    ensures effects { (points : List PointValue) (acts : List (Active N.Spec N.State))
+        (outs : ℕ → List Msg) (done : ℕ → List Effect) (node : ℕ)
+        → Loaded N.first N.step points acts outs done
+        → done node
+        ≡ (slice_index_or (graph_gives N.answer points (map placed acts)) node nothing).effects }
+    ensures states { (points : List PointValue) (acts : List (Active N.Spec N.State))
+        (outs : ℕ → List Msg) (done : ℕ → List Effect)
+        → Loaded N.first N.step points acts outs done
+        → IsAt N.answer N.first N.step points acts }
+    ensures drops { (points : List PointValue) (acts : List (Active N.Spec N.State))
+        (outs : ℕ → List Msg) (done : ℕ → List Effect)
+        → Loaded N.first N.step points acts outs done
+        → map (λ a. N.drops a.state) acts
+        ≡ map (λ g. g.drops) (graph_gives N.answer points (map placed acts)) }
 {}

@@ -4,5 +4,5 @@
 mod laws;
 mod loads;
 
-pub use laws::loads_have_messages;
+pub use laws::{loads_go_on, loads_have_messages};
 pub use loads::messages;
