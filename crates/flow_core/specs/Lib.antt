@@ -4,6 +4,8 @@ pub mod Streams
 pub mod Messages
 -- what loads make of the nodes of a graph
 pub mod Loads
+-- in which order effects are gathered
+pub mod Sorting
 -- proofs, no definitions
 pub mod MessageLaws
 pub mod PortLaws
@@ -12,3 +14,5 @@ pub mod RunLaws
 pub mod SpanLaws
 pub mod GraphLaws
 pub mod LoadedLaws
+pub mod SortLaws
+pub mod UniqueLaws

@@ -1,8 +1,10 @@
 //! Nets: lives side by side, each with the cells of one graph.
 #![tactic(auto)]
 
+mod gathering;
 mod laws;
 mod loads;
 
+pub use gathering::sort_effects;
 pub use laws::{loads_go_on, loads_have_messages};
 pub use loads::messages;
