@@ -6,6 +6,8 @@ pub mod Messages
 pub mod Loads
 -- in which order effects are gathered
 pub mod Sorting
+-- effects before they are sorted
+pub mod Gathering
 -- proofs, no definitions
 pub mod MessageLaws
 pub mod PortLaws
@@ -16,3 +18,4 @@ pub mod GraphLaws
 pub mod LoadedLaws
 pub mod SortLaws
 pub mod UniqueLaws
+pub mod RisingLaws
