@@ -19,3 +19,5 @@ pub mod LoadedLaws
 pub mod SortLaws
 pub mod UniqueLaws
 pub mod RisingLaws
+pub mod GatherLaws
+pub mod NumberLaws

@@ -14,11 +14,12 @@ use Rattle.flow_core.specs.SortLaws.{by_other, never_both}
 -- ---- places
 
 -- two effects stand at one place
-abbrev is_same : Effect → Effect → Bool
+abbrev pub is_same : Effect → Effect → Bool
 is_same a b = (a.stamp.0 == b.stamp.0) && (a.life == b.life) && (a.node == b.node) && (a.seq == b.seq)
 
-same-flips : (a b : Effect) → is_same a b ≡ is_same b a
-same-flips a b =
+-- the test takes them in either order
+pub same_flips : (a b : Effect) → is_same a b ≡ is_same b a
+same_flips a b =
     let s : (a.stamp.0 == b.stamp.0) ≡ (b.stamp.0 == a.stamp.0) = grind (arith, nat_tests) in
     let l : (a.life == b.life) ≡ (b.life == a.life) = grind (arith, nat_tests) in
     let n : (a.node == b.node) ≡ (b.node == a.node) = grind (arith, nat_tests) in
@@ -32,6 +33,10 @@ same-here a b s l n q =
     let n' : (a.node == b.node) ≡ true = grind (arith, nat_tests) in
     let q' : (a.seq == b.seq) ≡ true = grind (arith, nat_tests) in
     rw (s', l', n', q') refl
+
+-- each stands at its own place
+pub same_itself : (a : Effect) → is_same a a ≡ true
+same_itself a = same-here a a refl refl refl refl
 
 last-below : (a b : ℕ) → (a ≡ b → ⊥) → (b < a → ⊥) → a < b
 last-below a b other back = ⊎_elim
@@ -70,10 +75,11 @@ first-apart a b h = ⊎_elim
                 e.1)
             g
 
-rising-distinct : (xs : List Effect) → AreRising xs → IsDistinct is_same xs
+-- no two of a rising list stand at one place
+pub rising_distinct : (xs : List Effect) → AreRising xs → IsDistinct is_same xs
 unfolding IsDistinct
-rising-distinct [] h = tt
-rising-distinct (x ∷ xs) h = (apart x xs h.0, rising-distinct xs h.1)
+rising_distinct [] h = tt
+rising_distinct (x ∷ xs) h = (apart x xs h.0, rising_distinct xs h.1)
   where
     apart : (a : Effect) (ys : List Effect) → GoesBefore a ys → Each (λ b. is_same a b ≡ false) ys
     apart a [] k = tt
@@ -95,17 +101,19 @@ abbrev pub IsIn : Effect → List Effect → Type 0
 IsIn z [] = ⊥
 IsIn z (x ∷ xs) = (z ≡ x) ⊎ IsIn z xs
 
-in-itself : (xs : List Effect) → Each (λ z. IsIn z xs) xs
-in-itself [] = tt
-in-itself (x ∷ xs) = (inl refl, wider x xs xs (in-itself xs))
+-- each is in its list
+pub in_itself : (xs : List Effect) → Each (λ z. IsIn z xs) xs
+in_itself [] = tt
+in_itself (x ∷ xs) = (inl refl, wider x xs xs (in_itself xs))
   where
     wider : (y : Effect) (ys zs : List Effect) → Each (λ z. IsIn z ys) zs → Each (λ z. IsIn z (y ∷ ys)) zs
     wider y ys [] h = tt
     wider y ys (z ∷ zs) h = (inr h.0, wider y ys zs h.1)
 
-in-before : (a z : Effect) (xs : List Effect) → GoesBefore a xs → IsIn z xs → GoesFirst a z
-in-before a z [] h i = absurd i
-in-before a z (x ∷ xs) h i = ⊎_elim (λ (e : z ≡ x). subst (λ (y : Effect). GoesFirst a y) (sym e) h.0) (λ (r : IsIn z xs). in-before a z xs h.1 r) i
+-- what goes before all goes before each
+pub in_before : (a z : Effect) (xs : List Effect) → GoesBefore a xs → IsIn z xs → GoesFirst a z
+in_before a z [] h i = absurd i
+in_before a z (x ∷ xs) h i = ⊎_elim (λ (e : z ≡ x). subst (λ (y : Effect). GoesFirst a y) (sym e) h.0) (λ (r : IsIn z xs). in_before a z xs h.1 r) i
 
 -- without the first one, which goes before these
 in-rest : (x : Effect) (xs zs : List Effect) → GoesBefore x zs → Each (λ z. IsIn z (x ∷ xs)) zs → Each (λ z. IsIn z xs) zs
@@ -124,20 +132,21 @@ rising-same (x ∷ xs) (y ∷ ys) a b i j =
         (λ (e : y ≡ x). e)
         (λ (r : IsIn y xs). ⊎_elim
             (λ (e : x ≡ y). sym e)
-            (λ (q : IsIn x ys). absurd (never_both x y (in-before x y xs a.0 r) (in-before y x ys b.0 q)))
+            (λ (q : IsIn x ys). absurd (never_both x y (in_before x y xs a.0 r) (in_before y x ys b.0 q)))
             j.0)
         i.0 in
     let here : GoesBefore x ys = subst (λ (z : Effect). GoesBefore z ys) same b.0 in
     let these : Each (λ z. IsIn z (x ∷ ys)) xs = subst (λ (q : Effect). Each (λ z. IsIn z (q ∷ ys)) xs) same j.1 in
     ap (λ (z : Effect). z ∷ ys) same ∙ ap (λ (l : List Effect). x ∷ l) (rising-same xs ys a.1 b.1 (in-rest x xs ys here i.1) (in-rest x ys xs a.0 these))
 
-shuffled : (P : Effect → Type 0) (xs ys : List Effect) → IsPermutation xs ys → Each P xs → Each P ys
+-- what holds of each of them holds in any order
+pub shuffled : (P : Effect → Type 0) (xs ys : List Effect) → IsPermutation xs ys → Each P xs → Each P ys
 shuffled P xs ys s h = recursion_from_All P ys (All-permutation P xs ys s (All-from_recursion P xs h))
 
 -- a list of the same effects that is sorted is the rising one
 pub sorted_is : (xs ys : List Effect) → AreRising xs → IsPermutation xs ys → AreSorted ys → ys ≡ xs
 sorted_is xs ys rising same sorted =
     rising-same xs ys rising
-    (distinct-rising ys sorted (IsDistinct-IsPermutation is_same same-flips xs ys same (rising-distinct xs rising)))
-    (shuffled (λ z. IsIn z xs) xs ys same (in-itself xs))
-    (shuffled (λ z. IsIn z ys) ys xs (IsPermutation-sym xs ys same) (in-itself ys))
+    (distinct-rising ys sorted (IsDistinct-IsPermutation is_same same_flips xs ys same (rising_distinct xs rising)))
+    (shuffled (λ z. IsIn z xs) xs ys same (in_itself xs))
+    (shuffled (λ z. IsIn z ys) ys xs (IsPermutation-sym xs ys same) (in_itself ys))

@@ -1,17 +1,21 @@
 //! Laws of nets, and no code.
 
-ghost use Rattle.std.specs.Prelude.{◌≡◌, ℕ, ◌≤◌, [], ◌∷◌, ◌++◌, List, length, map, slice_index_or};
+ghost use Rattle.std.specs.Prelude.{◌≡◌, ℕ, ◌≤◌, [], ◌∷◌, ◌++◌, List, IsPermutation, length, map, slice_index_or};
 ghost use Rattle.kap_base.specs.Points.{PointValue};
 ghost use Rattle.kap_base.specs.declared.items.Effect.{Effect};
 ghost use Rattle.kap_base.specs.declared.items.Msg.{Msg};
 ghost use Rattle.kap_base.specs.declared.items.Stamp.{Stamp};
-ghost use Rattle.node_core.specs.Meaning.{nothing};
+ghost use Rattle.node_core.specs.Meaning.{Saying, nothing};
+ghost use Rattle.node_core.specs.Numbering.{stamped};
 ghost use Rattle.merge_node.specs.Merge.{IsClosed, RisesFrom, barriers, items};
 ghost use Rattle.flow_cells.specs.Outs.{item_msgs};
 ghost use Rattle.task_run.specs.Active.{Active, IsAt, placed};
-ghost use Rattle.task_run.specs.Graphs.{graph_gives, outs_of};
+ghost use Rattle.task_run.specs.Graphs.{Placed, graph_gives, outs_of};
+ghost use Rattle.task_run.specs.Lives.{effects_of};
+ghost use Rattle.flow_core.specs.Gathering.{LivesRise, NumbersEffects, effects_by_node};
 ghost use Rattle.flow_core.specs.Loads.{Loaded};
 ghost use Rattle.flow_core.specs.Messages.{AreMarksOf, load_messages, stamped_up_to};
+ghost use Rattle.flow_core.specs.Sorting.{AreSorted};
 
 use node_core::Node;
 
@@ -52,4 +56,23 @@ pub fn loads_go_on<N: Node>()
         → Loaded N.first N.step points acts outs done
         → map (λ a. N.drops a.state) acts
         ≡ map (λ g. g.drops) (graph_gives N.answer points (map placed acts)) }
+{}
+
+/// The effects that the nodes of lives gave for all points, or for more points than before, are those that whole lists give, once
+/// they are sorted, where each node numbers the effects of a stamp; and a node does whose effects are numbered as they are said.
+pub fn sorted_effects_are_whole<N: Node>()
+    ensures all { (numbers : (p : N.Spec) → NumbersEffects (N.answer p))
+        (lives : List (List (Placed N.Spec))) (points : List PointValue) (first : ℕ)
+        (sorted : List Effect) → LivesRise N.life N.number first lives
+        → IsPermutation (effects_by_node N.answer lives points) sorted → AreSorted sorted
+        → sorted ≡ effects_of N.answer lives points }
+    ensures more { (numbers : (p : N.Spec) → NumbersEffects (N.answer p))
+        (lives : List (List (Placed N.Spec))) (old new : List PointValue) (first : ℕ)
+        (more sorted : List Effect) → LivesRise N.life N.number first lives
+        → IsPermutation (effects_by_node N.answer lives (old ++ new))
+        (effects_by_node N.answer lives old ++ more)
+        → IsPermutation more sorted → AreSorted sorted
+        → effects_of N.answer lives (old ++ new) ≡ effects_of N.answer lives old ++ sorted }
+    ensures numbers { (life node : ℕ) (saying : Saying)
+        → NumbersEffects (stamped life node saying) }
 {}
