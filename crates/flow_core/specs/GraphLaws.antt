@@ -14,7 +14,8 @@ use Rattle.task_run.specs.Active.{Active, AreAt, placed}
 use Rattle.task_run.specs.MoreLaws.{Part, olds, whole, wholes}
 use Rattle.flow_core.specs.Loads.{Does, EndsIn, IsPlanOf}
 use Rattle.flow_core.specs.SpanLaws.{Carries, IsRun, carries-more, part, part-whole, run-is}
-use Rattle.flow_core.specs.Streams.{IsGraphFrom, IsStream, Plan}
+use Rattle.flow_life.specs.Graphs.{IsGraphFrom}
+use Rattle.flow_life.specs.Streams.{IsStream, Plan}
 
 head-same : {A : Type 0} (x y : A) (xs ys : List A) → x ∷ xs ≡ y ∷ ys → x ≡ y
 head-same {A} x y xs ys e = ap (λ (l : List A). get_or l 0 x) e

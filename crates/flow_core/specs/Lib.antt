@@ -1,5 +1,3 @@
--- what each node of a graph gives out in whole
-pub mod Streams
 -- the messages of a load
 pub mod Messages
 -- what loads make of the nodes of a graph

@@ -23,7 +23,8 @@ use Rattle.flow_core.specs.Loads.{Does, EndsIn, IsPlanOf, Loaded, more, start}
 use Rattle.flow_core.specs.MessageLaws.{items-append, messages_barriers, messages_closed, messages_items, messages_rise}
 use Rattle.flow_core.specs.Messages.{AreMarksOf, load_messages, stamped_up_to}
 use Rattle.flow_core.specs.SpanLaws.{Carries}
-use Rattle.flow_core.specs.Streams.{AreStreams, IsGraph, Plan}
+use Rattle.flow_life.specs.Graphs.{IsGraph}
+use Rattle.flow_life.specs.Streams.{AreStreams, Plan}
 
 -- ---- points with their stamps
 

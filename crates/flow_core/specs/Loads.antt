@@ -8,7 +8,8 @@ use Rattle.kap_base.specs.declared.items.Stamp.{Stamp}
 use Rattle.node_core.specs.Meaning.{Input, Move}
 use Rattle.task_run.specs.Active.{Active, AreFirst, placed}
 use Rattle.flow_core.specs.Messages.{AreMarksOf, load_messages}
-use Rattle.flow_core.specs.Streams.{AreStreams, IsGraph, IsStream, Plan, run_from}
+use Rattle.flow_life.specs.Graphs.{IsGraph}
+use Rattle.flow_life.specs.Streams.{AreStreams, IsStream, Plan, run_from}
 
 module _ {P S : Type 0} (step : P → S → Input → Move S) where
   -- at a load with these messages this is what is planned of a node in its state

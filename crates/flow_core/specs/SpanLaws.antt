@@ -32,7 +32,7 @@ use Rattle.flow_core.specs.Loads.{Does, EndsIn, IsPlanOf}
 use Rattle.flow_core.specs.MergedLaws.{HasItems, inputs_merged}
 use Rattle.flow_core.specs.PortLaws.{GrowsBy, IsSpan, from_by_ports, merged_above, merged_grows, ordered_rises}
 use Rattle.flow_core.specs.RunLaws.{given_behind, run_said, said, said_barriers, said_closed, said_rises}
-use Rattle.flow_core.specs.Streams.{IsGraphFrom, IsStream, Plan, run_from, streams_at, streams_into}
+use Rattle.flow_life.specs.Streams.{IsStream, Plan, run_from, streams_at, streams_into}
 
 -- a list of messages of a load: these items, in order, with these barriers, one behind each item
 pub record IsInto (m : ℕ) (bs : List Stamp) (l : List Msg) (xs : List Item) : Type 0 where

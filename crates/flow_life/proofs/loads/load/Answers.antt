@@ -1,0 +1,26 @@
+use Rattle.std.proofs.Common.{◌≡◌}
+use Rattle.flow_life.specs.LoadLaws.{can-load, loaded-closed, moves-loaded, plans-loaded, ready-loaded}
+use Rattle.flow_life.specs.StreamLaws.{carries_prefixes}
+use Rattle.flow_life.proofs.loads.load.Goals as goal
+
+pub load_cells-requires : goal.load_cells-requires
+load_cells-requires g c = can-load g.N.Node c.args.cells.now c.requires.life.ready c.requires.rest c.requires.life.loaded c.requires.gathered
+
+pub returns-clause-life : goal.returns-clause-life
+returns-clause-life g c =
+    let e = c.in_ok-load_cells.ensures in
+    record {
+      ready = ready-loaded g.N.Node c.args.source.now c.args.cells.now c.load_cells.new.cells c.requires.life.ready c.requires.rest e.keeps e.loads;
+      loaded = loaded-closed g.N.Node c.args.source.now c.args.cells.now c.load_cells.new.cells c.requires.closed e.loads;
+    }
+
+pub returns-clause-plans : goal.returns-clause-plans
+returns-clause-plans g c = plans-loaded g.N.Node c.args.source.now c.args.cells.now c.load_cells.new.cells c.in_ok-load_cells.ensures.loads
+
+pub returns-clause-prefixes : goal.returns-clause-prefixes
+returns-clause-prefixes g c =
+    let e = c.in_ok-load_cells.ensures in
+    carries_prefixes g.N.Node c.load_cells.new.cells (ready-loaded g.N.Node c.args.source.now c.args.cells.now c.load_cells.new.cells c.requires.life.ready c.requires.rest e.keeps e.loads)
+
+pub returns-clause-count : goal.returns-clause-count
+returns-clause-count g c = moves-loaded c.args.source.now c.args.cells.now c.load_cells.new.cells c.in_ok-load_cells.ensures.loads

@@ -1,0 +1,77 @@
+use Rattle.std.proofs.Common.{◌≡◌, ℕ, List, [], ◌∷◌, ◌++◌, drop, get_or, length, map, take, refl, sym, ap, subst, ◌∙◌, arith}
+use Rattle.std.specs.List.{AllByRecursion as Each}
+use Rattle.flow_life.specs.Lives.{IsLife}
+use Rattle.flow_life.specs.Making.{AreBlank, nodes_of, passed_of}
+use Rattle.flow_life.specs.Wired.{parents_of}
+use Rattle.std.proofs.lemmas.List.{take_more}
+use Rattle.std.proofs.Math.Seq.{take-append_seam}
+use Rattle.flow_cells.specs.declared.parts.CellParts.{CellParts}
+use Rattle.flow_cells.specs.declared.parts.InEdge.{InEdge}
+use Rattle.flow_cells.specs.Made.{HasNothing}
+use Rattle.flow_life.specs.MakingLaws.{blank-first, life-cell}
+use Rattle.flow_life.specs.SplitLaws.{each-append}
+use Rattle.flow_life.specs.StartLaws.{nothing-gathered, nothing-quiet, nothing-saved}
+use Rattle.flow_life.proofs.making.add_cell.Given as given
+use Rattle.flow_life.proofs.making.add_cell.Goals as goal
+use Rattle.flow_life.proofs.making.add_cell.Goals.{In_ok-push}
+
+pub adding-init : goal.adding-init
+adding-init g c = record {
+  blank = subst (λ (l : List InEdge). AreBlank g.N.Node l c.args.cells.now.items) (sym c.new-ins.ensures.items) (blank-first g.N.Node c.args.cells.now.items c.requires.life.ready c.requires.nothing);
+  count = refl;
+  from = ap (map (λ (e : InEdge). e.from)) c.new-ins.ensures.items;
+  nodes = refl;
+  parents = refl;
+  passed = refl;
+}
+
+pub adding-preserved : goal.adding-preserved
+adding-preserved g c =
+    let e = c.in_ok-add_edge.ensures in
+    let i = c.adding.invariant in
+    let items = c.adding.cells.items in
+    let new = c.add_edge.new.cells in
+    let parents = c.args.parents.now in
+    let old : c.deref_mut.result.now ≡ items = c.deref_mut.ensures.value in
+    let len : c.adding.cells.len ≡ length new = c.adding.cells.ok.0 ∙ ap length (sym old) ∙ sym e.count in
+    let back : take c.adding.cells.len (new ++ drop (length new) items) ≡ new = ap (λ (n : ℕ). take n (new ++ drop (length new) items)) len ∙ take-append_seam new (drop (length new) items) in
+    record {
+      blank = subst (λ (l : List (CellParts g.row.N.Denot)). AreBlank g.N.Node c.add_edge.new.ins.items l) (sym back) e.blank;
+      count = ap length back ∙ e.count ∙ ap length old ∙ i.count;
+      from = e.from ∙ ap (λ (l : List ℕ). l ++ get_or parents c.adding.parent-index 0 ∷ []) i.from ∙ sym (take_more parents c.adding.parent-index 0 (omega arith));
+      nodes = ap nodes_of back ∙ e.nodes ∙ ap nodes_of old ∙ i.nodes;
+      parents = ap parents_of back ∙ e.parents ∙ ap parents_of old ∙ i.parents;
+      passed = ap passed_of back ∙ e.passed ∙ ap passed_of old ∙ i.passed;
+    }
+
+life : (g : given.Over) (c : goal.In_ok-push g) → IsLife g.N.Node c.push.new.self.items
+life g c =
+    let e = c.in_ok-cell.ensures in
+    subst (IsLife g.N.Node) (sym c.in_ok-push.ensures.items)
+    (life-cell g.N.Node c.adding.cells.items c.in_ok-cell.cell c.adding.ins.items c.adding.invariant.blank e.keeps e.spent e.nothing e.ins e.core.outs)
+
+nothing : (g : given.Over) (c : goal.In_ok-push g) → Each HasNothing c.push.new.self.items
+nothing g c =
+    subst (Each HasNothing) (sym c.in_ok-push.ensures.items)
+    (each-append HasNothing c.adding.cells.items (c.in_ok-cell.cell ∷ []) c.adding.invariant.blank.nothing (c.in_ok-cell.ensures.nothing, tt))
+
+pub returns-clause-life : goal.returns-clause-life
+returns-clause-life g c = life g (goal.at.returns-clause-life g c).In_ok-push
+
+pub returns-clause-nothing : goal.returns-clause-nothing
+returns-clause-nothing g c = nothing g (goal.at.returns-clause-nothing g c).In_ok-push
+
+pub returns-clause-rest : goal.returns-clause-rest
+returns-clause-rest g c =
+    let p = (goal.at.returns-clause-rest g c).In_ok-push in
+    nothing-quiet g.N.Node c.push.new.self.items (life g p).ready (nothing g p)
+
+pub returns-clause-gathered : goal.returns-clause-gathered
+returns-clause-gathered g c =
+    let p = (goal.at.returns-clause-gathered g c).In_ok-push in
+    nothing-gathered g.N.Node c.push.new.self.items (life g p).ready (nothing g p)
+
+pub returns-clause-saved : goal.returns-clause-saved
+returns-clause-saved g c =
+    let p = (goal.at.returns-clause-saved g c).In_ok-push in
+    nothing-saved g.N.Node c.push.new.self.items (life g p).ready (nothing g p)

@@ -1,0 +1,16 @@
+use Rattle.flow_life.specs.AliveLaws.{alive}
+use Rattle.flow_life.specs.CountLaws.{moves-twice}
+use Rattle.flow_life.specs.RestLaws.{buffers_empty, carries_streams}
+use Rattle.flow_life.proofs.playing.at_rest.Goals as goal
+
+pub returns-clause-empty : goal.returns-clause-empty
+returns-clause-empty g c = λ rest. buffers_empty g.N.Node c.args.cells.now c.requires.ready (c.are_quiet.ensures.yes rest) c.requires.loaded
+
+pub returns-clause-streams : goal.returns-clause-streams
+returns-clause-streams g c = λ rest. carries_streams g.N.Node c.args.cells.now c.requires.ready (c.are_quiet.ensures.yes rest)
+
+pub returns-clause-twice : goal.returns-clause-twice
+returns-clause-twice g c = λ rest streams are. moves-twice g.N.Node c.args.cells.now c.requires.ready (c.are_quiet.ensures.yes rest) streams are
+
+pub returns-clause-alive : goal.returns-clause-alive
+returns-clause-alive g c = λ busy. alive c.args.cells.now c.requires.ready.wired (c.are_quiet.ensures.no busy)

@@ -1,0 +1,14 @@
+use Rattle.std.proofs.Common.{◌≡◌, ◌+◌, ◌≤◌}
+use Rattle.flow_life.specs.Steps.{moves_of}
+use Rattle.flow_life.specs.Streams.{plans_of}
+use Rattle.flow_life.specs.Lives.{IsLife}
+use Rattle.flow_life.proofs.playing.play.Given as goal
+
+-- as many lists grew by one message as steps were made
+abbrev pub invariant-playing : goal.invariant-playing
+invariant-playing g l = record {
+  made : l.made ≤ l.next-index;
+  life : IsLife g.N.Node l.cells;
+  plans : plans_of g.N.Node l.cells ≡ plans_of g.N.Node l.fn.cells;
+  count : moves_of l.cells ≡ moves_of l.fn.cells + l.made;
+}

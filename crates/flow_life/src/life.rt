@@ -1,0 +1,245 @@
+//! A life whose type says what its cells keep.
+
+use crate::gathering::gather;
+use crate::loads::load;
+use crate::making::add_cell;
+use crate::playing::{at_rest, play, step};
+use crate::steps::Step;
+use edge_queue::CAPACITY_LIMIT;
+use flow_cells::Cell;
+use kap_base::{Msg, NoMemory};
+use merge_node::PARENT_LIMIT;
+use node_core::{Effects, Node};
+use std::alloc::Global;
+use std::marker::Model;
+
+/// The cells of one graph. Its type says that each keeps what a cell keeps, that both ends know what is on each edge, and
+/// that the last load ended with a barrier, unless it is spent.
+#[derive(Drop)]
+pub struct Life<N: Node> {
+    // In the order of its graph's nodes.
+    cells: Vec<Cell<N>>,
+    // Whether a call on it failed in the middle.
+    spent: bool,
+}
+
+impl<N: Node> Model for Life<N> {
+    ghost use Rattle.std.specs.Coded.{codes};
+    ghost use Rattle.std.specs.Prelude.{◌≡◌, false};
+    ghost use Rattle.kap_base.specs.Maps.{key_map_code};
+    ghost use Rattle.flow_cells.specs.contracts.parts.Gathered as gathered_effects;
+    ghost use Rattle.flow_life.specs.Lives.{IsLife, LifeValue};
+
+    ghost Value = { LifeValue N };
+
+    ghost coded = { Prim.hlevel (codes, key_map_code, gathered_effects.the_row.coded) };
+
+    ghost view = { λ l. record { cells = l.cells.items; spent = l.spent } };
+
+    ghost invariant = { λ l. l.spent ≡ false → IsLife N.Node l.cells.items };
+}
+
+impl<N: Node> Life<N> {
+    ghost use Rattle.std.specs.Prelude.{◌≡◌, ◌+◌, ◌++◌, ◌<◌, ◌≤◌, false, true, [], ◌∷◌, length, map, IfOk, IsFalse, IsTrue, List, OnErr, OnOk, Some, slice_get};
+    ghost use Rattle.std.specs.List.{AllByRecursion as Each, AllZip};
+    ghost use Rattle.kap_base.specs.declared.items.Msg.{Msg};
+    ghost use Rattle.merge_node.specs.Merge.{IsClosed};
+    ghost use Rattle.flow_cells.specs.Gathers.{Gathers};
+    ghost use Rattle.flow_cells.specs.Made.{HasNothing, one_or_more};
+    ghost use Rattle.flow_cells.specs.declared.parts.CellParts.{CellParts};
+    ghost use Rattle.flow_life.specs.Gathers.{effects_of};
+    ghost use Rattle.flow_life.specs.Lives.{IsLife};
+    ghost use Rattle.flow_life.specs.Loads.{IsGathered, LoadsFrom, plan_now};
+    ghost use Rattle.flow_life.specs.Making.{IsSaved, nodes_of, passed_of};
+    ghost use Rattle.flow_life.specs.Settling.{Grows};
+    ghost use Rattle.flow_life.specs.Steps.{AreQuiet, HasEmptyBuffers, IsEnabled, SomeEnabled, moves_of, one_if};
+    ghost use Rattle.flow_life.specs.Streams.{AreStreams, CarriesPrefixes, CarriesStreams, plans_of, stream_length};
+    ghost use Rattle.flow_life.specs.Wired.{parents_of, sum_of_all};
+
+    /// A life without cells.
+    pub fn new(alloc: Global) -> Life<N>
+        ensures cells { result.cells ≡ [] }
+        ensures spent { result.spent ≡ false }
+    {
+        Life {
+            cells: Vec::new(alloc),
+            spent: false,
+        }
+    }
+
+    /// Adds a cell of a node with these parents, which stand before it, where nothing was received since the load. Edges
+    /// have room for 1 to 65,536 messages. The last barrier that the new cell passed has the stamp 0. The life is at rest
+    /// with nothing to gather, and each cell's saved state is its state. After NoMemory the life is spent.
+    pub fn add(
+        &mut self,
+        alloc: Global,
+        node: N,
+        parents: &[u32],
+        capacity: u32,
+    ) -> Result<(), NoMemory>
+        requires unspent { self.old.spent ≡ false }
+        requires nothing { Each HasNothing self.old.cells }
+        requires earlier { Each (λ p. p < length self.old.cells) parents.now }
+        requires parents { length parents.now ≤ PARENT_LIMIT }
+        requires ports { one_or_more (length parents.now) ≤ N.ports (N.spec node) }
+        requires some { 0 < capacity }
+        requires limit { capacity ≤ CAPACITY_LIMIT }
+        ensures nothing { OnOk result (Each HasNothing self.new.cells) }
+        ensures nodes { OnOk result (nodes_of self.new.cells ≡ nodes_of self.old.cells ++ node ∷ []) }
+        ensures parents { OnOk result (parents_of self.new.cells
+            ≡ parents_of self.old.cells ++ parents.now ∷ []) }
+        ensures passed { OnOk result (passed_of self.new.cells ≡ passed_of self.old.cells ++ 0 ∷ []) }
+        ensures rest { OnOk result (AreQuiet self.new.cells) }
+        ensures gathered { OnOk result (Each IsGathered self.new.cells) }
+        ensures saved { OnOk result (Each (IsSaved N.Node) self.new.cells) }
+        ensures unspent { OnOk result (self.new.spent ≡ false) }
+        ensures spent { OnErr result (self.new.spent ≡ true) }
+    {
+        match add_cell(alloc, &mut self.cells, node, parents, capacity) {
+            Ok(()) => Ok(()),
+            Err(fault) => {
+                self.spent = true;
+                Err(fault)
+            }
+        }
+    }
+
+    /// Makes a step. `false` comes exactly where it isn't enabled: there is no such cell, input or out, the edge is empty or
+    /// a message waits to be sent (take), or none waits or the edge has no free place (put). After NoMemory the life is
+    /// spent.
+    pub fn step(&mut self, alloc: Global, next: Step) -> Result<bool, NoMemory>
+        requires { self.old.spent ≡ false }
+        ensures prefixes { OnOk result (CarriesPrefixes N.Node self.new.cells) }
+        ensures plans { OnOk result (plans_of N.Node self.new.cells ≡ plans_of N.Node self.old.cells) }
+        ensures yes { IfOk result (λ made. IsTrue made → IsEnabled self.old.cells next) }
+        ensures no { IfOk result (λ made. IsFalse made → IsEnabled self.old.cells next → ⊥) }
+        ensures grows { IfOk result (λ made. IsTrue made
+            → Grows next self.old.cells self.new.cells) }
+        ensures count { IfOk result (λ made. moves_of self.new.cells
+            ≡ moves_of self.old.cells + one_if made) }
+        ensures unspent { OnOk result (self.new.spent ≡ false) }
+        ensures spent { OnErr result (self.new.spent ≡ true) }
+    {
+        match step(alloc, &mut self.cells, next) {
+            Ok(made) => Ok(made),
+            Err(fault) => {
+                self.spent = true;
+                Err(fault)
+            }
+        }
+    }
+
+    /// Makes the steps that are enabled, one after the other, and counts them. After NoMemory the life is spent.
+    pub fn play(&mut self, alloc: Global, steps: &[Step]) -> Result<u64, NoMemory>
+        requires { self.old.spent ≡ false }
+        ensures prefixes { OnOk result (CarriesPrefixes N.Node self.new.cells) }
+        ensures plans { OnOk result (plans_of N.Node self.new.cells ≡ plans_of N.Node self.old.cells) }
+        ensures count { IfOk result (λ made. moves_of self.new.cells
+            ≡ moves_of self.old.cells + made) }
+        ensures unspent { OnOk result (self.new.spent ≡ false) }
+        ensures spent { OnErr result (self.new.spent ≡ true) }
+    {
+        match play(alloc, &mut self.cells, steps) {
+            Ok(made) => Ok(made),
+            Err(fault) => {
+                self.spent = true;
+                Err(fault)
+            }
+        }
+    }
+
+    /// Whether nothing is pending, unsent, buffered or on an edge. While it isn't so, some step is enabled; where it is so,
+    /// each edge has carried its stream.
+    pub fn at_rest(&self) -> bool
+        requires { self.now.spent ≡ false }
+        ensures rest { IsTrue result → AreQuiet self.now.cells }
+        ensures busy { IsFalse result → AreQuiet self.now.cells → ⊥ }
+        ensures empty { IsTrue result → Each HasEmptyBuffers self.now.cells }
+        ensures streams { IsTrue result → CarriesStreams N.Node self.now.cells }
+        ensures twice { IsTrue result → (streams : List (List Msg))
+            → AreStreams (plans_of N.Node self.now.cells) streams
+            → moves_of self.now.cells
+            ≡ sum_of_all (stream_length streams) (parents_of self.now.cells)
+            + sum_of_all (stream_length streams) (parents_of self.now.cells) }
+        ensures alive { IsFalse result → SomeEnabled self.now.cells }
+    {
+        at_rest(&self.cells)
+    }
+
+    /// A load begins, with points and barriers, one behind each point: from now on what is sent, received and done is
+    /// counted anew, each node from the state in which it is. Streams handle the points and barriers in this call. After
+    /// NoMemory the life is spent.
+    pub fn load(&mut self, alloc: Global, source: &[Msg]) -> Result<(), NoMemory>
+        requires unspent { self.old.spent ≡ false }
+        requires rest { AreQuiet self.old.cells }
+        requires gathered { Each IsGathered self.old.cells }
+        requires closed { IsClosed source.now }
+        ensures loads { OnOk result (AllZip (LoadsFrom source.now) self.old.cells self.new.cells) }
+        ensures plans { OnOk result (plans_of N.Node self.new.cells
+            ≡ map (plan_now N.Node source.now) self.old.cells) }
+        ensures prefixes { OnOk result (CarriesPrefixes N.Node self.new.cells) }
+        ensures count { OnOk result (moves_of self.new.cells ≡ 0) }
+        ensures unspent { OnOk result (self.new.spent ≡ false) }
+        ensures spent { OnErr result (self.new.spent ≡ true) }
+    {
+        match load(alloc, &mut self.cells, source) {
+            Ok(()) => Ok(()),
+            Err(fault) => {
+                self.spent = true;
+                Err(fault)
+            }
+        }
+    }
+
+    /// Puts the effects of all cells behind others, where they weren't gathered yet. After NoMemory the life is spent, and
+    /// which of them stand in `to` is unknown.
+    pub fn gather(&mut self, alloc: Global, to: &mut Effects) -> Result<(), NoMemory>
+        requires { self.old.spent ≡ false }
+        ensures gathers { OnOk result (AllZip Gathers self.old.cells self.new.cells) }
+        ensures gathered { OnOk result (Each IsGathered self.new.cells) }
+        ensures plans { OnOk result (plans_of N.Node self.new.cells ≡ plans_of N.Node self.old.cells) }
+        ensures count { OnOk result (moves_of self.new.cells ≡ moves_of self.old.cells) }
+        ensures given { OnOk result (to.new ≡ to.old ++ effects_of self.old.cells) }
+        ensures unspent { OnOk result (self.new.spent ≡ false) }
+        ensures spent { OnErr result (self.new.spent ≡ true) }
+    {
+        match gather(alloc, &mut self.cells, to) {
+            Ok(()) => Ok(()),
+            Err(fault) => {
+                self.spent = true;
+                Err(fault)
+            }
+        }
+    }
+
+    /// How many cells it has.
+    pub fn cells(&self) -> usize
+        ensures { result ≡ length self.now.cells }
+    {
+        self.cells.len()
+    }
+
+    /// How many inputs the node of a cell dropped and counted.
+    pub fn dropped(&self, cell: u32) -> u64
+        requires { cell < length self.now.cells }
+        ensures { (c : CellParts N) → slice_get self.now.cells cell ≡ Some c
+            → result ≡ N.drops (N.state c.core.node) }
+    {
+        let cell = &self.cells[cell as usize];
+        cell.dropped()
+    }
+
+    /// Whether a call on it failed in the middle.
+    pub fn is_spent(&self) -> bool
+        ensures { result ≡ self.now.spent }
+    {
+        self.spent
+    }
+
+    /// What a life keeps, unless it is spent.
+    pub fn keeps(&self)
+        ensures { self.now.spent ≡ false → IsLife N.Node self.now.cells }
+    {
+        let _ = &self.cells;
+    }
+}
