@@ -6,6 +6,8 @@ pub mod Loads
 pub mod Sorting
 -- effects before they are sorted
 pub mod Gathering
+-- the nodes of the cells of a life
+pub mod LifeLoads
 -- proofs, no definitions
 pub mod MessageLaws
 pub mod PortLaws
@@ -19,3 +21,4 @@ pub mod UniqueLaws
 pub mod RisingLaws
 pub mod GatherLaws
 pub mod NumberLaws
+pub mod LifeLaws

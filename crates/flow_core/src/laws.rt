@@ -9,10 +9,15 @@ ghost use Rattle.node_core.specs.Meaning.{Saying, nothing};
 ghost use Rattle.node_core.specs.Numbering.{stamped};
 ghost use Rattle.merge_node.specs.Merge.{IsClosed, RisesFrom, barriers, items};
 ghost use Rattle.flow_cells.specs.Outs.{item_msgs};
+ghost use Rattle.flow_cells.specs.declared.parts.CellParts.{CellParts};
+ghost use Rattle.flow_life.specs.Lives.{IsLife};
+ghost use Rattle.flow_life.specs.Loads.{plan_now};
+ghost use Rattle.flow_life.specs.Streams.{AreStreams, CarriesStreams, plans_of};
 ghost use Rattle.task_run.specs.Active.{Active, IsAt, placed};
 ghost use Rattle.task_run.specs.Graphs.{Placed, graph_gives, outs_of};
 ghost use Rattle.task_run.specs.Lives.{effects_of};
 ghost use Rattle.flow_core.specs.Gathering.{LivesRise, NumbersEffects, effects_by_node};
+ghost use Rattle.flow_core.specs.LifeLoads.{acts_of, effects_since};
 ghost use Rattle.flow_core.specs.Loads.{Loaded};
 ghost use Rattle.flow_core.specs.Messages.{AreMarksOf, load_messages, stamped_up_to};
 ghost use Rattle.flow_core.specs.Sorting.{AreSorted};
@@ -56,6 +61,23 @@ pub fn loads_go_on<N: Node>()
         → Loaded N.first N.step points acts outs done
         → map (λ a. N.drops a.state) acts
         ≡ map (λ g. g.drops) (graph_gives N.answer points (map placed acts)) }
+{}
+
+/// A life that is at rest behind a load of more points, with the nodes that it had before, is loaded with these points too: so what
+/// its cells have given out and done in all loads is what whole lists give.
+pub fn lives_go_on<N: Node>()
+    ensures { (points new : List PointValue) (upto : Stamp) (marks : List Stamp)
+        (before after : List (CellParts N)) (outs : ℕ → List Msg) (done : ℕ → List Effect)
+        (streams : List (List Msg))
+        → Loaded N.first N.step points (acts_of N.Node before) outs done
+        → upto.0 ≡ length (points ++ new) → AreMarksOf new upto marks
+        → IsLife N.Node after
+        → plans_of N.Node after ≡ map (plan_now N.Node (load_messages new upto marks)) before
+        → map placed (acts_of N.Node after) ≡ map placed (acts_of N.Node before)
+        → CarriesStreams N.Node after → AreStreams (plans_of N.Node after) streams
+        → Loaded N.first N.step (points ++ new) (acts_of N.Node after)
+        (λ node. outs node ++ slice_index_or streams node [])
+        (λ node. done node ++ slice_index_or (effects_since after) node []) }
 {}
 
 /// The effects that the nodes of lives gave for all points, or for more points than before, are those that whole lists give, once

@@ -6,5 +6,5 @@ mod laws;
 mod loads;
 
 pub use gathering::sort_effects;
-pub use laws::{loads_go_on, loads_have_messages, sorted_effects_are_whole};
+pub use laws::{lives_go_on, loads_go_on, loads_have_messages, sorted_effects_are_whole};
 pub use loads::messages;
