@@ -8,6 +8,8 @@ pub mod Sorting
 pub mod Gathering
 -- the nodes of the cells of a life
 pub mod LifeLoads
+-- lives side by side
+pub mod Nets
 -- proofs, no definitions
 pub mod MessageLaws
 pub mod PortLaws
@@ -22,3 +24,4 @@ pub mod RisingLaws
 pub mod GatherLaws
 pub mod NumberLaws
 pub mod LifeLaws
+pub mod NetLaws

@@ -3,8 +3,10 @@
 
 mod gathering;
 mod laws;
+mod lives;
 mod loads;
 
 pub use gathering::sort_effects;
 pub use laws::{lives_go_on, loads_go_on, loads_have_messages, sorted_effects_are_whole};
+pub use lives::Numbered;
 pub use loads::messages;
