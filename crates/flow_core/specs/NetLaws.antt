@@ -1,18 +1,21 @@
 -- What steps of lives make of a net, and that some step can be made while it isn't at rest.
-use Rattle.std.proofs.Common.{◌≡◌, ℕ, zero, suc, ◌+◌, ◌-◌, ◌<◌, ◌≤◌, Bool, List, [], ◌∷◌, ◌++◌, Option, Some, None, Result, Ok, Err, IfOk, IsTrue, IsFalse, length, refl, sym, ap, subst, ◌∙◌, arith}
+use Rattle.std.proofs.Common.{◌≡◌, ℕ, zero, suc, ◌+◌, ◌-◌, ◌<◌, ◌≤◌, Bool, List, [], ◌∷◌, ◌++◌, Option, Some, None, Result, Ok, Err, false, IfOk, length, refl, sym, ap, subst, ◌∙◌, arith}
 use Rattle.std.specs.Prelude.{⊤, slice_get}
-use Rattle.std.specs.List.{AllZip}
+use Rattle.std.specs.List.{AllByRecursion as Each, AllZip}
 use Rattle.kap_base.specs.declared.memory.NoMemory.{NoMemory}
+use Rattle.node_core.specs.declared.node.Node.{Ghosts}
 use Rattle.flow_cells.specs.Gathers.{Gathers}
 use Rattle.flow_cells.specs.declared.parts.OutEdge.{OutEdge}
 use Rattle.flow_cells.specs.declared.parts.InEdge.{InEdge}
 use Rattle.flow_cells.specs.declared.parts.CellParts.{CellParts}
 use Rattle.flow_life.specs.declared.steps.Step.{Step}
 use Rattle.flow_life.specs.declared.steps.Step.TheVariants as steps
+use Rattle.flow_life.specs.Lives.{IsLife}
 use Rattle.flow_life.specs.Places.{Both, in_of, out_of}
 use Rattle.flow_life.specs.Settling.{Grows, Receives, SameReceived, SameSent, Sends}
 use Rattle.flow_life.specs.Steps.{IsEnabled, SomeEnabled}
-use Rattle.flow_core.specs.Nets.{EnabledIn, GrowsIn, NumberedLife, SomeEnabledIn, behind, cell_of, here, in_it, later, step_before, step_behind}
+use Rattle.flow_life.specs.StreamLaws.{carries_prefixes}
+use Rattle.flow_core.specs.Nets.{EnabledIn, GrowsIn, HasCell, HasPrefixes, IsSound, NumberedLife, SomeEnabledIn, after, behind, cell_of, here, in_it, later, own, step_before, step_behind}
 
 -- ---- results and steps
 
@@ -134,3 +137,30 @@ module _ {N : Type 0} where
         step = step_before n s.step;
         enabled = enabled_later lives l others (step_before n s.step) is (before-high n s.step) (subst (λ (q : Step). EnabledIn others q) (sym (behind-before n s.step)) s.enabled);
       }
+
+  -- ---- a cell by its number
+
+  own-only : (l : NumberedLife N) (others : List (NumberedLife N)) (cell : ℕ) (c : CellParts N) → cell < length l.life.cells → HasCell (l ∷ others) cell c → slice_get l.life.cells cell ≡ Some c
+  own-only l others cell c lt (own at) = at
+  own-only l others cell c lt (after large h) = absurd (omega (arith, lt, large))
+
+  pub cell_own : (lives : List (NumberedLife N)) (l : NumberedLife N) (others : List (NumberedLife N)) (cell : ℕ) (c : CellParts N) → lives ≡ l ∷ others → cell < length l.life.cells → HasCell lives cell c → slice_get l.life.cells cell ≡ Some c
+  cell_own lives l others cell c is lt h = own-only l others cell c lt (subst (λ (ls : List (NumberedLife N)). HasCell ls cell c) is h)
+
+  after-only : (l : NumberedLife N) (others : List (NumberedLife N)) (cell : ℕ) (c : CellParts N) → length l.life.cells ≤ cell → HasCell (l ∷ others) cell c → HasCell others (cell - length l.life.cells) c
+  after-only l others cell c le (own at) = let lt = there l.life.cells cell c at in absurd (omega (arith, le, lt))
+  after-only l others cell c le (after large h) = h
+
+  pub cell_after : (lives : List (NumberedLife N)) (l : NumberedLife N) (others : List (NumberedLife N)) (cell n : ℕ) (c : CellParts N) → lives ≡ l ∷ others → n ≡ length l.life.cells → n ≤ cell → HasCell lives cell c → HasCell others (cell - n) c
+  cell_after lives l others cell n c is long le h =
+      subst (λ (k : ℕ). HasCell others (cell - k) c) (sym long) (after-only l others cell c (subst (λ (k : ℕ). k ≤ cell) long le) (subst (λ (ls : List (NumberedLife N)). HasCell ls cell c) is h))
+
+-- ---- prefixes
+
+module _ {N P S : Type 0} (g : Ghosts N P S) where
+  -- what a life keeps says that its edges have carried prefixes
+  pub prefixes_more : (lives : List (NumberedLife N)) (l : NumberedLife N) (others : List (NumberedLife N)) → lives ≡ l ∷ others → Each IsSound lives → (l.life.spent ≡ false → IsLife g l.life.cells) → Each (HasPrefixes g) others → Each (HasPrefixes g) lives
+  prefixes_more lives l others is sound keeps rest =
+      let sounds : Each IsSound (l ∷ others) = subst (λ (ls : List (NumberedLife N)). Each IsSound ls) is sound in
+      let life : IsLife g l.life.cells = keeps sounds.0.unspent in
+      subst (λ (ls : List (NumberedLife N)). Each (HasPrefixes g) ls) (sym is) (carries_prefixes g l.life.cells life.ready, rest)

@@ -8,10 +8,10 @@ use Rattle.node_core.specs.declared.node.Node.{Ghosts}
 use Rattle.flow_cells.specs.declared.parts.CellParts.{CellParts}
 use Rattle.flow_life.specs.declared.steps.Step.{Step}
 use Rattle.flow_life.specs.declared.steps.Step.TheVariants as steps
-use Rattle.flow_life.specs.Loads.{IsGathered}
+use Rattle.flow_life.specs.Loads.{IsGathered, plan_now}
 use Rattle.flow_life.specs.Settling.{Grows}
 use Rattle.flow_life.specs.Steps.{AreQuiet, IsEnabled, moves_of}
-use Rattle.flow_life.specs.Streams.{AreStreams, CarriesPrefixes, CarriesStreams, plans_of, stream_length}
+use Rattle.flow_life.specs.Streams.{AreStreams, CarriesPrefixes, CarriesStreams, Plan, plans_of, stream_length}
 use Rattle.flow_life.specs.Wired.{parents_of, sum_of_all}
 use Rattle.flow_life.specs.Lives.{LifeValue}
 use Rattle.flow_core.specs.declared.lives.Numbered.{Numbered}
@@ -20,11 +20,10 @@ use Rattle.flow_core.specs.declared.lives.Numbered.{Numbered}
 abbrev pub NumberedLife : Type 0 → Type 0
 NumberedLife N = Numbered (LifeValue N)
 
--- its lives, the effects that weren't collected yet, the room of each edge, its last barrier, and whether a call failed in the middle
+-- its lives, the effects that weren't collected yet, its last barrier, and whether a call failed in the middle
 pub record NetValue (N : Type 0) : Type 0 where
   pub lives : List (NumberedLife N)
   pub gathered : List Effect
-  pub capacity : ℕ
   pub last : Stamp
   pub spent : Bool
 
@@ -90,6 +89,14 @@ module _ {N P S : Type 0} (g : Ghosts N P S) where
   -- what each edge of it has carried is a prefix of its stream
   abbrev pub HasPrefixes : NumberedLife N → Type 0
   HasPrefixes l = CarriesPrefixes g l.life.cells
+
+  -- the nodes of each life at the last load
+  abbrev pub plans_in : List (NumberedLife N) → List (List (Plan S))
+  plans_in lives = map (λ l. plans_of g l.life.cells) lives
+
+  -- and what they are at a load of these messages
+  abbrev pub plans_from : List Msg → List (NumberedLife N) → List (List (Plan S))
+  plans_from source lives = map (λ l. map (plan_now g source) l.life.cells) lives
 
   -- what each edge of it has carried is its stream
   abbrev pub HasStreamsCarried : NumberedLife N → Type 0
