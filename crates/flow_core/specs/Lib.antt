@@ -10,6 +10,8 @@ pub mod Gathering
 pub mod LifeLoads
 -- lives side by side
 pub mod Nets
+-- lives that are made from plans
+pub mod Making
 -- proofs, no definitions
 pub mod MessageLaws
 pub mod PortLaws
@@ -25,3 +27,4 @@ pub mod GatherLaws
 pub mod NumberLaws
 pub mod LifeLaws
 pub mod NetLaws
+pub mod PlanLaws

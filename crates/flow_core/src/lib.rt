@@ -5,6 +5,7 @@ mod gathering;
 mod laws;
 mod lives;
 mod loads;
+mod making;
 mod net;
 
 pub use gathering::sort_effects;

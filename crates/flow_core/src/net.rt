@@ -3,12 +3,15 @@
 use crate::gathering::sort_effects;
 use crate::lives::{Numbered, at_rest, dropped, keep_prefixes, load, play, step};
 use crate::loads::messages;
+use crate::making::lives_of;
+use edge_queue::CAPACITY_LIMIT;
 use flow_life::{Life, Step};
 use kap_base::{NoMemory, Point, Stamp};
 use node_core::{Effects, Node};
 use std::alloc::Global;
 use std::marker::Model;
 use std::mem;
+use task_run::LifePlan;
 
 /// Lives side by side, whose cells are numbered life by life, from 0 on. Its type says that the edges of each life are settled
 /// and that the effects of all moves were gathered, unless it is spent.
@@ -52,6 +55,7 @@ impl<N: Node> Net<N> {
     ghost use Rattle.flow_cells.specs.declared.parts.CellParts.{CellParts};
     ghost use Rattle.flow_life.specs.Loads.{IsGathered};
     ghost use Rattle.flow_life.specs.Steps.{one_if};
+    ghost use Rattle.flow_core.specs.Making.{AreLivesOf, HasFewParents};
     ghost use Rattle.flow_core.specs.Messages.{load_messages};
     ghost use Rattle.flow_core.specs.Nets.{EnabledIn, GrowsIn, HasCell, HasMovedTwice, HasPrefixes, HasStreamsCarried, IsResting, SomeEnabledIn, cell_count, moves_in, numbers_of, plans_from, plans_in};
     ghost use Rattle.flow_core.specs.Sorting.{AreSorted};
@@ -69,6 +73,25 @@ impl<N: Node> Net<N> {
             last: Stamp(0),
             spent: false,
         }
+    }
+
+    /// A net with a life of each plan, in their order, whose edges have room for 1 to 65,536 messages. It is at rest, and each
+    /// cell's saved state is its state.
+    pub fn make(alloc: Global, plans: Vec<LifePlan<N>>, capacity: u32) -> Result<Net<N>, NoMemory>
+        requires few { Each HasFewParents plans.items }
+        requires some { 0 < capacity }
+        requires limit { capacity ≤ CAPACITY_LIMIT }
+        ensures lives { IfOk result (λ net. AreLivesOf N.Node plans.items net.lives) }
+        ensures gathered { IfOk result (λ net. net.gathered ≡ []) }
+        ensures last { IfOk result (λ net. net.last.0 ≡ 0) }
+        ensures spent { IfOk result (λ net. net.spent ≡ false) }
+    {
+        Ok(Net {
+            lives: lives_of(alloc, plans, capacity)?,
+            gathered: Effects::new(alloc),
+            last: Stamp(0),
+            spent: false,
+        })
     }
 
     /// Adds a life behind the others, of which no call failed and whose effects were gathered. An `Err` changes nothing.
