@@ -30,11 +30,11 @@ side-by-side f g (s ∷ ss) =
     let fs = flat_map f ss in
     let gs = flat_map g ss in
     let turned : IsPermutation (fs ++ (g s ++ gs)) (g s ++ (fs ++ gs)) =
-        subst (λ (l : List Effect). IsPermutation l (g s ++ (fs ++ gs))) (append_assoc fs (g s) gs)
-        (subst (λ (l : List Effect). IsPermutation ((fs ++ g s) ++ gs) l) (append_assoc (g s) fs gs)
-        (IsPermutation-append_left gs (fs ++ g s) (g s ++ fs) (IsPermutation-append_comm fs (g s)))) in
+    subst (λ (l : List Effect). IsPermutation l (g s ++ (fs ++ gs))) (append_assoc fs (g s) gs)
+    (subst (λ (l : List Effect). IsPermutation ((fs ++ g s) ++ gs) l) (append_assoc (g s) fs gs)
+    (IsPermutation-append_left gs (fs ++ g s) (g s ++ fs) (IsPermutation-append_comm fs (g s)))) in
     let inner : IsPermutation (fs ++ (g s ++ gs)) (g s ++ flat_map (λ t. f t ++ g t) ss) =
-        IsPermutation-trans _ _ _ turned (IsPermutation-append_right (g s) (fs ++ gs) (flat_map (λ t. f t ++ g t) ss) (side-by-side f g ss)) in
+    IsPermutation-trans _ _ _ turned (IsPermutation-append_right (g s) (fs ++ gs) (flat_map (λ t. f t ++ g t) ss) (side-by-side f g ss)) in
     subst (λ (l : List Effect). IsPermutation l ((f s ++ g s) ++ flat_map (λ t. f t ++ g t) ss)) (sym (append_assoc (f s) fs (g s ++ gs)))
     (subst (λ (l : List Effect). IsPermutation (f s ++ (fs ++ (g s ++ gs))) l) (sym (append_assoc (f s) (g s) (flat_map (λ t. f t ++ g t) ss)))
     (IsPermutation-append_right (f s) _ _ inner))
@@ -52,8 +52,8 @@ gives-same n [] h = nothing-at (stamps n)
 gives-same n (g ∷ gs) h =
     IsPermutation-trans _ _ _
     (IsPermutation-append g.effects (flat_map (λ s. effects_with s g.effects) (stamps n)) (flat_map (λ (x : Given). x.effects) gs) (flat_map (λ s. node_effects_with s gs) (stamps n))
-        (subst (λ (l : List Effect). IsPermutation g.effects l) (sym (stream_by_stamp of_effect n g.effects h.0)) (IsPermutation-refl g.effects))
-        (gives-same n gs h.1))
+    (subst (λ (l : List Effect). IsPermutation g.effects l) (sym (stream_by_stamp of_effect n g.effects h.0)) (IsPermutation-refl g.effects))
+    (gives-same n gs h.1))
     (side-by-side (λ s. effects_with s g.effects) (λ s. node_effects_with s gs) (stamps n))
 
 -- ---- the lists of points that go on
@@ -93,9 +93,9 @@ unfolding IsDistinct
 distinct-across z [] ys d i j = i
 distinct-across z (x ∷ xs) ys d i j = ⊎_elim
     (λ (same : z ≡ x).
-      let apart : is_same x z ≡ false = apart-at x (xs ++ ys) d.0 (in-second xs ys j) in
-      let here : is_same x z ≡ true = subst (λ (a : Effect). is_same a z ≡ true) same (same_itself z) in
-      cc)
+    let apart : is_same x z ≡ false = apart-at x (xs ++ ys) d.0 (in-second xs ys j) in
+    let here : is_same x z ≡ true = subst (λ (a : Effect). is_same a z ≡ true) same (same_itself z) in
+    cc)
     (λ (r : IsIn z xs). distinct-across z xs ys d.1 r j)
     i
   where
@@ -134,10 +134,10 @@ behind-is front rest ys rising same sorted =
     let there : Each (λ z. IsIn z whole) (front ++ ys) = shuffled (λ z. IsIn z whole) whole (front ++ ys) same (in_itself whole) in
     sorted_is whole (front ++ ys) rising same
     (sorted-append front ys (rising-first front rest rising) sorted
-        (λ e z i j first. ⊎_elim
-          (λ (k : IsIn z front). distinct-across z front ys distinct k j)
-          (λ (k : IsIn z rest). never_both e z (rising-across e z front rest rising i k) first)
-          (in-either z front rest (each-in (λ y. IsIn y whole) ys z (each-second front ys there) j))))
+    (λ e z i j first. ⊎_elim
+    (λ (k : IsIn z front). distinct-across z front ys distinct k j)
+    (λ (k : IsIn z rest). never_both e z (rising-across e z front rest rising i k) first)
+    (in-either z front rest (each-in (λ y. IsIn y whole) ys z (each-second front ys there) j))))
   where
     each-second : (us bs : List Effect) → Each (λ z. IsIn z (front ++ rest)) (us ++ bs) → Each (λ z. IsIn z (front ++ rest)) bs
     each-second [] bs h = h
@@ -153,8 +153,8 @@ module _ {P : Type 0} (answer : P → Answer) (life number : P → ℕ) (stamped
       let gs = graph_gives answer points nodes in
       IsPermutation-trans _ _ _
       (IsPermutation-append (flat_map (λ (g : Given). g.effects) gs) (flat_map (λ s. node_effects_with s gs) (stamps n)) (effects_by_node answer lives points) (effects_of answer lives points)
-          (gives-same n gs (each-of (λ g. IsStream of_effect n g.effects) gs (λ k lt. (gives_are_streams answer life number stamped points nodes k).effects)))
-          (by-node points lives))
+      (gives-same n gs (each-of (λ g. IsStream of_effect n g.effects) gs (λ k lt. (gives_are_streams answer life number stamped points nodes k).effects)))
+      (by-node points lives))
       (side-by-side (λ s. node_effects_with s gs) (λ s. life_effects_with answer s lives points) (stamps n))
 
   goes-on : (lives : List (List (Placed P))) (old new : List PointValue) → Goes (effects_of answer lives old) (effects_of answer lives (old ++ new))
@@ -187,6 +187,6 @@ module _ {P : Type 0} (answer : P → Answer) (life number : P → ℕ) (stamped
         let r = goes-on lives old new in
         let rising : AreRising (front ++ r.rest) = subst AreRising r.is (effects_rise answer life number stamped numbers low (old ++ new) lives are) in
         let whole : IsPermutation (effects_of answer lives (old ++ new)) (front ++ sorted) =
-            IsPermutation-trans _ _ _ (IsPermutation-sym _ _ (by-node (old ++ new) lives))
-            (IsPermutation-trans _ _ _ same (IsPermutation-append _ _ _ _ (by-node old lives) one)) in
+        IsPermutation-trans _ _ _ (IsPermutation-sym _ _ (by-node (old ++ new) lives))
+        (IsPermutation-trans _ _ _ same (IsPermutation-append _ _ _ _ (by-node old lives) one)) in
         r.is ∙ sym (behind-is front r.rest sorted rising (subst (λ (l : List Effect). IsPermutation l (front ++ sorted)) r.is whole) is)

@@ -60,24 +60,24 @@ module _ (n m : ℕ) (bs : List Stamp) (src : Part) (source : List Msg) (from : 
       let ran = run-is n m bs src source from ts ss z answer life number stamped first step folds le (s ∷ later) a p s streams.0 of.0 below at.0 in
       let whole_is : whole t ≡ node_gives answer m (whole src).items (wholes ts) (placed a) = part-whole n m bs src source from ts ss z answer life number stamped first step folds le (placed a) in
       let news : wholes (ts ++ t ∷ []) ≡ wholes ts ++ node_gives answer m (whole src).items (wholes ts) (placed a) ∷ [] =
-          map-append whole ts (t ∷ []) ∙ ap (λ (g : Given). wholes ts ++ g ∷ []) whole_is in
+      map-append whole ts (t ∷ []) ∙ ap (λ (g : Given). wholes ts ++ g ∷ []) whole_is in
       let old : olds (ts ++ t ∷ []) ≡ olds ts ++ t.old ∷ [] = map-append (λ (u : Part). u.old) ts (t ∷ []) in
       let joined : (ss ++ s ∷ []) ++ later ≡ ss ++ s ∷ later = append_assoc ss (s ∷ []) later in
       let node : placed b ≡ placed a = head-same (placed b) (placed a) (map placed after) (map placed acts) same in
       let others : map placed after ≡ map placed acts = ap (drop 1) same in
       let rest = graph_ran (suc k) (ts ++ t ∷ []) (ss ++ s ∷ []) acts plans later effects after
-          (ap suc len ∙ omega (arith, length-append ts (t ∷ [])))
-          (carries-more n m bs ts ss t s z ran.carries)
-          graph.1
-          (subst (λ (gs : List Given). AreAt answer first step n src.old.items gs acts) (sym old) at.1)
-          of.1
-          (subst (λ (l : List (List Msg)). AllZip (IsStream l) plans later) (sym joined) streams.1)
-          (subst (λ (l : List (List Msg)). AllZip (Does l) plans effects) (sym joined) does.1)
-          (subst (λ (l : List (List Msg)). AllZip (EndsIn l) plans after) (sym joined) ends.1)
-          others in
+      (ap suc len ∙ omega (arith, length-append ts (t ∷ [])))
+      (carries-more n m bs ts ss t s z ran.carries)
+      graph.1
+      (subst (λ (gs : List Given). AreAt answer first step n src.old.items gs acts) (sym old) at.1)
+      of.1
+      (subst (λ (l : List (List Msg)). AllZip (IsStream l) plans later) (sym joined) streams.1)
+      (subst (λ (l : List (List Msg)). AllZip (Does l) plans effects) (sym joined) does.1)
+      (subst (λ (l : List (List Msg)). AllZip (EndsIn l) plans after) (sym joined) ends.1)
+      others in
       let state : b.state ≡ state-of ts (placed b) = ends.0 s streams.0 ∙ ran.state ∙ ap (state-of ts) (sym node) in
       let given_b : wholes (ts ++ t ∷ []) ≡ wholes ts ++ node_gives answer m (whole src).items (wholes ts) (placed b) ∷ [] =
-          news ∙ ap (λ (d : Placed P). wholes ts ++ node_gives answer m (whole src).items (wholes ts) d ∷ []) (sym node) in
+      news ∙ ap (λ (d : Placed P). wholes ts ++ node_gives answer m (whole src).items (wholes ts) d ∷ []) (sym node) in
       record {
         parts = t ∷ rest.parts;
         old = ap (λ (gs : List Given). t.old ∷ gs) (ap (λ (gs : List Given). gives_behind answer n src.old.items gs (map placed acts)) (sym old) ∙ rest.old);

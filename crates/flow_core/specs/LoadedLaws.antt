@@ -128,22 +128,22 @@ module _ {P S : Type 0} (answer : P → Answer) (life number : P → ℕ) (stamp
       let ran = graph_ran n m bs src source from answer life number stamped first step folds low 0 [] [] acts plans streams effects after refl tt graph s.at of streams_are does ends same in
       let old : graph_gives answer points (map placed acts) ≡ olds ran.parts = ran.old in
       let now : graph_gives answer (points ++ new) (map placed after) ≡ wholes ran.parts =
-          ap (λ (ds : List (Placed P)). graph_gives answer (points ++ new) ds) same
-          ∙ ap (λ (l : List Item). gives_behind answer m l [] (map placed acts)) (sym all) ∙ ran.new in
+      ap (λ (ds : List (Placed P)). graph_gives answer (points ++ new) ds) same
+      ∙ ap (λ (l : List Item). gives_behind answer m l [] (map placed acts)) (sym all) ∙ ran.new in
       record {
         at = subst (λ (l : List Item). AreAt answer first step m l [] after) all ran.at;
         given_out = λ i.
-          items-append (outs i) (get_or streams i [])
-          ∙ ap (λ (l : List Msg). l ++ items (get_or streams i [])) (s.given_out i ∙ ap (λ (gs : List Given). item_msgs (out_at gs i)) old)
-          ∙ ap (λ (l : List Msg). item_msgs (out_at (olds ran.parts) i) ++ l) (items-carried n m bs ran.parts streams i ran.carries)
-          ∙ sym (map-append (λ (x : Item). messages.Item x) (out_at (olds ran.parts) i) (out_at (mores ran.parts) i))
-          ∙ ap item_msgs (sym (out-whole ran.parts i))
-          ∙ ap (λ (gs : List Given). item_msgs (out_at gs i)) (sym now);
+            items-append (outs i) (get_or streams i [])
+            ∙ ap (λ (l : List Msg). l ++ items (get_or streams i [])) (s.given_out i ∙ ap (λ (gs : List Given). item_msgs (out_at gs i)) old)
+            ∙ ap (λ (l : List Msg). item_msgs (out_at (olds ran.parts) i) ++ l) (items-carried n m bs ran.parts streams i ran.carries)
+            ∙ sym (map-append (λ (x : Item). messages.Item x) (out_at (olds ran.parts) i) (out_at (mores ran.parts) i))
+            ∙ ap item_msgs (sym (out-whole ran.parts i))
+            ∙ ap (λ (gs : List Given). item_msgs (out_at gs i)) (sym now);
         effects = λ i.
-          ap (λ (l : List Effect). l ++ get_or effects i []) (s.effects i ∙ ap (λ (gs : List Given). (get_or gs i nothing).effects) old)
-          ∙ ap (λ (es : List (List Effect)). (get_or (olds ran.parts) i nothing).effects ++ get_or es i []) ran.does
-          ∙ sym (effects-whole ran.parts i)
-          ∙ ap (λ (gs : List Given). (get_or gs i nothing).effects) (sym now);
+            ap (λ (l : List Effect). l ++ get_or effects i []) (s.effects i ∙ ap (λ (gs : List Given). (get_or gs i nothing).effects) old)
+            ∙ ap (λ (es : List (List Effect)). (get_or (olds ran.parts) i nothing).effects ++ get_or es i []) ran.does
+            ∙ sym (effects-whole ran.parts i)
+            ∙ ap (λ (gs : List Given). (get_or gs i nothing).effects) (sym now);
       }
 
   pub loaded_stands : {points : List PointValue} {acts : List (Active P S)} {outs : ℕ → List Msg} {done : ℕ → List Effect} → Loaded first step points acts outs done → Stands points acts outs done

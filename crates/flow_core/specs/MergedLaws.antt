@@ -140,4 +140,4 @@ pub inputs_merged : (m : ℕ) (bs : List Stamp) (ls : Lists) (lists : List (List
 inputs_merged m bs ls lists are h =
     same_by_ports (inputs (merge ls)) (merged m lists) (inputs-ordered (merge ls) (merge_ordered ls)) (merged_ordered m lists)
     (λ k. let at = items-at m ls lists k h in
-      same_items (from_port k (inputs (merge ls))) (get_or lists k []) (merge-port bs ls k are ∙ at.items) ∙ sym (merged_has m k lists at.stream))
+    same_items (from_port k (inputs (merge ls))) (get_or lists k []) (merge-port bs ls k are ∙ at.items) ∙ sym (merged_has m k lists at.stream))

@@ -74,10 +74,10 @@ numbered-append t stamp low high (x ∷ xs) ys at h a p b = (
     past e [] i q = tt
     past e (z ∷ zs) i q = (
       (λ same.
-        let there : z.stamp.0 ≡ stamp = sym same ∙ i.0 in
-        let from : number_at t stamp ≤ z.seq = subst (λ (s : ℕ). number_at t s ≤ z.seq) there q.0 in
-        let under : e.seq < high = i.2 in
-        omega (arith, at, from, under)),
+          let there : z.stamp.0 ≡ stamp = sym same ∙ i.0 in
+          let from : number_at t stamp ≤ z.seq = subst (λ (s : ℕ). number_at t s ≤ z.seq) there q.0 in
+          let under : e.seq < high = i.2 in
+          omega (arith, at, from, under)),
       past e zs i q.1,
     )
 
@@ -122,14 +122,14 @@ module _ (life node : ℕ) (saying : Saying) where
       let seq = number_at t now in
       let next : tally saying (before ++ x ∷ []) ≡ counted t now more = tally-more saying no_tally [] before x in
       let behind : StampsFrom of_input (tally saying (before ++ x ∷ [])).stamp xs =
-          subst (λ (u : Tally). StampsFrom of_input u.stamp xs) (sym next) (less (counted t now more).stamp now xs (counted-low t now more low) rising.0) in
+      subst (λ (u : Tally). StampsFrom of_input u.stamp xs) (sym next) (less (counted t now more).stamp now xs (counted-low t now more low) rising.0) in
       let rest = numbered-after (before ++ x ∷ []) xs behind rising.1 in
       let others = (given_after (stamped life node saying) (before ++ x ∷ []) xs).effects in
       let past : Each (IsPast (counted t now more)) others = subst (λ (u : Tally). Each (IsPast u) others) next rest.past in
       let stamps : Each (λ e. now ≤ e.stamp.0) others = after-from now (before ++ x ∷ []) xs rising.0 in
       let between = numbers-between life node x.1.stamp seq seq deeds (seq + more) (omega arith) refl in
       let here : number_at (counted t now more) now ≡ seq + more =
-          counted-past t now more now low (omega arith) ∙ (let same : (now == now) ≡ true = grind (arith, nat_tests) in rw same refl) in
+      counted-past t now more now low (omega arith) ∙ (let same : (now == now) ≡ true = grind (arith, nat_tests) in rw same refl) in
       record {
         numbered = numbered-append (counted t now more) now seq (seq + more) (effects_from life node x.1.stamp seq deeds) others here between (own-numbered life node x.1.stamp seq deeds) past rest.numbered;
         past = each-append (IsPast t) _ _

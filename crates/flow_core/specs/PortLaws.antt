@@ -41,13 +41,13 @@ first-precedes y ys k i is a e = listed y (y ∷ ys) k i is (inr (refl, omega ar
 one-port : (x y : Input) → Precedes x y → Precedes y x → x.0 ≡ y.0
 one-port x y a b = ⊎_elim
     (λ (lt : x.1.stamp.0 < y.1.stamp.0). ⊎_elim
-        (λ (gt : y.1.stamp.0 < x.1.stamp.0). absurd (omega arith))
-        (λ (same : (y.1.stamp.0 ≡ x.1.stamp.0) × (y.0 ≤ x.0)). let e : y.1.stamp.0 ≡ x.1.stamp.0 = same.0 in absurd (omega arith))
-        b)
+    (λ (gt : y.1.stamp.0 < x.1.stamp.0). absurd (omega arith))
+    (λ (same : (y.1.stamp.0 ≡ x.1.stamp.0) × (y.0 ≤ x.0)). let e : y.1.stamp.0 ≡ x.1.stamp.0 = same.0 in absurd (omega arith))
+    b)
     (λ (same : (x.1.stamp.0 ≡ y.1.stamp.0) × (x.0 ≤ y.0)). ⊎_elim
-        (λ (gt : y.1.stamp.0 < x.1.stamp.0). let e : x.1.stamp.0 ≡ y.1.stamp.0 = same.0 in absurd (omega arith))
-        (λ (back : (y.1.stamp.0 ≡ x.1.stamp.0) × (y.0 ≤ x.0)). let up : x.0 ≤ y.0 = same.1 in let down : y.0 ≤ x.0 = back.1 in omega arith)
-        b)
+    (λ (gt : y.1.stamp.0 < x.1.stamp.0). let e : x.1.stamp.0 ≡ y.1.stamp.0 = same.0 in absurd (omega arith))
+    (λ (back : (y.1.stamp.0 ≡ x.1.stamp.0) × (y.0 ≤ x.0)). let up : x.0 ≤ y.0 = same.1 in let down : y.0 ≤ x.0 = back.1 in omega arith)
+    b)
     a
 
 same-rest : (k : ℕ) (x : Input) (xs ys : List Input) → from_port k (x ∷ xs) ≡ from_port k (x ∷ ys) → from_port k xs ≡ from_port k ys
@@ -161,5 +161,5 @@ merged_grows n m olds mores news le h =
     (merged_ordered m news)
     (ordered-behind n (merged n olds) (merged m mores) (merged_up_to n olds) (merged_ordered n olds) (merged_above n m olds mores news h) (merged_ordered m mores))
     (λ k. let g = h k in
-      let new : IsStream of_item m (get_or news k []) = subst (λ (l : List Item). IsStream of_item m l) (sym g.is) (span_stream of_item n m (get_or olds k []) (get_or mores k []) le g.span) in
-      merged_has m k news new ∙ g.is ∙ sym (port-append k (merged n olds) (merged m mores) ∙ rw (merged_has n k olds g.span.low, merged_has m k mores g.span.high) refl))
+    let new : IsStream of_item m (get_or news k []) = subst (λ (l : List Item). IsStream of_item m l) (sym g.is) (span_stream of_item n m (get_or olds k []) (get_or mores k []) le g.span) in
+    merged_has m k news new ∙ g.is ∙ sym (port-append k (merged n olds) (merged m mores) ∙ rw (merged_has n k olds g.span.low, merged_has m k mores g.span.high) refl))

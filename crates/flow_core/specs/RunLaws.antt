@@ -99,7 +99,7 @@ module _ {S : Type 0} (step : S → Input → Move S) where
     step-stamped : (before : List Input) (s : S) (x : Input) → s ≡ (fold step first before).state → AreStamped x.1.stamp.0 (step s x).given.items
     step-stamped before s x is =
         let one : (step (fold step first before).state x).given ≡ answer before x =
-            sym (also-nothing (step (fold step first before).state x).given) ∙ given_behind step first answer folds before (x ∷ []) ∙ also-nothing (answer before x) in
+        sym (also-nothing (step (fold step first before).state x).given) ∙ given_behind step first answer folds before (x ∷ []) ∙ also-nothing (answer before x) in
         subst (λ (g : Given). AreStamped x.1.stamp.0 g.items) (sym (ap (λ (q : S). (step q x).given) is ∙ one)) (stamped before x).items
 
     step-state : (before : List Input) (s : S) (x : Input) → s ≡ (fold step first before).state → (step s x).state ≡ (fold step first (before ++ x ∷ [])).state

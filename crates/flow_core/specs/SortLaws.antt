@@ -20,13 +20,13 @@ by-not a b R Q rest h k = ⊎_elim
 by-trans : (a b c : ℕ) (R Q T : Type 0) → (R → (Q → ⊥) → T) → By a b R → (By c b Q → ⊥) → By a c T
 by-trans a b c R Q T rest h back = ⊎_elim
     (λ (same : b ≡ c). ⊎_elim
-        (λ (lt : a < b). inl (omega (arith, lt, same)))
-        (λ (e : (a ≡ b) × R). inr (e.0 ∙ same, rest e.1 (λ q. back (inr (sym same, q)))))
-        h)
+    (λ (lt : a < b). inl (omega (arith, lt, same)))
+    (λ (e : (a ≡ b) × R). inr (e.0 ∙ same, rest e.1 (λ q. back (inr (sym same, q)))))
+    h)
     (λ apart. ⊎_elim
-        (λ (lt : b < c). ⊎_elim (λ (l : a < b). inl (omega (arith, l, lt))) (λ (e : (a ≡ b) × R). let same : a ≡ b = e.0 in inl (omega (arith, same, lt))) h)
-        (λ (gt : c < b). absurd (back (inl gt)))
-        apart)
+    (λ (lt : b < c). ⊎_elim (λ (l : a < b). inl (omega (arith, l, lt))) (λ (e : (a ≡ b) × R). let same : a ≡ b = e.0 in inl (omega (arith, same, lt))) h)
+    (λ (gt : c < b). absurd (back (inl gt)))
+    apart)
     (cases_order b c)
 
 -- the other way round
@@ -65,21 +65,21 @@ first-tests a b h =
     let n = nat_cmp a.node b.node in
     let q = nat_cmp a.seq b.seq in
     ⊎_elim
-        (λ (lt : a.stamp.0 < b.stamp.0). ap (λ (o : Ordering). is-first o l n q) (sym (nat_cmp_is a.stamp.0 b.stamp.0 Less lt)))
-        (λ (e : (a.stamp.0 ≡ b.stamp.0) × By a.life b.life (By a.node b.node (a.seq < b.seq))).
-            ap (λ (o : Ordering). is-first o l n q) (sym (nat_cmp_is a.stamp.0 b.stamp.0 Equal e.0))
-            ∙ ⊎_elim
-                (λ (lt : a.life < b.life). ap (λ (o : Ordering). is-first Equal o n q) (sym (nat_cmp_is a.life b.life Less lt)))
-                (λ (f : (a.life ≡ b.life) × By a.node b.node (a.seq < b.seq)).
-                    ap (λ (o : Ordering). is-first Equal o n q) (sym (nat_cmp_is a.life b.life Equal f.0))
-                    ∙ ⊎_elim
-                        (λ (lt : a.node < b.node). ap (λ (o : Ordering). is-first Equal Equal o q) (sym (nat_cmp_is a.node b.node Less lt)))
-                        (λ (g : (a.node ≡ b.node) × (a.seq < b.seq)).
-                            ap (λ (o : Ordering). is-first Equal Equal o q) (sym (nat_cmp_is a.node b.node Equal g.0))
-                            ∙ ap (λ (o : Ordering). is-first Equal Equal Equal o) (sym (nat_cmp_is a.seq b.seq Less g.1)))
-                        f.1)
-                e.1)
-        h
+    (λ (lt : a.stamp.0 < b.stamp.0). ap (λ (o : Ordering). is-first o l n q) (sym (nat_cmp_is a.stamp.0 b.stamp.0 Less lt)))
+    (λ (e : (a.stamp.0 ≡ b.stamp.0) × By a.life b.life (By a.node b.node (a.seq < b.seq))).
+    ap (λ (o : Ordering). is-first o l n q) (sym (nat_cmp_is a.stamp.0 b.stamp.0 Equal e.0))
+    ∙ ⊎_elim
+    (λ (lt : a.life < b.life). ap (λ (o : Ordering). is-first Equal o n q) (sym (nat_cmp_is a.life b.life Less lt)))
+    (λ (f : (a.life ≡ b.life) × By a.node b.node (a.seq < b.seq)).
+    ap (λ (o : Ordering). is-first Equal o n q) (sym (nat_cmp_is a.life b.life Equal f.0))
+    ∙ ⊎_elim
+    (λ (lt : a.node < b.node). ap (λ (o : Ordering). is-first Equal Equal o q) (sym (nat_cmp_is a.node b.node Less lt)))
+    (λ (g : (a.node ≡ b.node) × (a.seq < b.seq)).
+    ap (λ (o : Ordering). is-first Equal Equal o q) (sym (nat_cmp_is a.node b.node Equal g.0))
+    ∙ ap (λ (o : Ordering). is-first Equal Equal Equal o) (sym (nat_cmp_is a.seq b.seq Less g.1)))
+    f.1)
+    e.1)
+    h
 
 -- each isn't behind the next one
 abbrev AreAdjacent : List Effect → Type 0

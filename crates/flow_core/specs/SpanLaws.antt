@@ -215,15 +215,15 @@ module _ (n m : ℕ) (bs : List Stamp) where
           let r : Run S = run (step a.spec) (begun a.state p.passed) t.merged in
           let runs : run_from p t.merged ≡ r = ap (λ (f : S → Input → Move S). run f (begun p.start p.passed) t.merged) of.step_is ∙ ap (λ (q : S). run (step a.spec) (begun q p.passed) t.merged) of.start_is in
           let behind : (fold (step a.spec) a.state (inputs t.merged)).given ≡ (part (placed a)).more =
-              ap (λ (l : List Input). (fold (step a.spec) a.state l).given) took
-              ∙ ap (λ (q : S). (fold (step a.spec) q ys).given) at
-              ∙ given_behind (step a.spec) (first a.spec) (answer a.spec) (folds a.spec) xs ys in
+          ap (λ (l : List Input). (fold (step a.spec) a.state l).given) took
+          ∙ ap (λ (q : S). (fold (step a.spec) q ys).given) at
+          ∙ given_behind (step a.spec) (first a.spec) (answer a.spec) (folds a.spec) xs ys in
           let state : r.state ≡ (fold (step a.spec) (first a.spec) (merged m (lists-new a.parents))).state =
-              run_state (step a.spec) (begun a.state p.passed) t.merged
-              ∙ ap (λ (l : List Input). (fold (step a.spec) a.state l).state) took
-              ∙ ap (λ (q : S). (fold (step a.spec) q ys).state) at
-              ∙ ap (λ (mv : Move S). mv.state) (sym (fold-append (step a.spec) (first a.spec) xs ys))
-              ∙ ap (λ (l : List Input). (fold (step a.spec) (first a.spec) l).state) (sym (new-merged a.parents)) in
+          run_state (step a.spec) (begun a.state p.passed) t.merged
+          ∙ ap (λ (l : List Input). (fold (step a.spec) a.state l).state) took
+          ∙ ap (λ (q : S). (fold (step a.spec) q ys).state) at
+          ∙ ap (λ (mv : Move S). mv.state) (sym (fold-append (step a.spec) (first a.spec) xs ys))
+          ∙ ap (λ (l : List Input). (fold (step a.spec) (first a.spec) l).state) (sym (new-merged a.parents)) in
           let out : s ≡ said (step a.spec) a.state t.merged = t.is ∙ ap (λ (q : Run S). q.outs) runs ∙ run_said (step a.spec) (begun a.state p.passed) t.merged in
           record {
             state = ap (λ (q : Run S). q.state) runs ∙ state;

@@ -67,12 +67,12 @@ first-apart a b h = ⊎_elim
         moved s l n q g = ⊎_elim
             (λ (lt : a.stamp.0 < b.stamp.0). absurd (omega (arith, lt, s)))
             (λ (e : (a.stamp.0 ≡ b.stamp.0) × By a.life b.life (By a.node b.node (a.seq < b.seq))). ⊎_elim
-                (λ (lt : a.life < b.life). absurd (omega (arith, lt, l)))
-                (λ (f : (a.life ≡ b.life) × By a.node b.node (a.seq < b.seq)). ⊎_elim
-                    (λ (lt : a.node < b.node). absurd (omega (arith, lt, n)))
-                    (λ (k : (a.node ≡ b.node) × (a.seq < b.seq)). let lt : a.seq < b.seq = k.1 in absurd (omega (arith, lt, q)))
-                    f.1)
-                e.1)
+            (λ (lt : a.life < b.life). absurd (omega (arith, lt, l)))
+            (λ (f : (a.life ≡ b.life) × By a.node b.node (a.seq < b.seq)). ⊎_elim
+            (λ (lt : a.node < b.node). absurd (omega (arith, lt, n)))
+            (λ (k : (a.node ≡ b.node) × (a.seq < b.seq)). let lt : a.seq < b.seq = k.1 in absurd (omega (arith, lt, q)))
+            f.1)
+            e.1)
             g
 
 -- no two of a rising list stand at one place
@@ -129,12 +129,12 @@ rising-same [] (y ∷ ys) a b i j = absurd i.0
 rising-same (x ∷ xs) [] a b i j = absurd j.0
 rising-same (x ∷ xs) (y ∷ ys) a b i j =
     let same : y ≡ x = ⊎_elim
-        (λ (e : y ≡ x). e)
-        (λ (r : IsIn y xs). ⊎_elim
-            (λ (e : x ≡ y). sym e)
-            (λ (q : IsIn x ys). absurd (never_both x y (in_before x y xs a.0 r) (in_before y x ys b.0 q)))
-            j.0)
-        i.0 in
+    (λ (e : y ≡ x). e)
+    (λ (r : IsIn y xs). ⊎_elim
+    (λ (e : x ≡ y). sym e)
+    (λ (q : IsIn x ys). absurd (never_both x y (in_before x y xs a.0 r) (in_before y x ys b.0 q)))
+    j.0)
+    i.0 in
     let here : GoesBefore x ys = subst (λ (z : Effect). GoesBefore z ys) same b.0 in
     let these : Each (λ z. IsIn z (x ∷ ys)) xs = subst (λ (q : Effect). Each (λ z. IsIn z (q ∷ ys)) xs) same j.1 in
     ap (λ (z : Effect). z ∷ ys) same ∙ ap (λ (l : List Effect). x ∷ l) (rising-same xs ys a.1 b.1 (in-rest x xs ys here i.1) (in-rest x ys xs a.0 these))

@@ -82,6 +82,7 @@ impl<N: Node> Net<N> {
         requires some { 0 < capacity }
         requires limit { capacity ≤ CAPACITY_LIMIT }
         ensures lives { IfOk result (λ net. AreLivesOf N.Node plans.items net.lives) }
+        ensures rest { IfOk result (λ net. Each IsResting net.lives) }
         ensures gathered { IfOk result (λ net. net.gathered ≡ []) }
         ensures last { IfOk result (λ net. net.last.0 ≡ 0) }
         ensures spent { IfOk result (λ net. net.spent ≡ false) }

@@ -1,4 +1,4 @@
-use Rattle.std.proofs.Common.{◌≡◌, ◌<◌, ◌≤◌, length, subst, arith}
+use Rattle.std.proofs.Common.{◌<◌, ◌≤◌, length, arith}
 use Rattle.flow_core.specs.NetLaws.{cell_after, cell_own}
 use Rattle.flow_core.proofs.lives.+dropped.Goals as goal
 

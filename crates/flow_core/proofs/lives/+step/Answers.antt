@@ -1,4 +1,4 @@
-use Rattle.std.proofs.Common.{◌≡◌, ◌<◌, ◌≤◌, length, subst, sym, arith}
+use Rattle.std.proofs.Common.{◌<◌, ◌≤◌, length, arith}
 use Rattle.flow_core.specs.Nets.{cell_of}
 use Rattle.flow_core.specs.NetLaws.{enabled_behind, enabled_here, grows_behind, grows_here, if_ok, never_here}
 use Rattle.flow_core.proofs.lives.+step.Goals as goal

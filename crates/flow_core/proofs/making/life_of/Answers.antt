@@ -1,6 +1,6 @@
-use Rattle.std.proofs.Common.{◌≡◌, ℕ, List, length, reverse, ap, subst, sym, ◌∙◌}
+use Rattle.std.proofs.Common.{reverse, ap, subst, sym, ◌∙◌}
 use Rattle.std.proofs.lemmas.List.{reverse-reverse}
-use Rattle.flow_core.specs.Making.{CanAddAll, HasFewParents}
+use Rattle.flow_core.specs.Making.{HasFewParents}
 use Rattle.flow_core.specs.PlanLaws.{plan_can}
 use Rattle.flow_core.proofs.making.life_of.Goals as goal
 

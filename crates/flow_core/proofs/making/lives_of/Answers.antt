@@ -1,6 +1,5 @@
-use Rattle.std.proofs.Common.{List, [], ◌∷◌, ◌++◌, subst, sym}
 use Rattle.flow_core.specs.PlanLaws.{zip_push}
-use Rattle.flow_core.specs.Making.{AreLivesOf, IsLifeOf}
+use Rattle.flow_core.specs.Making.{IsLifeOf}
 use Rattle.flow_core.proofs.making.lives_of.Goals as goal
 
 pub making-preserved : goal.making-preserved
