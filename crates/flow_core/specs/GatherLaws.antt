@@ -1,6 +1,6 @@
 -- The effects that the nodes of lives gave, sorted, are the effects of the lives on all points.
-use Rattle.std.proofs.Common.{◌≡◌, ℕ, ◌+◌, ◌<◌, true, false, List, [], ◌∷◌, ◌++◌, length, get_or, zero, suc, IsPermutation, refl, sym, ap, subst, ◌∙◌, append-nil, append_assoc, inl, inr, ⊎_elim, arith}
-use Rattle.std.specs.Prelude.{⊤, ◌⊎◌, flat_map}
+use Rattle.std.proofs.Common.{◌≡◌, ℕ, ◌<◌, true, false, List, [], ◌∷◌, ◌++◌, length, get_or, suc, IsPermutation, refl, sym, ap, subst, ◌∙◌, append-nil, append_assoc, inl, inr, ⊎_elim, arith}
+use Rattle.std.specs.Prelude.{◌⊎◌, flat_map}
 use Rattle.std.specs.List.{AllByRecursion as Each, IsDistinct}
 use Rattle.std.proofs.lemmas.List.Sorted.{IsPermutation-append, IsPermutation-append_comm, IsPermutation-append_left, IsPermutation-append_right, IsPermutation-refl, IsPermutation-sym, IsPermutation-trans}
 use Rattle.std.proofs.lemmas.Map.Keys.{IsDistinct-IsPermutation}

@@ -1,8 +1,7 @@
 -- At a load each node of a graph gives, barriers aside, what it gives for more points.
-use Rattle.std.proofs.Common.{◌≡◌, ℕ, zero, suc, ◌+◌, ◌≤◌, ◌<◌, List, [], ◌∷◌, ◌++◌, map, length, get_or, drop, refl, sym, ap, subst, ◌∙◌, append_assoc, length-append, arith}
+use Rattle.std.proofs.Common.{◌≡◌, ℕ, suc, ◌≤◌, ◌<◌, List, [], ◌∷◌, ◌++◌, map, length, drop, refl, sym, ap, subst, ◌∙◌, append_assoc, length-append, arith}
 use Rattle.std.specs.List.{AllByRecursion as Each, AllZip}
 use Rattle.std.proofs.lemmas.List.{map-append}
-use Rattle.kap_base.specs.declared.items.Item.{Item}
 use Rattle.kap_base.specs.declared.items.Effect.{Effect}
 use Rattle.kap_base.specs.declared.items.Msg.{Msg}
 use Rattle.kap_base.specs.declared.items.Stamp.{Stamp}
@@ -13,12 +12,10 @@ use Rattle.task_run.specs.Graphs.{Placed, gives_behind, lists_of, node_gives, ou
 use Rattle.task_run.specs.Active.{Active, AreAt, placed}
 use Rattle.task_run.specs.MoreLaws.{Part, olds, whole, wholes}
 use Rattle.flow_core.specs.Loads.{Does, EndsIn, IsPlanOf}
-use Rattle.flow_core.specs.SpanLaws.{Carries, IsRun, carries-more, part, part-whole, run-is}
+use Rattle.flow_core.specs.PortLaws.{head_same}
+use Rattle.flow_core.specs.SpanLaws.{Carries, carries-more, part, part-whole, run-is}
 use Rattle.flow_life.specs.Graphs.{IsGraphFrom}
 use Rattle.flow_life.specs.Streams.{IsStream, Plan}
-
-head-same : {A : Type 0} (x y : A) (xs ys : List A) → x ∷ xs ≡ y ∷ ys → x ≡ y
-head-same {A} x y xs ys e = ap (λ (l : List A). get_or l 0 x) e
 
 module _ (n m : ℕ) (bs : List Stamp) (src : Part) (source : List Msg) (from : Carries n m bs src source)
     {P S : Type 0} (answer : P → Answer) (life number : P → ℕ) (stamped : (p : P) (before : List Input) (x : Input) → IsStamped (life p) (number p) x.1.stamp.0 (answer p before x))
@@ -63,7 +60,7 @@ module _ (n m : ℕ) (bs : List Stamp) (src : Part) (source : List Msg) (from : 
       map-append whole ts (t ∷ []) ∙ ap (λ (g : Given). wholes ts ++ g ∷ []) whole_is in
       let old : olds (ts ++ t ∷ []) ≡ olds ts ++ t.old ∷ [] = map-append (λ (u : Part). u.old) ts (t ∷ []) in
       let joined : (ss ++ s ∷ []) ++ later ≡ ss ++ s ∷ later = append_assoc ss (s ∷ []) later in
-      let node : placed b ≡ placed a = head-same (placed b) (placed a) (map placed after) (map placed acts) same in
+      let node : placed b ≡ placed a = head_same (placed b) (placed a) (map placed after) (map placed acts) same in
       let others : map placed after ≡ map placed acts = ap (drop 1) same in
       let rest = graph_ran (suc k) (ts ++ t ∷ []) (ss ++ s ∷ []) acts plans later effects after
       (ap suc len ∙ omega (arith, length-append ts (t ∷ [])))

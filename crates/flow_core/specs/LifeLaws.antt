@@ -1,6 +1,6 @@
 -- At rest behind a load the cells of a life are where all points so far bring their nodes.
-use Rattle.std.proofs.Common.{◌≡◌, ℕ, zero, suc, List, [], ◌∷◌, ◌++◌, Some, length, map, get_or, refl, sym, ap, subst, ◌∙◌}
-use Rattle.std.specs.Prelude.{⊤, slice_get}
+use Rattle.std.proofs.Common.{◌≡◌, ℕ, suc, List, [], ◌∷◌, ◌++◌, Some, length, map, get_or, refl, sym, subst}
+use Rattle.std.specs.Prelude.{slice_get}
 use Rattle.std.specs.List.{AllZip}
 use Rattle.kap_base.specs.Points.{PointValue}
 use Rattle.kap_base.specs.declared.items.Effect.{Effect}
@@ -9,7 +9,7 @@ use Rattle.kap_base.specs.declared.items.Stamp.{Stamp}
 use Rattle.node_core.specs.declared.node.Node.{Ghosts}
 use Rattle.flow_cells.specs.declared.parts.InEdge.{InEdge}
 use Rattle.flow_cells.specs.declared.parts.CellParts.{CellParts}
-use Rattle.task_run.specs.Active.{Active, placed}
+use Rattle.task_run.specs.Active.{placed}
 use Rattle.flow_life.specs.GraphLaws.{life_graph}
 use Rattle.flow_life.specs.Lives.{IsLife}
 use Rattle.flow_life.specs.Loads.{own_of, plan_now}

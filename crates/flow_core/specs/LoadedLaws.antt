@@ -1,6 +1,5 @@
 -- Loads, one after the other, make of the nodes of a graph what all their points make.
-use Rattle.std.proofs.Common.{◌≡◌, ℕ, zero, suc, ◌+◌, ◌-◌, ◌≤◌, ◌<◌, List, [], ◌∷◌, ◌++◌, map, length, get_or, refl, sym, ap, subst, ◌∙◌, append-nil, length-append, arith}
-use Rattle.std.specs.Prelude.{⊤}
+use Rattle.std.proofs.Common.{◌≡◌, ℕ, zero, suc, ◌+◌, ◌-◌, ◌≤◌, List, [], ◌∷◌, ◌++◌, map, length, get_or, refl, sym, ap, subst, ◌∙◌, length-append, arith}
 use Rattle.std.specs.List.{AllZip}
 use Rattle.std.proofs.lemmas.List.{map-append}
 use Rattle.kap_base.specs.Points.{PointValue}
@@ -13,8 +12,8 @@ use Rattle.node_core.specs.Meaning.{Answer, Given, Input, Move, fold, given, not
 use Rattle.node_core.specs.Cut.{IsStamped}
 use Rattle.merge_node.specs.Merge.{items}
 use Rattle.flow_cells.specs.Outs.{item_msgs}
-use Rattle.task_run.specs.Graphs.{Placed, gives_behind, graph_gives, node_gives, outs_of, stamped_from}
-use Rattle.task_run.specs.Active.{Active, AreAt, AreFirst, IsAt, placed}
+use Rattle.task_run.specs.Graphs.{Placed, gives_behind, graph_gives, node_gives, stamped_from}
+use Rattle.task_run.specs.Active.{Active, AreAt, IsAt, placed}
 use Rattle.task_run.specs.PointLaws.{begins, dropped_at, stamped_point}
 use Rattle.task_run.specs.Stamps.{IsStream as HasStamps, StampsFrom, StampsRise, StampsUpTo, of_item}
 use Rattle.task_run.specs.MoreLaws.{Part, mores, olds, out_at, whole, wholes}
@@ -47,9 +46,6 @@ from-append t (p ∷ ps) qs =
     ap (λ (l : List Item). stamped_point t p ∷ l) (from-append (t + 1) ps qs ∙ ap (λ (k : ℕ). stamped_from (t + 1) ps ++ stamped_from k qs) same)
 
 -- ---- what nodes gave, by their numbers
-
-effects-at : List Given → ℕ → List Effect
-effects-at gs i = (get_or gs i nothing).effects
 
 items-carried : (n m : ℕ) (bs : List Stamp) (ts : List Part) (ss : List (List Msg)) (i : ℕ) → AllZip (Carries n m bs) ts ss → items (get_or ss i []) ≡ item_msgs (out_at (mores ts) i)
 items-carried n m bs [] [] i z = refl

@@ -1,6 +1,6 @@
 -- Merged messages, barriers aside, are the items merged by their stamps.
-use Rattle.std.proofs.Common.{◌≡◌, ℕ, zero, suc, ◌+◌, ◌*◌, ◌≤◌, ◌<◌, ◌==◌, true, false, cond, ltb, filter, leb, List, [], ◌∷◌, ◌++◌, map, length, get_or, refl, sym, ap, subst, ◌∙◌, inl, inr, ⊎_elim, ltb-true, ltb-false, arith}
-use Rattle.std.specs.Prelude.{⊤, ◌⊎◌, slice_index_or}
+use Rattle.std.proofs.Common.{◌≡◌, ℕ, zero, suc, ◌+◌, ◌*◌, ◌≤◌, ◌<◌, ◌==◌, true, false, cond, ltb, filter, leb, List, [], ◌∷◌, ◌++◌, map, length, get_or, refl, sym, ap, ◌∙◌, inl, inr, ⊎_elim, ltb-true, ltb-false, arith}
+use Rattle.std.specs.Prelude.{⊤, slice_index_or}
 use Rattle.std.specs.List.{AllByRecursion as Each, AllZip}
 use Rattle.std.proofs.lemmas.Bool.Decides.{nat_tests}
 use Rattle.kap_base.specs.declared.items.Item.{Item}

@@ -1,17 +1,15 @@
 -- The messages of a load have the points and barriers that they are to have, in order.
-use Rattle.std.proofs.Common.{◌≡◌, ℕ, suc, ◌+◌, ◌-◌, ◌*◌, ◌<◌, ◌≤◌, ◌==◌, true, false, cond, List, [], ◌∷◌, ◌++◌, length, refl, sym, ap, subst, ◌∙◌, append-nil, arith}
-use Rattle.std.specs.Prelude.{⊤, ◌≢◌}
+use Rattle.std.proofs.Common.{◌≡◌, ℕ, ◌+◌, ◌-◌, ◌*◌, ◌<◌, ◌≤◌, ◌==◌, true, false, cond, List, [], ◌∷◌, ◌++◌, length, refl, ap, subst, ◌∙◌, append-nil, arith}
+use Rattle.std.specs.Prelude.{◌≢◌}
 use Rattle.std.proofs.lemmas.Bool.Decides.{nat_tests}
 use Rattle.kap_base.specs.Points.{PointValue}
 use Rattle.kap_base.specs.declared.items.Item.{Item}
 use Rattle.kap_base.specs.declared.items.Msg.{Msg}
 use Rattle.kap_base.specs.declared.items.Msg.TheVariants as messages
 use Rattle.kap_base.specs.declared.items.Stamp.{Stamp}
-use Rattle.merge_node.specs.Merge.{IsClosed, RisesFrom, barriers, items, rank}
-use Rattle.merge_node.specs.RankLaws.{rises-less}
+use Rattle.merge_node.specs.Merge.{IsClosed, RisesFrom, barriers, items}
 use Rattle.flow_cells.specs.Outs.{item_msgs}
 use Rattle.task_run.specs.Graphs.{stamped_from}
-use Rattle.task_run.specs.PointLaws.{stamped_point}
 use Rattle.flow_core.specs.Messages.{AreMarks, AreMarksOf, barrier_at, load_messages, marked, marks_behind, stamped_up_to}
 
 -- ---- lists of messages, one behind the other
@@ -25,14 +23,6 @@ pub barriers-append : (xs ys : List Msg) → barriers (xs ++ ys) ≡ barriers xs
 barriers-append [] ys = refl
 barriers-append (messages.Item x ∷ xs) ys = barriers-append xs ys
 barriers-append (messages.Barrier b ∷ xs) ys = ap (λ (l : List Stamp). b ∷ l) (barriers-append xs ys)
-
-pub items-same : (xs : List Item) → items (item_msgs xs) ≡ item_msgs xs
-items-same [] = refl
-items-same (x ∷ xs) = ap (λ (l : List Msg). messages.Item x ∷ l) (items-same xs)
-
-pub no-barriers : (xs : List Item) → barriers (item_msgs xs) ≡ []
-no-barriers [] = refl
-no-barriers (x ∷ xs) = no-barriers xs
 
 -- ---- the items
 

@@ -1,8 +1,7 @@
 -- What steps of lives make of a net, and that some step can be made while it isn't at rest.
-use Rattle.std.proofs.Common.{◌≡◌, ℕ, zero, suc, ◌+◌, ◌-◌, ◌<◌, ◌≤◌, Bool, List, [], ◌∷◌, ◌++◌, Option, Some, None, Result, Ok, Err, false, IfOk, length, refl, sym, ap, subst, ◌∙◌, arith}
-use Rattle.std.specs.Prelude.{⊤, slice_get}
+use Rattle.std.proofs.Common.{◌≡◌, ℕ, zero, suc, ◌+◌, ◌-◌, ◌<◌, ◌≤◌, List, [], ◌∷◌, Option, Some, Result, Ok, Err, false, IfOk, length, refl, sym, ap, subst, ◌∙◌, arith}
+use Rattle.std.specs.Prelude.{slice_get}
 use Rattle.std.specs.List.{AllByRecursion as Each, AllZip}
-use Rattle.kap_base.specs.declared.memory.NoMemory.{NoMemory}
 use Rattle.node_core.specs.declared.node.Node.{Ghosts}
 use Rattle.flow_cells.specs.Gathers.{Gathers}
 use Rattle.flow_cells.specs.declared.parts.OutEdge.{OutEdge}
@@ -12,7 +11,7 @@ use Rattle.flow_life.specs.declared.steps.Step.{Step}
 use Rattle.flow_life.specs.declared.steps.Step.TheVariants as steps
 use Rattle.flow_life.specs.Lives.{IsLife}
 use Rattle.flow_life.specs.Places.{Both, in_of, out_of}
-use Rattle.flow_life.specs.Settling.{Grows, Receives, SameReceived, SameSent, Sends}
+use Rattle.flow_life.specs.Settling.{Grows, SameReceived, SameSent}
 use Rattle.flow_life.specs.Steps.{IsEnabled, SomeEnabled}
 use Rattle.flow_life.specs.StreamLaws.{carries_prefixes}
 use Rattle.flow_core.specs.Nets.{EnabledIn, GrowsIn, HasCell, HasPrefixes, IsSound, NumberedLife, SomeEnabledIn, after, behind, cell_of, here, in_it, later, own, step_before, step_behind}
@@ -74,9 +73,11 @@ module _ {N : Type 0} where
 
   -- ---- which steps can be made
 
+  -- a step that the first life can make
   pub enabled_here : (lives : List (NumberedLife N)) (l : NumberedLife N) (others : List (NumberedLife N)) (next : Step) → lives ≡ l ∷ others → cell_of next < length l.life.cells → IsEnabled l.life.cells next → EnabledIn lives next
   enabled_here lives l others next is lt e = subst (λ (ls : List (NumberedLife N)). EnabledIn ls next) (sym is) (here lt e)
 
+  -- a step that a later life can make
   pub enabled_later : (lives : List (NumberedLife N)) (l : NumberedLife N) (others : List (NumberedLife N)) (next : Step) → lives ≡ l ∷ others → length l.life.cells ≤ cell_of next → EnabledIn others (step_behind (length l.life.cells) next) → EnabledIn lives next
   enabled_later lives l others next is le e = subst (λ (ls : List (NumberedLife N)). EnabledIn ls next) (sym is) (later le e)
 
@@ -84,29 +85,22 @@ module _ {N : Type 0} where
   only-here l others next lt (here small e) = e
   only-here l others next lt (later large e) = absurd (omega (arith, lt, large))
 
+  -- a step that is for the first life, which can't make it
   pub never_here : (lives : List (NumberedLife N)) (l : NumberedLife N) (others : List (NumberedLife N)) (next : Step) → lives ≡ l ∷ others → cell_of next < length l.life.cells → (IsEnabled l.life.cells next → ⊥) → EnabledIn lives next → ⊥
   never_here lives l others next is lt never e = never (only-here l others next lt (subst (λ (ls : List (NumberedLife N)). EnabledIn ls next) is e))
 
-  only-later : (l : NumberedLife N) (others : List (NumberedLife N)) (next : Step) → length l.life.cells ≤ cell_of next → EnabledIn (l ∷ others) next → EnabledIn others (step_behind (length l.life.cells) next)
-  only-later l others next le (here small e) = absurd (omega (arith, le, small))
-  only-later l others next le (later large e) = e
-
-  pub never_later : (lives : List (NumberedLife N)) (l : NumberedLife N) (others : List (NumberedLife N)) (next : Step) → lives ≡ l ∷ others → length l.life.cells ≤ cell_of next → (EnabledIn others (step_behind (length l.life.cells) next) → ⊥) → EnabledIn lives next → ⊥
-  never_later lives l others next is le never e = never (only-later l others next le (subst (λ (ls : List (NumberedLife N)). EnabledIn ls next) is e))
-
-  pub none_enabled : (lives : List (NumberedLife N)) (next : Step) → length lives ≡ 0 → EnabledIn lives next → ⊥
-  none_enabled [] next none e = elim e [ ]
-  none_enabled (l ∷ lives) next none e = absurd (omega (arith, none))
-
+  -- the same of a step that is said anew for the lives behind
   pub enabled_behind : (lives : List (NumberedLife N)) (l : NumberedLife N) (others : List (NumberedLife N)) (next q : Step) (n : ℕ) → lives ≡ l ∷ others → n ≡ length l.life.cells → q ≡ step_behind n next → n ≤ cell_of next → EnabledIn others q → EnabledIn lives next
   enabled_behind lives l others next q n is long same le e =
       enabled_later lives l others next is (subst (λ (k : ℕ). k ≤ cell_of next) long le) (subst (λ (k : ℕ). EnabledIn others (step_behind k next)) long (subst (λ (s : Step). EnabledIn others s) same e))
 
   -- ---- one list grows
 
+  -- a list of the first life grew
   pub grows_here : (lives : List (NumberedLife N)) (l l' : NumberedLife N) (others : List (NumberedLife N)) (next : Step) → lives ≡ l ∷ others → Grows next l.life.cells l'.life.cells → GrowsIn next lives (l' ∷ others)
   grows_here lives l l' others next is e = subst (λ (ls : List (NumberedLife N)). GrowsIn next ls (l' ∷ others)) (sym is) (in_it e)
 
+  -- a list of a later life grew
   pub grows_behind : (lives : List (NumberedLife N)) (l : NumberedLife N) (others others' : List (NumberedLife N)) (next q : Step) (n : ℕ) → lives ≡ l ∷ others → n ≡ length l.life.cells → q ≡ step_behind n next → GrowsIn q others others' → GrowsIn next lives (l ∷ others')
   grows_behind lives l others others' next q n is long same e =
       subst (λ (ls : List (NumberedLife N)). GrowsIn next ls (l ∷ others')) (sym is) (behind (subst (λ (k : ℕ). GrowsIn (step_behind k next) others others') long (subst (λ (s : Step). GrowsIn s others others') same e)))
@@ -127,9 +121,11 @@ module _ {N : Type 0} where
   enabled-there cells (steps.Take cell input) e = there cells cell e.parts e.at
   enabled-there cells (steps.Put cell out) e = out-there cells cell out e.edge e.at
 
+  -- the first life can make a step
   pub some_here : (lives : List (NumberedLife N)) (l : NumberedLife N) (others : List (NumberedLife N)) → lives ≡ l ∷ others → SomeEnabled l.life.cells → SomeEnabledIn lives
   some_here lives l others is s = record { step = s.step; enabled = enabled_here lives l others s.step is (enabled-there l.life.cells s.step s.enabled) s.enabled }
 
+  -- a later life can
   pub some_later : (lives : List (NumberedLife N)) (l : NumberedLife N) (others : List (NumberedLife N)) → lives ≡ l ∷ others → SomeEnabledIn others → SomeEnabledIn lives
   some_later lives l others is s =
       let n = length l.life.cells in
@@ -144,6 +140,7 @@ module _ {N : Type 0} where
   own-only l others cell c lt (own at) = at
   own-only l others cell c lt (after large h) = absurd (omega (arith, lt, large))
 
+  -- a cell of the first life
   pub cell_own : (lives : List (NumberedLife N)) (l : NumberedLife N) (others : List (NumberedLife N)) (cell : ℕ) (c : CellParts N) → lives ≡ l ∷ others → cell < length l.life.cells → HasCell lives cell c → slice_get l.life.cells cell ≡ Some c
   cell_own lives l others cell c is lt h = own-only l others cell c lt (subst (λ (ls : List (NumberedLife N)). HasCell ls cell c) is h)
 
@@ -151,6 +148,7 @@ module _ {N : Type 0} where
   after-only l others cell c le (own at) = let lt = there l.life.cells cell c at in absurd (omega (arith, le, lt))
   after-only l others cell c le (after large h) = h
 
+  -- a cell of a later life
   pub cell_after : (lives : List (NumberedLife N)) (l : NumberedLife N) (others : List (NumberedLife N)) (cell n : ℕ) (c : CellParts N) → lives ≡ l ∷ others → n ≡ length l.life.cells → n ≤ cell → HasCell lives cell c → HasCell others (cell - n) c
   cell_after lives l others cell n c is long le h =
       subst (λ (k : ℕ). HasCell others (cell - k) c) (sym long) (after-only l others cell c (subst (λ (k : ℕ). k ≤ cell) long le) (subst (λ (ls : List (NumberedLife N)). HasCell ls cell c) is h))

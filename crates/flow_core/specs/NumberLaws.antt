@@ -1,16 +1,17 @@
 -- A node whose effects are numbered as they are said numbers them.
 use Rattle.std.proofs.Common.{◌≡◌, ℕ, ◌+◌, ◌≤◌, ◌<◌, ◌==◌, true, false, cond, List, [], ◌∷◌, ◌++◌, map, length, refl, sym, ap, subst, ◌∙◌, append_assoc, append-nil, arith}
-use Rattle.std.specs.Prelude.{⊤}
 use Rattle.std.specs.List.{AllByRecursion as Each}
 use Rattle.std.proofs.lemmas.Bool.Decides.{nat_tests}
 use Rattle.kap_base.specs.declared.items.Effect.{Effect}
 use Rattle.kap_base.specs.declared.items.Stamp.{Stamp}
 use Rattle.kap_base.specs.declared.items.What.{What}
 use Rattle.node_core.specs.declared.running.Tally.{Tally}
-use Rattle.node_core.specs.Meaning.{Given, Input, Saying, given_after}
+use Rattle.node_core.specs.Meaning.{Input, Saying, given_after}
 use Rattle.node_core.specs.Numbering.{arrival, counted, effect_at, effects_from, no_tally, number_at, stamped, tally, tally_after}
 use Rattle.task_run.specs.Stamps.{StampsFrom, StampsRise, of_input}
 use Rattle.flow_core.specs.Gathering.{AreNumbered, IsNumberedBelow, NumbersEffects}
+use Rattle.flow_core.specs.PortLaws.{from_less}
+use Rattle.flow_core.specs.RisingLaws.{each_append}
 
 -- ---- the next number
 
@@ -81,10 +82,6 @@ numbered-append t stamp low high (x ∷ xs) ys at h a p b = (
       past e zs i q.1,
     )
 
-each-append : (P : Effect → Type 0) (xs ys : List Effect) → Each P xs → Each P ys → Each P (xs ++ ys)
-each-append P [] ys a b = b
-each-append P (x ∷ xs) ys a b = (a.0, each-append P xs ys a.1 b)
-
 each-both : (P Q R : Effect → Type 0) (xs : List Effect) → ((x : Effect) → P x → Q x → R x) → Each P xs → Each Q xs → Each R xs
 each-both P Q R [] f h k = tt
 each-both P Q R (x ∷ xs) f h k = (f x h.0 k.0, each-both P Q R xs f h.1 k.1)
@@ -105,7 +102,7 @@ module _ (life node : ℕ) (saying : Saying) where
 
   after-from : (low : ℕ) (before xs : List Input) → StampsFrom of_input low xs → Each (λ e. low ≤ e.stamp.0) (given_after (stamped life node saying) before xs).effects
   after-from low before [] h = tt
-  after-from low before (x ∷ xs) h = each-append (λ e. low ≤ e.stamp.0) _ _ (own x.1.stamp (number_at (tally saying before) x.1.stamp.0) (saying (map arrival before) (arrival x)).deeds h.0) (after-from low (before ++ x ∷ []) xs h.1)
+  after-from low before (x ∷ xs) h = each_append (λ e. low ≤ e.stamp.0) _ _ (own x.1.stamp (number_at (tally saying before) x.1.stamp.0) (saying (map arrival before) (arrival x)).deeds h.0) (after-from low (before ++ x ∷ []) xs h.1)
     where
       own : (stamp : Stamp) (seq : ℕ) (whats : List What) → low ≤ stamp.0 → Each (λ e. low ≤ e.stamp.0) (effects_from life node stamp seq whats)
       own stamp seq [] le = tt
@@ -122,7 +119,7 @@ module _ (life node : ℕ) (saying : Saying) where
       let seq = number_at t now in
       let next : tally saying (before ++ x ∷ []) ≡ counted t now more = tally-more saying no_tally [] before x in
       let behind : StampsFrom of_input (tally saying (before ++ x ∷ [])).stamp xs =
-      subst (λ (u : Tally). StampsFrom of_input u.stamp xs) (sym next) (less (counted t now more).stamp now xs (counted-low t now more low) rising.0) in
+      subst (λ (u : Tally). StampsFrom of_input u.stamp xs) (sym next) (from_less of_input (counted t now more).stamp now xs (counted-low t now more low) rising.0) in
       let rest = numbered-after (before ++ x ∷ []) xs behind rising.1 in
       let others = (given_after (stamped life node saying) (before ++ x ∷ []) xs).effects in
       let past : Each (IsPast (counted t now more)) others = subst (λ (u : Tally). Each (IsPast u) others) next rest.past in
@@ -132,14 +129,10 @@ module _ (life node : ℕ) (saying : Saying) where
       counted-past t now more now low (omega arith) ∙ (let same : (now == now) ≡ true = grind (arith, nat_tests) in rw same refl) in
       record {
         numbered = numbered-append (counted t now more) now seq (seq + more) (effects_from life node x.1.stamp seq deeds) others here between (own-numbered life node x.1.stamp seq deeds) past rest.numbered;
-        past = each-append (IsPast t) _ _
+        past = each_append (IsPast t) _ _
             (each-both (IsBetween now seq (seq + more)) (IsBetween now seq (seq + more)) (IsPast t) _ (λ e i j. subst (λ (s : ℕ). number_at t s ≤ e.seq) (sym i.0) i.1) between between)
             (each-both (IsPast (counted t now more)) (λ e. now ≤ e.stamp.0) (IsPast t) others (λ e p le. let is = counted-past t now more e.stamp.0 low le in omega (arith, is, p)) past stamps);
       }
-    where
-      less : (s u : ℕ) (ys : List Input) → s ≤ u → StampsFrom of_input u ys → StampsFrom of_input s ys
-      less s u [] le h = tt
-      less s u (y ∷ ys) le h = let high : u ≤ y.1.stamp.0 = h.0 in (omega arith, less s u ys le h.1)
 
   zero-from : (xs : List Input) → StampsFrom of_input 0 xs
   zero-from [] = tt

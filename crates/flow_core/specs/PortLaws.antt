@@ -1,6 +1,5 @@
 -- Inputs that stand in order are what came at each port.
-use Rattle.std.proofs.Common.{◌≡◌, ℕ, suc, ◌+◌, ◌≤◌, ◌<◌, ◌==◌, true, false, cond, filter, List, [], ◌∷◌, ◌++◌, map, get_or, drop, refl, sym, ap, subst, ◌∙◌, inl, inr, ⊎_elim, append_assoc, arith}
-use Rattle.std.specs.Prelude.{⊤, ◌⊎◌}
+use Rattle.std.proofs.Common.{◌≡◌, ℕ, suc, ◌≤◌, ◌<◌, ◌==◌, true, false, cond, filter, List, [], ◌∷◌, ◌++◌, map, get_or, drop, refl, sym, ap, subst, ◌∙◌, inl, inr, ⊎_elim, arith}
 use Rattle.std.proofs.lemmas.Bool.Decides.{nat_tests}
 use Rattle.std.proofs.lemmas.List.{map-append}
 use Rattle.std.proofs.lemmas.List.Elements.{filter-append}
@@ -21,8 +20,9 @@ port-append k xs ys = rw (filter-append, map-append) refl
 own-port : (x : Input) (xs : List Input) → from_port x.0 (x ∷ xs) ≡ x.1 ∷ from_port x.0 xs
 own-port x xs = let same : (x.0 == x.0) ≡ true = grind (arith, nat_tests) in rw same refl
 
-head-same : {A : Type 0} (x y : A) (xs ys : List A) → x ∷ xs ≡ y ∷ ys → x ≡ y
-head-same {A} x y xs ys e = ap (λ (l : List A). get_or l 0 x) e
+-- equal lists begin with the same
+pub head_same : {A : Type 0} (x y : A) (xs ys : List A) → x ∷ xs ≡ y ∷ ys → x ≡ y
+head_same {A} x y xs ys e = ap (λ (l : List A). get_or l 0 x) e
 
 -- what stands before all of a list stands before what came first at a port
 listed : (y : Input) (ys : List Input) (k : ℕ) (i : Item) (is : List Item) → PrecedesAll y ys → from_port k ys ≡ i ∷ is → Precedes y (k, i)
@@ -30,7 +30,7 @@ listed y [] k i is h e = absurd cc
 listed y (z ∷ ys) k i is h e = elim (z.0 == k) as (λ b. (z.0 == k) ≡ b → map (λ (x : Input). x.1) (cond b (z ∷ filter (λ (x : Input). x.0 == k) ys) (filter (λ (x : Input). x.0 == k) ys)) ≡ i ∷ is → Precedes y (k, i)) [
   | true ↦ λ t f.
       let port : z.0 ≡ k = grind (arith, nat_tests) in
-      let item : z.1 ≡ i = head-same z.1 i _ is f in
+      let item : z.1 ≡ i = head_same z.1 i _ is f in
       subst (λ (x : Item). Precedes y (k, x)) item (subst (λ (p : ℕ). Precedes y (p, z.1)) port h.0)
   | false ↦ λ t f. listed y ys k i is h.1 f
 ] refl e
@@ -68,7 +68,7 @@ same_by_ports (x ∷ xs) (y ∷ ys) a b h =
     let here : from_port x.0 (y ∷ ys) ≡ x.1 ∷ from_port x.0 xs = sym (h x.0) ∙ own-port x xs in
     let there : from_port y.0 (x ∷ xs) ≡ y.1 ∷ from_port y.0 ys = h y.0 ∙ own-port y ys in
     let port : x.0 ≡ y.0 = one-port x y (first-precedes x xs y.0 y.1 (from_port y.0 ys) a there) (first-precedes y ys x.0 x.1 (from_port x.0 xs) b here) in
-    let item : x.1 ≡ y.1 = head-same x.1 y.1 (from_port x.0 xs) (from_port x.0 ys) (sym here ∙ subst (λ (k : ℕ). from_port k (y ∷ ys) ≡ y.1 ∷ from_port k ys) (sym port) (own-port y ys)) in
+    let item : x.1 ≡ y.1 = head_same x.1 y.1 (from_port x.0 xs) (from_port x.0 ys) (sym here ∙ subst (λ (k : ℕ). from_port k (y ∷ ys) ≡ y.1 ∷ from_port k ys) (sym port) (own-port y ys)) in
     let same : x ≡ y = ap (λ (k : ℕ). (k, x.1)) port ∙ ap (λ (i : Item). (y.0, i)) item in
     let rest : (k : ℕ) → from_port k xs ≡ from_port k ys = λ k. same-rest k x xs ys (h k ∙ ap (λ (z : Input). from_port k (z ∷ ys)) (sym same)) in
     ap (λ (z : Input). z ∷ xs) same ∙ ap (λ (l : List Input). y ∷ l) (same_by_ports xs ys a.1 b.1 rest)
@@ -115,15 +115,16 @@ ordered-behind n [] ys le a from b = b
 ordered-behind n (x ∷ xs) ys le a from b = (precedes-append x xs ys a.0 (precedes-later n x ys le.0 from), ordered-behind n xs ys le.1 a.1 from b)
 
 module _ {A : Type 0} (stamp_of : A → ℕ) where
+  -- what has no stamp below one has none below a lower one
+  pub from_less : (s t : ℕ) (zs : List A) → s ≤ t → StampsFrom stamp_of t zs → StampsFrom stamp_of s zs
+  from_less s t [] le h = tt
+  from_less s t (z ∷ zs) le h = let low : t ≤ stamp_of z = h.0 in (omega arith, from_less s t zs le h.1)
+
   rises-behind : (n : ℕ) (xs ys : List A) → StampsUpTo stamp_of n xs → StampsRise stamp_of xs → StampsFrom stamp_of (suc n) ys → StampsRise stamp_of ys → StampsRise stamp_of (xs ++ ys)
   rises-behind n [] ys le a from b = b
   rises-behind n (x ∷ xs) ys le a from b =
       let low : stamp_of x ≤ n = le.0 in
-      (from_append stamp_of (stamp_of x) xs ys a.0 (from-less (stamp_of x) (suc n) ys (omega arith) from), rises-behind n xs ys le.1 a.1 from b)
-    where
-      from-less : (s t : ℕ) (zs : List A) → s ≤ t → StampsFrom stamp_of t zs → StampsFrom stamp_of s zs
-      from-less s t [] le h = tt
-      from-less s t (z ∷ zs) le h = let low : t ≤ stamp_of z = h.0 in (omega arith, from-less s t zs le h.1)
+      (from_append stamp_of (stamp_of x) xs ys a.0 (from_less (stamp_of x) (suc n) ys (omega arith) from), rises-behind n xs ys le.1 a.1 from b)
 
   wider : (n m : ℕ) (xs : List A) → n ≤ m → StampsUpTo stamp_of n xs → StampsUpTo stamp_of m xs
   wider n m [] le h = tt

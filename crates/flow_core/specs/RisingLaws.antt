@@ -1,13 +1,13 @@
 -- The effects of lives, by stamp, life, node and number, rise.
-use Rattle.std.proofs.Common.{◌≡◌, ℕ, zero, suc, ◌+◌, ◌<◌, ◌≤◌, ◌==◌, true, false, cond, List, [], ◌∷◌, ◌++◌, length, refl, sym, ap, subst, ◌∙◌, append-nil, inl, inr, arith}
-use Rattle.std.specs.Prelude.{⊤, ◌⊎◌, filter, flat_map}
+use Rattle.std.proofs.Common.{◌≡◌, ℕ, zero, suc, ◌+◌, ◌≤◌, ◌==◌, true, false, cond, List, [], ◌∷◌, ◌++◌, length, refl, sym, ◌∙◌, append-nil, inl, inr, arith}
+use Rattle.std.specs.Prelude.{flat_map}
 use Rattle.std.specs.List.{AllByRecursion as Each}
 use Rattle.std.proofs.lemmas.Bool.Decides.{nat_tests}
 use Rattle.std.proofs.lemmas.List.Concat.{flat_map-append}
 use Rattle.kap_base.specs.Points.{PointValue}
 use Rattle.kap_base.specs.declared.items.Item.{Item}
 use Rattle.kap_base.specs.declared.items.Effect.{Effect}
-use Rattle.node_core.specs.Meaning.{Answer, Given, Input, given, given_after}
+use Rattle.node_core.specs.Meaning.{Answer, Given, Input, given_after}
 use Rattle.node_core.specs.Cut.{AreEffectsOf, IsStamped}
 use Rattle.task_run.specs.Merging.{merged, stamps}
 use Rattle.task_run.specs.Graphs.{Placed, gives_behind, graph_gives, lists_of, node_gives, outs_of, stamped_from}
@@ -32,9 +32,10 @@ rising-append : (xs ys : List Effect) → AreRising xs → AreRising ys → AllB
 rising-append [] ys a b h = b
 rising-append (x ∷ xs) ys a b h = (before-append x xs ys a.0 h.0, rising-append xs ys a.1 b h.1)
 
-each-append : (P : Effect → Type 0) (xs ys : List Effect) → Each P xs → Each P ys → Each P (xs ++ ys)
-each-append P [] ys a b = b
-each-append P (x ∷ xs) ys a b = (a.0, each-append P xs ys a.1 b)
+-- what holds of each of two lists holds of both
+pub each_append : (P : Effect → Type 0) (xs ys : List Effect) → Each P xs → Each P ys → Each P (xs ++ ys)
+each_append P [] ys a b = b
+each_append P (x ∷ xs) ys a b = (a.0, each_append P xs ys a.1 b)
 
 each-with : (P : Effect → Type 0) (s : ℕ) (xs : List Effect) → Each P xs → Each P (effects_with s xs)
 each-with P s [] h = tt
@@ -79,7 +80,7 @@ of-given which node s (e ∷ effects) are = ((are.0.life_is, are.0.node_is), of-
 module _ (which node : ℕ) (answer : Answer) (stamped : (before : List Input) (x : Input) → IsStamped which node x.1.stamp.0 (answer before x)) where
   of-after : (before xs : List Input) → Each (IsOf which node) (given_after answer before xs).effects
   of-after before [] = tt
-  of-after before (x ∷ xs) = each-append (IsOf which node) _ _ (of-given which node x.1.stamp.0 (answer before x).effects (stamped before x).effects) (of-after (before ++ x ∷ []) xs)
+  of-after before (x ∷ xs) = each_append (IsOf which node) _ _ (of-given which node x.1.stamp.0 (answer before x).effects (stamped before x).effects) (of-after (before ++ x ∷ []) xs)
 
 -- ---- a node
 
@@ -148,7 +149,7 @@ module _ {P : Type 0} (answer : P → Answer) (life number : P → ℕ) (stamped
   nodes-from s which node low n points earlier [] le are = tt
   nodes-from s which node low n points earlier (d ∷ nodes) le are =
       let g = node_gives answer n points earlier d in
-      each-append (IsFrom s which low) (effects_with s g.effects) (node_effects_with s (gives_behind answer n points (earlier ++ g ∷ []) nodes))
+      each_append (IsFrom s which low) (effects_with s g.effects) (node_effects_with s (gives_behind answer n points (earlier ++ g ∷ []) nodes))
       (from-of s which node low g.effects le (gives-of which node n points earlier d are.0.0 are.0.1))
       (nodes-from s which (node + 1) low n points (earlier ++ g ∷ []) nodes (omega arith) are.1)
 
@@ -166,7 +167,7 @@ module _ {P : Type 0} (answer : P → Answer) (life number : P → ℕ) (stamped
   lives-later s low points (nodes ∷ lives) are =
       let which = are.0 in
       let le : low ≤ which = are.1 in
-      each-append (IsLater s low) (node_effects_with s (graph_gives answer points nodes)) (life_effects_with answer s lives points)
+      each_append (IsLater s low) (node_effects_with s (graph_gives answer points nodes)) (life_effects_with answer s lives points)
       (each-map (IsFrom s which 0) (IsLater s low) _ (λ e f. let at : e.life ≡ which = f.1 in (f.0, omega arith)) (nodes-from s which 0 0 (length points) (stamped_from 1 points) [] nodes (omega arith) are.2))
       (each-map (IsLater s (which + 1)) (IsLater s low) _ (λ e f. let high : which + 1 ≤ e.life = f.1 in (f.0, omega arith)) (lives-later s (which + 1) points lives are.3))
 
@@ -183,7 +184,7 @@ module _ {P : Type 0} (answer : P → Answer) (life number : P → ℕ) (stamped
   stamps-low zero low points lives are = tt
   stamps-low (suc n) low points lives are =
       rw (flat_map-append, append-nil)
-      (each-append (λ e. e.stamp.0 ≤ suc n) _ _
+      (each_append (λ e. e.stamp.0 ≤ suc n) _ _
       (each-map (λ e. e.stamp.0 ≤ n) (λ e. e.stamp.0 ≤ suc n) _ (λ e (le : e.stamp.0 ≤ n). omega arith) (stamps-low n low points lives are))
       (each-map (IsLater (suc n) low) (λ e. e.stamp.0 ≤ suc n) _ (λ e f. let same : e.stamp.0 ≡ suc n = f.0 in omega arith) (lives-later (suc n) low points lives are)))
 

@@ -1,13 +1,11 @@
 -- Sorted effects that are those of a list which rises are that list.
-use Rattle.std.proofs.Common.{◌≡◌, ℕ, suc, ◌+◌, ◌<◌, Bool, true, false, not, ◌&&◌, cond, List, [], ◌∷◌, ◌++◌, length, get_or, IsPermutation, IsSortedBy, Ordering, Less, Equal, Greater, is_lt, nat_cmp, refl, sym, ap, subst, ◌∙◌, inl, inr, ⊎_elim, arith}
-use Rattle.std.specs.Prelude.{⊤, ◌⊎◌}
-use Rattle.std.specs.List.{AllByRecursion as Each}
+use Rattle.std.proofs.Common.{◌≡◌, ℕ, suc, ◌+◌, ◌<◌, Bool, true, false, List, [], ◌∷◌, get_or, IsSortedBy, Ordering, Less, Equal, is_lt, nat_cmp, sym, ap, subst, ◌∙◌, inl, inr, ⊎_elim, arith}
+use Rattle.std.specs.Prelude.{⊤}
 use Rattle.std.specs.Ordering.{ordering_then}
 use Rattle.std.specs.Cmp.{nat_cmp_is}
 use Rattle.std.proofs.lemmas.Bool.{cases_order}
-use Rattle.std.proofs.lemmas.List.Sorted.{IsPermutation-sym}
 use Rattle.kap_base.specs.declared.items.Effect.{Effect}
-use Rattle.flow_core.specs.Sorting.{AreRising, AreSorted, By, GoesBefore, GoesFirst, NoneFirst}
+use Rattle.flow_core.specs.Sorting.{AreSorted, By, GoesFirst, NoneFirst}
 
 -- ---- one number after the other
 

@@ -1,10 +1,7 @@
 -- A load goes on with what the nodes of a graph gave before: barriers aside, what each gives out then is what it gives for more points.
-use Rattle.std.proofs.Common.{◌≡◌, ℕ, zero, suc, ◌+◌, ◌≤◌, ◌<◌, List, [], ◌∷◌, ◌++◌, map, length, get_or, drop, None, refl, sym, ap, subst, ◌∙◌, append_assoc, length-append, arith}
-use Rattle.std.specs.Prelude.{⊤}
+use Rattle.std.proofs.Common.{◌≡◌, ℕ, zero, suc, ◌≤◌, ◌<◌, List, [], ◌∷◌, ◌++◌, map, length, get_or, refl, sym, ap, subst, ◌∙◌, arith}
 use Rattle.std.specs.List.{AllByRecursion as Each, AllZip}
-use Rattle.std.proofs.lemmas.List.{map-append}
 use Rattle.kap_base.specs.declared.items.Item.{Item}
-use Rattle.kap_base.specs.declared.items.Effect.{Effect}
 use Rattle.kap_base.specs.declared.items.Msg.{Msg}
 use Rattle.kap_base.specs.declared.items.Stamp.{Stamp}
 use Rattle.node_core.specs.Meaning.{Answer, Given, Input, Move, fold, given, given_after}
@@ -20,17 +17,17 @@ use Rattle.flow_cells.specs.Outs.{item_msgs}
 use Rattle.flow_cells.specs.Runs.{Run, begun, inputs, run}
 use Rattle.flow_cells.specs.Promises.{run_effects, run_items, run_state}
 use Rattle.task_run.specs.Merging.{merged}
-use Rattle.task_run.specs.Graphs.{Placed, gives_behind, lists_of, node_gives, outs_of}
-use Rattle.task_run.specs.Active.{Active, AreAt, placed}
-use Rattle.task_run.specs.Stamps.{IsStream as HasStamps, StampsFrom, StampsRise, StampsUpTo, of_input, of_item}
+use Rattle.task_run.specs.Graphs.{Placed, lists_of, node_gives, outs_of}
+use Rattle.task_run.specs.Active.{Active, placed}
+use Rattle.task_run.specs.Stamps.{StampsFrom, of_input, of_item}
 use Rattle.task_run.specs.GivenLaws.{after_from, after_rises, after_up_to}
 use Rattle.task_run.specs.Growth.{merged_up_to}
 use Rattle.task_run.specs.Order.{from_port}
 use Rattle.task_run.specs.OrderLaws.{merged_has, merged_ordered}
 use Rattle.task_run.specs.MoreLaws.{Part, fold-append, mores, olds, out_at, whole, wholes}
-use Rattle.flow_core.specs.Loads.{Does, EndsIn, IsPlanOf}
+use Rattle.flow_core.specs.Loads.{IsPlanOf}
 use Rattle.flow_core.specs.MergedLaws.{HasItems, inputs_merged}
-use Rattle.flow_core.specs.PortLaws.{GrowsBy, IsSpan, from_by_ports, merged_above, merged_grows, ordered_rises}
+use Rattle.flow_core.specs.PortLaws.{GrowsBy, IsSpan, from_by_ports, from_less, merged_above, merged_grows, ordered_rises}
 use Rattle.flow_core.specs.RunLaws.{given_behind, run_said, said, said_barriers, said_closed, said_rises}
 use Rattle.flow_life.specs.Streams.{IsStream, Plan, run_from, streams_at, streams_into}
 
@@ -168,16 +165,12 @@ module _ (n m : ℕ) (bs : List Stamp) where
               rising = (after_rises (life d.spec) (number d.spec) a is [] xs (ordered_rises xs (merged_ordered n (lists-old d.parents)))).items;
             };
             high = record {
-              from_one = (after_from (life d.spec) (number d.spec) a is 1 xs ys (less-from 1 (suc n) ys (omega arith) above)).items;
+              from_one = (after_from (life d.spec) (number d.spec) a is 1 xs ys (from_less of_input 1 (suc n) ys (omega arith) above)).items;
               up_to = (after_up_to (life d.spec) (number d.spec) a is m xs ys (merged_up_to m (lists-more d.parents))).items;
               rising = (after_rises (life d.spec) (number d.spec) a is xs ys (ordered_rises ys (merged_ordered m (lists-more d.parents)))).items;
             };
             above = (after_from (life d.spec) (number d.spec) a is (suc n) xs ys above).items;
           }
-        where
-          less-from : (s t : ℕ) (ys : List Input) → s ≤ t → StampsFrom of_input t ys → StampsFrom of_input s ys
-          less-from s t [] le h = tt
-          less-from s t (y ∷ ys) le h = let low : t ≤ y.1.stamp.0 = h.0 in (omega arith, less-from s t ys le h.1)
 
       -- ---- a node runs
 
