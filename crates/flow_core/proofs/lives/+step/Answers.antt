@@ -1,0 +1,27 @@
+use Rattle.std.proofs.Common.{◌<◌, ◌≤◌, length, arith}
+use Rattle.flow_core.specs.Nets.{cell_of}
+use Rattle.flow_core.specs.NetLaws.{enabled_behind, enabled_here, grows_behind, grows_here, if_ok, never_here}
+use Rattle.flow_core.proofs.lives.+step.Goals as goal
+
+pub returns-then-cell_of-cells-clause-yes : goal.returns-then-cell_of-cells-clause-yes
+returns-then-cell_of-cells-clause-yes g t c =
+    let lt : cell_of c.args.next < length c.in-Some.first.now.life.cells = omega arith in
+    if_ok c.step_life.result (λ made yes true'. enabled_here _ _ _ c.args.next c.in-Some.ensures.cases.0 lt (yes true')) c.step_life.ensures.yes
+
+pub returns-then-cell_of-cells-clause-no : goal.returns-then-cell_of-cells-clause-no
+returns-then-cell_of-cells-clause-no g t c =
+    let lt : cell_of c.args.next < length c.in-Some.first.now.life.cells = omega arith in
+    if_ok c.step_life.result (λ made never false'. never_here _ _ _ c.args.next c.in-Some.ensures.cases.0 lt (never false')) c.step_life.ensures.no
+
+pub returns-then-cell_of-cells-clause-grows : goal.returns-then-cell_of-cells-clause-grows
+returns-then-cell_of-cells-clause-grows g t c =
+    if_ok c.step_life.result (λ made grows true'. grows_here _ _ _ _ c.args.next c.in-Some.ensures.cases.0 (grows true')) c.step_life.ensures.grows
+
+pub returns-clause-yes : goal.returns-clause-yes
+returns-clause-yes g t c =
+    let le : c.cells-cells.result ≤ cell_of c.args.next = omega arith in
+    if_ok c.step.result (λ made yes true'. enabled_behind _ _ _ c.args.next _ _ c.in-Some.ensures.cases.0 c.cells-cells.ensures c.step_behind.ensures le (yes true')) c.step.ensures.yes
+
+pub returns-clause-grows : goal.returns-clause-grows
+returns-clause-grows g t c =
+    if_ok c.step.result (λ made grows true'. grows_behind _ _ _ _ c.args.next _ _ c.in-Some.ensures.cases.0 c.cells-cells.ensures c.step_behind.ensures (grows true')) c.step.ensures.grows

@@ -1,0 +1,14 @@
+use Rattle.std.proofs.Common.{◌≡◌, ◌+◌, ◌≤◌}
+use Rattle.std.specs.List.{AllByRecursion as Each}
+use Rattle.flow_core.specs.Nets.{IsSound, moves_in, numbers_of, plans_in}
+use Rattle.flow_core.proofs.lives.play.Given as goal
+
+-- as many lists grew by one message as steps were made
+abbrev pub invariant-playing : goal.invariant-playing
+invariant-playing g l = record {
+  made : l.made ≤ l.next-index;
+  numbers : numbers_of l.lives ≡ numbers_of l.fn.lives;
+  sound : Each IsSound l.lives;
+  plans : plans_in g.N.Node l.lives ≡ plans_in g.N.Node l.fn.lives;
+  count : moves_in l.lives ≡ moves_in l.fn.lives + l.made;
+}

@@ -1,0 +1,5 @@
+use Rattle.flow_core.specs.NetLaws.{grows_gathered}
+use Rattle.flow_core.proofs.lives.step_life.Goals as goal
+
+pub returns-clause-grows : goal.returns-clause-grows
+returns-clause-grows g c = λ made. grows_gathered c.args.next _ _ _ c.in_ok-gather.ensures.gathers (c.in_ok-made.ensures.grows made)

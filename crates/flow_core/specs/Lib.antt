@@ -1,0 +1,30 @@
+-- the messages of a load
+pub mod Messages
+-- what loads make of the nodes of a graph
+pub mod Loads
+-- in which order effects are gathered
+pub mod Sorting
+-- effects before they are sorted
+pub mod Gathering
+-- the nodes of the cells of a life
+pub mod LifeLoads
+-- lives side by side
+pub mod Nets
+-- lives that are made from plans
+pub mod Making
+-- proofs, no definitions
+pub mod MessageLaws
+pub mod PortLaws
+pub mod MergedLaws
+pub mod RunLaws
+pub mod SpanLaws
+pub mod GraphLaws
+pub mod LoadedLaws
+pub mod SortLaws
+pub mod UniqueLaws
+pub mod RisingLaws
+pub mod GatherLaws
+pub mod NumberLaws
+pub mod LifeLaws
+pub mod NetLaws
+pub mod PlanLaws

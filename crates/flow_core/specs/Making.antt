@@ -1,0 +1,43 @@
+-- Lives that are made from plans.
+use Rattle.std.specs.Prelude.{◌≡◌, ℕ, ◌+◌, ◌<◌, ◌≤◌, ⊤, List, [], ◌∷◌, length}
+use Rattle.std.specs.List.{AllByRecursion as Each, AllZip}
+use Rattle.merge_node.specs.declared.TheConstants.{PARENT_LIMIT}
+use Rattle.node_core.specs.declared.node.Node.{Ghosts}
+use Rattle.flow_cells.specs.Made.{one_or_more}
+use Rattle.flow_life.specs.Making.{IsSaved, nodes_of, passed_of}
+use Rattle.flow_life.specs.Steps.{AreQuiet}
+use Rattle.flow_life.specs.Wired.{parents_of}
+use Rattle.task_run.specs.Plans.{PlanValue}
+use Rattle.flow_core.specs.Nets.{IsSound, NumberedLife}
+
+-- no node has more parents than a merge can have
+abbrev pub HasFewParents : {N : Type 0} → PlanValue N → Type 0
+HasFewParents plan = Each (λ (ps : List ℕ). length ps ≤ PARENT_LIMIT) plan.parents
+
+-- a node that can be added behind so many cells, with these parents
+pub record CanAdd (at ports : ℕ) (parents : List ℕ) : Type 0 where
+  pub earlier : Each (λ (p : ℕ). p < at) parents
+  pub few : length parents ≤ PARENT_LIMIT
+  pub enough : one_or_more (length parents) ≤ ports
+
+-- and so each of these nodes, one behind the other
+abbrev pub CanAddAll : {N : Type 0} → (N → ℕ) → ℕ → List N → List (List ℕ) → Type 0
+CanAddAll ports at [] [] = ⊤
+CanAddAll ports at [] (ps ∷ pss) = ⊥
+CanAddAll ports at (n ∷ nodes) [] = ⊥
+CanAddAll ports at (n ∷ nodes) (ps ∷ pss) = CanAdd at (ports n) ps × CanAddAll ports (at + 1) nodes pss
+
+module _ {N P S : Type 0} (g : Ghosts N P S) where
+  -- a life of a plan, with its number, nodes and parents; it is at rest, each saved state is the state, and the last barrier is 0
+  pub record IsLifeOf (plan : PlanValue N) (l : NumberedLife N) : Type 0 where
+    pub number : l.number ≡ plan.life
+    pub nodes : nodes_of l.life.cells ≡ plan.nodes
+    pub parents : parents_of l.life.cells ≡ plan.parents
+    pub rest : AreQuiet l.life.cells
+    pub saved : Each (IsSaved g) l.life.cells
+    pub passed : Each (λ b. b ≡ 0) (passed_of l.life.cells)
+    pub sound : IsSound l
+
+  -- a life of each plan, in their order
+  abbrev pub AreLivesOf : List (PlanValue N) → List (NumberedLife N) → Type 0
+  AreLivesOf plans lives = AllZip IsLifeOf plans lives

@@ -1,0 +1,15 @@
+//! Nets: lives side by side, each with the cells of one graph.
+#![tactic(auto)]
+
+mod gathering;
+mod laws;
+mod lives;
+mod loads;
+mod making;
+mod net;
+
+pub use gathering::sort_effects;
+pub use laws::{lives_go_on, loads_go_on, loads_have_messages, sorted_effects_are_whole};
+pub use lives::Numbered;
+pub use loads::messages;
+pub use net::Net;

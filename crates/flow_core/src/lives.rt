@@ -1,0 +1,211 @@
+//! Lives side by side.
+
+ghost use Rattle.std.specs.Prelude.{◌≡◌, ◌+◌, ◌<◌, ◌≤◌, ℕ, IfOk, IsFalse, IsTrue, OnOk, length, map};
+ghost use Rattle.std.specs.List.{AllByRecursion as Each};
+ghost use Rattle.flow_life.specs.Settling.{Grows};
+ghost use Rattle.flow_life.specs.Steps.{IsEnabled, moves_of, one_if};
+ghost use Rattle.flow_life.specs.Loads.{plan_now};
+ghost use Rattle.flow_life.specs.Streams.{plans_of};
+ghost use Rattle.flow_cells.specs.declared.parts.CellParts.{CellParts};
+ghost use Rattle.merge_node.specs.Merge.{IsClosed};
+ghost use Rattle.flow_core.specs.Nets.{EnabledIn, GrowsIn, HasCell, HasMovedTwice, HasPrefixes, HasStreamsCarried, IsResting, IsSound, SomeEnabledIn, cell_count, cell_of, moves_in, numbers_of, plans_from, plans_in, step_behind};
+
+use flow_life::{Life, Step};
+use kap_base::{Msg, NoMemory};
+use node_core::{Effects, Node};
+use std::alloc::Global;
+
+/// A life with its number.
+#[derive(Drop)]
+pub struct Numbered<L> {
+    /// Its number.
+    pub number: u32,
+    /// The life.
+    pub life: L,
+}
+
+/// The number of the cell that a step moves.
+fn cell_of(next: Step) -> u32
+    ensures { result ≡ cell_of next }
+{
+    match next {
+        Step::Take { cell, .. } => cell,
+        Step::Put { cell, .. } => cell,
+    }
+}
+
+/// The step that it is for lives behind so many cells.
+fn step_behind(next: Step, cells: u32) -> Step
+    requires { cells ≤ cell_of next }
+    ensures { result ≡ step_behind cells next }
+{
+    match next {
+        Step::Take { cell, input } => Step::Take {
+            cell: cell - cells,
+            input,
+        },
+        Step::Put { cell, out } => Step::Put {
+            cell: cell - cells,
+            out,
+        },
+    }
+}
+
+/// Makes a step of a life, where it is enabled, and gathers the effects.
+fn step_life<N: Node>(
+    alloc: Global,
+    life: &mut Numbered<Life<N>>,
+    next: Step,
+    gathered: &mut Effects,
+) -> Result<bool, NoMemory>
+    requires { IsSound life.old }
+    ensures number { life.new.number ≡ life.old.number }
+    ensures sound { OnOk result (IsSound life.new) }
+    ensures plans { OnOk result
+        (plans_of N.Node life.new.life.cells ≡ plans_of N.Node life.old.life.cells) }
+    ensures yes { IfOk result (λ made. IsTrue made → IsEnabled life.old.life.cells next) }
+    ensures no { IfOk result (λ made. IsFalse made → IsEnabled life.old.life.cells next → ⊥) }
+    ensures grows { IfOk result (λ made. IsTrue made
+        → Grows next life.old.life.cells life.new.life.cells) }
+    ensures count { IfOk result (λ made. moves_of life.new.life.cells
+        ≡ moves_of life.old.life.cells + one_if made) }
+{
+    let made = life.life.step(alloc, next)?;
+    life.life.gather(alloc, gathered)?;
+    Ok(made)
+}
+
+/// Makes a step of the life that has the cell, where it is enabled, and gathers the effects.
+pub(crate) fn step<N: Node>(
+    alloc: Global,
+    lives: &mut [Numbered<Life<N>>],
+    next: Step,
+    gathered: &mut Effects,
+) -> Result<bool, NoMemory>
+    requires { Each IsSound lives.old }
+    ensures numbers { numbers_of lives.new ≡ numbers_of lives.old }
+    ensures sound { OnOk result (Each IsSound lives.new) }
+    ensures plans { OnOk result (plans_in N.Node lives.new ≡ plans_in N.Node lives.old) }
+    ensures yes { IfOk result (λ made. IsTrue made → EnabledIn lives.old next) }
+    ensures no { IfOk result (λ made. IsFalse made → EnabledIn lives.old next → ⊥) }
+    ensures grows { IfOk result (λ made. IsTrue made → GrowsIn next lives.old lives.new) }
+    ensures count { IfOk result (λ made. moves_in lives.new ≡ moves_in lives.old + one_if made) }
+{
+    let Some((first, others)) = lives.split_first_mut() else {
+        return Ok(false);
+    };
+    let cells = first.life.cells();
+    if (cell_of(next) as usize) < cells {
+        return step_life(alloc, first, next, gathered);
+    }
+    step(alloc, others, step_behind(next, cells as u32), gathered)
+}
+
+/// Whether nothing is left to do in any life.
+pub(crate) fn at_rest<N: Node>(lives: &[Numbered<Life<N>>]) -> bool
+    requires { Each IsSound lives.now }
+    ensures rest { IsTrue result → Each IsResting lives.now }
+    ensures busy { IsFalse result → Each IsResting lives.now → ⊥ }
+    ensures streams { IsTrue result → Each (HasStreamsCarried N.Node) lives.now }
+    ensures twice { IsTrue result → Each (HasMovedTwice N.Node) lives.now }
+    ensures alive { IsFalse result → SomeEnabledIn lives.now }
+{
+    let Some((first, others)) = lives.split_first() else {
+        return true;
+    };
+    if !first.life.at_rest() {
+        return false;
+    }
+    at_rest(others)
+}
+
+/// What each edge has carried is a prefix of its stream.
+pub(crate) fn keep_prefixes<N: Node>(lives: &[Numbered<Life<N>>])
+    requires { Each IsSound lives.now }
+    ensures { Each (HasPrefixes N.Node) lives.now }
+{
+    if let Some((first, others)) = lives.split_first() {
+        first.life.keeps();
+        keep_prefixes(others);
+    }
+}
+
+/// A load begins on a life, and what it gives at once is gathered.
+fn load_life<N: Node>(
+    alloc: Global,
+    life: &mut Numbered<Life<N>>,
+    source: &[Msg],
+    gathered: &mut Effects,
+) -> Result<(), NoMemory>
+    requires sound { IsSound life.old }
+    requires rest { IsResting life.old }
+    requires closed { IsClosed source.now }
+    ensures number { life.new.number ≡ life.old.number }
+    ensures sound { OnOk result (IsSound life.new) }
+    ensures plans { OnOk result (plans_of N.Node life.new.life.cells
+        ≡ map (plan_now N.Node source.now) life.old.life.cells) }
+    ensures count { OnOk result (moves_of life.new.life.cells ≡ 0) }
+{
+    life.life.load(alloc, source)?;
+    life.life.gather(alloc, gathered)?;
+    Ok(())
+}
+
+/// A load begins on lives, and what they give at once is gathered.
+pub(crate) fn load<N: Node>(
+    alloc: Global,
+    lives: &mut [Numbered<Life<N>>],
+    source: &[Msg],
+    gathered: &mut Effects,
+) -> Result<(), NoMemory>
+    requires sound { Each IsSound lives.old }
+    requires rest { Each IsResting lives.old }
+    requires closed { IsClosed source.now }
+    ensures numbers { numbers_of lives.new ≡ numbers_of lives.old }
+    ensures sound { OnOk result (Each IsSound lives.new) }
+    ensures plans { OnOk result (plans_in N.Node lives.new ≡ plans_from N.Node source.now lives.old) }
+    ensures count { OnOk result (moves_in lives.new ≡ 0) }
+{
+    if let Some((first, others)) = lives.split_first_mut() {
+        load_life(alloc, first, source, gathered)?;
+        load(alloc, others, source, gathered)?;
+    }
+    Ok(())
+}
+
+/// Makes the steps that are enabled, one after the other, and counts them.
+pub(crate) fn play<N: Node>(
+    alloc: Global,
+    lives: &mut [Numbered<Life<N>>],
+    steps: &[Step],
+    gathered: &mut Effects,
+) -> Result<u64, NoMemory>
+    requires { Each IsSound lives.old }
+    ensures numbers { numbers_of lives.new ≡ numbers_of lives.old }
+    ensures sound { OnOk result (Each IsSound lives.new) }
+    ensures plans { OnOk result (plans_in N.Node lives.new ≡ plans_in N.Node lives.old) }
+    ensures count { IfOk result (λ made. moves_in lives.new ≡ moves_in lives.old + made) }
+{
+    let mut made = 0;
+    'playing: for next in steps {
+        if step(alloc, lives, *next, gathered)? {
+            made += 1;
+        }
+    }
+    Ok(made)
+}
+
+/// How many inputs the node of a cell dropped and counted.
+pub(crate) fn dropped<N: Node>(lives: &[Numbered<Life<N>>], cell: u32) -> u64
+    requires { cell < cell_count lives.now }
+    ensures { (c : CellParts N) → HasCell lives.now cell c → result ≡ N.drops (N.state c.core.node) }
+{
+    let Some((first, others)) = lives.split_first() else {
+        return 0;
+    };
+    let cells = first.life.cells();
+    if (cell as usize) < cells {
+        return first.life.dropped(cell);
+    }
+    dropped(others, cell - cells as u32)
+}

@@ -1,0 +1,94 @@
+//! Lives are made from plans.
+
+ghost use Rattle.std.specs.Prelude.{◌≡◌, ◌<◌, ◌≤◌, ◌++◌, [], false, IfOk, OnOk, length, reverse};
+ghost use Rattle.std.specs.List.{AllByRecursion as Each};
+ghost use Rattle.flow_cells.specs.Made.{HasNothing};
+ghost use Rattle.flow_life.specs.Loads.{IsGathered};
+ghost use Rattle.flow_life.specs.Making.{IsSaved, nodes_of, passed_of};
+ghost use Rattle.flow_life.specs.Steps.{AreQuiet};
+ghost use Rattle.flow_life.specs.Wired.{parents_of};
+ghost use Rattle.flow_core.specs.Making.{AreLivesOf, CanAddAll, HasFewParents, IsLifeOf};
+
+use crate::lives::Numbered;
+use edge_queue::CAPACITY_LIMIT;
+use flow_life::Life;
+use kap_base::NoMemory;
+use node_core::Node;
+use std::alloc::Global;
+use task_run::{Ids, LifePlan};
+
+/// Adds cells of nodes, the last one first, with these parents, the first ones first.
+fn add_cells<N: Node>(
+    alloc: Global,
+    life: &mut Life<N>,
+    mut nodes: Vec<N>,
+    parents: &[Ids],
+    capacity: u32,
+) -> Result<(), NoMemory>
+    requires unspent { life.old.spent ≡ false }
+    requires nothing { Each HasNothing life.old.cells }
+    requires can { CanAddAll (λ n. N.ports (N.spec n)) (length life.old.cells)
+        (reverse nodes.items) parents.now }
+    requires rest { AreQuiet life.old.cells }
+    requires gathered { Each IsGathered life.old.cells }
+    requires saved { Each (IsSaved N.Node) life.old.cells }
+    requires passed { Each (λ b. b ≡ 0) (passed_of life.old.cells) }
+    requires some { 0 < capacity }
+    requires limit { capacity ≤ CAPACITY_LIMIT }
+    ensures unspent { OnOk result (life.new.spent ≡ false) }
+    ensures nodes { OnOk result (nodes_of life.new.cells
+        ≡ nodes_of life.old.cells ++ reverse nodes.items) }
+    ensures parents { OnOk result (parents_of life.new.cells
+        ≡ parents_of life.old.cells ++ parents.now) }
+    ensures rest { OnOk result (AreQuiet life.new.cells) }
+    ensures gathered { OnOk result (Each IsGathered life.new.cells) }
+    ensures saved { OnOk result (Each (IsSaved N.Node) life.new.cells) }
+    ensures passed { OnOk result (Each (λ b. b ≡ 0) (passed_of life.new.cells)) }
+{
+    let Some((first, others)) = parents.split_first() else {
+        return Ok(());
+    };
+    let Some(node) = nodes.pop() else {
+        return Ok(());
+    };
+    life.add(alloc, node, first.as_slice(), capacity)?;
+    add_cells(alloc, life, nodes, others, capacity)
+}
+
+/// The life of a plan.
+pub(crate) fn life_of<N: Node>(
+    alloc: Global,
+    plan: LifePlan<N>,
+    capacity: u32,
+) -> Result<Numbered<Life<N>>, NoMemory>
+    requires few { HasFewParents plan }
+    requires some { 0 < capacity }
+    requires limit { capacity ≤ CAPACITY_LIMIT }
+    ensures { IfOk result (IsLifeOf N.Node plan) }
+{
+    let number = plan.life;
+    let mut nodes = plan.nodes.into_items();
+    let parents = plan.parents.into_items();
+    nodes.reverse();
+    let mut life = Life::new(alloc);
+    add_cells(alloc, &mut life, nodes, &parents, capacity)?;
+    Ok(Numbered { number, life })
+}
+
+/// The lives of plans, in their order.
+pub(crate) fn lives_of<N: Node>(
+    alloc: Global,
+    plans: Vec<LifePlan<N>>,
+    capacity: u32,
+) -> Result<Vec<Numbered<Life<N>>>, NoMemory>
+    requires few { Each HasFewParents plans.items }
+    requires some { 0 < capacity }
+    requires limit { capacity ≤ CAPACITY_LIMIT }
+    ensures { IfOk result (λ lives. AreLivesOf N.Node plans.items lives.items) }
+{
+    let mut lives = Vec::new(alloc);
+    'making: for plan in plans {
+        lives.push(life_of(alloc, plan, capacity)?)?;
+    }
+    Ok(lives)
+}

@@ -1,0 +1,232 @@
+//! A net, whose type says what its lives keep.
+
+use crate::gathering::sort_effects;
+use crate::lives::{Numbered, at_rest, dropped, keep_prefixes, load, play, step};
+use crate::loads::messages;
+use crate::making::lives_of;
+use edge_queue::CAPACITY_LIMIT;
+use flow_life::{Life, Step};
+use kap_base::{NoMemory, Point, Stamp};
+use node_core::{Effects, Node};
+use std::alloc::Global;
+use std::marker::Model;
+use std::mem;
+use task_run::LifePlan;
+
+/// Lives side by side, whose cells are numbered life by life, from 0 on. Its type says that the edges of each life are settled
+/// and that the effects of all moves were gathered, unless it is spent.
+#[derive(Drop)]
+pub struct Net<N: Node> {
+    // In the order of their numbers.
+    lives: Vec<Numbered<Life<N>>>,
+    // The effects that weren't collected yet.
+    gathered: Effects,
+    // The stamp of the barrier at the end of the last load.
+    last: Stamp,
+    // Whether a call on it failed in the middle.
+    spent: bool,
+}
+
+impl<N: Node> Model for Net<N> {
+    ghost use Rattle.std.specs.Coded.{codes};
+    ghost use Rattle.std.specs.List.{AllByRecursion as Each};
+    ghost use Rattle.std.specs.Prelude.{◌≡◌, false};
+    ghost use Rattle.kap_base.specs.Maps.{key_map_code};
+    ghost use Rattle.flow_cells.specs.contracts.parts.Gathered as gathered_effects;
+    ghost use Rattle.flow_core.specs.Nets.{IsSound, NetValue};
+
+    ghost Value = { NetValue N };
+
+    ghost coded = { Prim.hlevel (codes, key_map_code, gathered_effects.the_row.coded) };
+
+    ghost view = { λ n. record {
+      lives = n.lives.items;
+      gathered = n.gathered;
+      last = n.last;
+      spent = n.spent;
+    } };
+
+    ghost invariant = { λ n. n.spent ≡ false → Each IsSound n.lives.items };
+}
+
+impl<N: Node> Net<N> {
+    ghost use Rattle.std.specs.Prelude.{◌≡◌, ◌+◌, ◌<◌, ◌≤◌, false, true, [], ◌∷◌, ◌++◌, IfOk, IsFalse, IsPermutation, IsTrue, OnErr, OnOk, length};
+    ghost use Rattle.std.specs.List.{AllByRecursion as Each};
+    ghost use Rattle.flow_cells.specs.declared.parts.CellParts.{CellParts};
+    ghost use Rattle.flow_life.specs.Loads.{IsGathered};
+    ghost use Rattle.flow_life.specs.Steps.{one_if};
+    ghost use Rattle.flow_core.specs.Making.{AreLivesOf, HasFewParents};
+    ghost use Rattle.flow_core.specs.Messages.{load_messages};
+    ghost use Rattle.flow_core.specs.Nets.{EnabledIn, GrowsIn, HasCell, HasMovedTwice, HasPrefixes, HasStreamsCarried, IsResting, SomeEnabledIn, cell_count, moves_in, numbers_of, plans_from, plans_in};
+    ghost use Rattle.flow_core.specs.Sorting.{AreSorted};
+
+    /// A net without lives.
+    pub fn new(alloc: Global) -> Net<N>
+        ensures lives { result.lives ≡ [] }
+        ensures gathered { result.gathered ≡ [] }
+        ensures last { result.last.0 ≡ 0 }
+        ensures spent { result.spent ≡ false }
+    {
+        Net {
+            lives: Vec::new(alloc),
+            gathered: Effects::new(alloc),
+            last: Stamp(0),
+            spent: false,
+        }
+    }
+
+    /// A net with a life of each plan, in their order, whose edges have room for 1 to 65,536 messages. It is at rest, and each
+    /// cell's saved state is its state.
+    pub fn make(alloc: Global, plans: Vec<LifePlan<N>>, capacity: u32) -> Result<Net<N>, NoMemory>
+        requires few { Each HasFewParents plans.items }
+        requires some { 0 < capacity }
+        requires limit { capacity ≤ CAPACITY_LIMIT }
+        ensures lives { IfOk result (λ net. AreLivesOf N.Node plans.items net.lives) }
+        ensures rest { IfOk result (λ net. Each IsResting net.lives) }
+        ensures gathered { IfOk result (λ net. net.gathered ≡ []) }
+        ensures last { IfOk result (λ net. net.last.0 ≡ 0) }
+        ensures spent { IfOk result (λ net. net.spent ≡ false) }
+    {
+        Ok(Net {
+            lives: lives_of(alloc, plans, capacity)?,
+            gathered: Effects::new(alloc),
+            last: Stamp(0),
+            spent: false,
+        })
+    }
+
+    /// Adds a life behind the others, of which no call failed and whose effects were gathered. An `Err` changes nothing.
+    pub fn add(&mut self, number: u32, life: Life<N>) -> Result<(), NoMemory>
+        requires unspent { self.old.spent ≡ false }
+        requires sound { life.spent ≡ false }
+        requires gathered { Each IsGathered life.cells }
+        ensures lives { OnOk result (self.new.lives
+            ≡ self.old.lives ++ record { number = number; life = life } ∷ []) }
+        ensures gathered { self.new.gathered ≡ self.old.gathered }
+        ensures last { self.new.last ≡ self.old.last }
+        ensures spent { self.new.spent ≡ self.old.spent }
+        ensures err { OnErr result (self.new.lives ≡ self.old.lives) }
+    {
+        self.lives.push(Numbered { number, life })?;
+        Ok(())
+    }
+
+    /// A load begins: the points, with the stamps that end at `upto`, go to each life, with a barrier behind each stamp of
+    /// `marks` and one behind the last point. From now on what is sent, received and done is counted anew, each node from the
+    /// state in which it is. Streams handle the points in this call. After NoMemory the net is spent.
+    pub fn load(
+        &mut self,
+        alloc: Global,
+        points: &[Point],
+        upto: Stamp,
+        marks: &[Stamp],
+    ) -> Result<(), NoMemory>
+        requires unspent { self.old.spent ≡ false }
+        requires rest { Each IsResting self.old.lives }
+        requires stamps { self.old.last.0 + length points.now ≤ upto.0 }
+        ensures numbers { OnOk result (numbers_of self.new.lives ≡ numbers_of self.old.lives) }
+        ensures plans { OnOk result (plans_in N.Node self.new.lives
+            ≡ plans_from N.Node (load_messages points.now upto marks.now) self.old.lives) }
+        ensures count { OnOk result (moves_in self.new.lives ≡ 0) }
+        ensures last { OnOk result (self.new.last ≡ upto) }
+        ensures unspent { OnOk result (self.new.spent ≡ false) }
+        ensures spent { OnErr result (self.new.spent ≡ true) }
+    {
+        self.spent = true;
+        let source = messages(alloc, points, upto, marks)?;
+        load(alloc, &mut self.lives, &source, &mut self.gathered)?;
+        self.last = upto;
+        self.spent = false;
+        Ok(())
+    }
+
+    /// Makes a step. `false` comes exactly where it isn't enabled: there is no such cell, input or out, the edge is empty or
+    /// a message waits to be sent (take), or none waits or the edge has no free place (put). After NoMemory the net is
+    /// spent.
+    pub fn step(&mut self, alloc: Global, next: Step) -> Result<bool, NoMemory>
+        requires { self.old.spent ≡ false }
+        ensures numbers { OnOk result (numbers_of self.new.lives ≡ numbers_of self.old.lives) }
+        ensures plans { OnOk result (plans_in N.Node self.new.lives ≡ plans_in N.Node self.old.lives) }
+        ensures yes { IfOk result (λ made. IsTrue made → EnabledIn self.old.lives next) }
+        ensures no { IfOk result (λ made. IsFalse made → EnabledIn self.old.lives next → ⊥) }
+        ensures grows { IfOk result (λ made. IsTrue made
+            → GrowsIn next self.old.lives self.new.lives) }
+        ensures count { IfOk result (λ made. moves_in self.new.lives
+            ≡ moves_in self.old.lives + one_if made) }
+        ensures last { OnOk result (self.new.last ≡ self.old.last) }
+        ensures unspent { OnOk result (self.new.spent ≡ false) }
+        ensures spent { OnErr result (self.new.spent ≡ true) }
+    {
+        self.spent = true;
+        let made = step(alloc, &mut self.lives, next, &mut self.gathered)?;
+        self.spent = false;
+        Ok(made)
+    }
+
+    /// Makes the steps that are enabled, one after the other, and counts them. After NoMemory the net is spent.
+    pub fn play(&mut self, alloc: Global, steps: &[Step]) -> Result<u64, NoMemory>
+        requires { self.old.spent ≡ false }
+        ensures numbers { OnOk result (numbers_of self.new.lives ≡ numbers_of self.old.lives) }
+        ensures plans { OnOk result (plans_in N.Node self.new.lives ≡ plans_in N.Node self.old.lives) }
+        ensures count { IfOk result (λ made. moves_in self.new.lives
+            ≡ moves_in self.old.lives + made) }
+        ensures last { OnOk result (self.new.last ≡ self.old.last) }
+        ensures unspent { OnOk result (self.new.spent ≡ false) }
+        ensures spent { OnErr result (self.new.spent ≡ true) }
+    {
+        self.spent = true;
+        let made = play(alloc, &mut self.lives, steps, &mut self.gathered)?;
+        self.spent = false;
+        Ok(made)
+    }
+
+    /// Whether nothing is pending, unsent, buffered or on an edge. While it isn't so, some step is enabled; where it is so,
+    /// each edge has carried its stream.
+    pub fn at_rest(&self) -> bool
+        requires { self.now.spent ≡ false }
+        ensures rest { IsTrue result → Each IsResting self.now.lives }
+        ensures busy { IsFalse result → Each IsResting self.now.lives → ⊥ }
+        ensures streams { IsTrue result → Each (HasStreamsCarried N.Node) self.now.lives }
+        ensures twice { IsTrue result → Each (HasMovedTwice N.Node) self.now.lives }
+        ensures alive { IsFalse result → SomeEnabledIn self.now.lives }
+    {
+        at_rest(&self.lives)
+    }
+
+    /// What each edge has carried is a prefix of its stream.
+    pub fn keeps(&self)
+        requires { self.now.spent ≡ false }
+        ensures { Each (HasPrefixes N.Node) self.now.lives }
+    {
+        keep_prefixes(&self.lives);
+    }
+
+    /// The effects since the last call, by stamp, then by life, then by node, then by number. It takes no memory.
+    pub fn collect(&mut self, alloc: Global) -> Effects
+        ensures same { IsPermutation self.old.gathered result }
+        ensures sorted { AreSorted result }
+        ensures none { self.new.gathered ≡ [] }
+        ensures lives { self.new.lives ≡ self.old.lives }
+        ensures last { self.new.last ≡ self.old.last }
+        ensures spent { self.new.spent ≡ self.old.spent }
+    {
+        let all = mem::replace(&mut self.gathered, Effects::new(alloc));
+        sort_effects(all)
+    }
+
+    /// How many inputs the node of a cell dropped and counted.
+    pub fn dropped(&self, cell: u32) -> u64
+        requires { cell < cell_count self.now.lives }
+        ensures { (c : CellParts N) → HasCell self.now.lives cell c
+            → result ≡ N.drops (N.state c.core.node) }
+    {
+        dropped(&self.lives, cell)
+    }
+
+    /// Whether a call on it failed in the middle.
+    pub fn is_spent(&self) -> bool
+        ensures { result ≡ self.now.spent }
+    {
+        self.spent
+    }
+}
