@@ -62,11 +62,13 @@ refused_or_out refused pairs statuses.Usage s w h = inl (refuses refused pairs s
 refused_or_out refused pairs (statuses.Script fault) s w h = inl (refuses refused pairs (statuses.Script fault) s w (h (λ e. absurd cc)))
 refused_or_out refused pairs (statuses.Line n fault) s w h = inl (refuses refused pairs (statuses.Line n fault) s w (h (λ e. absurd cc)))
 refused_or_out refused pairs (statuses.Truncated n) s w h = inl (refuses refused pairs (statuses.Truncated n) s w (h (λ e. absurd cc)))
+refused_or_out refused pairs (statuses.NotStore part offset) s w h = inl (refuses refused pairs (statuses.NotStore part offset) s w (h (λ e. absurd cc)))
 refused_or_out refused pairs statuses.Exists s w h = inl (refuses refused pairs statuses.Exists s w (h (λ e. absurd cc)))
 refused_or_out refused pairs statuses.TooManyTasks s w h = inl (refuses refused pairs statuses.TooManyTasks s w (h (λ e. absurd cc)))
 refused_or_out refused pairs statuses.TooLong s w h = inl (refuses refused pairs statuses.TooLong s w (h (λ e. absurd cc)))
 refused_or_out refused pairs statuses.ReadFault s w h = inl (refuses refused pairs statuses.ReadFault s w (h (λ e. absurd cc)))
 refused_or_out refused pairs statuses.WriteFault s w h = inl (refuses refused pairs statuses.WriteFault s w (h (λ e. absurd cc)))
+refused_or_out refused pairs statuses.DiskFault s w h = inl (refuses refused pairs statuses.DiskFault s w (h (λ e. absurd cc)))
 
 module _ (refused : List ℕ) (pairs : List Pair) (status : Status) (h : SaysWhy refused pairs status) where
   pub not_ok : status ≡ statuses.Ok → ⊥
@@ -111,12 +113,14 @@ plain statuses.Ok text h = refl
 plain statuses.Usage text h = refl
 plain (statuses.Line n fault) text h = refl
 plain (statuses.Truncated n) text h = refl
+plain (statuses.NotStore part offset) text h = refl
 plain statuses.Exists text h = refl
 plain statuses.TooManyTasks text h = refl
 plain statuses.TooLong text h = refl
 plain statuses.NoMemory text h = refl
 plain statuses.ReadFault text h = refl
 plain statuses.WriteFault text h = refl
+plain statuses.DiskFault text h = refl
 
 -- ---- statuses of replays
 
