@@ -43,7 +43,7 @@ runs_tasks {P = P} spec state first answer planned counts pairs result s t w v n
 
 -- ---- from pairs that are no tasks
 
-keeps_same : (s : Option (List ℕ)) → Keeps s s
+pub keeps_same : (s : Option (List ℕ)) → Keeps s s
 keeps_same None = tt
 keeps_same (Some xs) = refl
 

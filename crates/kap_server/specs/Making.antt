@@ -30,9 +30,3 @@ Made told statuses.Exists old new images = told → HasHead (old Head)
 Made told statuses.NoMemory old new images = ⊤
 Made told statuses.DiskFault old new images = ⊤
 Made told other old new images = ⊥
-
--- the status of `init` where the files read so
-abbrev pub MakesTo : Image → Status → Type 0
-MakesTo files statuses.Ok = HasNoHead (files Head)
-MakesTo files statuses.Exists = HasHead (files Head)
-MakesTo files other = ⊥

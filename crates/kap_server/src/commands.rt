@@ -4,6 +4,7 @@ ghost use Rattle.std.specs.Prelude.{◌≡◌, ◌⊎◌, ◌≤◌, [], false, 
 ghost use Rattle.std.specs.Io.KnownBytes.{Keeps};
 ghost use Rattle.kap_base.specs.Points.{is_time};
 ghost use Rattle.kap_base.specs.Words.{HasRisen};
+ghost use Rattle.gate_log.specs.Head.{HasNoHead};
 ghost use Rattle.kap_io.specs.Moments.{Quiet};
 ghost use Rattle.kap_io.specs.declared.disk.Part.{Part};
 ghost use Rattle.node_set.specs.Nodes.{node_spec};
@@ -14,7 +15,7 @@ ghost use Rattle.kap_server.specs.Checking.{Checked, ChecksTo};
 ghost use Rattle.kap_server.specs.Command.{AsksForTasks, AsksForTooMany, AsksToCheck, AsksToInit, AsksToReplay};
 ghost use Rattle.kap_server.specs.Command.{ExactlyWhere, IsUnlessDiskFailed, IsUnlessFailed};
 ghost use Rattle.kap_server.specs.Listing.{Listed, ListsTasks};
-ghost use Rattle.kap_server.specs.Making.{HasHead, Made, MakesTo};
+ghost use Rattle.kap_server.specs.Making.{HasHead, Made};
 ghost use Rattle.kap_server.specs.Pairs.{AreNoTasks, AreTasks};
 ghost use Rattle.kap_server.specs.Readying.{is_pattern_refused};
 ghost use Rattle.kap_server.specs.Runs.{Ran, refusal_of};
@@ -134,10 +135,12 @@ pub fn command<S: Source, K: Sink, D: Disk, P: Patterns>(
     // Of `init` a store of no records was made, where no head stood there, and then each image stands for it.
     ensures made { AsksToInit (map string_bytes words.now)
         → Made (IsTrue D.tells) result (D.seen disk.old) (D.seen disk.new) (D.may_leave disk.new) }
-    // Its status is that of the head on the disk, unless memory ran out or the disk failed.
-    ensures made_status { (status : Status) → AsksToInit (map string_bytes words.now)
-        → IsTrue D.tells → MakesTo (D.seen disk.old) status → IsUnlessDiskFailed result status }
-    // It changes nothing where a head stands there.
+    // It is Ok where no head stood there, and Exists where one did, unless memory ran out or the disk failed.
+    ensures fresh { AsksToInit (map string_bytes words.now) → IsTrue D.tells
+        → HasNoHead (D.seen disk.old Part.Head) → IsUnlessDiskFailed result Status.Ok }
+    ensures exists { AsksToInit (map string_bytes words.now) → IsTrue D.tells
+        → HasHead (D.seen disk.old Part.Head) → IsUnlessDiskFailed result Status.Exists }
+    // Where one did, nothing changes on the disk.
     ensures kept { AsksToInit (map string_bytes words.now) → IsTrue D.tells
         → HasHead (D.seen disk.old Part.Head)
         → Quiet D.seen D.moment D.may_leave D.left_since disk.old disk.new }

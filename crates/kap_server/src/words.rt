@@ -75,7 +75,7 @@ fn replay_request(words: &[String]) -> Option<Request<'_>>
 /// This request, where no words stand behind its command.
 fn request_alone<'a>(request: Request<'a>, words: &[String]) -> Option<Request<'a>>
     ensures { option_map request_of result
-        ≡ request_alone (request_of request) (map string_bytes words.now) }
+        ≡ request_alone (request_of request.entry) (map string_bytes words.now) }
 {
     if words.is_empty() {
         Some(request)
