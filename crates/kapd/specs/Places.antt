@@ -1,5 +1,5 @@
 -- The place before a command.
-use Rattle.std.specs.Prelude.{ℕ, List, [], ◌∷◌, ◌×◌, Option, Some, None, codes, if◌then◌else◌}
+use Rattle.std.specs.Prelude.{ℕ, List, [], ◌∷◌, Option, Some, None, codes, if◌then◌else◌}
 use Rattle.std.specs.Str.{bytes_eq}
 use Rattle.kapd.specs.declared.places.Place.{Place as LentPlace}
 use Rattle.kapd.specs.declared.places.Place.TheVariants as lent
