@@ -1,7 +1,6 @@
 -- What stands after `tasks`.
-use Rattle.std.proofs.Common.{◌≡◌, ℕ, Bool, true, false, List, Option, inl, inr, refl, sym, ◌∙◌, ap, subst, Err}
-use Rattle.std.specs.Prelude.{◌⊎◌, IsErrOf, Result}
-use Rattle.std.specs.Io.KnownBytes.{Appends, Keeps}
+use Rattle.std.proofs.Common.{◌≡◌, ℕ, List, Option, inl, inr, refl, ◌∙◌, ap, subst, Err}
+use Rattle.std.specs.Io.KnownBytes.{Appends}
 use Rattle.kap_io.specs.Disk.{Image}
 use Rattle.kap_io.specs.Pieces.{AppendsPrefix}
 use Rattle.kap_io.specs.declared.disk.Part.{Part}
@@ -15,7 +14,6 @@ use Rattle.kap_server.specs.declared.status.Status.{Status}
 use Rattle.kap_server.specs.declared.status.Status.TheVariants as statuses
 use Rattle.kap_server.specs.Command.{IsUnlessDiskFailed}
 use Rattle.kap_server.specs.Listing.{IsTextOf, Listed, ListsTasks, tasks_text}
-use Rattle.kap_server.specs.Readying.{is_pattern_refused}
 use Rattle.kap_server.specs.Statuses.{status_of_store}
 use Rattle.kap_server.proofs.RunLaws.{keeps_same}
 
@@ -29,29 +27,9 @@ listed_fault told files stores.DiskFault w found short = keeps_same w
 listed_fault told files stores.Long w found short = absurd (short refl)
 listed_fault told files stores.NoMemory w found short = keeps_same w
 
--- ---- which statuses come
+-- ---- what is answered
 
 module _ (told : Type 0) (files : Image) (w v : Option (List ℕ)) where
-  -- a status that doesn't come
-  pub listed_not : (result status : Status) → Listed told result files w v → (Listed told status files w v → ⊥) → result ≡ status → ⊥
-  listed_not result status listed none e = none (subst (λ r. Listed told r files w v) e listed)
-
-  -- no pattern is refused
-  pub listed_plain : (result : Status) → Listed told result files w v → is_pattern_refused result ≡ true → ⊥
-  listed_plain statuses.Ok listed refused = absurd cc
-  listed_plain statuses.Usage listed refused = listed
-  listed_plain (statuses.Script fault) listed refused = listed
-  listed_plain (statuses.Line n fault) listed refused = listed
-  listed_plain (statuses.Truncated n) listed refused = listed
-  listed_plain (statuses.NotStore part offset) listed refused = absurd cc
-  listed_plain statuses.Exists listed refused = listed
-  listed_plain statuses.TooManyTasks listed refused = listed
-  listed_plain statuses.TooLong listed refused = listed
-  listed_plain statuses.NoMemory listed refused = absurd cc
-  listed_plain statuses.ReadFault listed refused = listed
-  listed_plain statuses.WriteFault listed refused = absurd cc
-  listed_plain statuses.DiskFault listed refused = absurd cc
-
   -- the tasks of a store are those of its records
   pub lists_tasks : (rs : List Rec) (result : Status) → told → Stands rs files → Listed told result files w v → ListsTasks rs result w v
   lists_tasks rs statuses.Ok tells stands listed =

@@ -133,14 +133,14 @@ same_status ids (pair ∷ pairs) a b (inr p) (inr q) = same_status (ids ++ pair.
 
 -- no device failed, and the words were those of a command
 pub reason_of_none : (refused : Option Refusal) (ids : List (List ℕ)) (pairs : List Pair) (status : Status) → AreNoTasks refused ids pairs status
-    → (status ≢ statuses.Ok) × (status ≢ statuses.Usage) × (status ≢ statuses.TooManyTasks) × (status ≢ statuses.NoMemory) × (status ≢ statuses.ReadFault) × (status ≢ statuses.WriteFault)
+    → (status ≢ statuses.Ok) × (status ≢ statuses.Usage) × (status ≢ statuses.TooManyTasks) × (status ≢ statuses.NoMemory) × (status ≢ statuses.ReadFault) × (status ≢ statuses.WriteFault) × (status ≢ statuses.DiskFault)
 reason_of_none refused ids [] status p = absurd p
 reason_of_none refused ids (pair ∷ pairs) status (inl p) = by status p where
   by : (status : Status) → IsNoTask refused ids pair status
-      → (status ≢ statuses.Ok) × (status ≢ statuses.Usage) × (status ≢ statuses.TooManyTasks) × (status ≢ statuses.NoMemory) × (status ≢ statuses.ReadFault) × (status ≢ statuses.WriteFault)
-  by (statuses.Script fault) p = (λ e. absurd cc, λ e. absurd cc, λ e. absurd cc, λ e. absurd cc, λ e. absurd cc, λ e. absurd cc)
-  by statuses.Exists p = (λ e. absurd cc, λ e. absurd cc, λ e. absurd cc, λ e. absurd cc, λ e. absurd cc, λ e. absurd cc)
-  by statuses.TooLong p = (λ e. absurd cc, λ e. absurd cc, λ e. absurd cc, λ e. absurd cc, λ e. absurd cc, λ e. absurd cc)
+      → (status ≢ statuses.Ok) × (status ≢ statuses.Usage) × (status ≢ statuses.TooManyTasks) × (status ≢ statuses.NoMemory) × (status ≢ statuses.ReadFault) × (status ≢ statuses.WriteFault) × (status ≢ statuses.DiskFault)
+  by (statuses.Script fault) p = (λ e. absurd cc, λ e. absurd cc, λ e. absurd cc, λ e. absurd cc, λ e. absurd cc, λ e. absurd cc, λ e. absurd cc)
+  by statuses.Exists p = (λ e. absurd cc, λ e. absurd cc, λ e. absurd cc, λ e. absurd cc, λ e. absurd cc, λ e. absurd cc, λ e. absurd cc)
+  by statuses.TooLong p = (λ e. absurd cc, λ e. absurd cc, λ e. absurd cc, λ e. absurd cc, λ e. absurd cc, λ e. absurd cc, λ e. absurd cc)
   by statuses.Ok p = absurd p
   by statuses.Usage p = absurd p
   by (statuses.Line n fault) p = absurd p

@@ -144,9 +144,10 @@ module _ {P : Type 0} (answer : P → Answer) (planned : Planned P) (refused : L
   ran_refused (inr (inr r)) status none h = inr r.why
 
   -- nothing is replayed at these
-  no_replay : (text rest : TextOf) → (result ≡ statuses.Usage) ⊎ (result ≡ statuses.TooManyTasks) → Replayed text rest result s t w v → ⊥
+  no_replay : (text rest : TextOf) → (result ≡ statuses.Usage) ⊎ ((result ≡ statuses.TooManyTasks) ⊎ (result ≡ statuses.DiskFault)) → Replayed text rest result s t w v → ⊥
   no_replay text rest (inl e) h = subst (λ r. Replayed text rest r s t w v) e h
-  no_replay text rest (inr e) h = subst (λ r. Replayed text rest r s t w v) e h
+  no_replay text rest (inr (inl e)) h = subst (λ r. Replayed text rest r s t w v) e h
+  no_replay text rest (inr (inr e)) h = subst (λ r. Replayed text rest r s t w v) e h
 
   pub ran_not_usage : R → result ≡ statuses.Usage → ⊥
   ran_not_usage (inl r) e = no_replay (run_text answer (task_names pairs r.tasks) (lives_from planned 1 pairs r.tasks)) (run_rest answer counts (task_names pairs r.tasks) (lives_from planned 1 pairs r.tasks)) (inl e) r.replayed
@@ -154,9 +155,14 @@ module _ {P : Type 0} (answer : P → Answer) (planned : Planned P) (refused : L
   ran_not_usage (inr (inr r)) e = let w = sym e ∙ r.why in absurd cc
 
   pub ran_not_many : R → result ≡ statuses.TooManyTasks → ⊥
-  ran_not_many (inl r) e = no_replay (run_text answer (task_names pairs r.tasks) (lives_from planned 1 pairs r.tasks)) (run_rest answer counts (task_names pairs r.tasks) (lives_from planned 1 pairs r.tasks)) (inr e) r.replayed
+  ran_not_many (inl r) e = no_replay (run_text answer (task_names pairs r.tasks) (lives_from planned 1 pairs r.tasks)) (run_rest answer counts (task_names pairs r.tasks) (lives_from planned 1 pairs r.tasks)) (inr (inl e)) r.replayed
   ran_not_many (inr (inl r)) e = (reason_of_none (refusal_of result refused) [] pairs result r.why).2 e
   ran_not_many (inr (inr r)) e = let w = sym e ∙ r.why in absurd cc
+
+  pub ran_not_disk : R → result ≡ statuses.DiskFault → ⊥
+  ran_not_disk (inl r) e = no_replay (run_text answer (task_names pairs r.tasks) (lives_from planned 1 pairs r.tasks)) (run_rest answer counts (task_names pairs r.tasks) (lives_from planned 1 pairs r.tasks)) (inr (inr e)) r.replayed
+  ran_not_disk (inr (inl r)) e = (reason_of_none (refusal_of result refused) [] pairs result r.why).6 e
+  ran_not_disk (inr (inr r)) e = let w = sym e ∙ r.why in absurd cc
 
 -- ---- what the words ask for
 

@@ -1,5 +1,5 @@
 -- What stands after `init`.
-use Rattle.std.specs.Prelude.{◌≡◌, ◌⊎◌, Bool, true, false, List, ℕ, take, Result, Ok, Err, ⊤}
+use Rattle.std.specs.Prelude.{◌≡◌, Bool, true, false, List, ℕ, take, Result, Ok, Err, ⊤}
 use Rattle.kap_io.specs.Disk.{Image}
 use Rattle.kap_io.specs.declared.disk.Part.TheVariants.{Head}
 use Rattle.gate_log.specs.Head.{HasNoHead, head_magic}

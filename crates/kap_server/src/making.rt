@@ -23,6 +23,7 @@ fn has_head<D: Disk>(disk: &mut D) -> Result<bool, StoreFault>
         Ok(_) => Ok(true),
         Err(LogFault::Header) => Ok(false),
         Err(LogFault::DiskFault) => Err(StoreFault::DiskFault),
+        // A head isn't torn or too long.
         Err(_) => Err(StoreFault::NoMemory),
     }
 }
