@@ -31,19 +31,23 @@ one_status refused text statuses.TooLong statuses.TooLong p q = refl
 one_status refused text a statuses.Usage p q = absurd q
 one_status refused text a (statuses.Line n fault) p q = absurd q
 one_status refused text a (statuses.Truncated n) p q = absurd q
+one_status refused text a (statuses.NotStore part offset) p q = absurd q
 one_status refused text a statuses.Exists p q = absurd q
 one_status refused text a statuses.TooManyTasks p q = absurd q
 one_status refused text a statuses.NoMemory p q = absurd q
 one_status refused text a statuses.ReadFault p q = absurd q
 one_status refused text a statuses.WriteFault p q = absurd q
+one_status refused text a statuses.DiskFault p q = absurd q
 one_status refused text statuses.Usage b p q = absurd p
 one_status refused text (statuses.Line n fault) b p q = absurd p
 one_status refused text (statuses.Truncated n) b p q = absurd p
+one_status refused text (statuses.NotStore part offset) b p q = absurd p
 one_status refused text statuses.Exists b p q = absurd p
 one_status refused text statuses.TooManyTasks b p q = absurd p
 one_status refused text statuses.NoMemory b p q = absurd p
 one_status refused text statuses.ReadFault b p q = absurd p
 one_status refused text statuses.WriteFault b p q = absurd p
+one_status refused text statuses.DiskFault b p q = absurd p
 
 -- ---- each text has a status
 
@@ -69,12 +73,14 @@ answered refused text statuses.Usage status t w v h to = absurd h
 answered refused text (statuses.Script fault) status t w v h to = inl (one_status (refusal_of (statuses.Script fault) refused) text (statuses.Script fault) status h.0 to)
 answered refused text (statuses.Line n fault) status t w v h to = absurd h
 answered refused text (statuses.Truncated n) status t w v h to = absurd h
+answered refused text (statuses.NotStore part offset) status t w v h to = absurd h
 answered refused text statuses.Exists status t w v h to = absurd h
 answered refused text statuses.TooManyTasks status t w v h to = absurd h
 answered refused text statuses.TooLong status t w v h to = inl (one_status None text statuses.TooLong status h.0 to)
 answered refused text statuses.NoMemory status t w v h to = inr (inl refl)
 answered refused text statuses.ReadFault status t w v h to = inr (inr (inl refl))
 answered refused text statuses.WriteFault status t w v h to = inr (inr (inr refl))
+answered refused text statuses.DiskFault status t w v h to = absurd h
 
 pub check_answers : (refused text : List ℕ) (result status : Status) (s t w v : Option (List ℕ)) → Checked refused result s t w v → s ≡ Some text
     → ChecksTo (refusal_of result refused) text status → IsUnlessFailed result status

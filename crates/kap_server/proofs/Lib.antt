@@ -4,3 +4,4 @@ pub mod PairLaws
 pub mod ReadyLaws
 pub mod TellLaws
 pub mod RunLaws
+pub mod ListLaws

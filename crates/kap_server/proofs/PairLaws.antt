@@ -33,10 +33,12 @@ task_or_none ids pair task statuses.Ok p q = q
 task_or_none ids pair task statuses.Usage p q = q
 task_or_none ids pair task (statuses.Line n fault) p q = q
 task_or_none ids pair task (statuses.Truncated n) p q = q
+task_or_none ids pair task (statuses.NotStore part offset) p q = q
 task_or_none ids pair task statuses.TooManyTasks p q = q
 task_or_none ids pair task statuses.NoMemory p q = q
 task_or_none ids pair task statuses.ReadFault p q = q
 task_or_none ids pair task statuses.WriteFault p q = q
+task_or_none ids pair task statuses.DiskFault p q = q
 
 one_reason : (refused : Option Refusal) (ids : List (List ℕ)) (pair : Pair) (a b : Status) → IsNoTask refused ids pair a → IsNoTask refused ids pair b → a ≡ b
 one_reason refused ids pair statuses.TooLong statuses.TooLong p q = refl
@@ -52,18 +54,22 @@ one_reason refused ids pair a statuses.Ok p q = absurd q
 one_reason refused ids pair a statuses.Usage p q = absurd q
 one_reason refused ids pair a (statuses.Line n fault) p q = absurd q
 one_reason refused ids pair a (statuses.Truncated n) p q = absurd q
+one_reason refused ids pair a (statuses.NotStore part offset) p q = absurd q
 one_reason refused ids pair a statuses.TooManyTasks p q = absurd q
 one_reason refused ids pair a statuses.NoMemory p q = absurd q
 one_reason refused ids pair a statuses.ReadFault p q = absurd q
 one_reason refused ids pair a statuses.WriteFault p q = absurd q
+one_reason refused ids pair a statuses.DiskFault p q = absurd q
 one_reason refused ids pair statuses.Ok b p q = absurd p
 one_reason refused ids pair statuses.Usage b p q = absurd p
 one_reason refused ids pair (statuses.Line n fault) b p q = absurd p
 one_reason refused ids pair (statuses.Truncated n) b p q = absurd p
+one_reason refused ids pair (statuses.NotStore part offset) b p q = absurd p
 one_reason refused ids pair statuses.TooManyTasks b p q = absurd p
 one_reason refused ids pair statuses.NoMemory b p q = absurd p
 one_reason refused ids pair statuses.ReadFault b p q = absurd p
 one_reason refused ids pair statuses.WriteFault b p q = absurd p
+one_reason refused ids pair statuses.DiskFault b p q = absurd p
 
 abbrev OneMeaning : List (List ℕ) → Pair → Type 0
 OneMeaning ids pair = ((task : Task) × IsTask ids pair task) ⊎ ((status : Status) × IsNoTask None ids pair status)
@@ -127,22 +133,24 @@ same_status ids (pair ∷ pairs) a b (inr p) (inr q) = same_status (ids ++ pair.
 
 -- no device failed, and the words were those of a command
 pub reason_of_none : (refused : Option Refusal) (ids : List (List ℕ)) (pairs : List Pair) (status : Status) → AreNoTasks refused ids pairs status
-    → (status ≢ statuses.Ok) × (status ≢ statuses.Usage) × (status ≢ statuses.TooManyTasks) × (status ≢ statuses.NoMemory) × (status ≢ statuses.ReadFault) × (status ≢ statuses.WriteFault)
+    → (status ≢ statuses.Ok) × (status ≢ statuses.Usage) × (status ≢ statuses.TooManyTasks) × (status ≢ statuses.NoMemory) × (status ≢ statuses.ReadFault) × (status ≢ statuses.WriteFault) × (status ≢ statuses.DiskFault)
 reason_of_none refused ids [] status p = absurd p
 reason_of_none refused ids (pair ∷ pairs) status (inl p) = by status p where
   by : (status : Status) → IsNoTask refused ids pair status
-      → (status ≢ statuses.Ok) × (status ≢ statuses.Usage) × (status ≢ statuses.TooManyTasks) × (status ≢ statuses.NoMemory) × (status ≢ statuses.ReadFault) × (status ≢ statuses.WriteFault)
-  by (statuses.Script fault) p = (λ e. absurd cc, λ e. absurd cc, λ e. absurd cc, λ e. absurd cc, λ e. absurd cc, λ e. absurd cc)
-  by statuses.Exists p = (λ e. absurd cc, λ e. absurd cc, λ e. absurd cc, λ e. absurd cc, λ e. absurd cc, λ e. absurd cc)
-  by statuses.TooLong p = (λ e. absurd cc, λ e. absurd cc, λ e. absurd cc, λ e. absurd cc, λ e. absurd cc, λ e. absurd cc)
+      → (status ≢ statuses.Ok) × (status ≢ statuses.Usage) × (status ≢ statuses.TooManyTasks) × (status ≢ statuses.NoMemory) × (status ≢ statuses.ReadFault) × (status ≢ statuses.WriteFault) × (status ≢ statuses.DiskFault)
+  by (statuses.Script fault) p = (λ e. absurd cc, λ e. absurd cc, λ e. absurd cc, λ e. absurd cc, λ e. absurd cc, λ e. absurd cc, λ e. absurd cc)
+  by statuses.Exists p = (λ e. absurd cc, λ e. absurd cc, λ e. absurd cc, λ e. absurd cc, λ e. absurd cc, λ e. absurd cc, λ e. absurd cc)
+  by statuses.TooLong p = (λ e. absurd cc, λ e. absurd cc, λ e. absurd cc, λ e. absurd cc, λ e. absurd cc, λ e. absurd cc, λ e. absurd cc)
   by statuses.Ok p = absurd p
   by statuses.Usage p = absurd p
   by (statuses.Line n fault) p = absurd p
   by (statuses.Truncated n) p = absurd p
+  by (statuses.NotStore part offset) p = absurd p
   by statuses.TooManyTasks p = absurd p
   by statuses.NoMemory p = absurd p
   by statuses.ReadFault p = absurd p
   by statuses.WriteFault p = absurd p
+  by statuses.DiskFault p = absurd p
 reason_of_none refused ids (pair ∷ pairs) status (inr p) = reason_of_none refused (ids ++ pair.id ∷ []) pairs status p.2
 
 -- ---- how many pairs words are

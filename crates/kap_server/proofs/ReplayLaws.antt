@@ -184,12 +184,14 @@ told_status text rest statuses.Usage bytes t w v h = absurd h
 told_status text rest (statuses.Script fault) bytes t w v h = absurd h
 told_status text rest (statuses.Line n fault) bytes t w v h = inl (ap status_at (sym h.0))
 told_status text rest (statuses.Truncated n) bytes t w v h = inl (ap status_at (sym h.0))
+told_status text rest (statuses.NotStore part offset) bytes t w v h = absurd h
 told_status text rest statuses.Exists bytes t w v h = absurd h
 told_status text rest statuses.TooManyTasks bytes t w v h = absurd h
 told_status text rest statuses.TooLong bytes t w v h = inl (ap status_at (sym h.0))
 told_status text rest statuses.NoMemory bytes t w v h = inr (inl refl)
 told_status text rest statuses.ReadFault bytes t w v h = inr (inr (inl refl))
 told_status text rest statuses.WriteFault bytes t w v h = inr (inr (inr refl))
+told_status text rest statuses.DiskFault bytes t w v h = absurd h
 
 pub status_is : (text rest : TextOf) (result : Status) (bytes : List ℕ) (s t w v : Option (List ℕ)) → Replayed text rest result s t w v → s ≡ Some bytes → IsUnlessFailed result (status_at (reading_of bytes).stop)
 status_is text rest result bytes s t w v h is = told_status text rest result bytes t w v (subst (λ o. Replayed text rest result o t w v) is h)

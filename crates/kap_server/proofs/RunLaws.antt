@@ -43,7 +43,7 @@ runs_tasks {P = P} spec state first answer planned counts pairs result s t w v n
 
 -- ---- from pairs that are no tasks
 
-keeps_same : (s : Option (List ℕ)) → Keeps s s
+pub keeps_same : (s : Option (List ℕ)) → Keeps s s
 keeps_same None = tt
 keeps_same (Some xs) = refl
 
@@ -62,11 +62,13 @@ refused_or_out refused pairs statuses.Usage s w h = inl (refuses refused pairs s
 refused_or_out refused pairs (statuses.Script fault) s w h = inl (refuses refused pairs (statuses.Script fault) s w (h (λ e. absurd cc)))
 refused_or_out refused pairs (statuses.Line n fault) s w h = inl (refuses refused pairs (statuses.Line n fault) s w (h (λ e. absurd cc)))
 refused_or_out refused pairs (statuses.Truncated n) s w h = inl (refuses refused pairs (statuses.Truncated n) s w (h (λ e. absurd cc)))
+refused_or_out refused pairs (statuses.NotStore part offset) s w h = inl (refuses refused pairs (statuses.NotStore part offset) s w (h (λ e. absurd cc)))
 refused_or_out refused pairs statuses.Exists s w h = inl (refuses refused pairs statuses.Exists s w (h (λ e. absurd cc)))
 refused_or_out refused pairs statuses.TooManyTasks s w h = inl (refuses refused pairs statuses.TooManyTasks s w (h (λ e. absurd cc)))
 refused_or_out refused pairs statuses.TooLong s w h = inl (refuses refused pairs statuses.TooLong s w (h (λ e. absurd cc)))
 refused_or_out refused pairs statuses.ReadFault s w h = inl (refuses refused pairs statuses.ReadFault s w (h (λ e. absurd cc)))
 refused_or_out refused pairs statuses.WriteFault s w h = inl (refuses refused pairs statuses.WriteFault s w (h (λ e. absurd cc)))
+refused_or_out refused pairs statuses.DiskFault s w h = inl (refuses refused pairs statuses.DiskFault s w (h (λ e. absurd cc)))
 
 module _ (refused : List ℕ) (pairs : List Pair) (status : Status) (h : SaysWhy refused pairs status) where
   pub not_ok : status ≡ statuses.Ok → ⊥
@@ -111,12 +113,14 @@ plain statuses.Ok text h = refl
 plain statuses.Usage text h = refl
 plain (statuses.Line n fault) text h = refl
 plain (statuses.Truncated n) text h = refl
+plain (statuses.NotStore part offset) text h = refl
 plain statuses.Exists text h = refl
 plain statuses.TooManyTasks text h = refl
 plain statuses.TooLong text h = refl
 plain statuses.NoMemory text h = refl
 plain statuses.ReadFault text h = refl
 plain statuses.WriteFault text h = refl
+plain statuses.DiskFault text h = refl
 
 -- ---- statuses of replays
 
@@ -140,9 +144,10 @@ module _ {P : Type 0} (answer : P → Answer) (planned : Planned P) (refused : L
   ran_refused (inr (inr r)) status none h = inr r.why
 
   -- nothing is replayed at these
-  no_replay : (text rest : TextOf) → (result ≡ statuses.Usage) ⊎ (result ≡ statuses.TooManyTasks) → Replayed text rest result s t w v → ⊥
+  no_replay : (text rest : TextOf) → (result ≡ statuses.Usage) ⊎ ((result ≡ statuses.TooManyTasks) ⊎ (result ≡ statuses.DiskFault)) → Replayed text rest result s t w v → ⊥
   no_replay text rest (inl e) h = subst (λ r. Replayed text rest r s t w v) e h
-  no_replay text rest (inr e) h = subst (λ r. Replayed text rest r s t w v) e h
+  no_replay text rest (inr (inl e)) h = subst (λ r. Replayed text rest r s t w v) e h
+  no_replay text rest (inr (inr e)) h = subst (λ r. Replayed text rest r s t w v) e h
 
   pub ran_not_usage : R → result ≡ statuses.Usage → ⊥
   ran_not_usage (inl r) e = no_replay (run_text answer (task_names pairs r.tasks) (lives_from planned 1 pairs r.tasks)) (run_rest answer counts (task_names pairs r.tasks) (lives_from planned 1 pairs r.tasks)) (inl e) r.replayed
@@ -150,9 +155,14 @@ module _ {P : Type 0} (answer : P → Answer) (planned : Planned P) (refused : L
   ran_not_usage (inr (inr r)) e = let w = sym e ∙ r.why in absurd cc
 
   pub ran_not_many : R → result ≡ statuses.TooManyTasks → ⊥
-  ran_not_many (inl r) e = no_replay (run_text answer (task_names pairs r.tasks) (lives_from planned 1 pairs r.tasks)) (run_rest answer counts (task_names pairs r.tasks) (lives_from planned 1 pairs r.tasks)) (inr e) r.replayed
+  ran_not_many (inl r) e = no_replay (run_text answer (task_names pairs r.tasks) (lives_from planned 1 pairs r.tasks)) (run_rest answer counts (task_names pairs r.tasks) (lives_from planned 1 pairs r.tasks)) (inr (inl e)) r.replayed
   ran_not_many (inr (inl r)) e = (reason_of_none (refusal_of result refused) [] pairs result r.why).2 e
   ran_not_many (inr (inr r)) e = let w = sym e ∙ r.why in absurd cc
+
+  pub ran_not_disk : R → result ≡ statuses.DiskFault → ⊥
+  ran_not_disk (inl r) e = no_replay (run_text answer (task_names pairs r.tasks) (lives_from planned 1 pairs r.tasks)) (run_rest answer counts (task_names pairs r.tasks) (lives_from planned 1 pairs r.tasks)) (inr (inr e)) r.replayed
+  ran_not_disk (inr (inl r)) e = (reason_of_none (refusal_of result refused) [] pairs result r.why).6 e
+  ran_not_disk (inr (inr r)) e = let w = sym e ∙ r.why in absurd cc
 
 -- ---- what the words ask for
 

@@ -10,7 +10,7 @@ use Rattle.tick_compile.specs.Scripts.{Accepts, Parses, Refuses}
 use Rattle.tick_compile.specs.Tasks.{refusal_in}
 use Rattle.tick_compile.specs.declared.tasks.Task.{Task}
 use Rattle.kap_server.specs.declared.status.Status.{Status}
-use Rattle.kap_server.specs.declared.status.Status.TheVariants.{Ok, Usage, Script, Line, Truncated, Exists, TooManyTasks, TooLong, NoMemory, ReadFault, WriteFault}
+use Rattle.kap_server.specs.declared.status.Status.TheVariants.{Ok, Usage, Script, Line, Truncated, NotStore, Exists, TooManyTasks, TooLong, NoMemory, ReadFault, WriteFault, DiskFault}
 use Rattle.kap_server.specs.ReadingIn.{IsShort, IsLong, ReadsFew}
 
 -- the text is a task's script, and its canonical form is this
@@ -40,12 +40,14 @@ Checked refused Usage s t w v = ⊥
 Checked refused (Script fault) s t w v = IfSome s (λ text. IsShort text × Refuses (refusal_in fault refused) text fault) × Keeps w v
 Checked refused (Line n fault) s t w v = ⊥
 Checked refused (Truncated n) s t w v = ⊥
+Checked refused (NotStore part offset) s t w v = ⊥
 Checked refused Exists s t w v = ⊥
 Checked refused TooManyTasks s t w v = ⊥
 Checked refused TooLong s t w v = IsLong s × Keeps w v
 Checked refused NoMemory s t w v = Keeps w v
 Checked refused ReadFault s t w v = ReadsFew s t × Keeps w v
 Checked refused WriteFault s t w v = IfSome s (λ text. WritesFormPrefix text w v)
+Checked refused DiskFault s t w v = ⊥
 
 -- the status of a check of this text, where this pattern is refused, or none is
 abbrev pub ChecksTo : Option Refusal → List ℕ → Status → Type 0

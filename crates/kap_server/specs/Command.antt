@@ -2,8 +2,8 @@
 use Rattle.std.specs.Prelude.{◌≡◌, ◌⊎◌, ℕ, ◌<◌, ◌≤◌, Bool, List, length, Some}
 use Rattle.kap_base.specs.declared.limits.TheConstants.{TASK_LIMIT}
 use Rattle.kap_server.specs.declared.status.Status.{Status}
-use Rattle.kap_server.specs.declared.status.Status.TheVariants.{NoMemory, ReadFault, WriteFault}
-use Rattle.kap_server.specs.Words.{Check, Replay, Pair, request_in}
+use Rattle.kap_server.specs.declared.status.Status.TheVariants.{NoMemory, ReadFault, WriteFault, DiskFault}
+use Rattle.kap_server.specs.Words.{Check, Init, Pair, Replay, Tasks, request_in}
 
 -- this status comes exactly where the fact holds, but for want of memory
 pub record ExactlyWhere (result status : Status) (fact : Type 0) : Type 0 where
@@ -26,6 +26,18 @@ pub record AsksForTooMany (words : List (List ℕ)) : Type 0 where
   pub asks : request_in words ≡ Some (Replay counts pairs)
   pub many : TASK_LIMIT < length pairs
 
+-- the words ask for a new store
+abbrev pub AsksToInit : List (List ℕ) → Type 0
+AsksToInit words = request_in words ≡ Some Init
+
+-- the words ask for the tasks of a store
+abbrev pub AsksForTasks : List (List ℕ) → Type 0
+AsksForTasks words = request_in words ≡ Some Tasks
+
 -- the answer is this status, unless memory ran out or a device failed
 abbrev pub IsUnlessFailed : Status → Status → Type 0
 IsUnlessFailed result status = (result ≡ status) ⊎ ((result ≡ NoMemory) ⊎ ((result ≡ ReadFault) ⊎ (result ≡ WriteFault)))
+
+-- the answer is this status, unless memory ran out or the disk failed
+abbrev pub IsUnlessDiskFailed : Status → Status → Type 0
+IsUnlessDiskFailed result status = (result ≡ status) ⊎ ((result ≡ NoMemory) ⊎ (result ≡ DiskFault))

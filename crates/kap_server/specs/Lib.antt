@@ -6,4 +6,6 @@ pub mod Replaying
 pub mod Pairs
 pub mod Runs
 pub mod Readying
+pub mod Making
+pub mod Listing
 pub mod Command

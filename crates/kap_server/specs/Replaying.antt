@@ -8,7 +8,7 @@ use Rattle.recording_file.specs.declared.fault.RecFault.TheVariants as faults
 use Rattle.recording_file.specs.Reading.{ReaderState, HasRead, BeginsWith}
 use Rattle.recording_file.specs.Recording.{Stop, Ended, Faulty, Undecided, reading_of, reading_so_far}
 use Rattle.kap_server.specs.declared.status.Status.{Status}
-use Rattle.kap_server.specs.declared.status.Status.TheVariants.{Ok, Usage, Script, Line, Truncated, Exists, TooManyTasks, TooLong, NoMemory, ReadFault, WriteFault}
+use Rattle.kap_server.specs.declared.status.Status.TheVariants.{Ok, Usage, Script, Line, Truncated, NotStore, Exists, TooManyTasks, TooLong, NoMemory, ReadFault, WriteFault, DiskFault}
 
 -- a text of points
 abbrev pub TextOf : Type 0
@@ -48,12 +48,14 @@ Replayed text rest Usage s t w v = ⊥
 Replayed text rest (Script fault) s t w v = ⊥
 Replayed text rest (Line n fault) s t w v = Writes text s w v (Faulty (faults.Line n fault))
 Replayed text rest (Truncated n) s t w v = Writes text s w v (Faulty (faults.Truncated n))
+Replayed text rest (NotStore part offset) s t w v = ⊥
 Replayed text rest Exists s t w v = ⊥
 Replayed text rest TooManyTasks s t w v = ⊥
 Replayed text rest TooLong s t w v = Writes text s w v (Faulty faults.Long)
 Replayed text rest NoMemory s t w v = WritesPrefix text rest s w v
 Replayed text rest ReadFault s t w v = WritesSoFar text s t w v
 Replayed text rest WriteFault s t w v = WritesPrefix text rest s w v
+Replayed text rest DiskFault s t w v = ⊥
 
 -- ---- on the way
 

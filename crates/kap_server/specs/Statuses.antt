@@ -6,10 +6,14 @@ use Rattle.recording_file.specs.Recording.{Stop, Ended, Faulty, Undecided}
 use Rattle.recording_file.specs.declared.fault.RecFault.{RecFault}
 use Rattle.recording_file.specs.declared.fault.RecFault.TheVariants as faults
 use Rattle.kap_server.specs.declared.status.Status.{Status}
-use Rattle.kap_server.specs.declared.status.Status.TheVariants.{Ok, Usage, Script, Line, Truncated, Exists, TooManyTasks, TooLong, NoMemory, ReadFault, WriteFault}
+use Rattle.kap_server.specs.declared.status.Status.TheVariants.{Ok, Usage, Script, Line, Truncated, NotStore, Exists, TooManyTasks, TooLong, NoMemory, ReadFault, WriteFault, DiskFault}
 use Rattle.tick_compile.specs.declared.script_fault.ScriptFault.{ScriptFault}
 use Rattle.tick_compile.specs.declared.script_fault.ScriptFault.TheVariants as scripts
 use Rattle.tick_compile.specs.Texts.{text_of_fault}
+use Rattle.kap_io.specs.declared.disk.Part.{Part}
+use Rattle.kap_io.specs.declared.disk.Part.TheVariants.{Head, Left, Right}
+use Rattle.topic_store.specs.declared.fault.StoreFault.{StoreFault}
+use Rattle.topic_store.specs.declared.fault.StoreFault.TheVariants as stores
 
 -- the number with which the process ends
 abbrev pub number_of : Status → ℕ
@@ -18,12 +22,14 @@ number_of Usage = 2
 number_of (Script fault) = 3
 number_of (Line n fault) = 4
 number_of (Truncated n) = 5
+number_of (NotStore part offset) = 6
 number_of Exists = 8
 number_of TooManyTasks = 9
 number_of TooLong = 10
 number_of NoMemory = 70
 number_of ReadFault = 71
 number_of WriteFault = 72
+number_of DiskFault = 73
 
 -- the status of a recording's fault
 abbrev pub status_of : RecFault → Status
@@ -38,6 +44,19 @@ abbrev pub status_of_script : ScriptFault → Status
 status_of_script scripts.NoMemory = NoMemory
 status_of_script fault = Script fault
 
+-- the status of a store's fault
+abbrev pub status_of_store : StoreFault → Status
+status_of_store (stores.NotStore part offset) = NotStore part offset
+status_of_store stores.DiskFault = DiskFault
+status_of_store stores.Long = TooLong
+status_of_store stores.NoMemory = NoMemory
+
+-- the name of a file of a store
+abbrev pub part_name : Part → List ℕ
+part_name Head = codes "head"
+part_name Left = codes "left"
+part_name Right = codes "right"
+
 -- what stands behind `kapd: ` on standard error
 abbrev pub text_of_status : Status → List ℕ
 text_of_status Ok = []
@@ -45,12 +64,14 @@ text_of_status Usage = codes "usage"
 text_of_status (Script fault) = text_of_fault fault
 text_of_status (Line n fault) = fault_line (record { line = n; fault = fault })
 text_of_status (Truncated n) = codes "truncated at line " ++ decimal n
+text_of_status (NotStore part offset) = codes "not a store: " ++ part_name part ++ codes " at " ++ decimal offset
 text_of_status Exists = codes "exists"
 text_of_status TooManyTasks = codes "too many tasks"
 text_of_status TooLong = codes "too long"
 text_of_status NoMemory = codes "no memory"
 text_of_status ReadFault = codes "read fault"
 text_of_status WriteFault = codes "write fault"
+text_of_status DiskFault = codes "disk fault"
 
 -- the status of a replay whose input's reading stops so
 abbrev pub status_at : Stop → Status

@@ -10,11 +10,13 @@ pub record Pair : Type 0 where
   pub id : List ℕ
   pub script : List ℕ
 
--- what the words of a command line ask for: to check a script, or to replay a recording for these tasks, and to tell what was
--- dropped, or not
+-- what the words of a command line ask for: to check a script; to replay a recording for these tasks, and to tell what was dropped, or
+-- not; to make a store; or to list the tasks of one
 pub data Request : Type 0 where
   Check : Request
   Replay : (counts : Bool) (pairs : List Pair) → Request
+  Init : Request
+  Tasks : Request
 
 -- words two by two
 abbrev pub pairs_of : List (List ℕ) → List Pair
@@ -26,6 +28,8 @@ pairs_of (id ∷ script ∷ words) = record { id = id; script = script } ∷ pai
 abbrev pub request_of : LentRequest → Request
 request_of lent.Check = Check
 request_of (lent.Replay counts words) = Replay counts (pairs_of (map string_bytes words.now))
+request_of lent.Init = Init
+request_of lent.Tasks = Tasks
 
 -- the word begins with `--`, as options do
 abbrev pub is_option : List ℕ → Bool
@@ -49,14 +53,40 @@ replay_request [] = None
 replay_request (word ∷ words) =
     if bytes_eq word (codes "--counts") then request_of_pairs true words else request_of_pairs false (word ∷ words)
 
--- `check`
-abbrev pub check_request : List (List ℕ) → Option Request
-check_request [] = Some Check
-check_request (word ∷ words) = None
+-- this request, where no words stand behind its command
+abbrev pub request_alone : Request → List (List ℕ) → Option Request
+request_alone request [] = Some request
+request_alone request (word ∷ words) = None
 
 -- what the words ask for, if they are those of a command
 abbrev pub request_in : List (List ℕ) → Option Request
 request_in [] = None
 request_in (command ∷ words) =
-    if bytes_eq command (codes "check") then check_request words else
-    if bytes_eq command (codes "replay") then replay_request words else None
+    if bytes_eq command (codes "check") then request_alone Check words else
+    if bytes_eq command (codes "replay") then replay_request words else
+    if bytes_eq command (codes "init") then request_alone Init words else
+    if bytes_eq command (codes "tasks") then request_alone Tasks words else None
+
+-- a command that reads the input
+abbrev pub reads_input : Option Request → Bool
+reads_input None = false
+reads_input (Some Check) = true
+reads_input (Some (Replay counts pairs)) = true
+reads_input (Some Init) = false
+reads_input (Some Tasks) = false
+
+-- a command that writes to the output
+abbrev pub writes_output : Option Request → Bool
+writes_output None = false
+writes_output (Some Check) = true
+writes_output (Some (Replay counts pairs)) = true
+writes_output (Some Init) = false
+writes_output (Some Tasks) = true
+
+-- a command that uses the disk
+abbrev pub uses_disk : Option Request → Bool
+uses_disk None = false
+uses_disk (Some Check) = false
+uses_disk (Some (Replay counts pairs)) = false
+uses_disk (Some Init) = true
+uses_disk (Some Tasks) = true

@@ -1,28 +1,39 @@
 //! The commands by their words.
 
-ghost use Rattle.std.specs.Prelude.{◌≡◌, ◌⊎◌, ◌≤◌, [], false, true, ℕ, Bool, List, None, Some, length, map, string_bytes};
+ghost use Rattle.std.specs.Prelude.{◌≡◌, ◌⊎◌, ◌≤◌, [], false, true, ℕ, Bool, IsTrue, List, None, Some, length, map, string_bytes};
 ghost use Rattle.std.specs.Io.KnownBytes.{Keeps};
+ghost use Rattle.kap_base.specs.Points.{is_time};
 ghost use Rattle.kap_base.specs.Words.{HasRisen};
+ghost use Rattle.gate_log.specs.Head.{HasNoHead};
+ghost use Rattle.kap_io.specs.Moments.{Quiet};
+ghost use Rattle.kap_io.specs.declared.disk.Part.{Part};
 ghost use Rattle.node_set.specs.Nodes.{node_spec};
 ghost use Rattle.recording_file.specs.Reading.{HasEnded};
 ghost use Rattle.recording_file.specs.Recording.{reading_of};
 ghost use Rattle.tick_compile.specs.declared.tasks.Task.{Task};
 ghost use Rattle.kap_server.specs.Checking.{Checked, ChecksTo};
-ghost use Rattle.kap_server.specs.Command.{AsksForTooMany, AsksToCheck, AsksToReplay, ExactlyWhere, IsUnlessFailed};
+ghost use Rattle.kap_server.specs.Command.{AsksForTasks, AsksForTooMany, AsksToCheck, AsksToInit, AsksToReplay};
+ghost use Rattle.kap_server.specs.Command.{ExactlyWhere, IsUnlessDiskFailed, IsUnlessFailed};
+ghost use Rattle.kap_server.specs.Listing.{Listed, ListsTasks};
+ghost use Rattle.kap_server.specs.Making.{HasHead, Made};
 ghost use Rattle.kap_server.specs.Pairs.{AreNoTasks, AreTasks};
 ghost use Rattle.kap_server.specs.Readying.{is_pattern_refused};
 ghost use Rattle.kap_server.specs.Runs.{Ran, refusal_of};
 ghost use Rattle.kap_server.specs.Statuses.{status_at};
-ghost use Rattle.kap_server.specs.Words.{Pair, pairs_of, request_in};
+ghost use Rattle.kap_server.specs.Words.{Pair, pairs_of, reads_input, request_in, uses_disk, writes_output};
 ghost use Rattle.kap_server.specs.declared.status.Status.{Status};
+ghost use Rattle.store_records.specs.declared.rec.Rec.{Rec};
+ghost use Rattle.topic_store.specs.Stores.{IsNoStore, Stands};
 
 use crate::checking::check;
+use crate::listing::list_tasks;
+use crate::making::init;
 use crate::readying::{Ready, add_tasks, are_too_many};
 use crate::replaying::replay;
 use crate::status::Status;
 use crate::words::{Request, request_in};
 use kap_base::TASK_LIMIT;
-use kap_io::{Sink, Source};
+use kap_io::{Disk, Sink, Source};
 use lambda_types::Patterns;
 use node_core::Node;
 use node_set::{AnyNode, ScriptNode};
@@ -70,13 +81,21 @@ fn replay_pairs<S: Source, K: Sink, P: Patterns, N: ScriptNode>(
 ///   first doesn't begin with `--`), and SCRIPT is the task's script: it reads a recording from the input, and writes the lines of
 ///   the points that the tasks log and of the changes of level of their alerts, in order of the points that caused them, then of
 ///   the tasks, then of their nodes; behind them, with `--counts`, how many points each node dropped. There are at most 64 tasks.
-pub fn command<S: Source, K: Sink, P: Patterns>(
+/// - `init`: it makes an empty store on the disk, where no head of one stands there.
+/// - `tasks`: it writes a line `ID enabled` or `ID disabled` for each task of the store on the disk, in byte order of their ids, and
+///   changes nothing.
+///
+/// `now` is the time of now, in nanoseconds from 1970-01-01T00:00:00Z on; no command uses it yet.
+pub fn command<S: Source, K: Sink, D: Disk, P: Patterns>(
     alloc: Global,
     words: &[String],
+    now: i64,
     input: &mut S,
     out: &mut K,
+    disk: &mut D,
     pats: &mut P,
 ) -> Status
+    requires now { IsTrue (is_time now) }
     // Usage exactly where the words aren't those of a command.
     ensures usage { ExactlyWhere result Status.Usage
         (request_in (map string_bytes words.now) ≡ None) }
@@ -113,13 +132,50 @@ pub fn command<S: Source, K: Sink, P: Patterns>(
     ensures refused { (counts : Bool) (pairs : List Pair) (status : Status)
         → AsksToReplay (map string_bytes words.now) counts pairs → AreNoTasks None [] pairs status
         → is_pattern_refused result ≡ false → (result ≡ status) ⊎ (result ≡ Status.NoMemory) }
-    // At Ok the input was read to its end.
-    ensures read { result ≡ Status.Ok → HasEnded (S.left input.old) (S.left input.new) }
-    // A fault of the input or the output comes only where its count rose in this call, and so does a refused pattern.
+    // Of `init` a store of no records was made, where no head stood there, and then each image stands for it.
+    ensures made { AsksToInit (map string_bytes words.now)
+        → Made (IsTrue D.tells) result (D.seen disk.old) (D.seen disk.new) (D.may_leave disk.new) }
+    // It is Ok where no head stood there, and Exists where one did, unless memory ran out or the disk failed.
+    ensures fresh { AsksToInit (map string_bytes words.now) → IsTrue D.tells
+        → HasNoHead (D.seen disk.old Part.Head) → IsUnlessDiskFailed result Status.Ok }
+    ensures exists { AsksToInit (map string_bytes words.now) → IsTrue D.tells
+        → HasHead (D.seen disk.old Part.Head) → IsUnlessDiskFailed result Status.Exists }
+    // Where one did, nothing changes on the disk.
+    ensures kept { AsksToInit (map string_bytes words.now) → IsTrue D.tells
+        → HasHead (D.seen disk.old Part.Head)
+        → Quiet D.seen D.moment D.may_leave D.left_since disk.old disk.new }
+    // Of `tasks` the lines of the tasks are written, or the place is told at which the files stand for no store.
+    ensures listed { AsksForTasks (map string_bytes words.now)
+        → Listed (IsTrue D.tells) result (D.seen disk.old)
+        (K.written out.old) (K.written out.new) }
+    // Of a store they are those of its tasks, unless memory ran out or a device failed.
+    ensures tasks { (rs : List Rec) → AsksForTasks (map string_bytes words.now)
+        → IsTrue D.tells → Stands rs (D.seen disk.old)
+        → ListsTasks rs result (K.written out.old) (K.written out.new) }
+    // Where the files stand for none, the place is told, unless memory ran out or the disk failed.
+    ensures no_store { (part : Part) (offset : ℕ) → AsksForTasks (map string_bytes words.now)
+        → IsTrue D.tells → IsNoStore (D.seen disk.old) part offset
+        → IsUnlessDiskFailed result (Status.NotStore part offset) }
+    // It changes nothing on the disk.
+    ensures quiet { AsksForTasks (map string_bytes words.now) → IsTrue D.tells
+        → Quiet D.seen D.moment D.may_leave D.left_since disk.old disk.new }
+    // Commands that don't use the input, the output or the disk leave it alone.
+    ensures unread { reads_input (request_in (map string_bytes words.now)) ≡ false
+        → input.new ≡ input.old }
+    ensures unwritten { writes_output (request_in (map string_bytes words.now)) ≡ false
+        → out.new ≡ out.old }
+    ensures untouched { uses_disk (request_in (map string_bytes words.now)) ≡ false
+        → disk.new ≡ disk.old }
+    // At Ok the input was read to its end, where the command reads it.
+    ensures read { reads_input (request_in (map string_bytes words.now)) ≡ true
+        → result ≡ Status.Ok → HasEnded (S.left input.old) (S.left input.new) }
+    // A fault of the input, the output or the disk comes only where its count rose in this call, and so does a refused pattern.
     ensures read_fault { result ≡ Status.ReadFault
         → HasRisen (S.faults input.old) (S.faults input.new) }
     ensures write_fault { result ≡ Status.WriteFault
         → HasRisen (K.faults out.old) (K.faults out.new) }
+    ensures disk_fault { result ≡ Status.DiskFault
+        → HasRisen (D.faults disk.old) (D.faults disk.new) }
     ensures pattern { is_pattern_refused result ≡ true
         → HasRisen (P.refusals pats.old) (P.refusals pats.new) }
 {
@@ -132,5 +188,7 @@ pub fn command<S: Source, K: Sink, P: Patterns>(
             }
             replay_pairs::<S, K, P, AnyNode>(alloc, counts, words, input, out, pats)
         }
+        Some(Request::Init) => init(alloc, disk),
+        Some(Request::Tasks) => list_tasks(alloc, out, disk),
     }
 }

@@ -4,6 +4,8 @@
 mod checking;
 mod commands;
 mod laws;
+mod listing;
+mod making;
 mod readying;
 mod replaying;
 mod status;

@@ -1,17 +1,19 @@
 //! How a command ended.
 
 ghost use Rattle.std.specs.Prelude.{◌≡◌};
-ghost use Rattle.kap_server.specs.Statuses.{status_of, status_of_script};
+ghost use Rattle.kap_server.specs.Statuses.{status_of, status_of_script, status_of_store};
 
 use kap_base::NoMemory;
+use kap_io::Part;
 use line_points::LineFault;
 use recording_file::RecFault;
 use tick_compile::ScriptFault;
+use topic_store::StoreFault;
 
 /// How a command ended.
 #[derive(Clone, Copy, Debug, PartialEq, Eq)]
 pub enum Status {
-    /// All was done, and the input was read to its end.
+    /// All was done, and the input was read to its end, where the command reads it.
     Ok,
     /// The words aren't those of a command.
     Usage,
@@ -21,7 +23,10 @@ pub enum Status {
     Line { line: u64, fault: LineFault },
     /// The recording ends inside a group of three lines: this line is missing.
     Truncated { line: u64 },
-    /// A task's id was given before.
+    /// The disk holds no store: this file isn't one of a store at this offset, which is 0 where the file doesn't begin as it should,
+    /// else that of the gate of the first record that isn't one, or may not stand there.
+    NotStore { part: Part, offset: u64 },
+    /// A task's id was given before; or a store is to be made, and one is there.
     Exists,
     /// There are more than 64 tasks.
     TooManyTasks,
@@ -33,6 +38,8 @@ pub enum Status {
     ReadFault,
     /// The output failed.
     WriteFault,
+    /// The disk failed.
+    DiskFault,
 }
 
 impl Status {
@@ -48,12 +55,14 @@ impl Status {
             Status::Script { .. } => 3,
             Status::Line { .. } => 4,
             Status::Truncated { .. } => 5,
+            Status::NotStore { .. } => 6,
             Status::Exists => 8,
             Status::TooManyTasks => 9,
             Status::TooLong => 10,
             Status::NoMemory => 70,
             Status::ReadFault => 71,
             Status::WriteFault => 72,
+            Status::DiskFault => 73,
         }
     }
 }
@@ -79,6 +88,19 @@ impl From<ScriptFault> for Status {
         match fault {
             ScriptFault::NoMemory => Status::NoMemory,
             _ => Status::Script { fault },
+        }
+    }
+}
+
+impl From<StoreFault> for Status {
+    ghost from_gives = { λ f s. s ≡ status_of_store f };
+
+    fn from(fault: StoreFault) -> Self {
+        match fault {
+            StoreFault::NotStore { part, offset } => Status::NotStore { part, offset },
+            StoreFault::DiskFault => Status::DiskFault,
+            StoreFault::Long => Status::TooLong,
+            StoreFault::NoMemory => Status::NoMemory,
         }
     }
 }

@@ -2,7 +2,7 @@
 
 ghost use Rattle.std.specs.Prelude.{◌≡◌, false, true, map, string_bytes};
 ghost use Rattle.std.specs.Option.{option_map};
-ghost use Rattle.kap_server.specs.Words.{are_pairs, check_request, is_option, replay_request, request_in, request_of, request_of_pairs};
+ghost use Rattle.kap_server.specs.Words.{are_pairs, is_option, replay_request, request_alone, request_in, request_of, request_of_pairs};
 
 use kap_base::is_task_id;
 
@@ -14,6 +14,10 @@ pub(crate) enum Request<'a> {
     /// To replay the recording that the input gives, for the tasks of these words, each an id and a script behind it; and to tell
     /// what was dropped, where `counts`.
     Replay { counts: bool, words: &'a [String] },
+    /// To make a store.
+    Init,
+    /// To list the tasks of a store.
+    Tasks,
 }
 
 fn is_option(word: &[u8]) -> bool
@@ -68,12 +72,13 @@ fn replay_request(words: &[String]) -> Option<Request<'_>>
     }
 }
 
-/// To check a script, where no further words are there.
-fn check_request(words: &[String]) -> Option<Request<'_>>
-    ensures { option_map request_of result ≡ check_request (map string_bytes words.now) }
+/// This request, where no words stand behind its command.
+fn request_alone<'a>(request: Request<'a>, words: &[String]) -> Option<Request<'a>>
+    ensures { option_map request_of result
+        ≡ request_alone (request_of request.entry) (map string_bytes words.now) }
 {
     if words.is_empty() {
-        Some(Request::Check)
+        Some(request)
     } else {
         None
     }
@@ -85,9 +90,13 @@ pub(crate) fn request_in(words: &[String]) -> Option<Request<'_>>
 {
     let (command, rest) = words.split_first()?;
     if command.as_str() == "check" {
-        check_request(rest)
+        request_alone(Request::Check, rest)
     } else if command.as_str() == "replay" {
         replay_request(rest)
+    } else if command.as_str() == "init" {
+        request_alone(Request::Init, rest)
+    } else if command.as_str() == "tasks" {
+        request_alone(Request::Tasks, rest)
     } else {
         None
     }

@@ -1,28 +1,34 @@
 //! `kapd - check` prints the canonical form of the script on standard input, and `kapd - replay ID SCRIPT` replays the recording
-//! there by the task of the script, and writes what it does to standard output.
+//! there by the task of the script, and writes what it does to standard output. `kapd PLACE init` makes a store in the folder PLACE,
+//! and `kapd PLACE tasks` lists the tasks of the store there.
 #![tactic(auto)]
 
-ghost use Rattle.std.specs.Prelude.{◌≡◌, map, string_bytes};
-ghost use Rattle.std.specs.Option.{option_map};
-ghost use Rattle.kapd.specs.Places.{behind_place};
+mod places;
 
-use kap_io::{ReadSource, WriteSink};
+use kap_io::{Clock, DirDisk, Disk, MemDisk, ReadSource, RealClock, WriteSink};
 use kap_server::{Status, command, status_text};
 use lambda_types::RegexPatterns;
+use places::{Place, place_in};
 use std::env::Env;
+use std::fs::Files;
+use std::os::unix::fs::FileExt;
+use std::path::PathBuf;
 use std::process::ExitCode;
-use std::{env, io};
+use std::{env, io, time};
 
 /// What `kapd --help` prints.
 const HELP: &str = "kapd PLACE COMMAND ..
 
-PLACE is `-`. Commands:
+PLACE is the folder of a store; or `-`, an empty disk in memory, gone at the end. Commands:
 
   check                       reads a script from standard input, looks at its tokens, grammar, names, nodes with
                               their arguments and properties, lambdas with their patterns, and graph, and writes
                               its canonical form
   replay [--counts] ID SCRIPT [ID SCRIPT]..
                               reads a recording from standard input, and writes what the tasks do at its points
+  init                        makes an empty store in the folder, which must be there: its files are head, left and
+                              right
+  tasks                       writes a line `ID enabled` or `ID disabled` for each task of the store in the folder
 
   --counts  tells behind that how many points each node dropped
   ID        a task's name: 1 to 64 ASCII letters, digits, `_`, `-` and `.`; the first doesn't begin with `--`
@@ -51,12 +57,15 @@ The exit status, and what standard error says behind `kapd: `:
 
   0   (nothing: all was done)          9   too many tasks
   2   usage                            10  too long
-  3   script: FAULT at PLACE           70  no memory
+  3   script: FAULT at BYTE            70  no memory
   4   line N: FAULT                    71  read fault
   5   truncated at line N              72  write fault
+  6   not a store: FILE at OFFSET      73  disk fault
   8   exists
 
-PLACE is a byte of the script, counted from 0; of a Graph fault it is the node's number.
+BYTE is a byte of the script, counted from 0; of a Graph fault it is the node's number. Exists: an id was given to two
+tasks, or init found a store in the folder. Not a store: no init was done in the folder (head at 0), or a record of the
+file can't be read at this offset. Disk fault: PLACE isn't there, is no folder, or its files can't be read or written.
 
   kapd --help        prints this
   kapd --version     prints the version
@@ -82,24 +91,43 @@ fn words_of<R: Env + AllocGlobal>(rt: &R) -> Result<Vec<String>, Status> {
     Ok(words)
 }
 
-/// Does what the words behind the place ask for.
-fn run<R: Input + Print + AllocGlobal>(rt: &R, words: &[String]) -> Status {
+/// Does what the words behind the place ask for, with the store on this disk.
+fn run_on<R: time::Clock + Input + Print + AllocGlobal, D: Disk>(
+    rt: &R,
+    words: &[String],
+    disk: &mut D,
+) -> Status {
+    let now = RealClock::new(rt).now();
     let mut input = ReadSource::new(rt.reader());
     let mut out = WriteSink::new(io::writer(rt));
     let mut pats = RegexPatterns::new(rt.alloc(), Vec::new(rt.alloc()));
-    command(rt.alloc(), words, &mut input, &mut out, &mut pats)
+    command(
+        rt.alloc(),
+        words,
+        now,
+        &mut input,
+        &mut out,
+        disk,
+        &mut pats,
+    )
 }
 
-/// The words behind the place `-`, where the words begin with it. No other place is known yet.
-fn words_behind_place(words: &[String]) -> Option<&[String]>
-    ensures { option_map (λ rest. map string_bytes rest.now) result
-        ≡ behind_place (map string_bytes words.now) }
+/// Does what the words behind the place ask for.
+fn run<R: Files + time::Clock + Input + Print + AllocGlobal>(
+    rt: &R,
+    place: Place<'_>,
+    words: &[String],
+) -> Status
+where
+    R::File: FileExt,
 {
-    let (place, rest) = words.split_first()?;
-    if place.as_str() == "-" {
-        Some(rest)
-    } else {
-        None
+    let alloc = rt.alloc();
+    match place {
+        Place::Memory => run_on(rt, words, &mut MemDisk::new(alloc, Vec::new(alloc))),
+        Place::Folder(path) => match PathBuf::from_str(alloc, path) {
+            Ok(folder) => run_on(rt, words, &mut DirDisk::new(alloc, rt, folder)),
+            Err(_) => Status::NoMemory,
+        },
     }
 }
 
@@ -111,7 +139,10 @@ fn show<R: Print>(rt: &R, text: &str) -> Status {
     }
 }
 
-fn answer<R: Env + Input + Print + AllocGlobal>(rt: &R) -> Status {
+fn answer<R: Env + Files + time::Clock + Input + Print + AllocGlobal>(rt: &R) -> Status
+where
+    R::File: FileExt,
+{
     let words = match words_of(rt) {
         Ok(words) => words,
         Err(status) => return status,
@@ -119,8 +150,8 @@ fn answer<R: Env + Input + Print + AllocGlobal>(rt: &R) -> Status {
     match words.as_slice() {
         [word] if word.as_str() == "--help" => show(rt, HELP),
         [word] if word.as_str() == "--version" => show(rt, VERSION),
-        _ => match words_behind_place(&words) {
-            Some(rest) => run(rt, rest),
+        _ => match place_in(&words) {
+            Some((place, rest)) => run(rt, place, rest),
             None => Status::Usage,
         },
     }

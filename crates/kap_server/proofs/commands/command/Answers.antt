@@ -1,6 +1,8 @@
 use Rattle.std.proofs.Common.{sym, ◌∙◌}
+use Rattle.std.specs.Prelude.{IsTrue}
 use Rattle.kap_server.proofs.CheckLaws.{check_answers}
-use Rattle.kap_server.proofs.RunLaws.{few_or_many, not_none, ran_as_asked, ran_not_many, ran_not_usage, ran_refused, ran_status}
+use Rattle.kap_server.proofs.ListLaws.{lists_tasks, tells_place}
+use Rattle.kap_server.proofs.RunLaws.{few_or_many, not_none, ran_as_asked, ran_not_disk, ran_not_many, ran_not_usage, ran_refused, ran_status}
 use Rattle.kap_server.proofs.commands.command.Goals as goal
 
 pub returns-in-Some-Check-clause-check_status : goal.returns-in-Some-Check-clause-check_status
@@ -39,3 +41,14 @@ returns-else-are_too_many-clause-refused g c =
     let asked = rw (c.in-Some-Replay.is, c.in-Some-Replay.field-0-is) at c.request_in.ensures in
     λ counts pairs status asks none plain.
     ran_refused _ _ _ _ _ c.replay_pairs.result _ _ _ _ (ran_as_asked _ _ _ _ counts _ pairs c.replay_pairs.result _ _ _ _ (asked ∙ asks.asks) c.replay_pairs.ensures.ran) status none plain
+
+pub returns-else-are_too_many-clause-disk_fault : goal.returns-else-are_too_many-clause-disk_fault
+returns-else-are_too_many-clause-disk_fault g c = λ e. absurd (ran_not_disk _ _ _ _ _ c.replay_pairs.result _ _ _ _ c.replay_pairs.ensures.ran e)
+
+pub returns-in-Some-Tasks-clause-tasks : goal.returns-in-Some-Tasks-clause-tasks
+returns-in-Some-Tasks-clause-tasks g c = λ rs asks tells stands.
+    lists_tasks (IsTrue g.D.Disk.tells) (g.D.Disk.seen c.args.disk.now) (g.K.Sink.written c.args.out.now) (g.K.Sink.written c.list_tasks.new.out) rs c.list_tasks.result tells stands c.list_tasks.ensures.listed
+
+pub returns-in-Some-Tasks-clause-no_store : goal.returns-in-Some-Tasks-clause-no_store
+returns-in-Some-Tasks-clause-no_store g c = λ part offset asks tells none.
+    tells_place (IsTrue g.D.Disk.tells) (g.D.Disk.seen c.args.disk.now) (g.K.Sink.written c.args.out.now) (g.K.Sink.written c.list_tasks.new.out) part offset c.list_tasks.result tells none c.list_tasks.ensures.listed
