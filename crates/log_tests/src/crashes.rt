@@ -4,6 +4,7 @@ use crate::calls::{add, next_behind};
 use gate_log::{make, make_head, open_log, read_head, switch};
 use kap_io::{MemDisk, Part, Pick};
 use std::alloc::Global;
+use std::process::Abort;
 use std::test::Fail;
 
 const PICKS: [Pick; 4] = [Pick::Old, Pick::New, Pick::Fill(0), Pick::Fill(0xa5)];
@@ -37,24 +38,24 @@ fn bodies_left(alloc: Global, disk: &MemDisk, pick: Pick) -> Result<u64, Fail> {
     }
 }
 
-#[test]
-fn an_append_is_all_or_nothing(rt: HostRuntime) -> Result<(), Fail> {
-    let left = [
-        (0, [1, 1, 1, 1]),
-        (1, [1, 1, 1, 1]),
-        (2, [1, 1, 1, 1]),
-        (3, [1, 2, 1, 2]),
-        (4, [2, 2, 2, 2]),
-    ];
-    for (calls, wants) in left {
-        let (disk, added) = half_appended(rt.alloc(), calls)?;
-        assert_eq!(rt; added, calls == 4);
-        for (pick, want) in PICKS.iter().zip(wants.iter()) {
-            let found = bodies_left(rt.alloc(), &disk, *pick)?;
-            assert_eq!(rt; found, *want, "stopped behind {calls}, {pick:?}");
-        }
+/// A crash behind so many device calls of an append leaves so many bodies, by the pick.
+fn check_append(rt: &(impl AllocGlobal + Abort), calls: u64, left: [u64; 4]) -> Result<(), Fail> {
+    let (disk, added) = half_appended(rt.alloc(), calls)?;
+    assert_eq!(rt; added, calls == 4);
+    for (pick, due) in PICKS.iter().zip(left.iter()) {
+        let found = bodies_left(rt.alloc(), &disk, *pick)?;
+        assert_eq!(rt; found, *due, "stopped behind {calls}, {pick:?}");
     }
     Ok(())
+}
+
+#[test]
+fn an_append_is_all_or_nothing(rt: HostRuntime) -> Result<(), Fail> {
+    check_append(&rt, 0, [1, 1, 1, 1])?;
+    check_append(&rt, 1, [1, 1, 1, 1])?;
+    check_append(&rt, 2, [1, 1, 1, 1])?;
+    check_append(&rt, 3, [1, 2, 1, 2])?;
+    check_append(&rt, 4, [2, 2, 2, 2])
 }
 
 /// A disk with a head, of whose first switch so many device calls were done.
@@ -66,25 +67,30 @@ fn half_switched(alloc: Global, calls: u64) -> Result<(MemDisk, bool), Fail> {
     Ok((disk, switched))
 }
 
-#[test]
-fn a_switch_is_all_or_nothing(rt: HostRuntime) -> Result<(), Fail> {
-    let left = [
-        (0, [0, 0, 0, 0]),
-        (1, [0, 0, 0, 0]),
-        (2, [0, 0, 0, 1]),
-        (3, [0, 0, 0, 0]),
-        (4, [0, 0, 0, 0]),
-        (5, [0, 0, 0, 0]),
-        (6, [0, 1, 0, 1]),
-        (7, [1, 1, 1, 1]),
-    ];
-    for (calls, wants) in left {
-        let (disk, switched) = half_switched(rt.alloc(), calls)?;
-        assert_eq!(rt; switched, calls == 7);
-        for (pick, want) in PICKS.iter().zip(wants.iter()) {
-            let found = read_head(&mut disk.crashed(*pick)?);
-            assert_eq!(rt; found, Ok(*want), "stopped behind {calls}, {pick:?}");
-        }
+/// What the head counts after a crash.
+fn head_left(disk: &MemDisk, pick: Pick) -> Result<u64, Fail> {
+    Ok(read_head(&mut disk.crashed(pick)?)?)
+}
+
+/// A crash behind so many device calls of a switch leaves these heads, by the pick.
+fn check_switch(rt: &(impl AllocGlobal + Abort), calls: u64, left: [u64; 4]) -> Result<(), Fail> {
+    let (disk, switched) = half_switched(rt.alloc(), calls)?;
+    assert_eq!(rt; switched, calls == 7);
+    for (pick, due) in PICKS.iter().zip(left.iter()) {
+        let found = head_left(&disk, *pick)?;
+        assert_eq!(rt; found, *due, "stopped behind {calls}, {pick:?}");
     }
     Ok(())
+}
+
+#[test]
+fn a_switch_is_all_or_nothing(rt: HostRuntime) -> Result<(), Fail> {
+    check_switch(&rt, 0, [0, 0, 0, 0])?;
+    check_switch(&rt, 1, [0, 0, 0, 0])?;
+    check_switch(&rt, 2, [0, 0, 0, 1])?;
+    check_switch(&rt, 3, [0, 0, 0, 0])?;
+    check_switch(&rt, 4, [0, 0, 0, 0])?;
+    check_switch(&rt, 5, [0, 0, 0, 0])?;
+    check_switch(&rt, 6, [0, 1, 0, 1])?;
+    check_switch(&rt, 7, [1, 1, 1, 1])
 }
