@@ -1,7 +1,7 @@
 //! A log and a head whose call is stopped at each of its device calls, and what a crash then leaves.
 
 use crate::calls::{add, next_behind};
-use gate_log::{make, make_head, open_log, read_head, switch};
+use gate_log::{LogFault, make, make_head, open_log, read_head, switch};
 use kap_io::{MemDisk, Part, Pick};
 use std::alloc::Global;
 use std::process::Abort;
@@ -26,27 +26,39 @@ fn half_appended(alloc: Global, calls: u64) -> Result<(MemDisk, bool), Fail> {
     Ok((disk, added))
 }
 
-/// How many bodies a log has after a crash: the old one, or it and the new one.
+/// How many bodies a log on this disk has: the old one, or it and the new one.
+fn count_bodies(alloc: Global, disk: &mut MemDisk) -> Result<u64, LogFault> {
+    let log = open_log(alloc, disk, Part::Left)?;
+    let second = next_behind(&log, disk, 8, b"old")?;
+    Ok(match next_behind(&log, disk, second, b"new")? {
+        0 => 1,
+        1 => 0,
+        _ => 2,
+    })
+}
+
+/// How many a crash leaves.
 fn bodies_left(alloc: Global, disk: &MemDisk, pick: Pick) -> Result<u64, Fail> {
-    let mut crashed = disk.crashed(pick)?;
-    let log = open_log(alloc, &mut crashed, Part::Left)?;
-    let second = next_behind(&log, &mut crashed, 8, b"old")?;
-    match next_behind(&log, &mut crashed, second, b"new")? {
-        0 => Ok(1),
-        1 => Ok(0),
-        _ => Ok(2),
+    Ok(count_bodies(alloc, &mut disk.crashed(pick)?)?)
+}
+
+fn check_bodies(
+    rt: &(impl AllocGlobal + Abort),
+    disk: &MemDisk,
+    left: &[u64; 4],
+) -> Result<(), Fail> {
+    for (pick, due) in PICKS.iter().zip(left.iter()) {
+        let found = bodies_left(rt.alloc(), disk, *pick)?;
+        assert_eq!(rt; found, *due, "{pick:?}");
     }
+    Ok(())
 }
 
 /// A crash behind so many device calls of an append leaves so many bodies, by the pick.
 fn check_append(rt: &(impl AllocGlobal + Abort), calls: u64, left: [u64; 4]) -> Result<(), Fail> {
     let (disk, added) = half_appended(rt.alloc(), calls)?;
-    assert_eq!(rt; added, calls == 4);
-    for (pick, due) in PICKS.iter().zip(left.iter()) {
-        let found = bodies_left(rt.alloc(), &disk, *pick)?;
-        assert_eq!(rt; found, *due, "stopped behind {calls}, {pick:?}");
-    }
-    Ok(())
+    assert!(rt; added == (calls == 4));
+    check_bodies(rt, &disk, &left)
 }
 
 #[test]

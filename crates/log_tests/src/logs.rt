@@ -4,6 +4,7 @@ use crate::calls::{add, holds, next_behind};
 use gate_log::{Log, LogFault, make, make_head, open_log, read_head, switch};
 use kap_io::{Disk, DiskCall, DiskWork, MemDisk, Part};
 use std::alloc::Global;
+use std::process::Abort;
 use std::test::Fail;
 
 /// A log of the record that enables the task `cpu`.
@@ -48,16 +49,31 @@ fn a_record_is_written_behind_its_gate(rt: HostRuntime) -> Result<(), Fail> {
     Ok(())
 }
 
+fn check_bodies(rt: &impl Abort, log: &Log, disk: &mut MemDisk) -> Result<(), Fail> {
+    assert!(rt; log.part() == Part::Right);
+    assert!(rt; next_behind(log, disk, 8, b"first")? == 18);
+    assert!(rt; next_behind(log, disk, 18, b"")? == 23);
+    assert!(rt; next_behind(log, disk, 23, b"")? == 0);
+    Ok(())
+}
+
 #[test]
 fn bodies_are_read_back(rt: HostRuntime) -> Result<(), Fail> {
     let alloc = rt.alloc();
     let mut disk = MemDisk::new(alloc, Vec::new(alloc));
     log_of(alloc, &mut disk, Part::Right, &[b"first".as_slice(), b""])?;
     let again = open_log(alloc, &mut disk, Part::Right)?;
-    assert!(rt; again.part() == Part::Right);
-    assert!(rt; next_behind(&again, &mut disk, 8, b"first")? == 18);
-    assert!(rt; next_behind(&again, &mut disk, 18, b"")? == 23);
-    assert!(rt; next_behind(&again, &mut disk, 23, b"")? == 0);
+    check_bodies(&rt, &again, &mut disk)
+}
+
+fn check_heads(rt: &impl Abort, disk: &mut MemDisk) -> Result<(), Fail> {
+    assert!(rt; matches!(read_head(disk), Err(LogFault::Header)));
+    make_head(disk)?;
+    for run in 0..3 {
+        assert!(rt; read_head(disk)? == run);
+        switch(disk, run)?;
+    }
+    assert!(rt; holds(disk, Part::Head, b"KAPHEAD1\xa5\xa5\xa5\0")?);
     Ok(())
 }
 
@@ -65,12 +81,5 @@ fn bodies_are_read_back(rt: HostRuntime) -> Result<(), Fail> {
 fn a_head_counts_its_open_gates(rt: HostRuntime) -> Result<(), Fail> {
     let alloc = rt.alloc();
     let mut disk = MemDisk::new(alloc, Vec::new(alloc));
-    assert!(rt; matches!(read_head(&mut disk), Err(LogFault::Header)));
-    make_head(&mut disk)?;
-    for run in 0..3 {
-        assert!(rt; read_head(&mut disk)? == run);
-        switch(&mut disk, run)?;
-    }
-    assert!(rt; holds(&mut disk, Part::Head, b"KAPHEAD1\xa5\xa5\xa5\0")?);
-    Ok(())
+    check_heads(&rt, &mut disk)
 }
