@@ -42,37 +42,49 @@ fn check_spelling<T: Spelled + Drop>(
     Ok(())
 }
 
-#[test]
-fn fields_are_spelled_big_endian(rt: HostRuntime) -> Result<(), Fail> {
-    let mut to = Bytes::new(rt.alloc());
+/// A number of each width, a text, a byte, and no bytes.
+const FIELDS: [u8; 37] = [
+    0xa5, 1, 2, 3, 4, 1, 2, 3, 4, 5, 6, 7, 8, 0xff, 0xff, 0xff, 0xff, 0xff, 0xff, 0xff, 0xfe, 0, 0,
+    0, 3, b'c', b'p', b'u', 0, 0, 0, 1, 0xff, 0, 0, 0, 0,
+];
+
+fn put_fields(alloc: Global) -> Result<Bytes, NoMemory> {
+    let mut to = Bytes::new(alloc);
     put_u8(&mut to, 0xa5)?;
     put_u32(&mut to, 0x0102_0304)?;
     put_u64(&mut to, 0x0102_0304_0506_0708)?;
     put_i64(&mut to, -2)?;
-    put_text(&mut to, &text(rt.alloc(), "cpu")?)?;
+    put_text(&mut to, &text(alloc, "cpu")?)?;
     put_bytes(&mut to, &[0xff])?;
     put_bytes(&mut to, &[])?;
-    let spelled = [
-        0xa5, 1, 2, 3, 4, 1, 2, 3, 4, 5, 6, 7, 8, 0xff, 0xff, 0xff, 0xff, 0xff, 0xff, 0xff, 0xfe,
-        0, 0, 0, 3, b'c', b'p', b'u', 0, 0, 0, 1, 0xff, 0, 0, 0, 0,
-    ];
-    assert_eq!(rt; to.as_slice(), spelled.as_slice());
+    Ok(to)
+}
 
-    let mut from = Cursor::new(&spelled);
-    assert_eq!(rt; from.u8(), Ok(0xa5));
-    assert_eq!(rt; from.u32(), Ok(0x0102_0304));
-    assert_eq!(rt; from.u64(), Ok(0x0102_0304_0506_0708));
-    assert_eq!(rt; from.i64(), Ok(-2));
+fn take_numbers(from: &mut Cursor) -> Result<(u8, u32, u64, i64), CodeFault> {
+    Ok((from.u8()?, from.u32()?, from.u64()?, from.i64()?))
+}
+
+fn takes_text(alloc: Global, from: &mut Cursor, want: &str) -> Result<bool, CodeFault> {
+    Ok(from.text(alloc)?.as_str() == want)
+}
+
+fn takes_bytes(alloc: Global, from: &mut Cursor, want: &[u8]) -> Result<bool, CodeFault> {
+    Ok(from.bytes(alloc)?.as_slice() == want)
+}
+
+#[test]
+fn fields_are_spelled_big_endian(rt: HostRuntime) -> Result<(), Fail> {
+    let alloc = rt.alloc();
+    assert_eq!(rt; put_fields(alloc)?.as_slice(), FIELDS.as_slice());
+    let mut from = Cursor::new(&FIELDS);
+    let numbers = take_numbers(&mut from)?;
+    assert_eq!(rt; numbers, (0xa5, 0x0102_0304, 0x0102_0304_0506_0708, -2));
     assert_eq!(rt; from.offset(), 21);
-    let name = from.text(rt.alloc())?;
-    assert_eq!(rt; name.as_str(), "cpu");
-    let bytes = from.bytes(rt.alloc())?;
-    assert_eq!(rt; bytes.as_slice(), [0xff].as_slice());
+    assert!(rt; takes_text(alloc, &mut from, "cpu")?);
+    assert!(rt; takes_bytes(alloc, &mut from, &[0xff])?);
     assert!(rt; !from.is_done());
-    let none = from.bytes(rt.alloc())?;
-    assert_eq!(rt; none.len(), 0);
-    assert_eq!(rt; from.offset(), 37);
-    assert!(rt; from.is_done());
+    assert!(rt; takes_bytes(alloc, &mut from, &[])?);
+    assert_eq!(rt; (from.offset(), from.is_done()), (37, true));
     Ok(())
 }
 
@@ -100,18 +112,26 @@ fn each_type_has_its_bytes(rt: HostRuntime) -> Result<(), Fail> {
     Ok(())
 }
 
-#[test]
-fn lists_and_maps_have_their_bytes(rt: HostRuntime) -> Result<(), Fail> {
-    let alloc = rt.alloc();
+fn list(alloc: Global) -> Result<ItemList<u8>, NoMemory> {
     let mut list = ItemList::new(alloc);
     list.push(5u8)?;
     list.push(6u8)?;
-    check_spelling(&rt, alloc, &list, &[0, 0, 0, 2, 5, 6])?;
+    Ok(list)
+}
+
+fn map(alloc: Global) -> Result<KeyMap<u8>, NoMemory> {
     let mut map = KeyMap::new(alloc);
     map.insert(text(alloc, "b")?, 1u8)?;
     map.insert(text(alloc, "a")?, 2u8)?;
+    Ok(map)
+}
+
+#[test]
+fn lists_and_maps_have_their_bytes(rt: HostRuntime) -> Result<(), Fail> {
+    let alloc = rt.alloc();
+    check_spelling(&rt, alloc, &list(alloc)?, &[0, 0, 0, 2, 5, 6])?;
     let in_order = [0, 0, 0, 2, 0, 0, 0, 1, b'a', 2, 0, 0, 0, 1, b'b', 1];
-    check_spelling(&rt, alloc, &map, &in_order)?;
+    check_spelling(&rt, alloc, &map(alloc)?, &in_order)?;
     let falling = [0, 0, 0, 2, 0, 0, 0, 1, b'b', 1, 0, 0, 0, 1, b'a', 2];
     let taken = KeyMap::<u8>::take_spelling(alloc, &mut Cursor::new(&falling));
     assert_eq!(rt; taken.err(), Some(CodeFault::At(0)));

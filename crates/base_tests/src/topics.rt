@@ -1,4 +1,4 @@
-//! Topics: the transitions of a list of events that were worked out by hand, and the levels behind it.
+//! Topics: the transitions of a list of events that were worked out by hand, and the levels of topics behind it.
 
 use kap_base::{Bytes, Event, Level, Text};
 use std::alloc::Global;
@@ -31,31 +31,53 @@ fn line_of(
     }
 }
 
+/// An event of this topic, id and level is told so; not at all where the line is empty.
+fn check_told(
+    rt: &(impl AllocGlobal + Abort),
+    topics: &mut Topics,
+    (topic, id, level): (&str, &str, Level),
+    line: &str,
+) -> Result<(), Fail> {
+    let printed = line_of(rt.alloc(), topics, topic, id, level)?;
+    assert_eq!(rt; printed.as_slice(), line.as_bytes());
+    Ok(())
+}
+
+fn level_of(alloc: Global, topics: &Topics, topic: &str) -> Result<Option<Level>, Fail> {
+    Ok(topics.level(&text(alloc, topic)?))
+}
+
 #[test]
 fn a_change_of_level_is_told_once(rt: HostRuntime) -> Result<(), Fail> {
     let alloc = rt.alloc();
     let mut topics = Topics::new(alloc);
-    let told = [
-        ("t", "a", Level::Fine, ""),
-        (
-            "t",
-            "a",
-            Level::Critical,
-            "alert 1 t a OK->CRITICAL 5 a b\n",
-        ),
-        ("t", "a", Level::Critical, ""),
-        ("u", "a", Level::Info, "alert 2 u a OK->INFO 5 a b\n"),
-        ("t", "c", Level::Warning, "alert 3 t c OK->WARNING 5 a b\n"),
-        ("t", "a", Level::Info, "alert 4 t a CRITICAL->INFO 5 a b\n"),
-    ];
-    for (topic, id, level, line) in told {
-        let printed = line_of(alloc, &mut topics, topic, id, level)?;
-        assert_eq!(rt; printed.as_slice(), line.as_bytes());
-    }
-    assert!(rt; topics.level(&text(alloc, "t")?) == Some(Level::Warning));
-    assert!(rt; topics.level(&text(alloc, "v")?).is_none());
-    let levels = topics.levels();
-    assert_eq!(rt; levels.entries().len(), 2);
-    assert!(rt; levels.level(&text(alloc, "u")?, &text(alloc, "a")?) == Level::Info);
+    check_told(&rt, &mut topics, ("t", "a", Level::Fine), "")?;
+    check_told(
+        &rt,
+        &mut topics,
+        ("t", "a", Level::Critical),
+        "alert 1 t a OK->CRITICAL 5 a b\n",
+    )?;
+    check_told(&rt, &mut topics, ("t", "a", Level::Critical), "")?;
+    check_told(
+        &rt,
+        &mut topics,
+        ("u", "a", Level::Info),
+        "alert 2 u a OK->INFO 5 a b\n",
+    )?;
+    check_told(
+        &rt,
+        &mut topics,
+        ("t", "c", Level::Warning),
+        "alert 3 t c OK->WARNING 5 a b\n",
+    )?;
+    check_told(
+        &rt,
+        &mut topics,
+        ("t", "a", Level::Info),
+        "alert 4 t a CRITICAL->INFO 5 a b\n",
+    )?;
+    assert!(rt; level_of(alloc, &topics, "t")? == Some(Level::Warning));
+    assert!(rt; level_of(alloc, &topics, "v")?.is_none());
     Ok(())
 }

@@ -4,8 +4,8 @@ ghost use Rattle.std.specs.Prelude.{◌≡◌};
 ghost use Rattle.kap_base.specs.Texts.{has_line_feed};
 
 use kap_base::{
-    Duplicate, Expr, Exprs, Fields, ItemList, KeyMap, Lit, Op, Point, SharedExpr, SharedText, Text,
-    Value, round, trunc,
+    Duplicate, Expr, Exprs, Fields, ItemList, KeyMap, Lit, NoMemory, Op, Point, SharedExpr,
+    SharedText, Text, Value, round, trunc,
 };
 use line_points::{Mode, read_line};
 use std::alloc::Global;
@@ -16,25 +16,47 @@ fn text(alloc: Global, bytes: &str) -> Result<Text, Fail> {
     Ok(Text::from_str(alloc, bytes)?)
 }
 
-fn fields(alloc: Global, entries: &[(&str, i64)]) -> Result<Fields, Fail> {
-    let mut list = Vec::new(alloc);
-    for (key, number) in entries {
-        list.push((text(alloc, key)?, Value::Int(*number)))?;
-    }
-    Ok(Fields::from_entries(alloc, list)?)
+fn entry(alloc: Global, key: &str, number: i64) -> Result<(Text, Value), NoMemory> {
+    Ok((Text::from_str(alloc, key)?, Value::Int(number)))
+}
+
+fn map_of_entries(alloc: Global) -> Result<Fields, Fail> {
+    let mut entries = Vec::new(alloc);
+    entries.push(entry(alloc, "b", 1)?)?;
+    entries.push(entry(alloc, "a", 2)?)?;
+    entries.push(entry(alloc, "c", 3)?)?;
+    entries.push(entry(alloc, "a", 4)?)?;
+    entries.push(entry(alloc, "b", 5)?)?;
+    Ok(Fields::from_entries(alloc, entries)?)
+}
+
+fn insert(alloc: Global, map: &mut Fields, key: &str, number: i64) -> Result<(), NoMemory> {
+    map.insert(Text::from_str(alloc, key)?, Value::Int(number))?;
+    Ok(())
+}
+
+fn map_by_inserts(alloc: Global) -> Result<Fields, NoMemory> {
+    let mut map = KeyMap::new(alloc);
+    insert(alloc, &mut map, "c", 3)?;
+    insert(alloc, &mut map, "b", 0)?;
+    insert(alloc, &mut map, "a", 4)?;
+    insert(alloc, &mut map, "b", 5)?;
+    Ok(map)
+}
+
+fn has_number(alloc: Global, fields: &Fields, key: &str, number: i64) -> Result<bool, Fail> {
+    let key = text(alloc, key)?;
+    Ok(matches!(fields.get(&key), Some(Value::Int(found)) if *found == number))
 }
 
 #[test]
 fn the_last_of_equal_keys_counts(rt: HostRuntime) -> Result<(), Fail> {
     let alloc = rt.alloc();
-    let sorted = fields(alloc, &[("b", 1), ("a", 2), ("c", 3), ("a", 4), ("b", 5)])?;
-    let mut built = KeyMap::new(alloc);
-    for (key, number) in [("c", 3), ("b", 0), ("a", 4), ("b", 5)] {
-        built.insert(text(alloc, key)?, Value::Int(number))?;
-    }
+    let sorted = map_of_entries(alloc)?;
+    let built = map_by_inserts(alloc)?;
     assert!(rt; built == sorted);
     assert!(rt; built.copy(alloc)? == sorted);
-    assert!(rt; matches!(sorted.get(&text(alloc, "b")?), Some(Value::Int(5))));
+    assert!(rt; has_number(alloc, &sorted, "b", 5)?);
     assert!(rt; !sorted.contains_key(&text(alloc, "d")?));
     Ok(())
 }
@@ -53,14 +75,17 @@ fn point(rt: &(impl AllocGlobal + Abort)) -> Result<Point, Fail> {
     Ok(point.ok().flatten().ok_or("no point")?)
 }
 
+/// Whether a copy of a point equals it, and does no longer with another time.
+fn is_copied(alloc: Global, first: &Point) -> Result<bool, NoMemory> {
+    let mut other = first.copy(alloc)?;
+    let same = other == *first;
+    other.time = 6;
+    Ok(same && other != *first)
+}
+
 #[test]
 fn points_are_copied(rt: HostRuntime) -> Result<(), Fail> {
-    let alloc = rt.alloc();
-    let first = point(&rt)?;
-    let mut other = first.copy(alloc)?;
-    assert!(rt; first == other);
-    other.time = 6;
-    assert!(rt; first != other);
+    assert!(rt; is_copied(rt.alloc(), &point(&rt)?)?);
     Ok(())
 }
 
@@ -100,36 +125,28 @@ fn expressions_are_copied_and_shared(rt: HostRuntime) -> Result<(), Fail> {
 /// Seconds in nanoseconds.
 const SECOND: i64 = 1_000_000_000;
 
+fn check_time(rt: &impl Abort, found: i64, due: i64) {
+    assert_eq!(rt; found, due);
+}
+
 #[test]
-fn times_are_cut_and_rounded(rt: HostRuntime) -> Result<(), Fail> {
+fn times_are_cut_and_rounded(rt: HostRuntime) {
     // The year 1 begins on a Monday, and 1970 on a Thursday.
-    assert_eq!(rt; trunc(0, 604_800 * SECOND), -259_200 * SECOND);
-    assert_eq!(rt; round(0, 604_800 * SECOND), -259_200 * SECOND);
-    assert_eq!(rt; round(86_400 * SECOND, 604_800 * SECOND), 345_600 * SECOND);
-    assert_eq!(rt; trunc(-1, 60 * SECOND), -60 * SECOND);
-    assert_eq!(rt;
-        trunc(-9_000_000_000_000_000_000, 1),
-        -9_000_000_000_000_000_000
-    );
-    assert_eq!(rt;
-        trunc(-9_000_000_000_000_000_000, 200_000_000_000_000_000),
-        -9_135_596_800_000_000_000
-    );
-    assert_eq!(rt;
-        trunc(9_200_000_000_000_000_000, 200_000_000_000_000_000),
-        9_064_403_200_000_000_000
-    );
-    assert_eq!(rt;
-        round(9_000_000_000_000_000_000, 200_000_000_000_000_000),
-        9_064_403_200_000_000_000
-    );
-    assert_eq!(rt; round(4, 10), 0);
-    assert_eq!(rt; round(5, 10), 10);
-    assert_eq!(rt; round(-5, 10), 0);
-    assert_eq!(rt; round(-6, 10), -10);
-    assert_eq!(rt;
-        round(-9_000_000_000_000_000_000, 200_000_000_000_000_000),
-        -8_935_596_800_000_000_000
-    );
-    Ok(())
+    let week = 604_800 * SECOND;
+    check_time(&rt, trunc(0, week), -259_200 * SECOND);
+    check_time(&rt, round(0, week), -259_200 * SECOND);
+    check_time(&rt, round(86_400 * SECOND, week), 345_600 * SECOND);
+    check_time(&rt, trunc(-1, 60 * SECOND), -60 * SECOND);
+    check_time(&rt, round(4, 10), 0);
+    check_time(&rt, round(5, 10), 10);
+    check_time(&rt, round(-5, 10), 0);
+    check_time(&rt, round(-6, 10), -10);
+    let early = -9_000_000_000_000_000_000;
+    let wide = 200_000_000_000_000_000;
+    check_time(&rt, trunc(early, 1), early);
+    check_time(&rt, trunc(early, wide), -9_135_596_800_000_000_000);
+    check_time(&rt, round(early, wide), -8_935_596_800_000_000_000);
+    let aligned = 9_064_403_200_000_000_000;
+    check_time(&rt, trunc(9_200_000_000_000_000_000, wide), aligned);
+    check_time(&rt, round(9_000_000_000_000_000_000, wide), aligned);
 }

@@ -1,9 +1,10 @@
 //! A log and a head whose call is stopped at each of its device calls, and what a crash then leaves.
 
 use crate::calls::{add, next_behind};
-use gate_log::{make, make_head, open_log, read_head, switch};
+use gate_log::{LogFault, make, make_head, open_log, read_head, switch};
 use kap_io::{MemDisk, Part, Pick};
 use std::alloc::Global;
+use std::process::Abort;
 use std::test::Fail;
 
 const PICKS: [Pick; 4] = [Pick::Old, Pick::New, Pick::Fill(0), Pick::Fill(0xa5)];
@@ -25,36 +26,48 @@ fn half_appended(alloc: Global, calls: u64) -> Result<(MemDisk, bool), Fail> {
     Ok((disk, added))
 }
 
-/// How many bodies a log has after a crash: the old one, or it and the new one.
+/// How many bodies a log on this disk has: the old one, or it and the new one.
+fn count_bodies(alloc: Global, disk: &mut MemDisk) -> Result<u64, LogFault> {
+    let log = open_log(alloc, disk, Part::Left)?;
+    let second = next_behind(&log, disk, 8, b"old")?;
+    Ok(match next_behind(&log, disk, second, b"new")? {
+        0 => 1,
+        1 => 0,
+        _ => 2,
+    })
+}
+
+/// How many a crash leaves.
 fn bodies_left(alloc: Global, disk: &MemDisk, pick: Pick) -> Result<u64, Fail> {
-    let mut crashed = disk.crashed(pick)?;
-    let log = open_log(alloc, &mut crashed, Part::Left)?;
-    let second = next_behind(&log, &mut crashed, 8, b"old")?;
-    match next_behind(&log, &mut crashed, second, b"new")? {
-        0 => Ok(1),
-        1 => Ok(0),
-        _ => Ok(2),
+    Ok(count_bodies(alloc, &mut disk.crashed(pick)?)?)
+}
+
+fn check_bodies(
+    rt: &(impl AllocGlobal + Abort),
+    disk: &MemDisk,
+    left: &[u64; 4],
+) -> Result<(), Fail> {
+    for (pick, due) in PICKS.iter().zip(left.iter()) {
+        let found = bodies_left(rt.alloc(), disk, *pick)?;
+        assert_eq!(rt; found, *due, "{pick:?}");
     }
+    Ok(())
+}
+
+/// A crash behind so many device calls of an append leaves so many bodies, by the pick.
+fn check_append(rt: &(impl AllocGlobal + Abort), calls: u64, left: [u64; 4]) -> Result<(), Fail> {
+    let (disk, added) = half_appended(rt.alloc(), calls)?;
+    assert!(rt; added == (calls == 4));
+    check_bodies(rt, &disk, &left)
 }
 
 #[test]
 fn an_append_is_all_or_nothing(rt: HostRuntime) -> Result<(), Fail> {
-    let left = [
-        (0, [1, 1, 1, 1]),
-        (1, [1, 1, 1, 1]),
-        (2, [1, 1, 1, 1]),
-        (3, [1, 2, 1, 2]),
-        (4, [2, 2, 2, 2]),
-    ];
-    for (calls, wants) in left {
-        let (disk, added) = half_appended(rt.alloc(), calls)?;
-        assert_eq!(rt; added, calls == 4);
-        for (pick, want) in PICKS.iter().zip(wants.iter()) {
-            let found = bodies_left(rt.alloc(), &disk, *pick)?;
-            assert_eq!(rt; found, *want, "stopped behind {calls}, {pick:?}");
-        }
-    }
-    Ok(())
+    check_append(&rt, 0, [1, 1, 1, 1])?;
+    check_append(&rt, 1, [1, 1, 1, 1])?;
+    check_append(&rt, 2, [1, 1, 1, 1])?;
+    check_append(&rt, 3, [1, 2, 1, 2])?;
+    check_append(&rt, 4, [2, 2, 2, 2])
 }
 
 /// A disk with a head, of whose first switch so many device calls were done.
@@ -66,25 +79,30 @@ fn half_switched(alloc: Global, calls: u64) -> Result<(MemDisk, bool), Fail> {
     Ok((disk, switched))
 }
 
-#[test]
-fn a_switch_is_all_or_nothing(rt: HostRuntime) -> Result<(), Fail> {
-    let left = [
-        (0, [0, 0, 0, 0]),
-        (1, [0, 0, 0, 0]),
-        (2, [0, 0, 0, 1]),
-        (3, [0, 0, 0, 0]),
-        (4, [0, 0, 0, 0]),
-        (5, [0, 0, 0, 0]),
-        (6, [0, 1, 0, 1]),
-        (7, [1, 1, 1, 1]),
-    ];
-    for (calls, wants) in left {
-        let (disk, switched) = half_switched(rt.alloc(), calls)?;
-        assert_eq!(rt; switched, calls == 7);
-        for (pick, want) in PICKS.iter().zip(wants.iter()) {
-            let found = read_head(&mut disk.crashed(*pick)?);
-            assert_eq!(rt; found, Ok(*want), "stopped behind {calls}, {pick:?}");
-        }
+/// What the head counts after a crash.
+fn head_left(disk: &MemDisk, pick: Pick) -> Result<u64, Fail> {
+    Ok(read_head(&mut disk.crashed(pick)?)?)
+}
+
+/// A crash behind so many device calls of a switch leaves these heads, by the pick.
+fn check_switch(rt: &(impl AllocGlobal + Abort), calls: u64, left: [u64; 4]) -> Result<(), Fail> {
+    let (disk, switched) = half_switched(rt.alloc(), calls)?;
+    assert_eq!(rt; switched, calls == 7);
+    for (pick, due) in PICKS.iter().zip(left.iter()) {
+        let found = head_left(&disk, *pick)?;
+        assert_eq!(rt; found, *due, "stopped behind {calls}, {pick:?}");
     }
     Ok(())
+}
+
+#[test]
+fn a_switch_is_all_or_nothing(rt: HostRuntime) -> Result<(), Fail> {
+    check_switch(&rt, 0, [0, 0, 0, 0])?;
+    check_switch(&rt, 1, [0, 0, 0, 0])?;
+    check_switch(&rt, 2, [0, 0, 0, 1])?;
+    check_switch(&rt, 3, [0, 0, 0, 0])?;
+    check_switch(&rt, 4, [0, 0, 0, 0])?;
+    check_switch(&rt, 5, [0, 0, 0, 0])?;
+    check_switch(&rt, 6, [0, 1, 0, 1])?;
+    check_switch(&rt, 7, [1, 1, 1, 1])
 }

@@ -3,9 +3,16 @@
 use crate::calls::{add, next_behind};
 use gate_log::{LogFault, make, open_log};
 use kap_io::{Clock, DirDisk, Disk, Failed, FixedClock, Part, RealClock};
+use std::alloc::Global;
 use std::fs;
 use std::path::PathBuf;
 use std::test::Fail;
+
+/// Whether a part is empty, also where it is read behind its end.
+fn is_empty<D: Disk>(disk: &mut D, part: Part) -> bool {
+    let mut bytes = [0; 8];
+    disk.size(part) == Ok(0) && disk.read(part, 3, &mut bytes) == Ok(0)
+}
 
 #[test]
 fn a_file_is_made_by_the_first_call_that_changes_it(rt: HostRuntime) -> Result<(), Fail> {
@@ -13,34 +20,53 @@ fn a_file_is_made_by_the_first_call_that_changes_it(rt: HostRuntime) -> Result<(
     let _ = fs::remove_dir_all(&rt, "kap_io_files");
     fs::create_dir(&rt, "kap_io_files")?;
     let mut disk = DirDisk::new(alloc, rt, PathBuf::from_str(alloc, "kap_io_files")?);
-    let mut bytes = [0; 8];
-    assert_eq!(rt; disk.size(Part::Left), Ok(0));
-    assert_eq!(rt; disk.read(Part::Left, 3, &mut bytes), Ok(0));
+    assert!(rt; is_empty(&mut disk, Part::Left));
     assert!(rt; fs::metadata(&rt, "kap_io_files/left").is_err());
     disk.cut(Part::Head, 5)?;
-    assert_eq!(rt; disk.size(Part::Head), Ok(5));
+    assert!(rt; disk.size(Part::Head)? == 5);
     disk.sync(Part::Right)?;
     assert!(rt; fs::read(&rt, "kap_io_files/right")?.is_empty());
     fs::remove_dir_all(&rt, "kap_io_files")?;
     Ok(())
 }
 
+/// Makes a log of one body.
+fn write_log<D: Disk>(alloc: Global, disk: &mut D) -> Result<(), LogFault> {
+    let mut log = make(alloc, disk, Part::Left)?;
+    add(&mut log, disk, b"body")
+}
+
+/// Where the gate behind that body stands.
+fn end_of_log<D: Disk>(alloc: Global, disk: &mut D) -> Result<u64, LogFault> {
+    let log = open_log(alloc, disk, Part::Left)?;
+    next_behind(&log, disk, 8, b"body")
+}
+
+fn log_folder(rt: HostRuntime) -> Result<DirDisk<HostRuntime>, Fail> {
+    let folder = PathBuf::from_str(rt.alloc(), "kap_io_log")?;
+    Ok(DirDisk::new(rt.alloc(), rt, folder))
+}
+
 #[test]
 fn a_log_stands_in_a_folder(rt: HostRuntime) -> Result<(), Fail> {
-    let alloc = rt.alloc();
     let _ = fs::remove_dir_all(&rt, "kap_io_log");
     fs::create_dir(&rt, "kap_io_log")?;
-    let mut disk = DirDisk::new(alloc, rt, PathBuf::from_str(alloc, "kap_io_log")?);
-    let mut log = make(alloc, &mut disk, Part::Left)?;
-    add(&mut log, &mut disk, b"body")?;
+    write_log(rt.alloc(), &mut log_folder(rt)?)?;
     let file = fs::read(&rt, "kap_io_log/left")?;
     assert_eq!(rt; file.as_slice(), b"KAPLOG01\xa5\0\0\0\x04body\0".as_slice());
-
-    let mut again = DirDisk::new(alloc, rt, PathBuf::from_str(alloc, "kap_io_log")?);
-    let log = open_log(alloc, &mut again, Part::Left)?;
-    assert_eq!(rt; next_behind(&log, &mut again, 8, b"body"), Ok(17));
+    assert_eq!(rt; end_of_log(rt.alloc(), &mut log_folder(rt)?)?, 17);
     fs::remove_dir_all(&rt, "kap_io_log")?;
     Ok(())
+}
+
+/// Whether each call of a disk fails.
+fn each_call_fails<D: Disk>(disk: &mut D) -> bool {
+    let mut bytes = [0; 8];
+    disk.size(Part::Head) == Err(Failed)
+        && disk.read(Part::Head, 0, &mut bytes) == Err(Failed)
+        && disk.write_at(Part::Head, 0, b"x") == Err(Failed)
+        && disk.cut(Part::Left, 0) == Err(Failed)
+        && disk.sync(Part::Right) == Err(Failed)
 }
 
 #[test]
@@ -48,12 +74,7 @@ fn a_folder_that_is_not_there_fails(rt: HostRuntime) -> Result<(), Fail> {
     let alloc = rt.alloc();
     let folder = PathBuf::from_str(alloc, "no_such_folder/below")?;
     let mut disk = DirDisk::new(alloc, rt, folder);
-    let mut bytes = [0; 8];
-    assert_eq!(rt; disk.size(Part::Head), Err(Failed));
-    assert_eq!(rt; disk.read(Part::Head, 0, &mut bytes), Err(Failed));
-    assert_eq!(rt; disk.write_at(Part::Head, 0, b"x"), Err(Failed));
-    assert_eq!(rt; disk.cut(Part::Left, 0), Err(Failed));
-    assert_eq!(rt; disk.sync(Part::Right), Err(Failed));
+    assert!(rt; each_call_fails(&mut disk));
     let opened = open_log(alloc, &mut disk, Part::Left);
     assert!(rt; matches!(opened, Err(LogFault::DiskFault)));
     Ok(())
