@@ -4,7 +4,9 @@ ghost use Rattle.std.specs.Prelude.{◌≡◌, IfOk};
 ghost use Rattle.std.specs.Arc.{arc_value};
 ghost use Rattle.regex.specs.Utf8.{MatchesText};
 ghost use Rattle.regex_meta.specs.Programs.{pattern_of};
+ghost use Rattle.lambda_types.specs.declared.pattern.PatternFault.TheVariants.{NoMemory as no_memory};
 ghost use Rattle.lambda_types.specs.Caches.{IsCacheFor};
+ghost use Rattle.lambda_types.specs.Refusals.{fault_of};
 ghost use Rattle.lambda_types.specs.Matches.{matches, MatchesAsWritten};
 
 use crate::cache::Cache;
@@ -45,6 +47,8 @@ pub enum PatternFault {
 }
 
 impl From<regex::Error> for PatternFault {
+    ghost from_gives = { λ error fault. fault ≡ fault_of error };
+
     fn from(error: regex::Error) -> PatternFault {
         match error {
             regex::Error::OutOfMemory => PatternFault::NoMemory,
@@ -54,12 +58,16 @@ impl From<regex::Error> for PatternFault {
 }
 
 impl From<NoMemory> for PatternFault {
+    ghost from_gives = { λ _ e. e ≡ no_memory };
+
     fn from(_: NoMemory) -> PatternFault {
         PatternFault::NoMemory
     }
 }
 
 impl<T: Drop> From<AllocFailed<T>> for PatternFault {
+    ghost from_gives = { λ _ e. e ≡ no_memory };
+
     fn from(_: AllocFailed<T>) -> PatternFault {
         PatternFault::NoMemory
     }
