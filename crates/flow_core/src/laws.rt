@@ -26,7 +26,6 @@ use node_core::Node;
 
 /// The messages of a load have the points, with the stamps that end at the last one, and the barriers of the marks and of the last
 /// stamp, all of them in the order of their stamps, each barrier behind the points up to it, and one behind each point.
-
 pub fn loads_have_messages()
     ensures items { (points : List PointValue) (upto : Stamp) (marks : List Stamp)
         → items (load_messages points upto marks) ≡ item_msgs (stamped_up_to upto points) }
