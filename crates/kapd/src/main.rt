@@ -19,7 +19,8 @@ use std::{env, io, time};
 /// What `kapd --help` prints.
 const HELP: &str = "kapd PLACE COMMAND ..
 
-PLACE is the folder of a store; or `-`, an empty disk in memory, gone at the end. Commands:
+PLACE is the folder of a store; or `-`, an empty disk in memory, gone at the end. `check` and `replay` don't look at it.
+Commands:
 
   check                       reads a script from standard input, looks at its tokens, grammar, names, nodes with
                               their arguments and properties, lambdas with their patterns, and graph, and writes
@@ -64,8 +65,9 @@ The exit status, and what standard error says behind `kapd: `:
   8   exists
 
 BYTE is a byte of the script, counted from 0; of a Graph fault it is the node's number. Exists: an id was given to two
-tasks, or init found a store in the folder. Not a store: no init was done in the folder (head at 0), or a record of the
-file can't be read at this offset. Disk fault: PLACE isn't there, is no folder, or its files can't be read or written.
+tasks, or init found a store's head in the folder. Not a store: the folder has no head of a store (head at 0: no init
+was done there, or the head was damaged, and init would then empty the logs), or a log is none at this offset. Disk
+fault: PLACE isn't there, is no folder, or its files can't be read or written.
 
   kapd --help        prints this
   kapd --version     prints the version
