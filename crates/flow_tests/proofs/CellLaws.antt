@@ -14,7 +14,7 @@ length-map f [] = refl
 length-map f (x ∷ xs) = ap suc (length-map f xs)
 
 -- how many nodes lists of them have
-plan_count : {S : Type 0} → List (List (Plan S)) → ℕ
+abbrev plan_count : {S : Type 0} → List (List (Plan S)) → ℕ
 plan_count [] = 0
 plan_count (ps ∷ pss) = length ps + plan_count pss
 
