@@ -1,0 +1,2 @@
+-- a node of the tests
+pub mod Relays

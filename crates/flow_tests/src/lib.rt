@@ -1,0 +1,15 @@
+//! Tests of lives and nets: steps counted by hand, and effects that are the same for all orders of steps.
+#![tactic(auto)]
+
+#[cfg(test)]
+mod diamonds;
+#[cfg(test)]
+mod lives;
+#[cfg(test)]
+mod nets;
+#[cfg(test)]
+mod points;
+#[cfg(test)]
+mod relay;
+#[cfg(test)]
+mod sides;
