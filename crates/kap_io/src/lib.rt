@@ -1,6 +1,6 @@
 //! What the engine reads from and writes to: traits that say what was read and written, each with a count of its faults;
 //! fakes in memory for tests; and adapters over std's readers and writers. And a disk of three files, which says what a crash may
-//! leave of it, with its fake and the one over a folder; and clocks.
+//! leave of it, with its fake and the one over a folder; and clocks, and the gates that workers pass.
 #![tactic(auto)]
 
 mod adapters;
@@ -12,6 +12,7 @@ mod disk_calls;
 mod disk_files;
 mod disk_work;
 mod failed;
+mod gate;
 mod link;
 mod mem_disk;
 mod mem_link;
@@ -27,6 +28,7 @@ pub use dir_disk::DirDisk;
 pub use disk::{Disk, Part};
 pub use disk_work::{DiskCall, DiskWork};
 pub use failed::Failed;
+pub use gate::{Gate, NoGate};
 pub use link::Link;
 pub use mem_disk::MemDisk;
 pub use mem_link::MemLink;
