@@ -104,6 +104,13 @@ impl Topics {
         self.levels.greatest(topic)
     }
 
+    /// How many transitions there were, which is the number of the last one; it stands still at the end of its type.
+    pub fn count(&self) -> u64
+        ensures { result ≡ self.now.count }
+    {
+        self.count
+    }
+
     /// The topics and ids that have had a transition, each with its last level.
     pub fn levels(&self) -> &Levels
         ensures { result.now ≡ self.now.levels }
