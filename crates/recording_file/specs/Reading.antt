@@ -55,6 +55,10 @@ abbrev pub HoldsGroup : ReaderState → Type 0
 HoldsGroup reader =
     IsTrue reader.ended ⊎ (3 * (1 + length reader.given) ≤ count_by is_feed reader.got)
 
+-- a reader that holds the next group leaves the source as it was
+pub record LeavesSource {S : Type 0} (reader : ReaderState) (before after : S) : Type 0 where
+  pub held : HoldsGroup reader → after ≡ before
+
 -- the source has ended, what it gave is a recording, and its points were given
 pub record GaveAll (old new : ReaderState) : Type 0 where
   pub given : new.given ≡ old.given

@@ -1,6 +1,6 @@
 ghost use Rattle.std.specs.Prelude.{◌≡◌, false, [], IfOk, IfErr, IfSome, IfNone, IsTrue, is_err};
 ghost use Rattle.recording_file.specs.Causes.{HasReadCause};
-ghost use Rattle.recording_file.specs.Reading.{ReaderReads, Gives, GaveAll, Fails, HoldsGroup};
+ghost use Rattle.recording_file.specs.Reading.{ReaderReads, Gives, GaveAll, Fails, HoldsGroup, LeavesSource};
 
 use crate::fault::RecFault;
 use crate::got::GivenPoints;
@@ -99,7 +99,7 @@ impl Reader {
         ensures fault { IfErr result (Fails self.old self.new) }
         ensures spent { self.new.spent ≡ is_err result }
         // The source isn't asked where the lines of the next group were read, or all.
-        ensures held { HoldsGroup self.old → source.new ≡ source.old }
+        ensures held { LeavesSource self.old source.old source.new }
         ensures cause { HasReadCause (S.faults source.old) (S.faults source.new) result }
     {
         let next = next_point(alloc, &mut self.lines, source, &mut self.db, &mut self.rp);
