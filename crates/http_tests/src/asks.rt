@@ -171,15 +171,21 @@ fn a_body_defines_a_task(rt: HostRuntime) -> Result<(), Fail> {
     )
 }
 
-/// A body that defines a task, with so many opened brackets and their closings under a key that is ignored.
-fn nested(alloc: Global, depth: u32) -> Result<String, Fail> {
-    let mut body = String::from_str(alloc, "{\"id\":\"a\",\"script\":\"s\",\"x\":")?;
+/// Adds so many opened brackets, and their closings.
+fn push_brackets(body: &mut String, depth: u32) -> Result<(), Fail> {
     for _ in 0..depth {
         body.push('[')?;
     }
     for _ in 0..depth {
         body.push(']')?;
     }
+    Ok(())
+}
+
+/// A body that defines a task, with so many brackets under a key that is ignored.
+fn nested(alloc: Global, depth: u32) -> Result<String, Fail> {
+    let mut body = String::from_str(alloc, "{\"id\":\"a\",\"script\":\"s\",\"x\":")?;
+    push_brackets(&mut body, depth)?;
     body.push('}')?;
     Ok(body)
 }
@@ -188,31 +194,32 @@ fn nested(alloc: Global, depth: u32) -> Result<String, Fail> {
 fn a_body_is_nested_no_deeper_than_127(rt: HostRuntime) -> Result<(), Fail> {
     let alloc = rt.alloc();
     let bad = "400 {\"error\":\"bad body\"}";
-    let most = nested(alloc, 126)?;
-    check_task(&rt, most.as_str(), "define 'a' 's' false", alloc)?;
-    let more = nested(alloc, 127)?;
-    check_task(&rt, more.as_str(), bad, alloc)?;
+    let define = "define 'a' 's' false";
+    check_task(&rt, nested(alloc, 126)?.as_str(), define, alloc)?;
+    check_task(&rt, nested(alloc, 127)?.as_str(), bad, alloc)?;
     let mut brackets = String::new(alloc);
-    for _ in 0..200 {
-        brackets.push('[')?;
-    }
-    for _ in 0..200 {
-        brackets.push(']')?;
-    }
+    push_brackets(&mut brackets, 200)?;
     check_task(&rt, brackets.as_str(), bad, alloc)
+}
+
+/// A text of so many `s` between these.
+fn text_around(alloc: Global, front: &str, len: u32, end: &str) -> Result<String, Fail> {
+    let mut text = String::from_str(alloc, front)?;
+    for _ in 0..len {
+        text.push('s')?;
+    }
+    text.push_str(end)?;
+    Ok(text)
 }
 
 #[test]
 fn a_script_is_no_longer_than_65536_bytes(rt: HostRuntime) -> Result<(), Fail> {
     let alloc = rt.alloc();
-    let mut script = String::new(alloc);
-    for _ in 0..65_536 {
-        script.push('s')?;
-    }
-    let most = format!(in alloc; "{{\"id\":\"a\",\"script\":\"{}\"}}", script)?;
-    let due = format!(in alloc; "define 'a' '{}' false", script)?;
+    let front = "{\"id\":\"a\",\"script\":\"";
+    let due = text_around(alloc, "define 'a' '", 65_536, "' false")?;
+    let most = text_around(alloc, front, 65_536, "\"}")?;
     check_task(&rt, most.as_str(), due.as_str(), alloc)?;
-    let more = format!(in alloc; "{{\"id\":\"a\",\"script\":\"{}s\"}}", script)?;
+    let more = text_around(alloc, front, 65_537, "\"}")?;
     check_task(&rt, more.as_str(), "400 {\"error\":\"too long\"}", alloc)
 }
 

@@ -23,8 +23,9 @@ fn has_head<D: Disk>(disk: &mut D) -> Result<bool, StoreFault>
         Ok(_) => Ok(true),
         Err(LogFault::Header) => Ok(false),
         Err(LogFault::DiskFault) => Err(StoreFault::DiskFault),
+        Err(LogFault::NoMemory) => Err(StoreFault::NoMemory),
         // A head isn't torn or too long.
-        Err(_) => Err(StoreFault::NoMemory),
+        Err(LogFault::Torn(_) | LogFault::Long) => Err(StoreFault::NoMemory),
     }
 }
 

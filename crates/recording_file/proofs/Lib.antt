@@ -1,4 +1,5 @@
 pub mod FeedLaws
+pub mod HeldLaws
 pub mod FindLaws
 pub mod LineLaws
 pub mod StepLaws

@@ -11,14 +11,14 @@ use Rattle.recording_file.proofs.RecordLaws.{is_recording}
 
 -- at the start
 pub stands_first : StandsAt [] (record { bytes = []; got = []; line = 1; passed = 0; ended = false })
-stands_first = record { ahead = record { whole = λ more none. refl; prefix = λ more open_still. refl }; few = omega arith }
+stands_first = record { ahead = record { whole = λ more none. refl; prefix = λ more open_still. refl }; few = omega arith; line = refl }
 
 -- after reading on
 pub stands_on : (ps : List PointValue) (a b : ReadPlace) (s t : Option (List ℕ)) → Stays a b s t → StandsAt ps a → StandsAt ps b
 stands_on ps a b s t on h =
     let few = h.few in
     let same = on.passed in
-    record { ahead = ahead_on read ps a b s t on h.ahead; few = omega arith }
+    record { ahead = ahead_on read ps a b s t on h.ahead; few = omega arith; line = on.line ∙ h.line }
 
 -- a point was given
 pub gives_state : (old new : ReaderState) (ps : List PointValue) (p : PointValue) (a b : ReadPlace) → StandsAt ps a → GivesPoint read a b p → CountRises a b

@@ -1,6 +1,6 @@
 -- How the next line of a recording is found among the bytes that were read.
-use Rattle.std.specs.Prelude.{◌≡◌, ℕ, ◌+◌, ◌-◌, ◌<◌, ◌≤◌, Bool, true, false, Option, IsTrue, min, List, [], ◌++◌, length, drop, take}
-use Rattle.std.specs.List.{position_or_len}
+use Rattle.std.specs.Prelude.{◌≡◌, ◌⊎◌, ℕ, ◌+◌, ◌-◌, ◌<◌, ◌≤◌, Bool, true, false, Option, IsTrue, min, List, [], ◌++◌, length, drop, take}
+use Rattle.std.specs.List.{count_by, position_or_len}
 use Rattle.line_points.specs.declared.fault.LineFault.TheVariants as faults
 use Rattle.line_points.specs.Body.{without_return}
 use Rattle.recording_file.specs.declared.fault.RecFault.{RecFault}
@@ -21,6 +21,10 @@ pub record ReadPlace : Type 0 where
 -- a call reads a piece of the source behind the bytes that were there, and asks a source that has ended no more
 abbrev pub Reads : ReadPlace → ReadPlace → Option (List ℕ) → Option (List ℕ) → Type 0
 Reads old new before after = ReadsOn old.got new.got old.ended new.ended before after
+
+-- the next lines, so many, are closed by line feeds in the bytes that were read, or these are all
+abbrev pub HoldsLines : ℕ → ReadPlace → Type 0
+HoldsLines n at = IsTrue at.ended ⊎ (at.line + n ≤ count_by is_feed at.got + 1)
 
 -- it reads, and passes no line
 pub record Stays (old new : ReadPlace) (before after : Option (List ℕ)) : Type 0 where

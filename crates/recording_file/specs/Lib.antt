@@ -2,6 +2,7 @@ pub mod Causes
 pub mod Lines
 pub mod Recording
 pub mod Reading
+pub mod Feeds
 pub mod Finding
 pub mod Steps
 pub mod Got

@@ -1,6 +1,8 @@
 -- What a reader says of the points that it has given and of the bytes that it has read.
-use Rattle.std.specs.Prelude.{◌≡◌, ◌⊎◌, ◌++◌, ◌∷◌, ◌≤◌, Bool, false, ℕ, Option, None, Some, List, [], IsTrue, length}
+use Rattle.std.specs.Prelude.{◌≡◌, ◌⊎◌, ◌++◌, ◌∷◌, ◌+◌, ◌*◌, ◌≤◌, Bool, false, ℕ, Option, None, Some, List, [], IsTrue, length}
 use Rattle.std.specs.Io.KnownBytes.{Consumes}
+use Rattle.std.specs.List.{count_by}
+use Rattle.recording_file.specs.Lines.{is_feed}
 use Rattle.kap_base.specs.Points.{PointValue}
 use Rattle.recording_file.specs.declared.fault.RecFault.{RecFault}
 use Rattle.recording_file.specs.declared.fault.RecFault.TheVariants.{Line, Truncated, Long, ReadFault, NoMemory}
@@ -46,6 +48,16 @@ pub record Gives (old new : ReaderState) (p : PointValue) : Type 0 where
   pub given : new.given ≡ old.given ++ p ∷ []
   pub few : length new.given ≤ RECORDING_LIMIT
   pub next : (more : List ℕ) → (IsTrue new.ended → more ≡ []) → BeginsWith new new.given more
+
+-- the three lines of the group behind those of the points that were given are closed by line feeds in the bytes that were read, or
+-- these are all
+abbrev pub HoldsGroup : ReaderState → Type 0
+HoldsGroup reader =
+    IsTrue reader.ended ⊎ (3 * (1 + length reader.given) ≤ count_by is_feed reader.got)
+
+-- a reader that holds the next group leaves the source as it was
+pub record LeavesSource {S : Type 0} (reader : ReaderState) (before after : S) : Type 0 where
+  pub held : HoldsGroup reader → after ≡ before
 
 -- the source has ended, what it gave is a recording, and its points were given
 pub record GaveAll (old new : ReaderState) : Type 0 where

@@ -1,5 +1,5 @@
 -- The steps of a reader: a line, and the rest of a group behind its database or behind its policy.
-use Rattle.std.specs.Prelude.{◌≡◌, ◌≢◌, ℕ, ◌+◌, ◌++◌, Bool, false, List, [], ◌∷◌, IsTrue, Result, Ok, Err, length, ◌≤◌}
+use Rattle.std.specs.Prelude.{◌≡◌, ◌≢◌, ℕ, ◌+◌, ◌*◌, ◌++◌, Bool, false, List, [], ◌∷◌, IsTrue, Result, Ok, Err, length, ◌≤◌}
 use Rattle.kap_base.specs.Points.{PointValue}
 use Rattle.line_points.specs.declared.fault.LineFault.{LineFault}
 use Rattle.line_points.specs.declared.fault.LineFault.TheVariants as faults
@@ -114,3 +114,4 @@ RefusesName old new fault =
 pub record StandsAt (points : List PointValue) (at : ReadPlace) : Type 0 where
   pub ahead : Ahead read points at
   pub few : length points ≤ at.passed
+  pub line : at.line ≡ 3 * length points + 1

@@ -1,5 +1,6 @@
-ghost use Rattle.std.specs.Prelude.{◌≡◌, ◌+◌, ◌≤◌, List, ℕ, length, drop};
+ghost use Rattle.std.specs.Prelude.{◌≡◌, ◌+◌, ◌≤◌, ◌++◌, List, ℕ, length, drop};
 ghost use Rattle.std.specs.List.{position_or_len};
+ghost use Rattle.recording_file.specs.Feeds.{ShowFeeds};
 ghost use Rattle.recording_file.specs.Lines.{is_feed};
 
 use memchr::{memchr, memrchr};
@@ -18,28 +19,61 @@ pub fn line_end(bytes: &[u8], searched: usize) -> usize
     }
 }
 
-/// How many bytes stand before and in each of the last three line feeds, the last first: of the piece, before which so many bytes
-/// stand, and then of those that are known.
-pub fn last_feeds(piece: &[u8], start: u64, known: [u64; 3]) -> [u64; 3] {
-    let [first, second, _] = known;
+/// How many bytes stand before and in each of the last three line feeds that were read; 0 where there is none.
+#[derive(Clone, Copy)]
+pub struct LastFeeds {
+    pub last: u64,
+    pub second: u64,
+    pub third: u64,
+}
+
+impl LastFeeds {
+    /// Where there are none.
+    pub fn none() -> LastFeeds
+        ensures { (passed : ℕ) (bytes : List ℕ) → ShowFeeds passed bytes result }
+    {
+        LastFeeds {
+            last: 0,
+            second: 0,
+            third: 0,
+        }
+    }
+}
+
+/// Those of the piece, before which so many bytes stand, and then those that are known.
+pub fn last_feeds(piece: &[u8], start: u64, known: LastFeeds) -> LastFeeds
+    ensures { (passed : ℕ) (bytes : List ℕ) → start ≤ passed + length bytes
+        → ShowFeeds passed bytes known → ShowFeeds passed (bytes ++ piece.now) result }
+{
     let Some(last) = memrchr(b'\n', piece) else {
         return known;
     };
     let (rest, _) = piece.split_at(last);
-    let Some(before) = memrchr(b'\n', rest) else {
-        return [behind(start, last), first, second];
+    let Some(second) = memrchr(b'\n', rest) else {
+        return LastFeeds {
+            last: behind(start, last),
+            second: known.last,
+            third: known.second,
+        };
     };
-    let (rest, _) = rest.split_at(before);
+    let (rest, _) = rest.split_at(second);
     let Some(third) = memrchr(b'\n', rest) else {
-        return [behind(start, last), behind(start, before), first];
+        return LastFeeds {
+            last: behind(start, last),
+            second: behind(start, second),
+            third: known.last,
+        };
     };
-    [
-        behind(start, last),
-        behind(start, before),
-        behind(start, third),
-    ]
+    LastFeeds {
+        last: behind(start, last),
+        second: behind(start, second),
+        third: behind(start, third),
+    }
 }
 
-fn behind(start: u64, at: usize) -> u64 {
+/// How many bytes stand before and in the byte at a place of a piece, before which so many bytes stand.
+fn behind(start: u64, at: usize) -> u64
+    ensures { result ≤ start + at + 1 }
+{
     start.saturating_add(at as u64).saturating_add(1)
 }

@@ -1,10 +1,10 @@
-ghost use Rattle.std.specs.Prelude.{◌≡◌, ◌≢◌, Ok, Err, Some, not, IsTrue, IfOk, IfErr, IfSome, IfNone, IsUtf8, OnOk, OnSome};
+ghost use Rattle.std.specs.Prelude.{◌≡◌, ◌≢◌, ◌+◌, ℕ, Ok, Err, Some, not, IsTrue, IfOk, IfErr, IfSome, IfNone, IsUtf8, OnOk, OnSome};
 ghost use Rattle.std.specs.Bool.{OnTrue, OnFalse};
 ghost use Rattle.kap_base.specs.Texts.{has_line_feed};
 ghost use Rattle.line_points.specs.Line.{line_of};
 ghost use Rattle.recording_file.specs.Causes.{HasReadCause};
 ghost use Rattle.recording_file.specs.Recording.{name_of_line, read};
-ghost use Rattle.recording_file.specs.Finding.{Reads, CountRises, FindsEnd};
+ghost use Rattle.recording_file.specs.Finding.{Reads, CountRises, FindsEnd, HoldsLines};
 ghost use Rattle.recording_file.specs.Steps.{read_policy, read_database, GivesPoint, FailsBy, FaultAt, PassesName, RefusesName};
 
 use crate::fault::RecFault;
@@ -84,6 +84,8 @@ pub fn point_behind_policy<S: Source>(
     ensures reads { Reads lines.old lines.new (S.left source.old) (S.left source.new) }
     ensures point { IfOk result (GivesPoint (read_policy db.now rp.now) lines.old lines.new) }
     ensures count_rises { OnOk result (CountRises lines.old lines.new) }
+    ensures line { OnOk result (lines.new.line ≡ lines.old.line + 1) }
+    ensures held { HoldsLines 1 lines.old → source.new ≡ source.old }
     ensures fault { IfErr result (FailsBy (read_policy db.now rp.now) lines.old lines.new) }
     ensures cause { HasReadCause (S.faults source.old) (S.faults source.new) result }
 {
@@ -106,6 +108,10 @@ fn pass_name<S: Source>(
     ensures name { IfOk result (λ more. OnTrue more (PassesName name.new lines.old lines.new)) }
     ensures one_line { IfOk result (λ more. OnTrue more (IsTrue (not (has_line_feed name.new)))) }
     ensures count_rises { IfOk result (λ more. OnTrue more (CountRises lines.old lines.new)) }
+    ensures line { IfOk result (λ more. OnTrue more (lines.new.line ≡ lines.old.line + 1)) }
+    ensures held { (n : ℕ) → HoldsLines (1 + n) lines.old → source.new ≡ source.old }
+    ensures others { (n : ℕ) → HoldsLines (1 + n) lines.old
+        → IfOk result (λ more. OnTrue more (HoldsLines n lines.new)) }
     ensures end { IfOk result (λ more. OnFalse more
         (FindsEnd lines.old lines.new (S.left source.old) (S.left source.new))) }
     ensures fault { IfErr result (RefusesName lines.old lines.new) }
@@ -131,6 +137,8 @@ fn point_behind_database<S: Source>(
     ensures reads { Reads lines.old lines.new (S.left source.old) (S.left source.new) }
     ensures point { IfOk result (GivesPoint (read_database db.now) lines.old lines.new) }
     ensures count_rises { OnOk result (CountRises lines.old lines.new) }
+    ensures line { OnOk result (lines.new.line ≡ lines.old.line + 2) }
+    ensures held { HoldsLines 2 lines.old → source.new ≡ source.old }
     ensures fault { IfErr result (FailsBy (read_database db.now) lines.old lines.new) }
     ensures cause { HasReadCause (S.faults source.old) (S.faults source.new) result }
 {
@@ -151,6 +159,8 @@ pub fn next_point<S: Source>(
     ensures reads { Reads lines.old lines.new (S.left source.old) (S.left source.new) }
     ensures point { IfOk result (λ o. IfSome o (GivesPoint read lines.old lines.new)) }
     ensures count_rises { IfOk result (λ o. OnSome o (CountRises lines.old lines.new)) }
+    ensures line { IfOk result (λ o. OnSome o (lines.new.line ≡ lines.old.line + 3)) }
+    ensures held { HoldsLines 3 lines.old → source.new ≡ source.old }
     ensures end { IfOk result (λ o. IfNone o
         (FindsEnd lines.old lines.new (S.left source.old) (S.left source.new))) }
     ensures fault { IfErr result (FailsBy read lines.old lines.new) }

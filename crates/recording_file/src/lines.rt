@@ -5,10 +5,10 @@ ghost use Rattle.kap_base.specs.Texts.{has_line_feed};
 ghost use Rattle.line_points.specs.Body.{without_return};
 ghost use Rattle.recording_file.specs.Causes.{HasReadCause};
 ghost use Rattle.recording_file.specs.Lines.{is_feed, is_long};
-ghost use Rattle.recording_file.specs.Finding.{ReadPlace, Stays, room, IsLine, IsUndecided, FindsNone, Passes};
+ghost use Rattle.recording_file.specs.Finding.{ReadPlace, Stays, room, IsLine, IsUndecided, FindsNone, HoldsLines, Passes};
 
 use crate::fault::RecFault;
-use crate::feeds::{last_feeds, line_end};
+use crate::feeds::{LastFeeds, last_feeds, line_end};
 use crate::got::GotBytes;
 use crate::window::Window;
 use kap_io::Source;
@@ -28,15 +28,17 @@ pub struct Lines {
     line: u64,
     passed: u64,
     ended: bool,
-    /// How many bytes stand before and in each of the last three line feeds that were read, the last first; 0 where there is none.
-    feeds: [u64; 3],
+    feeds: LastFeeds,
 }
 
 impl Model for Lines {
-    ghost use Rattle.std.specs.Prelude.{◌+◌, ◌≤◌};
+    ghost use Rattle.std.specs.Prelude.{◌≡◌, false, ◌+◌, ◌≤◌};
+    ghost use Rattle.std.specs.List.{count_by};
     ghost use Rattle.recording_file.specs.declared.lines.TheConstants.{RECORDING_LIMIT};
+    ghost use Rattle.recording_file.specs.Feeds.{ShowFeeds};
     ghost use Rattle.recording_file.specs.Finding.{ReadPlace};
     ghost use Rattle.recording_file.specs.Got.{bytes_of};
+    ghost use Rattle.recording_file.specs.Lines.{is_feed};
 
     ghost Value = { ReadPlace };
 
@@ -49,7 +51,10 @@ impl Model for Lines {
     } };
 
     ghost invariant = { λ l.
-        (l.passed ≤ RECORDING_LIMIT) × (1 ≤ l.line) × (l.line ≤ l.passed + 1) };
+        (l.passed ≤ RECORDING_LIMIT) × (1 ≤ l.line) × (l.line ≤ l.passed + 1)
+        × (l.ended ≡ false
+        → count_by is_feed (bytes_of l.got) + 1 ≡ l.line + count_by is_feed l.window)
+        × ShowFeeds l.passed l.window l.feeds };
 }
 
 impl Lines {
@@ -63,13 +68,15 @@ impl Lines {
             line: 1,
             passed: 0,
             ended: false,
-            feeds: [0; 3],
+            feeds: LastFeeds::none(),
         }
     }
 
     /// Whether the next three lines are there, or all bytes.
-    pub fn holds_group(&self) -> bool {
-        self.ended || self.passed < self.feeds[2]
+    pub fn holds_group(&self) -> bool
+        ensures { IsTrue result → HoldsLines 3 self.now }
+    {
+        self.ended || self.passed < self.feeds.third
     }
 
     /// The number of the next line, from 1.
@@ -178,6 +185,8 @@ impl Lines {
         ensures at_end { IfOk result (λ more. OnFalse more
             ((self.new.bytes ≡ self.old.bytes) × IsTrue self.new.ended)) }
         ensures fault { IfErr result (FindsNone self.new) }
+        ensures ended { IsTrue self.old.ended
+            → (self.new ≡ self.old) × (source.new ≡ source.old) }
         ensures cause { HasReadCause (S.faults source.old) (S.faults source.new) result }
     {
         self.check_limits(size)?;
@@ -194,6 +203,8 @@ impl Lines {
         ensures line { IfOk result (λ o. IfSome o (IsLine self.new)) }
         ensures none { IfOk result (λ o. IfNone o ((self.new.bytes ≡ []) × IsTrue self.new.ended)) }
         ensures fault { IfErr result (FindsNone self.new) }
+        ensures held { HoldsLines 1 self.old
+            → (self.new ≡ self.old) × (source.new ≡ source.old) }
         ensures cause { HasReadCause (S.faults source.old) (S.faults source.new) result }
     {
         let mut searched = 0;

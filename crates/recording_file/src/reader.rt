@@ -1,6 +1,6 @@
-ghost use Rattle.std.specs.Prelude.{◌≡◌, false, [], IfOk, IfErr, IfSome, IfNone, is_err};
+ghost use Rattle.std.specs.Prelude.{◌≡◌, false, [], IfOk, IfErr, IfSome, IfNone, IsTrue, is_err};
 ghost use Rattle.recording_file.specs.Causes.{HasReadCause};
-ghost use Rattle.recording_file.specs.Reading.{ReaderReads, Gives, GaveAll, Fails};
+ghost use Rattle.recording_file.specs.Reading.{ReaderReads, Gives, GaveAll, Fails, HoldsGroup, LeavesSource};
 
 use crate::fault::RecFault;
 use crate::got::GivenPoints;
@@ -69,7 +69,9 @@ impl Reader {
 
     /// Whether `next` surely answers without asking the source: where the next three lines were read, or all. It takes the same
     /// time always.
-    pub fn holds_point(&self) -> bool {
+    pub fn holds_point(&self) -> bool
+        ensures { self.now.spent ≡ false → IsTrue result → HoldsGroup self.now }
+    {
         self.lines.holds_group()
     }
 
@@ -96,6 +98,8 @@ impl Reader {
         // Each fault is that of any bytes that begin with these, and the points before it were given.
         ensures fault { IfErr result (Fails self.old self.new) }
         ensures spent { self.new.spent ≡ is_err result }
+        // The source isn't asked where the lines of the next group were read, or all.
+        ensures held { LeavesSource self.old source.old source.new }
         ensures cause { HasReadCause (S.faults source.old) (S.faults source.new) result }
     {
         let next = next_point(alloc, &mut self.lines, source, &mut self.db, &mut self.rp);

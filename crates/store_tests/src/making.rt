@@ -3,6 +3,7 @@
 use crate::calls::made;
 use kap_io::{MemDisk, Part, Pick};
 use std::alloc::Global;
+use std::process::Abort;
 use std::test::Fail;
 use topic_store::{StoreFault, make_store, open_store};
 
@@ -32,21 +33,24 @@ fn fault_left(alloc: Global, disk: &MemDisk, pick: Pick) -> Result<Option<StoreF
     }
 }
 
+/// A making that is stopped behind so many device calls of so many is acknowledged only behind the last, and leaves an empty store,
+/// or what is none.
+fn check_stop(rt: &(impl AllocGlobal + Abort), calls: u64, whole: u64) -> Result<(), Fail> {
+    let (disk, made) = half_made(rt.alloc(), calls);
+    assert!(rt; made == (calls == whole), "stopped behind {calls}");
+    for pick in PICKS {
+        let fault = fault_left(rt.alloc(), &disk, pick)?;
+        let holds = fault.is_none() || !made && fault == Some(NO_HEAD);
+        assert!(rt; holds, "{calls} {pick:?}");
+    }
+    Ok(())
+}
+
 #[test]
 fn a_making_is_all_or_nothing(rt: HostRuntime) -> Result<(), Fail> {
-    let alloc = rt.alloc();
-    let whole = made(alloc)?.calls().len() as u64;
+    let whole = made(rt.alloc())?.calls().len() as u64;
     for calls in 0..=whole {
-        let (disk, made) = half_made(alloc, calls);
-        assert_eq!(rt; made, calls == whole, "stopped behind {calls}");
-        for pick in PICKS {
-            let fault = fault_left(alloc, &disk, pick)?;
-            assert!(rt;
-                fault.is_none() || fault == Some(NO_HEAD),
-                "{calls} {pick:?}"
-            );
-            assert!(rt; !made || fault.is_none(), "{calls} {pick:?}");
-        }
+        check_stop(&rt, calls, whole)?;
     }
     Ok(())
 }

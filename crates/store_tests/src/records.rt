@@ -2,15 +2,15 @@
 
 use crate::calls::{add, append, made, points, snap, text, transitions};
 use crate::items::{point, transition};
-use kap_base::{Level, Points};
+use kap_base::{Bytes, Level, Points};
 use kap_io::{Disk, MemDisk, Part};
 use line_points::print_line;
 use std::alloc::Global;
 use std::process::Abort;
 use std::test::Fail;
-use store_records::{Rec, Transitions};
+use store_records::{Life, Rec, Transitions};
 use topic_core::print_transition;
-use topic_store::{Store, open_store};
+use topic_store::{Store, StoreFault, open_store};
 
 /// A log with a record of each kind, the snapshot before the task is disabled.
 const FILE: [u8; 179] = *b"KAPLOG01\
@@ -25,6 +25,9 @@ const FILE: [u8; 179] = *b"KAPLOG01\
 
 /// A snapshot behind one point and one transition, with the state of one cell.
 const SNAP: [u8; 26] = *b"\x07\0\0\0\0\0\0\0\x01\0\0\0\0\0\0\0\x01\0\0\0\x01\0\0\0\x01\x09";
+
+/// That state, as a snapshot gives it.
+const STATES: [u8; 9] = *b"\0\0\0\x01\0\0\0\x01\x09";
 
 /// Adds a task, and enables it.
 fn define(alloc: Global, store: &mut Store, disk: &mut MemDisk) -> Result<(), Fail> {
@@ -66,16 +69,25 @@ fn delete(alloc: Global, store: &mut Store, disk: &mut MemDisk) -> Result<(), Fa
     Ok(add(store, disk, &Rec::Delete { id })?)
 }
 
+/// Writes the records before the snapshot.
+fn write_before(rt: &impl Abort, alloc: Global, disk: &mut MemDisk) -> Result<(), Fail> {
+    let mut store = open_store(alloc, disk)?;
+    define(alloc, &mut store, disk)?;
+    write(rt, alloc, &mut store, disk)
+}
+
+/// Writes the snapshot and the records behind it.
+fn write_behind(alloc: Global, disk: &mut MemDisk) -> Result<(), Fail> {
+    append(alloc, disk, &SNAP)?;
+    let mut store = open_store(alloc, disk)?;
+    delete(alloc, &mut store, disk)
+}
+
 #[test]
 fn each_kind_is_written(rt: HostRuntime) -> Result<(), Fail> {
-    let alloc = rt.alloc();
-    let mut disk = made(alloc)?;
-    let mut store = open_store(alloc, &mut disk)?;
-    define(alloc, &mut store, &mut disk)?;
-    write(&rt, alloc, &mut store, &mut disk)?;
-    append(alloc, &mut disk, &SNAP)?;
-    let mut store = open_store(alloc, &mut disk)?;
-    delete(alloc, &mut store, &mut disk)?;
+    let mut disk = made(rt.alloc())?;
+    write_before(&rt, rt.alloc(), &mut disk)?;
+    write_behind(rt.alloc(), &mut disk)?;
     let mut bytes = [0; 200];
     let count = disk.read(Part::Left, 0, &mut bytes)?;
     assert_eq!(rt; bytes.get(..count), Some(FILE.as_slice()));
@@ -90,46 +102,60 @@ fn of_file(alloc: Global, file: &[u8]) -> Result<(Store, MemDisk), Fail> {
     Ok((store, disk))
 }
 
+/// The only life has the task defined at offset 8, and is on.
+fn has_the_life(lives: &[Life]) -> bool {
+    match lives {
+        [life] => life.first == 1 && life.last == Some(1) && life.define_at == 8,
+        _ => false,
+    }
+}
+
+/// Whether the last snapshot is that of the log.
+fn has_the_snapshot(store: &Store, disk: &mut MemDisk) -> Result<bool, StoreFault> {
+    let Some((at, lives, states)) = snap(store, disk)? else {
+        return Ok(false);
+    };
+    Ok(at == 121 && lives.as_slice() == [1].as_slice() && states.as_slice() == STATES.as_slice())
+}
+
 #[test]
 fn each_kind_is_read(rt: HostRuntime) -> Result<(), Fail> {
-    let alloc = rt.alloc();
-    let (store, mut disk) = of_file(alloc, &FILE)?;
+    let (store, mut disk) = of_file(rt.alloc(), &FILE)?;
     assert!(rt; store.tasks().is_empty());
-    let [life] = store.lives() else {
-        return Err("not one life".into());
-    };
-    assert_eq!(rt; (life.first, life.last, life.define_at), (1, Some(1), 8));
+    assert!(rt; has_the_life(store.lives()));
     assert_eq!(rt;
         (store.count(), store.trans_count(), store.changes()),
         (1, 1, 5)
     );
-    assert_eq!(rt; store.last_snap(), Some((1, 1)));
-    let Some((at, lives, states)) = snap(&store, &mut disk)? else {
-        return Err("no snapshot".into());
-    };
-    assert_eq!(rt; at, 121);
-    assert_eq!(rt; lives.as_slice(), [1].as_slice());
-    assert_eq!(rt; states.as_slice(), b"\0\0\0\x01\0\0\0\x01\x09".as_slice());
+    assert!(rt; store.last_snap() == Some((1, 1)));
+    assert!(rt; has_the_snapshot(&store, &mut disk)?);
     Ok(())
+}
+
+/// The line of the only point of a store.
+fn point_line(alloc: Global, store: &Store, disk: &mut MemDisk) -> Result<Bytes, Fail> {
+    let stored = points(store, disk, 0)?;
+    let [point] = stored.as_slice() else {
+        return Err("not one point".into());
+    };
+    Ok(print_line(alloc, point)?)
+}
+
+/// The line of the only transition of a store.
+fn transition_line(alloc: Global, store: &Store, disk: &mut MemDisk) -> Result<Bytes, Fail> {
+    let told = transitions(store, disk, 0)?;
+    let [transition] = told.as_slice() else {
+        return Err("not one transition".into());
+    };
+    Ok(print_transition(alloc, transition)?)
 }
 
 #[test]
 fn points_and_transitions_are_read(rt: HostRuntime) -> Result<(), Fail> {
-    let alloc = rt.alloc();
-    let (store, mut disk) = of_file(alloc, &FILE)?;
-    let stored = points(&store, &mut disk, 0)?;
-    let [point] = stored.as_slice() else {
-        return Err("not one point".into());
-    };
-    assert_eq!(rt;
-        print_line(alloc, point)?.as_slice(),
-        b"m x=1i 1".as_slice()
-    );
-    let told = transitions(&store, &mut disk, 0)?;
-    let [transition] = told.as_slice() else {
-        return Err("not one transition".into());
-    };
-    let line = print_transition(alloc, transition)?;
+    let (store, mut disk) = of_file(rt.alloc(), &FILE)?;
+    let line = point_line(rt.alloc(), &store, &mut disk)?;
+    assert_eq!(rt; line.as_slice(), b"m x=1i 1".as_slice());
+    let line = transition_line(rt.alloc(), &store, &mut disk)?;
     assert_eq!(rt;
         line.as_slice(),
         b"alert 1 t i OK->CRITICAL 1 hi\n".as_slice()

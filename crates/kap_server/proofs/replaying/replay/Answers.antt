@@ -1,9 +1,12 @@
-use Rattle.std.proofs.Common.{[], ◌∷◌, ◌++◌, refl, arith, sym, ap, ◌∙◌, map}
+use Rattle.std.proofs.Common.{[], ◌∷◌, ◌++◌, refl, arith, sym, ap, ◌∙◌, map, Err}
+use Rattle.recording_file.specs.declared.fault.RecFault.{RecFault}
 use Rattle.recording_file.specs.Reading.{Gives, GaveAll}
+use Rattle.recording_file.proofs.ReadLaws.{read_more}
 use Rattle.task_run.specs.PointLaws.{effects_more}
 use Rattle.task_run.specs.Plans.{graph_of}
 use Rattle.kap_server.specs.Runs.{run_rest, run_text}
 use Rattle.kap_server.proofs.ReplayLaws.{cut_off, ended_so, ends_badly, ends_cut, ends_well, finished, nothing_more, written_none, written_point, written_some}
+use Rattle.kap_server.proofs.EndLaws.{fault_not_ok, fault_read, fault_write, risen_later, whole_not_read}
 use Rattle.kap_server.proofs.TellLaws.{grows, text_none}
 use Rattle.kap_server.proofs.replaying.replay.Goals as goal
 
@@ -102,3 +105,25 @@ returns-in-Err-tell-clause-replayed g c =
     let due = c.write_piece.new.text in
     let on = written_some text rest none more _ _ _ _ c.replaying.text c.replaying.reader c.replaying.invariant.written due _ c.in-Ok-write_piece.ensures.ok in
     nothing_more text rest none more _ _ _ _ due c.replaying.reader on
+
+pub returns-in-Ok-None-clause-read : goal.returns-in-Ok-None-clause-read
+returns-in-Ok-None-clause-read g c = λ ok.
+    let gave : GaveAll c.replaying.reader c.next.new.self = rw c.in-Ok-None.field-0-is at c.in-Ok-None.ensures.end in
+    (read_more c.replaying.reader c.next.new.self _ _ _ c.replaying.invariant.written.read c.in-Ok-None.ensures.reads).ends gave.ended
+
+pub returns-in-Ok-None-clause-read_fault : goal.returns-in-Ok-None-clause-read_fault
+returns-in-Ok-None-clause-read_fault g c = λ is. absurd (whole_not_read _ _ _ _ _ _ c.write_end.ensures.written is)
+
+pub returns-in-Err-next-clause-read : goal.returns-in-Err-next-clause-read
+returns-in-Err-next-clause-read g c = λ ok. absurd (fault_not_ok c.in-Err-next.fault _ _ _ _ _ _ _ c.from.ensures c.write_rest.ensures.written ok)
+
+pub returns-in-Err-next-clause-read_fault : goal.returns-in-Err-next-clause-read_fault
+returns-in-Err-next-clause-read_fault g c = λ is.
+    let fault = fault_read c.in-Err-next.fault _ _ _ _ _ _ _ c.from.ensures c.write_rest.ensures.written is in
+    risen_later _ _ _ c.replaying.invariant.reads_later (c.in-Err-next.ensures.cause.rose (ap (λ (f : RecFault). Err f) fault))
+
+pub returns-in-Err-next-clause-write_fault : goal.returns-in-Err-next-clause-write_fault
+returns-in-Err-next-clause-write_fault g c = λ is.
+    let before = c.replaying.invariant.writes_later in
+    let later = c.in-Ok-write_piece.ensures.cause.later in
+    risen_later _ _ _ (omega arith) (fault_write c.in-Err-next.fault _ _ _ _ _ _ _ c.from.ensures c.write_rest.ensures.written is)

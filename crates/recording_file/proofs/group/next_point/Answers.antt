@@ -1,3 +1,4 @@
+use Rattle.std.proofs.Common.{◌∙◌}
 use Rattle.std.proofs.lemmas.Result.{err_from_is_err_and}
 use Rattle.std.proofs.lemmas.Bool.{OnTrue_at}
 use Rattle.recording_file.specs.Recording.{read}
@@ -30,3 +31,15 @@ returns-clause-point g c =
     let db = c.pass_name.new.name in
     let name : PassesName db c.args.lines.now c.pass_name.new.lines = OnTrue_at c.if-not-branch.false c.in_ok-pass_name.ensures.name in
     λ ps h. c.in_ok-point.ensures.point ps (name read (read_database db) ps (λ n line seen is. group_step db n line seen is) h)
+
+pub returns-in_err-pass_name-clause-held : goal.returns-in_err-pass_name-clause-held
+returns-in_err-pass_name-clause-held g c = λ h. c.in_err-pass_name.ensures.held 2 h
+
+pub returns-then-not-branch-clause-held : goal.returns-then-not-branch-clause-held
+returns-then-not-branch-clause-held g c = λ h. c.in_ok-pass_name.ensures.held 2 h
+
+pub returns-in_err-point-clause-held : goal.returns-in_err-point-clause-held
+returns-in_err-point-clause-held g c = λ h. c.in_err-point.ensures.held (OnTrue_at c.if-not-branch.false (c.in_ok-pass_name.ensures.others 2 h)) ∙ c.in_ok-pass_name.ensures.held 2 h
+
+pub returns-clause-held : goal.returns-clause-held
+returns-clause-held g c = λ h. c.in_ok-point.ensures.held (OnTrue_at c.if-not-branch.false (c.in_ok-pass_name.ensures.others 2 h)) ∙ c.in_ok-pass_name.ensures.held 2 h

@@ -1,4 +1,4 @@
-use Rattle.std.proofs.Common.{sym, refl, subst}
+use Rattle.std.proofs.Common.{◌∙◌, sym, refl, subst}
 use Rattle.std.proofs.lemmas.Result.{err_from_is_err_and}
 use Rattle.std.proofs.lemmas.Bool.{OnTrue_at, OnFalse_at}
 use Rattle.recording_file.specs.declared.fault.RecFault.TheVariants as rec_faults
@@ -39,3 +39,12 @@ returns-clause-fault g c =
     let name : PassesName rp c.args.lines.now c.pass_name.new.lines = OnTrue_at c.if-not-branch.false c.in_ok-pass_name.ensures.name in
     err_map (FailsBy (read_policy db rp) c.pass_name.new.lines c.point_behind_policy.new.lines) (FailsBy (read_database db) c.args.lines.now c.point_behind_policy.new.lines) c.point_behind_policy.result
     (λ fault fails ps h. fails ps (name (read_database db) (read_policy db rp) ps (λ n line seen is. database_step db rp n line seen is) h)) c.point_behind_policy.ensures.fault
+
+pub returns-in_err-pass_name-clause-held : goal.returns-in_err-pass_name-clause-held
+returns-in_err-pass_name-clause-held g c = λ h. c.in_err-pass_name.ensures.held 1 h
+
+pub returns-then-not-branch-clause-held : goal.returns-then-not-branch-clause-held
+returns-then-not-branch-clause-held g c = λ h. c.in_ok-pass_name.ensures.held 1 h
+
+pub returns-clause-held : goal.returns-clause-held
+returns-clause-held g c = λ h. c.point_behind_policy.ensures.held (OnTrue_at c.if-not-branch.false (c.in_ok-pass_name.ensures.others 1 h)) ∙ c.in_ok-pass_name.ensures.held 1 h
