@@ -12,6 +12,8 @@ pub mod LifeLoads
 pub mod Nets
 -- lives that are made from plans
 pub mod Making
+-- what a net has run, and what was collected
+pub mod Ran
 -- proofs, no definitions
 pub mod MessageLaws
 pub mod PortLaws
@@ -28,3 +30,5 @@ pub mod NumberLaws
 pub mod LifeLaws
 pub mod NetLaws
 pub mod PlanLaws
+pub mod DoneLaws
+pub mod RanLaws

@@ -12,9 +12,11 @@ use Rattle.flow_life.specs.declared.steps.Step.TheVariants as steps
 use Rattle.flow_life.specs.Lives.{IsLife}
 use Rattle.flow_life.specs.Places.{Both, in_of, out_of}
 use Rattle.flow_life.specs.Settling.{Grows, SameReceived, SameSent}
-use Rattle.flow_life.specs.Steps.{IsEnabled, SomeEnabled}
+use Rattle.flow_life.specs.Steps.{IsEnabled, SomeEnabled, moves_of}
+use Rattle.flow_life.specs.Streams.{stream_length}
+use Rattle.flow_life.specs.Wired.{parents_of, sum_of_all}
 use Rattle.flow_life.specs.StreamLaws.{carries_prefixes}
-use Rattle.flow_core.specs.Nets.{EnabledIn, GrowsIn, HasCell, HasPrefixes, IsSound, NumberedLife, SomeEnabledIn, after, behind, cell_of, here, in_it, later, own, step_before, step_behind}
+use Rattle.flow_core.specs.Nets.{EnabledIn, GrowsIn, HasCell, HasMovedTwice, HasPrefixes, HaveMovedTwice, IsLifeIn, IsSound, NumberedLife, SomeEnabledIn, after, behind, cell_of, here, in_it, later, moves_in, own, step_before, step_behind, streams_length}
 
 -- ---- results and steps
 
@@ -156,9 +158,28 @@ module _ {N : Type 0} where
 -- ---- prefixes
 
 module _ {N P S : Type 0} (g : Ghosts N P S) where
+  -- what the first life keeps and what the others keep is what all keep
+  pub lives_more : (lives : List (NumberedLife N)) (l : NumberedLife N) (others : List (NumberedLife N)) → lives ≡ l ∷ others → Each IsSound lives → (l.life.spent ≡ false → IsLife g l.life.cells) → Each (IsLifeIn g) others → Each (IsLifeIn g) lives
+  lives_more lives l others is sound keeps rest =
+      let sounds : Each IsSound (l ∷ others) = subst (λ (ls : List (NumberedLife N)). Each IsSound ls) is sound in
+      subst (λ (ls : List (NumberedLife N)). Each (IsLifeIn g) ls) (sym is) (keeps sounds.0.unspent, rest)
+
   -- what a life keeps says that its edges have carried prefixes
   pub prefixes_more : (lives : List (NumberedLife N)) (l : NumberedLife N) (others : List (NumberedLife N)) → lives ≡ l ∷ others → Each IsSound lives → (l.life.spent ≡ false → IsLife g l.life.cells) → Each (HasPrefixes g) others → Each (HasPrefixes g) lives
   prefixes_more lives l others is sound keeps rest =
       let sounds : Each IsSound (l ∷ others) = subst (λ (ls : List (NumberedLife N)). Each IsSound ls) is sound in
       let life : IsLife g l.life.cells = keeps sounds.0.unspent in
       subst (λ (ls : List (NumberedLife N)). Each (HasPrefixes g) ls) (sym is) (carries_prefixes g l.life.cells life.ready, rest)
+
+-- ---- sums
+
+module _ {N P S : Type 0} (g : Ghosts N P S) where
+  -- what each life has moved, added up
+  pub moved_twice : (lives : List (NumberedLife N)) → Each (HasMovedTwice g) lives → HaveMovedTwice g lives
+  moved_twice [] each [] are = refl
+  moved_twice [] each (s ∷ all) are = absurd are
+  moved_twice (l ∷ lives) each [] are = absurd are
+  moved_twice (l ∷ lives) each (s ∷ all) are =
+      let a : moves_of l.life.cells ≡ sum_of_all (stream_length s) (parents_of l.life.cells) + sum_of_all (stream_length s) (parents_of l.life.cells) = each.0 s are.0 in
+      let b : moves_in lives ≡ streams_length lives all + streams_length lives all = moved_twice lives each.1 all are.1 in
+      omega (arith, a, b)

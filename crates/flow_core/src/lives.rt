@@ -1,14 +1,17 @@
 //! Lives side by side.
 
-ghost use Rattle.std.specs.Prelude.{◌≡◌, ◌+◌, ◌<◌, ◌≤◌, ℕ, IfOk, IsFalse, IsTrue, OnOk, length, map};
+ghost use Rattle.std.specs.Prelude.{◌≡◌, ◌+◌, ◌++◌, ◌<◌, ◌≤◌, ℕ, IfOk, IsFalse, IsTrue, OnOk, length, map};
 ghost use Rattle.std.specs.List.{AllByRecursion as Each};
+ghost use Rattle.flow_life.specs.Nodes.{specs_of};
 ghost use Rattle.flow_life.specs.Settling.{Grows};
 ghost use Rattle.flow_life.specs.Steps.{IsEnabled, moves_of, one_if};
 ghost use Rattle.flow_life.specs.Loads.{plan_now};
 ghost use Rattle.flow_life.specs.Streams.{plans_of};
 ghost use Rattle.flow_cells.specs.declared.parts.CellParts.{CellParts};
 ghost use Rattle.merge_node.specs.Merge.{IsClosed};
-ghost use Rattle.flow_core.specs.Nets.{EnabledIn, GrowsIn, HasCell, HasMovedTwice, HasPrefixes, HasStreamsCarried, IsResting, IsSound, SomeEnabledIn, cell_count, cell_of, moves_in, numbers_of, plans_from, plans_in, step_behind};
+ghost use Rattle.flow_core.specs.LifeLoads.{effects_since};
+ghost use Rattle.flow_core.specs.Nets.{EnabledIn, GrowsIn, HasCell, HasMovedTwice, HasPrefixes, HasStreamsCarried, IsLifeIn, IsResting, IsSound, SomeEnabledIn, cell_count, cell_of, moves_in, numbers_of, plans_from, plans_in, specs_in, step_behind};
+ghost use Rattle.flow_core.specs.Ran.{GathersAll, effects_in, together};
 
 use flow_life::{Life, Step};
 use kap_base::{Msg, NoMemory};
@@ -63,12 +66,16 @@ fn step_life<N: Node>(
     ensures sound { OnOk result (IsSound life.new) }
     ensures plans { OnOk result
         (plans_of N.Node life.new.life.cells ≡ plans_of N.Node life.old.life.cells) }
+    ensures specs { OnOk result
+        (specs_of N.Node life.new.life.cells ≡ specs_of N.Node life.old.life.cells) }
     ensures yes { IfOk result (λ made. IsTrue made → IsEnabled life.old.life.cells next) }
     ensures no { IfOk result (λ made. IsFalse made → IsEnabled life.old.life.cells next → ⊥) }
     ensures grows { IfOk result (λ made. IsTrue made
         → Grows next life.old.life.cells life.new.life.cells) }
     ensures count { IfOk result (λ made. moves_of life.new.life.cells
         ≡ moves_of life.old.life.cells + one_if made) }
+    ensures gathers { OnOk result (GathersAll (together (effects_since life.old.life.cells))
+        (together (effects_since life.new.life.cells)) gathered.old gathered.new) }
 {
     let made = life.life.step(alloc, next)?;
     life.life.gather(alloc, gathered)?;
@@ -86,10 +93,13 @@ pub(crate) fn step<N: Node>(
     ensures numbers { numbers_of lives.new ≡ numbers_of lives.old }
     ensures sound { OnOk result (Each IsSound lives.new) }
     ensures plans { OnOk result (plans_in N.Node lives.new ≡ plans_in N.Node lives.old) }
+    ensures specs { OnOk result (specs_in N.Node lives.new ≡ specs_in N.Node lives.old) }
     ensures yes { IfOk result (λ made. IsTrue made → EnabledIn lives.old next) }
     ensures no { IfOk result (λ made. IsFalse made → EnabledIn lives.old next → ⊥) }
     ensures grows { IfOk result (λ made. IsTrue made → GrowsIn next lives.old lives.new) }
     ensures count { IfOk result (λ made. moves_in lives.new ≡ moves_in lives.old + one_if made) }
+    ensures gathers { OnOk result (GathersAll (effects_in lives.old) (effects_in lives.new)
+        gathered.old gathered.new) }
 {
     let Some((first, others)) = lives.split_first_mut() else {
         return Ok(false);
@@ -119,14 +129,15 @@ pub(crate) fn at_rest<N: Node>(lives: &[Numbered<Life<N>>]) -> bool
     at_rest(others)
 }
 
-/// What each edge has carried is a prefix of its stream.
-pub(crate) fn keep_prefixes<N: Node>(lives: &[Numbered<Life<N>>])
+/// What lives keep: among it that each edge has carried a prefix of its stream.
+pub(crate) fn keep_lives<N: Node>(lives: &[Numbered<Life<N>>])
     requires { Each IsSound lives.now }
-    ensures { Each (HasPrefixes N.Node) lives.now }
+    ensures lives { Each (IsLifeIn N.Node) lives.now }
+    ensures prefixes { Each (HasPrefixes N.Node) lives.now }
 {
     if let Some((first, others)) = lives.split_first() {
         first.life.keeps();
-        keep_prefixes(others);
+        keep_lives(others);
     }
 }
 
@@ -144,7 +155,11 @@ fn load_life<N: Node>(
     ensures sound { OnOk result (IsSound life.new) }
     ensures plans { OnOk result (plans_of N.Node life.new.life.cells
         ≡ map (plan_now N.Node source.now) life.old.life.cells) }
+    ensures specs { OnOk result
+        (specs_of N.Node life.new.life.cells ≡ specs_of N.Node life.old.life.cells) }
     ensures count { OnOk result (moves_of life.new.life.cells ≡ 0) }
+    ensures given { OnOk result (gathered.new
+        ≡ gathered.old ++ together (effects_since life.new.life.cells)) }
 {
     life.life.load(alloc, source)?;
     life.life.gather(alloc, gathered)?;
@@ -164,7 +179,9 @@ pub(crate) fn load<N: Node>(
     ensures numbers { numbers_of lives.new ≡ numbers_of lives.old }
     ensures sound { OnOk result (Each IsSound lives.new) }
     ensures plans { OnOk result (plans_in N.Node lives.new ≡ plans_from N.Node source.now lives.old) }
+    ensures specs { OnOk result (specs_in N.Node lives.new ≡ specs_in N.Node lives.old) }
     ensures count { OnOk result (moves_in lives.new ≡ 0) }
+    ensures given { OnOk result (gathered.new ≡ gathered.old ++ effects_in lives.new) }
 {
     if let Some((first, others)) = lives.split_first_mut() {
         load_life(alloc, first, source, gathered)?;
@@ -174,6 +191,7 @@ pub(crate) fn load<N: Node>(
 }
 
 /// Makes the steps that are enabled, one after the other, and counts them.
+#[tactic(auto, using(crate::specs::DoneLaws::gathers_none, crate::specs::DoneLaws::gathers_then))]
 pub(crate) fn play<N: Node>(
     alloc: Global,
     lives: &mut [Numbered<Life<N>>],
@@ -184,7 +202,10 @@ pub(crate) fn play<N: Node>(
     ensures numbers { numbers_of lives.new ≡ numbers_of lives.old }
     ensures sound { OnOk result (Each IsSound lives.new) }
     ensures plans { OnOk result (plans_in N.Node lives.new ≡ plans_in N.Node lives.old) }
+    ensures specs { OnOk result (specs_in N.Node lives.new ≡ specs_in N.Node lives.old) }
     ensures count { IfOk result (λ made. moves_in lives.new ≡ moves_in lives.old + made) }
+    ensures gathers { OnOk result (GathersAll (effects_in lives.old) (effects_in lives.new)
+        gathered.old gathered.new) }
 {
     let mut made = 0;
     'playing: for next in steps {

@@ -1,7 +1,7 @@
 //! A net, whose type says what its lives keep.
 
 use crate::gathering::sort_effects;
-use crate::lives::{Numbered, at_rest, dropped, keep_prefixes, load, play, step};
+use crate::lives::{Numbered, at_rest, dropped, keep_lives, load, play, step};
 use crate::loads::messages;
 use crate::making::lives_of;
 use edge_queue::CAPACITY_LIMIT;
@@ -50,14 +50,21 @@ impl<N: Node> Model for Net<N> {
 }
 
 impl<N: Node> Net<N> {
-    ghost use Rattle.std.specs.Prelude.{◌≡◌, ◌+◌, ◌<◌, ◌≤◌, false, true, [], ◌∷◌, ◌++◌, IfOk, IsFalse, IsPermutation, IsTrue, OnErr, OnOk, length};
+    ghost use Rattle.std.specs.Prelude.{◌≡◌, ◌+◌, ◌<◌, ◌≤◌, ℕ, false, true, [], ◌∷◌, ◌++◌, IfOk, IsFalse, IsPermutation, IsTrue, List, OnErr, OnOk, length, map};
     ghost use Rattle.std.specs.List.{AllByRecursion as Each};
+    ghost use Rattle.kap_base.specs.Points.{PointValue};
+    ghost use Rattle.kap_base.specs.declared.items.Effect.{Effect};
     ghost use Rattle.flow_cells.specs.declared.parts.CellParts.{CellParts};
     ghost use Rattle.flow_life.specs.Loads.{IsGathered};
     ghost use Rattle.flow_life.specs.Steps.{one_if};
+    ghost use Rattle.task_run.specs.Graphs.{Placed};
+    ghost use Rattle.task_run.specs.Lives.{effects_of};
+    ghost use Rattle.task_run.specs.Plans.{AreFirstStates, PlanValue, graph_of};
+    ghost use Rattle.flow_core.specs.Gathering.{LivesRise, NumbersEffects, effects_by_node};
     ghost use Rattle.flow_core.specs.Making.{AreLivesOf, HasFewParents};
-    ghost use Rattle.flow_core.specs.Messages.{load_messages};
-    ghost use Rattle.flow_core.specs.Nets.{EnabledIn, GrowsIn, HasCell, HasMovedTwice, HasPrefixes, HasStreamsCarried, IsResting, SomeEnabledIn, cell_count, moves_in, numbers_of, plans_from, plans_in};
+    ghost use Rattle.flow_core.specs.Messages.{AreMarksOf, load_messages};
+    ghost use Rattle.flow_core.specs.Nets.{EnabledIn, GrowsIn, HasCell, HasMovedTwice, HasPrefixes, HasStreamsCarried, HaveMovedTwice, IsResting, SomeEnabledIn, cell_count, moves_in, numbers_of, plans_from, plans_in, specs_in};
+    ghost use Rattle.flow_core.specs.Ran.{HasRun, IsNew};
     ghost use Rattle.flow_core.specs.Sorting.{AreSorted};
 
     /// A net without lives.
@@ -84,6 +91,8 @@ impl<N: Node> Net<N> {
         ensures lives { IfOk result (λ net. AreLivesOf N.Node plans.items net.lives) }
         ensures rest { IfOk result (λ net. Each IsResting net.lives) }
         ensures gathered { IfOk result (λ net. net.gathered ≡ []) }
+        ensures new { IfOk result (λ net. AreFirstStates N.spec N.state N.first plans.items
+            → IsNew N.Node plans.items net) }
         ensures last { IfOk result (λ net. net.last.0 ≡ 0) }
         ensures spent { IfOk result (λ net. net.spent ≡ false) }
     {
@@ -127,11 +136,21 @@ impl<N: Node> Net<N> {
         ensures numbers { OnOk result (numbers_of self.new.lives ≡ numbers_of self.old.lives) }
         ensures plans { OnOk result (plans_in N.Node self.new.lives
             ≡ plans_from N.Node (load_messages points.now upto marks.now) self.old.lives) }
+        ensures specs { OnOk result (specs_in N.Node self.new.lives ≡ specs_in N.Node self.old.lives) }
         ensures count { OnOk result (moves_in self.new.lives ≡ 0) }
+        ensures first { OnOk result ((plans : List (PlanValue N)) → IsNew N.Node plans self.old
+            → upto.0 ≡ length points.now → AreMarksOf points.now upto marks.now
+            → HasRun N.Node (map (graph_of N.spec) plans) points.now [] self.new) }
+        ensures again { OnOk result ((lives : List (List (Placed N.Spec)))
+            (before : List PointValue) (collected : List Effect)
+            → HasRun N.Node lives before collected self.old
+            → upto.0 ≡ length (before ++ points.now) → AreMarksOf points.now upto marks.now
+            → HasRun N.Node lives (before ++ points.now) collected self.new) }
         ensures last { OnOk result (self.new.last ≡ upto) }
         ensures unspent { OnOk result (self.new.spent ≡ false) }
         ensures spent { OnErr result (self.new.spent ≡ true) }
     {
+        keep_lives(&self.lives);
         self.spent = true;
         let source = messages(alloc, points, upto, marks)?;
         load(alloc, &mut self.lives, &source, &mut self.gathered)?;
@@ -147,12 +166,17 @@ impl<N: Node> Net<N> {
         requires { self.old.spent ≡ false }
         ensures numbers { OnOk result (numbers_of self.new.lives ≡ numbers_of self.old.lives) }
         ensures plans { OnOk result (plans_in N.Node self.new.lives ≡ plans_in N.Node self.old.lives) }
+        ensures specs { OnOk result (specs_in N.Node self.new.lives ≡ specs_in N.Node self.old.lives) }
         ensures yes { IfOk result (λ made. IsTrue made → EnabledIn self.old.lives next) }
         ensures no { IfOk result (λ made. IsFalse made → EnabledIn self.old.lives next → ⊥) }
         ensures grows { IfOk result (λ made. IsTrue made
             → GrowsIn next self.old.lives self.new.lives) }
         ensures count { IfOk result (λ made. moves_in self.new.lives
             ≡ moves_in self.old.lives + one_if made) }
+        ensures runs { OnOk result ((lives : List (List (Placed N.Spec)))
+            (points : List PointValue) (collected : List Effect)
+            → HasRun N.Node lives points collected self.old
+            → HasRun N.Node lives points collected self.new) }
         ensures last { OnOk result (self.new.last ≡ self.old.last) }
         ensures unspent { OnOk result (self.new.spent ≡ false) }
         ensures spent { OnErr result (self.new.spent ≡ true) }
@@ -168,8 +192,13 @@ impl<N: Node> Net<N> {
         requires { self.old.spent ≡ false }
         ensures numbers { OnOk result (numbers_of self.new.lives ≡ numbers_of self.old.lives) }
         ensures plans { OnOk result (plans_in N.Node self.new.lives ≡ plans_in N.Node self.old.lives) }
+        ensures specs { OnOk result (specs_in N.Node self.new.lives ≡ specs_in N.Node self.old.lives) }
         ensures count { IfOk result (λ made. moves_in self.new.lives
             ≡ moves_in self.old.lives + made) }
+        ensures runs { OnOk result ((lives : List (List (Placed N.Spec)))
+            (points : List PointValue) (collected : List Effect)
+            → HasRun N.Node lives points collected self.old
+            → HasRun N.Node lives points collected self.new) }
         ensures last { OnOk result (self.new.last ≡ self.old.last) }
         ensures unspent { OnOk result (self.new.spent ≡ false) }
         ensures spent { OnErr result (self.new.spent ≡ true) }
@@ -181,15 +210,22 @@ impl<N: Node> Net<N> {
     }
 
     /// Whether nothing is pending, unsent, buffered or on an edge. While it isn't so, some step is enabled; where it is so,
-    /// each edge has carried its stream.
+    /// each edge has carried its stream, and the messages sent and received since the load are twice the streams' length.
     pub fn at_rest(&self) -> bool
         requires { self.now.spent ≡ false }
         ensures rest { IsTrue result → Each IsResting self.now.lives }
         ensures busy { IsFalse result → Each IsResting self.now.lives → ⊥ }
         ensures streams { IsTrue result → Each (HasStreamsCarried N.Node) self.now.lives }
         ensures twice { IsTrue result → Each (HasMovedTwice N.Node) self.now.lives }
+        ensures twice_in_all { IsTrue result → HaveMovedTwice N.Node self.now.lives }
         ensures alive { IsFalse result → SomeEnabledIn self.now.lives }
+        ensures all { IsTrue result → (lives : List (List (Placed N.Spec)))
+            (points : List PointValue) (collected : List Effect)
+            → HasRun N.Node lives points collected self.now
+            → IsPermutation (effects_by_node N.answer lives points)
+            (collected ++ self.now.gathered) }
     {
+        keep_lives(&self.lives);
         at_rest(&self.lives)
     }
 
@@ -198,13 +234,23 @@ impl<N: Node> Net<N> {
         requires { self.now.spent ≡ false }
         ensures { Each (HasPrefixes N.Node) self.now.lives }
     {
-        keep_prefixes(&self.lives);
+        keep_lives(&self.lives);
     }
 
     /// The effects since the last call, by stamp, then by life, then by node, then by number. It takes no memory.
     pub fn collect(&mut self, alloc: Global) -> Effects
         ensures same { IsPermutation self.old.gathered result }
         ensures sorted { AreSorted result }
+        ensures runs { (lives : List (List (Placed N.Spec))) (points : List PointValue)
+            (collected : List Effect) → HasRun N.Node lives points collected self.old
+            → HasRun N.Node lives points (collected ++ result) self.new }
+        ensures whole { (numbers : (p : N.Spec) → NumbersEffects (N.answer p))
+            (lives : List (List (Placed N.Spec))) (old new : List PointValue) (lowest : ℕ)
+            (collected : List Effect) → LivesRise N.life N.number lowest lives
+            → IsPermutation (effects_by_node N.answer lives old) collected
+            → IsPermutation (effects_by_node N.answer lives (old ++ new))
+            (collected ++ self.old.gathered)
+            → effects_of N.answer lives (old ++ new) ≡ effects_of N.answer lives old ++ result }
         ensures none { self.new.gathered ≡ [] }
         ensures lives { self.new.lives ≡ self.old.lives }
         ensures last { self.new.last ≡ self.old.last }

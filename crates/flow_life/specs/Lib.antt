@@ -14,6 +14,8 @@ pub mod Settling
 pub mod Loads
 -- effects are gathered
 pub mod Gathers
+-- what nodes are, and what was gathered from each
+pub mod Nodes
 -- a cell is added
 pub mod Making
 -- what a life keeps
@@ -33,3 +35,4 @@ pub mod GatherLaws
 pub mod SplitLaws
 pub mod MakingLaws
 pub mod StartLaws
+pub mod NodeLaws

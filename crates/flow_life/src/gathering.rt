@@ -7,6 +7,7 @@ ghost use Rattle.flow_cells.specs.Kept.{Keeps};
 ghost use Rattle.flow_life.specs.Gathers.{effects_of};
 ghost use Rattle.flow_life.specs.Lives.{IsLife};
 ghost use Rattle.flow_life.specs.Loads.{IsGathered};
+ghost use Rattle.flow_life.specs.Nodes.{specs_of};
 ghost use Rattle.flow_life.specs.Steps.{moves_of};
 ghost use Rattle.flow_life.specs.Streams.{plans_of};
 ghost use Rattle.flow_life.specs.Wired.{IsUnspent};
@@ -45,6 +46,7 @@ pub(crate) fn gather<N: Node>(
     ensures gathers { OnOk result (AllZip Gathers cells.old cells.new) }
     ensures gathered { OnOk result (Each IsGathered cells.new) }
     ensures plans { OnOk result (plans_of N.Node cells.new ≡ plans_of N.Node cells.old) }
+    ensures specs { OnOk result (specs_of N.Node cells.new ≡ specs_of N.Node cells.old) }
     ensures count { OnOk result (moves_of cells.new ≡ moves_of cells.old) }
     ensures given { OnOk result (to.new ≡ to.old ++ effects_of cells.old) }
 {

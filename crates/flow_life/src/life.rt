@@ -51,6 +51,7 @@ impl<N: Node> Life<N> {
     ghost use Rattle.flow_life.specs.Lives.{IsLife};
     ghost use Rattle.flow_life.specs.Loads.{IsGathered, LoadsFrom, plan_now};
     ghost use Rattle.flow_life.specs.Making.{IsSaved, nodes_of, passed_of};
+    ghost use Rattle.flow_life.specs.Nodes.{gathered_of, specs_of};
     ghost use Rattle.flow_life.specs.Settling.{Grows};
     ghost use Rattle.flow_life.specs.Steps.{AreQuiet, HasEmptyBuffers, IsEnabled, SomeEnabled, moves_of, one_if};
     ghost use Rattle.flow_life.specs.Streams.{AreStreams, CarriesPrefixes, CarriesStreams, plans_of, stream_length};
@@ -114,6 +115,9 @@ impl<N: Node> Life<N> {
         ensures prefixes { OnOk result (CarriesPrefixes N.Node self.new.cells) }
         ensures plans { OnOk result (plans_of N.Node self.new.cells
             ≡ plans_of N.Node self.old.cells) }
+        ensures specs { OnOk result (specs_of N.Node self.new.cells
+            ≡ specs_of N.Node self.old.cells) }
+        ensures gathered { OnOk result (gathered_of self.new.cells ≡ gathered_of self.old.cells) }
         ensures yes { IfOk result (λ made. IsTrue made → IsEnabled self.old.cells next) }
         ensures no { IfOk result (λ made. IsFalse made → IsEnabled self.old.cells next → ⊥) }
         ensures grows { IfOk result (λ made. IsTrue made
@@ -138,6 +142,9 @@ impl<N: Node> Life<N> {
         ensures prefixes { OnOk result (CarriesPrefixes N.Node self.new.cells) }
         ensures plans { OnOk result (plans_of N.Node self.new.cells
             ≡ plans_of N.Node self.old.cells) }
+        ensures specs { OnOk result (specs_of N.Node self.new.cells
+            ≡ specs_of N.Node self.old.cells) }
+        ensures gathered { OnOk result (gathered_of self.new.cells ≡ gathered_of self.old.cells) }
         ensures count { IfOk result (λ made. moves_of self.new.cells
             ≡ moves_of self.old.cells + made) }
         ensures unspent { OnOk result (self.new.spent ≡ false) }
@@ -181,6 +188,8 @@ impl<N: Node> Life<N> {
         ensures loads { OnOk result (AllZip (LoadsFrom source.now) self.old.cells self.new.cells) }
         ensures plans { OnOk result (plans_of N.Node self.new.cells
             ≡ map (plan_now N.Node source.now) self.old.cells) }
+        ensures specs { OnOk result (specs_of N.Node self.new.cells
+            ≡ specs_of N.Node self.old.cells) }
         ensures prefixes { OnOk result (CarriesPrefixes N.Node self.new.cells) }
         ensures count { OnOk result (moves_of self.new.cells ≡ 0) }
         ensures unspent { OnOk result (self.new.spent ≡ false) }
@@ -203,6 +212,8 @@ impl<N: Node> Life<N> {
         ensures gathered { OnOk result (Each IsGathered self.new.cells) }
         ensures plans { OnOk result (plans_of N.Node self.new.cells
             ≡ plans_of N.Node self.old.cells) }
+        ensures specs { OnOk result (specs_of N.Node self.new.cells
+            ≡ specs_of N.Node self.old.cells) }
         ensures count { OnOk result (moves_of self.new.cells ≡ moves_of self.old.cells) }
         ensures given { OnOk result (to.new ≡ to.old ++ effects_of self.old.cells) }
         ensures unspent { OnOk result (self.new.spent ≡ false) }

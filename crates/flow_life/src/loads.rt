@@ -6,6 +6,7 @@ ghost use Rattle.flow_cells.specs.Kept.{Keeps};
 ghost use Rattle.merge_node.specs.Merge.{IsClosed};
 ghost use Rattle.flow_life.specs.Lives.{IsLife};
 ghost use Rattle.flow_life.specs.Loads.{CanLoad, IsGathered, LoadsFrom, plan_now};
+ghost use Rattle.flow_life.specs.Nodes.{specs_of};
 ghost use Rattle.flow_life.specs.Steps.{AreQuiet, moves_of};
 ghost use Rattle.flow_life.specs.Streams.{CarriesPrefixes, plans_of};
 
@@ -65,6 +66,7 @@ pub(crate) fn load<N: Node>(
     ensures loads { OnOk result (AllZip (LoadsFrom source.now) cells.old cells.new) }
     ensures plans { OnOk result (plans_of N.Node cells.new
         ≡ map (plan_now N.Node source.now) cells.old) }
+    ensures specs { OnOk result (specs_of N.Node cells.new ≡ specs_of N.Node cells.old) }
     ensures prefixes { OnOk result (CarriesPrefixes N.Node cells.new) }
     ensures count { OnOk result (moves_of cells.new ≡ 0) }
 {

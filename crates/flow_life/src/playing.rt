@@ -4,6 +4,7 @@ ghost use Rattle.std.specs.Prelude.{◌≡◌, ◌+◌, IfOk, IsFalse, IsTrue, L
 ghost use Rattle.std.specs.List.{AllByRecursion as Each};
 ghost use Rattle.kap_base.specs.declared.items.Msg.{Msg};
 ghost use Rattle.flow_life.specs.Lives.{IsLife};
+ghost use Rattle.flow_life.specs.Nodes.{gathered_of, specs_of};
 ghost use Rattle.flow_life.specs.Settling.{Grows};
 ghost use Rattle.flow_life.specs.Steps.{AreQuiet, HasEmptyBuffers, IsEnabled, SomeEnabled, moves_of, one_if};
 ghost use Rattle.flow_life.specs.Streams.{AreStreams, CarriesPrefixes, CarriesStreams, plans_of, stream_length};
@@ -26,6 +27,8 @@ pub(crate) fn step<N: Node>(
     ensures life { OnOk result (IsLife N.Node cells.new) }
     ensures prefixes { OnOk result (CarriesPrefixes N.Node cells.new) }
     ensures plans { OnOk result (plans_of N.Node cells.new ≡ plans_of N.Node cells.old) }
+    ensures specs { OnOk result (specs_of N.Node cells.new ≡ specs_of N.Node cells.old) }
+    ensures gathered { OnOk result (gathered_of cells.new ≡ gathered_of cells.old) }
     ensures yes { IfOk result (λ made. IsTrue made → IsEnabled cells.old next) }
     ensures no { IfOk result (λ made. IsFalse made → IsEnabled cells.old next → ⊥) }
     ensures grows { IfOk result (λ made. IsTrue made → Grows next cells.old cells.new) }
@@ -47,6 +50,8 @@ pub(crate) fn play<N: Node>(
     ensures life { OnOk result (IsLife N.Node cells.new) }
     ensures prefixes { OnOk result (CarriesPrefixes N.Node cells.new) }
     ensures plans { OnOk result (plans_of N.Node cells.new ≡ plans_of N.Node cells.old) }
+    ensures specs { OnOk result (specs_of N.Node cells.new ≡ specs_of N.Node cells.old) }
+    ensures gathered { OnOk result (gathered_of cells.new ≡ gathered_of cells.old) }
     ensures count { IfOk result (λ made. moves_of cells.new ≡ moves_of cells.old + made) }
 {
     let mut made = 0;

@@ -1,4 +1,5 @@
 use Rattle.std.proofs.Common.{◌<◌, ◌≤◌, length, arith}
+use Rattle.flow_core.specs.DoneLaws.{gathers_none, lives_behind, lives_here, on_ok}
 use Rattle.flow_core.specs.Nets.{cell_of}
 use Rattle.flow_core.specs.NetLaws.{enabled_behind, enabled_here, grows_behind, grows_here, if_ok, never_here}
 use Rattle.flow_core.proofs.lives.+step.Goals as goal
@@ -25,3 +26,12 @@ returns-clause-yes g t c =
 pub returns-clause-grows : goal.returns-clause-grows
 returns-clause-grows g t c =
     if_ok c.step.result (λ made grows true'. grows_behind _ _ _ _ c.args.next _ _ c.in-Some.ensures.cases.0 c.cells-cells.ensures c.step_behind.ensures (grows true')) c.step.ensures.grows
+
+pub returns-in_default-clause-gathers : goal.returns-in_default-clause-gathers
+returns-in_default-clause-gathers g t c = gathers_none _ _
+
+pub returns-then-cell_of-cells-clause-gathers : goal.returns-then-cell_of-cells-clause-gathers
+returns-then-cell_of-cells-clause-gathers g t c = on_ok c.step_life.result (lives_here c.args.lives.now c.in-Some.first.now c.step_life.new.life c.in-Some.others.now c.args.gathered.now c.step_life.new.gathered c.in-Some.ensures.cases.0) c.step_life.ensures.gathers
+
+pub returns-clause-gathers : goal.returns-clause-gathers
+returns-clause-gathers g t c = on_ok c.step.result (lives_behind c.args.lives.now c.in-Some.first.now c.in-Some.others.now c.step.new.lives c.args.gathered.now c.step.new.gathered c.in-Some.ensures.cases.0) c.step.ensures.gathers

@@ -9,6 +9,7 @@ use Rattle.flow_life.specs.Settling.{HasEdge, Receives}
 use Rattle.flow_life.specs.Steps.{CanTakeAt, moves_of, one_if}
 use Rattle.flow_life.specs.Wired.{IsUnspent}
 use Rattle.flow_life.specs.PlaceLaws.{each-get, found-same, get-within, in-within}
+use Rattle.flow_life.specs.NodeLaws.{Stays, take-stays}
 use Rattle.flow_life.specs.StepLaws.{Made, take-edge, take-made, take-receives, take-sure}
 use Rattle.flow_life.proofs.moves.take.Given as given
 use Rattle.flow_life.proofs.moves.take.Goals as goal
@@ -17,6 +18,7 @@ use Rattle.flow_life.proofs.moves.take.Goals.{After-settle_input, In_ok-took}
 -- what a take that was made and settled leaves
 record IsTaken {N P S : Type 0} (g : Ghosts N P S) (cell input : ℕ) (cells now : List (CellParts N)) (took : Bool) : Type 0 where
   made : Made g cells now
+  stays : Stays g cells now
   could : CanTakeAt cells cell input
   receives : Receives cell input cells now
   yes : took ≡ true
@@ -61,6 +63,7 @@ whole g c t =
     let now = c.settle_input.new.cells in
     record {
       made = take-made g.N.Node cells now c.args.cell c.args.input c.parent-parent.result mover c.take.new.self c.requires t.at c.in_ok-took.ensures.keeps t.takes t.from c.settle_input.ensures.settles c.settle_input.ensures.keeps;
+      stays = take-stays g.N.Node cells now c.args.cell c.args.input c.parent-parent.result mover c.take.new.self c.requires.keeps t.at c.in_ok-took.ensures.keeps t.takes c.settle_input.ensures.settles;
       could = record { parts = mover; at = t.at; can = t.can };
       receives = take-receives cells now c.args.cell c.args.input c.parent-parent.result mover c.take.new.self c.requires.wired t.at t.takes t.from c.settle_input.ensures.settles;
       yes = t.yes;
@@ -111,6 +114,16 @@ pub returns-clause-plans : goal.returns-clause-plans
 returns-clause-plans g c =
     let p = goal.at.returns-clause-plans g c in
     (whole g p.After-settle_input (took-it g p.In_ok-took)).made.plans
+
+pub returns-clause-specs : goal.returns-clause-specs
+returns-clause-specs g c =
+    let p = goal.at.returns-clause-specs g c in
+    (whole g p.After-settle_input (took-it g p.In_ok-took)).stays.specs
+
+pub returns-clause-gathered : goal.returns-clause-gathered
+returns-clause-gathered g c =
+    let p = goal.at.returns-clause-gathered g c in
+    (whole g p.After-settle_input (took-it g p.In_ok-took)).stays.gathered
 
 pub returns-clause-yes : goal.returns-clause-yes
 returns-clause-yes g c = λ _.
