@@ -45,6 +45,7 @@ impl<N: Node> Cell<N> {
     ghost use Rattle.flow_cells.specs.Loads.{Begins, IsOwn, NothingWaits};
     ghost use Rattle.flow_cells.specs.Looks.{CanTake, IsQuiet};
     ghost use Rattle.flow_cells.specs.Made.{HasNothing, IsFresh, IsMade, IsNothing, IsUnused, one_or_more};
+    ghost use Rattle.flow_cells.specs.Moved.{HasMoved};
     ghost use Rattle.flow_cells.specs.Moves.{KeepsOthers, PutsNone, PutsOne, TakesNone, TakesOne};
     ghost use Rattle.flow_cells.specs.Settles.{IsFedBy, Settles};
     ghost use Rattle.flow_cells.specs.declared.parts.InEdge.{InEdge};
@@ -92,6 +93,7 @@ impl<N: Node> Cell<N> {
         ensures keeps { OnOk result (Keeps N.Node self.new) }
         ensures took { result ≡ Ok true → TakesOne input self.old self.new }
         ensures none { result ≡ Ok false → TakesNone input self.old self.new }
+        ensures moved { OnOk result (HasMoved self.old self.new) }
         ensures spent { OnErr result (self.new.spent ≡ true) }
     {
         match take(alloc, &mut self.parts, input) {
@@ -110,6 +112,7 @@ impl<N: Node> Cell<N> {
         ensures keeps { Keeps N.Node self.new }
         ensures put { IsTrue result → PutsOne out self.old self.new }
         ensures none { IsFalse result → PutsNone out self.old self.new }
+        ensures moved { HasMoved self.old self.new }
     {
         put(&mut self.parts, out)
     }

@@ -52,14 +52,16 @@ gathers_then a b c g0 g1 g2 p q = record {
       (IsPermutation-trans c (b ++ q.more) ((a ++ p.more) ++ q.more) q.all (IsPermutation-append_left q.more b (a ++ p.more) p.all));
 }
 
-gathers-front : (a b r g g' : List Effect) → GathersAll a b g g' → GathersAll (a ++ r) (b ++ r) g g'
+-- and others did nothing
+pub gathers-front : (a b r g g' : List Effect) → GathersAll a b g g' → GathersAll (a ++ r) (b ++ r) g g'
 gathers-front a b r g g' p = record {
   more = p.more;
   given = p.given;
   all = IsPermutation-trans (b ++ r) ((a ++ p.more) ++ r) ((a ++ r) ++ p.more) (IsPermutation-append_left r b (a ++ p.more) p.all) (last-two a p.more r);
 }
 
-gathers-behind : (r a b g g' : List Effect) → GathersAll a b g g' → GathersAll (r ++ a) (r ++ b) g g'
+-- the same behind others
+pub gathers-behind : (r a b g g' : List Effect) → GathersAll a b g g' → GathersAll (r ++ a) (r ++ b) g g'
 gathers-behind r a b g g' p = record {
   more = p.more;
   given = p.given;

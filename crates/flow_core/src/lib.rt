@@ -1,6 +1,7 @@
 //! Nets: lives side by side, each with the cells of one graph.
 #![tactic(auto)]
 
+mod cells;
 mod gathering;
 mod laws;
 mod lives;
@@ -8,6 +9,7 @@ mod loads;
 mod making;
 mod net;
 
+pub use cells::Cells;
 pub use gathering::sort_effects;
 pub use laws::{lives_go_on, loads_go_on, loads_have_messages, sorted_effects_are_whole};
 pub use lives::Numbered;

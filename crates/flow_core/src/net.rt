@@ -1,5 +1,6 @@
 //! A net, whose type says what its lives keep.
 
+use crate::cells::{Cells, give};
 use crate::gathering::sort_effects;
 use crate::lives::{Numbered, at_rest, dropped, keep_lives, load, play, step};
 use crate::loads::messages;
@@ -60,10 +61,11 @@ impl<N: Node> Net<N> {
     ghost use Rattle.task_run.specs.Graphs.{Placed};
     ghost use Rattle.task_run.specs.Lives.{effects_of};
     ghost use Rattle.task_run.specs.Plans.{AreFirstStates, PlanValue, graph_of};
+    ghost use Rattle.flow_core.specs.Away.{AreBack, IsBack, with_lives};
     ghost use Rattle.flow_core.specs.Gathering.{LivesRise, NumbersEffects, effects_by_node};
     ghost use Rattle.flow_core.specs.Making.{AreLivesOf, HasFewParents};
     ghost use Rattle.flow_core.specs.Messages.{AreMarksOf, load_messages};
-    ghost use Rattle.flow_core.specs.Nets.{EnabledIn, GrowsIn, HasCell, HasMovedTwice, HasPrefixes, HasStreamsCarried, HaveMovedTwice, IsResting, SomeEnabledIn, cell_count, moves_in, numbers_of, plans_from, plans_in, specs_in};
+    ghost use Rattle.flow_core.specs.Nets.{EnabledIn, GrowsIn, HasCell, HasMovedTwice, HasPrefixes, HasStreamsCarried, HaveMovedTwice, IsLifeIn, IsResting, IsSound, NumberedLife, SomeEnabledIn, cell_count, moves_in, numbers_of, plans_from, plans_in, specs_in};
     ghost use Rattle.flow_core.specs.Ran.{HasRun, IsNew};
     ghost use Rattle.flow_core.specs.Sorting.{AreSorted};
 
@@ -227,6 +229,55 @@ impl<N: Node> Net<N> {
     {
         keep_lives(&self.lives);
         at_rest(&self.lives)
+    }
+
+    /// Takes the cells out, so that each may move by itself. Until they are given back the net is spent. It takes no memory.
+    pub fn take_cells(&mut self, alloc: Global) -> Cells<N>
+        requires { self.old.spent ≡ false }
+        ensures cells { result.lives.items ≡ self.old.lives }
+        ensures sound { Each IsSound result.lives.items }
+        ensures lives { Each (IsLifeIn N.Node) result.lives.items }
+        ensures none { self.new.lives ≡ [] }
+        ensures gathered { self.new.gathered ≡ self.old.gathered }
+        ensures last { self.new.last ≡ self.old.last }
+        ensures spent { self.new.spent ≡ true }
+    {
+        keep_lives(&self.lives);
+        self.spent = true;
+        Cells {
+            lives: mem::replace(&mut self.lives, Vec::new(alloc)),
+        }
+    }
+
+    /// Gives a net the cells that the last `take_cells` gave, in their order, each after moves of its own, of which none failed.
+    /// Each edge is settled and the effects are gathered. After NoMemory the net is spent.
+    pub fn give_cells(&mut self, alloc: Global, cells: Cells<N>) -> Result<(), NoMemory>
+        requires none { self.old.lives ≡ [] }
+        requires back { AreBack N.Node cells.lives.items }
+        ensures numbers { OnOk result ((before : List (NumberedLife N))
+            → IsBack N.Node before cells.lives.items
+            → numbers_of self.new.lives ≡ numbers_of before) }
+        ensures plans { OnOk result ((before : List (NumberedLife N))
+            → IsBack N.Node before cells.lives.items
+            → plans_in N.Node self.new.lives ≡ plans_in N.Node before) }
+        ensures specs { OnOk result ((before : List (NumberedLife N))
+            → IsBack N.Node before cells.lives.items
+            → specs_in N.Node self.new.lives ≡ specs_in N.Node before) }
+        ensures runs { OnOk result ((lives : List (List (Placed N.Spec)))
+            (points : List PointValue) (collected : List Effect) (before : List (NumberedLife N))
+            → IsBack N.Node before cells.lives.items
+            → HasRun N.Node lives points collected (with_lives before self.old)
+            → HasRun N.Node lives points collected self.new) }
+        ensures last { OnOk result (self.new.last ≡ self.old.last) }
+        ensures unspent { OnOk result (self.new.spent ≡ false) }
+        ensures spent { OnErr result (self.new.spent ≡ true) }
+    {
+        self.spent = true;
+        let mut lives = cells.lives;
+        give(alloc, &mut lives, &mut self.gathered)?;
+        self.lives = lives;
+        self.spent = false;
+        Ok(())
     }
 
     /// What each edge has carried is a prefix of its stream.

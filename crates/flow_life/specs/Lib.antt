@@ -20,6 +20,8 @@ pub mod Nodes
 pub mod Making
 -- what a life keeps
 pub mod Lives
+-- cells that move by themselves
+pub mod Loose
 -- proofs, no definitions
 pub mod PlaceLaws
 pub mod ChangeLaws
@@ -36,3 +38,4 @@ pub mod SplitLaws
 pub mod MakingLaws
 pub mod StartLaws
 pub mod NodeLaws
+pub mod LooseLaws

@@ -4,6 +4,7 @@ use crate::gathering::gather;
 use crate::loads::load;
 use crate::making::add_cell;
 use crate::playing::{at_rest, play, step};
+use crate::settling::{are_unspent, settle_all};
 use crate::steps::Step;
 use edge_queue::CAPACITY_LIMIT;
 use flow_cells::Cell;
@@ -12,6 +13,7 @@ use merge_node::PARENT_LIMIT;
 use node_core::{Effects, Node};
 use std::alloc::Global;
 use std::marker::Model;
+use std::mem;
 
 /// The cells of one graph. Its type says that each keeps what a cell keeps, that both ends know what is on each edge,
 /// and that the last load ended with a barrier, unless it is spent.
@@ -50,12 +52,13 @@ impl<N: Node> Life<N> {
     ghost use Rattle.flow_life.specs.Gathers.{effects_of};
     ghost use Rattle.flow_life.specs.Lives.{IsLife};
     ghost use Rattle.flow_life.specs.Loads.{IsGathered, LoadsFrom, plan_now};
+    ghost use Rattle.flow_life.specs.Loose.{HasLooked, IsLoose};
     ghost use Rattle.flow_life.specs.Making.{IsSaved, nodes_of, passed_of};
     ghost use Rattle.flow_life.specs.Nodes.{gathered_of, specs_of};
     ghost use Rattle.flow_life.specs.Settling.{Grows};
     ghost use Rattle.flow_life.specs.Steps.{AreQuiet, HasEmptyBuffers, IsEnabled, SomeEnabled, moves_of, one_if};
     ghost use Rattle.flow_life.specs.Streams.{AreStreams, CarriesPrefixes, CarriesStreams, plans_of, stream_length};
-    ghost use Rattle.flow_life.specs.Wired.{parents_of, sum_of_all};
+    ghost use Rattle.flow_life.specs.Wired.{IsUnspent, parents_of, sum_of_all};
 
     /// A life without cells.
     pub fn new(alloc: Global) -> Life<N>
@@ -226,6 +229,55 @@ impl<N: Node> Life<N> {
                 Err(fault)
             }
         }
+    }
+
+    /// Takes the cells out, so that each may move by itself. The life is spent until they are back and settled. It takes
+    /// no memory.
+    pub fn take_cells(&mut self, alloc: Global) -> Vec<Cell<N>>
+        ensures cells { result.items ≡ self.old.cells }
+        ensures none { self.new.cells ≡ [] }
+        ensures spent { self.new.spent ≡ true }
+    {
+        self.spent = true;
+        mem::replace(&mut self.cells, Vec::new(alloc))
+    }
+
+    /// Puts cells back in place of its own. The life is spent until they are settled. It takes no memory.
+    pub fn put_cells(&mut self, cells: Vec<Cell<N>>)
+        ensures cells { self.new.cells ≡ cells.items }
+        ensures spent { self.new.spent ≡ true }
+    {
+        self.spent = true;
+        self.cells = cells;
+    }
+
+    /// Whether no call on a cell failed in the middle, wherever it was made.
+    pub fn has_unspent_cells(&self) -> bool
+        ensures yes { IsTrue result → Each IsUnspent self.now.cells }
+        ensures no { IsFalse result → Each IsUnspent self.now.cells → ⊥ }
+    {
+        are_unspent(&self.cells)
+    }
+
+    /// Settles each edge, where cells moved by themselves and no call on one failed: both ends are shown what is on it, and
+    /// the cells are those of a life again. After NoMemory the life is spent.
+    pub fn settle(&mut self) -> Result<(), NoMemory>
+        requires unspent { Each IsUnspent self.old.cells }
+        requires loose { IsLoose N.Node self.old.cells }
+        ensures life { OnOk result (IsLife N.Node self.new.cells) }
+        ensures looked { OnOk result (AllZip HasLooked self.old.cells self.new.cells) }
+        ensures plans { OnOk result (plans_of N.Node self.new.cells
+            ≡ plans_of N.Node self.old.cells) }
+        ensures specs { OnOk result (specs_of N.Node self.new.cells
+            ≡ specs_of N.Node self.old.cells) }
+        ensures gathered { OnOk result (gathered_of self.new.cells ≡ gathered_of self.old.cells) }
+        ensures unspent { OnOk result (self.new.spent ≡ false) }
+        ensures spent { OnErr result (self.new.spent ≡ true) }
+    {
+        self.spent = true;
+        settle_all(&mut self.cells)?;
+        self.spent = false;
+        Ok(())
     }
 
     /// How many cells it has.
