@@ -1,10 +1,11 @@
 -- Each move of a cell is one that leaves the same cell, and so are moves one after the other.
-use Rattle.std.proofs.Common.{◌≡◌, List, ◌∷◌, [], ◌++◌, Bool, true, false, Result, Ok, Err, get_or, set, length, ◌<◌, Some, refl, sym, ap, subst, ◌∙◌, append-nil, append_assoc, arith}
-use Rattle.std.specs.Prelude.{IsFalse, IsTrue, OnOk, slice_get, ℕ}
+use Rattle.std.proofs.Common.{◌≡◌, ℕ, List, ◌∷◌, [], ◌++◌, Bool, true, false, Result, Ok, get_or, set, length, ◌<◌, Some, refl, sym, ap, subst, ◌∙◌, append-nil, append_assoc, arith}
+use Rattle.std.specs.Prelude.{IsFalse, IsTrue, slice_get}
 use Rattle.std.specs.List.{AllZip}
 use mathlib.Core.List.{IsPrefix}
 use Rattle.kap_base.specs.declared.items.Msg.{Msg}
 use Rattle.edge_queue.specs.Edges.{received, ring_received, ring_sent, sent}
+use Rattle.edge_queue.specs.Moves.{SameTail}
 use Rattle.edge_queue.specs.EdgeLaws.{SameHead-refl, SameHead-trans, SameTail-refl, SameTail-trans}
 use Rattle.flow_cells.specs.declared.parts.OutEdge.{OutEdge}
 use Rattle.flow_cells.specs.declared.parts.InEdge.{InEdge}
@@ -157,10 +158,9 @@ module _ {N : Type 0} where
   }
 
   -- a take moves
-  pub take_moved : {E : Type 0} (r : Result Bool E) (k : ℕ) (c d : CellParts N) → (r ≡ Ok true → TakesOne k c d) → (r ≡ Ok false → TakesNone k c d) → OnOk r (HasMoved c d)
-  take_moved (Ok true) k c d took none = took-moved k c d (took refl)
-  take_moved (Ok false) k c d took none = none-moved k c d (none refl)
-  take_moved (Err e) k c d took none = tt
+  pub take_moved : {E : Type 0} (r : Bool) (k : ℕ) (c d : CellParts N) → (◌≡◌ {A = Result Bool E} (Ok r) (Ok true) → TakesOne k c d) → (◌≡◌ {A = Result Bool E} (Ok r) (Ok false) → TakesNone k c d) → HasMoved c d
+  take_moved true k c d took none = took-moved k c d (took refl)
+  take_moved false k c d took none = none-moved k c d (none refl)
 
   put-one_moved : (i : ℕ) (c d : CellParts N) → PutsOne i c d → HasMoved c d
   put-one_moved i c d t = record {
