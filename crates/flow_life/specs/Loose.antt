@@ -1,5 +1,5 @@
 -- Cells of one graph that moved by themselves: their edges need not be settled.
-use Rattle.std.specs.Prelude.{◌≡◌, ℕ, ◌<◌, List, [], Some}
+use Rattle.std.specs.Prelude.{◌≡◌, ℕ, ◌<◌, List, Some, length, slice_get}
 use Rattle.std.specs.List.{AllZip}
 use Rattle.node_core.specs.declared.node.Node.{Ghosts}
 use Rattle.edge_queue.specs.Edges.{IsEdge, IsSettled, edge_capacity}
@@ -36,6 +36,17 @@ IsSettledAt cells j k = (e : InEdge) (o : OutEdge) → in_of cells j k ≡ Some 
 pub record AreSettledTo {N : Type 0} (cells : List (CellParts N)) (cell input : ℕ) : Type 0 where
   pub cells_before : (j k : ℕ) → j < cell → IsSettledAt cells j k
   pub inputs_before : (k : ℕ) → k < input → IsSettledAt cells cell k
+
+-- a cell has so many inputs
+pub record HasInputs {N : Type 0} (child count : ℕ) (cells : List (CellParts N)) : Type 0 where
+  pub cell : CellParts N
+  pub at : slice_get cells child ≡ Some cell
+  pub inputs : count ≡ length cell.ins.items
+
+-- a cell has this input
+pub record HasInput {N : Type 0} (child input : ℕ) (cells : List (CellParts N)) : Type 0 where
+  pub edge : InEdge
+  pub at : in_of cells child input ≡ Some edge
 
 -- the same cell, whose ends may know more of what is on its edges
 pub record HasLooked {N : Type 0} (c d : CellParts N) : Type 0 where

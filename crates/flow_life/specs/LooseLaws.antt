@@ -20,7 +20,7 @@ use Rattle.flow_cells.specs.Settles.{Settles}
 use Rattle.flow_life.specs.ChangeLaws.{Calm, Ends, SameIn, SameOut, SettledEnds}
 use Rattle.flow_life.specs.Graphs.{IsLoaded}
 use Rattle.flow_life.specs.Lives.{IsLife}
-use Rattle.flow_life.specs.Loose.{AreSettledTo, HasLooked, IsJoined, IsLoose, IsSettledAt, IsTied}
+use Rattle.flow_life.specs.Loose.{AreSettledTo, HasInput, HasInputs, HasLooked, IsJoined, IsLoose, IsSettledAt, IsTied}
 use Rattle.flow_life.specs.Nodes.{gathered_of, specs_of}
 use Rattle.flow_life.specs.PlaceLaws.{Other, both-left, both-right, found-same, get-set_other, in-at, in-within, same_place, zip-both, zip-length}
 use Rattle.flow_life.specs.Places.{Both, in_of, out_of}
@@ -64,6 +64,11 @@ Still-trans a b c p q = record { head = Looked-trans a.head b.head c.head p.head
 
 Eases-trans : (a b c : OutEdge) → Eases a b → Eases b c → Eases a c
 Eases-trans a b c p q = record { tail = TailLooked-trans p.tail q.tail; unsent = q.unsent ∙ p.unsent; child = q.child ∙ p.child; input = q.input ∙ p.input }
+
+-- the edge at a place
+record Found (es : List InEdge) (m : ℕ) : Type 0 where
+  edge : InEdge
+  at : slice_get es m ≡ Some edge
 
 module _ {N : Type 0} where
   -- each end is one of the same edge
@@ -299,19 +304,49 @@ module _ {N : Type 0} where
         below zero (suc k) lt ne = omega arith
         below (suc m) (suc k) lt ne = let h : m < k = below m k (omega (arith, lt)) (λ e. ne (ap suc e)) in omega (arith, h)
 
+  -- cells that looked have as many inputs
+  pub looked_inputs : (child count : ℕ) (cells cells' : List (CellParts N)) → AllZip HasLooked cells cells' → HasInputs child count cells → HasInputs child count cells'
+  looked_inputs child count cells cells' z h =
+      let o : Other (HasLooked h.cell) (slice_get cells' child) = both-right HasLooked (slice_get cells child) (slice_get cells' child) h.cell (zip-both HasLooked cells cells' child z) h.at in
+      let l : HasLooked h.cell o.value = o.fact in
+      record { cell = o.value; at = o.is; inputs = h.inputs ∙ sym (zip-length Still h.cell.ins.items o.value.ins.items l.ins) }
+
+  -- an input below that number is there
+  pub input_there : (child count input : ℕ) (cells : List (CellParts N)) → HasInputs child count cells → input < count → HasInput child input cells
+  input_there child count input cells h lt =
+      let r : Found h.cell.ins.items input = find h.cell.ins.items input (omega (arith, h.inputs, lt)) in
+      record { edge = r.edge; at = in-at cells child input h.cell h.at ∙ r.at }
+    where
+      find : (es : List InEdge) (m : ℕ) → m < length es → Found es m
+      find [] m lt = absurd (omega (arith, lt))
+      find (x ∷ es) zero lt = record { edge = x; at = refl }
+      find (x ∷ es) (suc m) lt = let r = find es m (omega (arith, lt)) in record { edge = r.edge; at = r.at }
+
+  -- cells that look at nothing are as they were
+  pub looked_none : (cells : List (CellParts N)) → AllZip HasLooked cells cells
+  looked_none cells = zip-refl HasLooked HasLooked-refl cells
+
+  -- and looks, one after the other, are looks
+  pub looked_more : (a b c : List (CellParts N)) → AllZip HasLooked a b → AllZip HasLooked b c → AllZip HasLooked a c
+  looked_more a b c p q = zip-trans HasLooked HasLooked-trans a b c p q
+
+  -- as many cells
+  pub looked_length : (cells cells' : List (CellParts N)) → AllZip HasLooked cells cells' → length cells' ≡ length cells
+  looked_length cells cells' z = zip-length HasLooked cells cells' z
+
   -- no edge is before the first cell
   pub settled_none : (cells : List (CellParts N)) → AreSettledTo cells 0 0
   settled_none cells = record { cells_before = λ n m lt. absurd (omega (arith, lt)); inputs_before = λ m lt. absurd (omega (arith, lt)) }
 
   -- all inputs of a cell are settled
-  pub settled_cell : (j count : ℕ) (c : CellParts N) (cells : List (CellParts N)) → slice_get cells j ≡ Some c → length c.ins.items ≤ count → AreSettledTo cells j count → AreSettledTo cells (j + 1) 0
-  settled_cell j count c cells at all a = record {
+  pub settled_cell : (j count : ℕ) (cells : List (CellParts N)) → HasInputs j count cells → AreSettledTo cells j count → AreSettledTo cells (j + 1) 0
+  settled_cell j count cells h a = record {
     cells_before = λ n m lt. ⊎_elim
-        (λ e y o at_y.
+        (λ e y o at_y at_o.
         let here : in_of cells j m ≡ Some y = subst (λ (q : ℕ). in_of cells q m ≡ Some y) e at_y in
-        let in_c : slice_get c.ins.items m ≡ Some y = sym (in-at cells j m c at) ∙ here in
-        let within : m < length c.ins.items = in-list c.ins.items m y in_c in
-        a.inputs_before m (omega (arith, within, all)) y o here)
+        let in_c : slice_get h.cell.ins.items m ≡ Some y = sym (in-at cells j m h.cell h.at) ∙ here in
+        let within : m < length h.cell.ins.items = in-list h.cell.ins.items m y in_c in
+        a.inputs_before m (omega (arith, within, h.inputs)) y o here at_o)
         (λ ne. a.cells_before n m (below n j lt ne))
         (same_place n j);
     inputs_before = λ m lt. absurd (omega (arith, lt));

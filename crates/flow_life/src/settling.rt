@@ -1,10 +1,10 @@
 //! Edges are settled: that of an input, and all of a life's.
 
-ghost use Rattle.std.specs.Prelude.{◌≡◌, ◌+◌, ◌<◌, length, IsFalse, IsTrue, OnOk};
+ghost use Rattle.std.specs.Prelude.{◌≡◌, ◌+◌, ◌<◌, length, IfOk, IsFalse, IsTrue, OnOk};
 ghost use Rattle.std.specs.List.{AllByRecursion as Each, AllZip};
 ghost use Rattle.flow_cells.specs.Kept.{Keeps};
 ghost use Rattle.flow_life.specs.Lives.{IsLife};
-ghost use Rattle.flow_life.specs.Loose.{AreSettledTo, HasLooked, IsJoined, IsLoose};
+ghost use Rattle.flow_life.specs.Loose.{AreSettledTo, HasInput, HasInputs, HasLooked, IsJoined, IsLoose};
 ghost use Rattle.flow_life.specs.Nodes.{gathered_of, specs_of};
 ghost use Rattle.flow_life.specs.Settling.{HasEdge, SettlesIn};
 ghost use Rattle.flow_life.specs.Streams.{plans_of};
@@ -29,7 +29,31 @@ pub(crate) fn settle_input<N: Node>(cells: &mut [Cell<N>], child: u32, input: u3
     from.settle(to, input);
 }
 
-/// Settles the edges of the inputs of a cell. `NoMemory` comes where their number is too great.
+/// Settles the edge of an input, where those before it are settled.
+fn settle_one<N: Node>(cells: &mut [Cell<N>], child: u32, input: u32)
+    requires joined { IsJoined cells.old }
+    requires within { child < length cells.old }
+    requires there { HasInput child input cells.old }
+    requires settled { AreSettledTo cells.old child input }
+    ensures looked { AllZip HasLooked cells.old cells.new }
+    ensures settled { AreSettledTo cells.new child (input + 1) }
+{
+    let to = &cells[child as usize];
+    let parent = to.parent(input);
+    settle_input(cells, child, input, parent);
+}
+
+/// How many inputs a cell has. `NoMemory` comes where they are too many.
+fn inputs_of<N: Node>(cells: &[Cell<N>], child: u32) -> Result<u32, NoMemory>
+    requires { child < length cells.now }
+    ensures { IfOk result (λ inputs. HasInputs child inputs cells.now) }
+{
+    let cell = &cells[child as usize];
+    let inputs = number_of(cell.inputs())?;
+    Ok(inputs)
+}
+
+/// Settles the edges of the inputs of a cell. `NoMemory` comes where they are too many.
 fn settle_cell<N: Node>(cells: &mut [Cell<N>], child: u32) -> Result<(), NoMemory>
     requires joined { IsJoined cells.old }
     requires within { child < length cells.old }
@@ -37,12 +61,9 @@ fn settle_cell<N: Node>(cells: &mut [Cell<N>], child: u32) -> Result<(), NoMemor
     ensures looked { OnOk result (AllZip HasLooked cells.old cells.new) }
     ensures settled { OnOk result (AreSettledTo cells.new (child + 1) 0) }
 {
-    let cell = &cells[child as usize];
-    let inputs = number_of(cell.inputs())?;
+    let inputs = inputs_of(cells, child)?;
     'settling: for input in 0..inputs {
-        let to = &cells[child as usize];
-        let parent = to.parent(input);
-        settle_input(cells, child, input, parent);
+        settle_one(cells, child, input);
     }
     Ok(())
 }
