@@ -238,15 +238,18 @@ impl<N: Node> Net<N> {
         ensures sound { Each IsSound result.lives.items }
         ensures lives { Each (IsLifeIn N.Node) result.lives.items }
         ensures none { self.new.lives ≡ [] }
+        ensures runs { (lives : List (List (Placed N.Spec)))
+            (points : List PointValue) (collected : List Effect)
+            → HasRun N.Node lives points collected self.old
+            → HasRun N.Node lives points collected (with_lives result.lives.items self.new) }
         ensures gathered { self.new.gathered ≡ self.old.gathered }
         ensures last { self.new.last ≡ self.old.last }
         ensures spent { self.new.spent ≡ true }
     {
         keep_lives(&self.lives);
         self.spent = true;
-        Cells {
-            lives: mem::replace(&mut self.lives, Vec::new(alloc)),
-        }
+        let lives = mem::replace(&mut self.lives, Vec::new(alloc));
+        Cells { lives }
     }
 
     /// Gives a net the cells that the last `take_cells` gave, in their order, each after moves of its own, of which none failed.

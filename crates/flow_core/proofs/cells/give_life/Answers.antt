@@ -1,3 +1,4 @@
+use Rattle.std.proofs.Common.{refl}
 use Rattle.flow_core.specs.AwayLaws.{life_back}
 use Rattle.flow_core.proofs.cells.give_life.Goals as goal
 
