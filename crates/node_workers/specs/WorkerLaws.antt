@@ -1,5 +1,5 @@
 -- Turns, one after the other, and chunks, side by side, leave the same cells.
-use Rattle.std.proofs.Common.{◌≡◌, ℕ, zero, suc, ◌<◌, List, [], ◌∷◌, false, get_or, length, refl, sym, ap, ◌∙◌, arith}
+use Rattle.std.proofs.Common.{◌≡◌, ℕ, zero, suc, ◌<◌, List, [], ◌∷◌, false, get_or, length, refl, sym, ap, subst, ◌∙◌, arith}
 use Rattle.std.specs.List.{AllByRecursion as Each, AllZip}
 use Rattle.flow_cells.specs.declared.parts.CellParts.{CellParts}
 use Rattle.flow_cells.specs.Moved.{HasMoved}
@@ -44,6 +44,10 @@ module _ {N : Type 0} where
   -- and so does one turn more
   pub stood_more : (a b c : List (CellParts N)) → AllZip HasStood a b → AllZip HasStood b c → AllZip HasStood a c
   stood_more a b c p q = zip-trans HasStood HasStood-trans a b c p q
+
+  -- the first cell had its part, and the others none
+  pub stood_first : (cells : List (CellParts N)) (c d : CellParts N) (others : List (CellParts N)) → cells ≡ c ∷ others → HasStood c d → AllZip HasStood cells (d ∷ others)
+  stood_first cells c d others is h = subst (λ (l : List (CellParts N)). AllZip HasStood l (d ∷ others)) (sym is) (h, stood_none others)
 
   -- ---- back
 
