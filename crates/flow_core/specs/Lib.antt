@@ -14,6 +14,8 @@ pub mod Nets
 pub mod Making
 -- what a net has run, and what was collected
 pub mod Ran
+-- all steps, made until none can be made
+pub mod Running
 -- proofs, no definitions
 pub mod MessageLaws
 pub mod PortLaws
@@ -32,3 +34,4 @@ pub mod NetLaws
 pub mod PlanLaws
 pub mod DoneLaws
 pub mod RanLaws
+pub mod RunningLaws
