@@ -16,6 +16,8 @@ pub mod Making
 pub mod Ran
 -- cells that move by themselves
 pub mod Away
+-- all steps, made until none can be made
+pub mod Running
 -- proofs, no definitions
 pub mod MessageLaws
 pub mod PortLaws
@@ -35,3 +37,4 @@ pub mod PlanLaws
 pub mod DoneLaws
 pub mod RanLaws
 pub mod AwayLaws
+pub mod RunningLaws

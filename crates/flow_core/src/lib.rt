@@ -4,10 +4,12 @@
 mod cells;
 mod gathering;
 mod laws;
+mod listing;
 mod lives;
 mod loads;
 mod making;
 mod net;
+mod resting;
 
 pub use cells::Cells;
 pub use gathering::sort_effects;
