@@ -67,7 +67,7 @@ fn right() -> [Step; 4] {
 }
 
 /// A diamond as a net of life 1, with room for so many messages on each edge.
-fn diamond_net(alloc: Global, capacity: u32) -> Result<Net<RelayNode>, NoMemory>
+pub fn diamond_net(alloc: Global, capacity: u32) -> Result<Net<RelayNode>, NoMemory>
     requires some { 0 < capacity }
     requires limit { capacity ≤ CAPACITY_LIMIT }
     ensures unspent { IfOk result (λ net. net.spent ≡ false) }

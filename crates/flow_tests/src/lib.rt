@@ -1,4 +1,5 @@
-//! Tests of lives and nets: steps counted by hand, and effects that are the same for all orders of steps.
+//! Tests of lives and nets: steps counted by hand, effects that are the same for all orders of steps, and workers beside each
+//! other.
 #![tactic(auto)]
 
 #[cfg(test)]
@@ -13,3 +14,5 @@ mod points;
 mod relay;
 #[cfg(test)]
 mod sides;
+#[cfg(test)]
+mod workers;
