@@ -6,8 +6,9 @@ use Rattle.flow_cells.specs.Moved.{HasMoved}
 use Rattle.flow_cells.specs.MovedLaws.{HasMoved-refl, HasMoved-trans}
 use Rattle.flow_cells.specs.OutLaws.{zip-refl, zip-trans}
 use Rattle.flow_life.specs.Wired.{IsUnspent}
-use Rattle.flow_core.specs.Away.{HasMovedLife, HasUnspentCells}
-use Rattle.flow_core.specs.Nets.{NumberedLife}
+use Rattle.flow_core.specs.Away.{HasMovedLife, HasUnspentCells, IsBack}
+use Rattle.flow_core.specs.Nets.{IsLifeIn, IsSound, NumberedLife}
+use Rattle.node_core.specs.declared.node.Node.{Ghosts}
 use Rattle.node_workers.specs.Workers.{HasStood, HasStoodLife}
 
 -- ---- places
@@ -58,8 +59,13 @@ module _ {N : Type 0} where
   all-moved (c ∷ cs) (d ∷ ds) z e = (z.0 e.0, all-moved cs ds z.1 e.1)
 
   -- where no call on a cell failed, each made moves of its own
-  pub stood_moved : (lives lives' : List (NumberedLife N)) → AllZip HasStoodLife lives lives' → Each HasUnspentCells lives' → AllZip HasMovedLife lives lives'
+  stood_moved : (lives lives' : List (NumberedLife N)) → AllZip HasStoodLife lives lives' → Each HasUnspentCells lives' → AllZip HasMovedLife lives lives'
   stood_moved [] [] z e = tt
   stood_moved [] (l ∷ ls) z e = absurd z
   stood_moved (l ∷ ls) [] z e = absurd z
   stood_moved (l ∷ ls) (m ∷ ms) z e = (record { number = z.0.number; cells = all-moved l.life.cells m.life.cells z.0.cells e.0; unspent = e.0 }, stood_moved ls ms z.1 e.1)
+
+module _ {N P S : Type 0} (g : Ghosts N P S) where
+  -- and then the cells that a net had are back
+  pub stood_back : (lives lives' : List (NumberedLife N)) → Each IsSound lives → Each (IsLifeIn g) lives → AllZip HasStoodLife lives lives' → Each HasUnspentCells lives' → IsBack g lives lives'
+  stood_back lives lives' sound life stood unspent = record { sound = sound; lives = life; moved = stood_moved lives lives' stood unspent }
