@@ -12,4 +12,6 @@ mod points;
 #[cfg(test)]
 mod relay;
 #[cfg(test)]
+mod schedules;
+#[cfg(test)]
 mod sides;
