@@ -35,3 +35,4 @@ pub mod PlanLaws
 pub mod DoneLaws
 pub mod RanLaws
 pub mod RunningLaws
+pub mod EndLaws
