@@ -38,3 +38,4 @@ pub mod DoneLaws
 pub mod RanLaws
 pub mod AwayLaws
 pub mod RunningLaws
+pub mod EndLaws

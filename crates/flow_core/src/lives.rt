@@ -1,6 +1,6 @@
 //! Lives side by side.
 
-ghost use Rattle.std.specs.Prelude.{◌≡◌, ◌+◌, ◌++◌, ◌<◌, ◌≤◌, ℕ, IfOk, IsFalse, IsTrue, OnOk, length, map};
+ghost use Rattle.std.specs.Prelude.{◌≡◌, ◌+◌, ◌++◌, ◌<◌, ◌≤◌, ℕ, Contains, IfOk, IsFalse, IsTrue, OnOk, Some, length, map, slice_get};
 ghost use Rattle.std.specs.List.{AllByRecursion as Each};
 ghost use Rattle.flow_life.specs.Left.{left_of};
 ghost use Rattle.flow_life.specs.Listing.{ends_of};
@@ -235,6 +235,21 @@ pub(crate) fn play<N: Node>(
         }
     }
     Ok(made)
+}
+
+/// The place of the first life with this number, which is there.
+pub(crate) fn place_of<N: Node>(lives: &[Numbered<Life<N>>], number: u32) -> usize
+    requires { Contains (numbers_of lives.now) number }
+    ensures within { result < length lives.now }
+    ensures has { slice_get (numbers_of lives.now) result ≡ Some number }
+{
+    let Some((first, others)) = lives.split_first() else {
+        return 0;
+    };
+    if first.number == number {
+        return 0;
+    }
+    place_of(others, number) + 1
 }
 
 /// How many inputs the node of a cell dropped and counted.

@@ -3,9 +3,9 @@
 use crate::cells::{Cells, give};
 use crate::gathering::sort_effects;
 use crate::listing::list_steps;
-use crate::lives::{Numbered, at_rest, dropped, keep_lives, load, play, step};
+use crate::lives::{Numbered, at_rest, dropped, keep_lives, load, place_of, play, step};
 use crate::loads::messages;
-use crate::making::lives_of;
+use crate::making::{life_of, lives_of};
 use crate::resting::{play_by, run};
 use edge_queue::CAPACITY_LIMIT;
 use flow_life::{Life, Step};
@@ -20,7 +20,7 @@ use task_run::LifePlan;
 /// and that the effects of all moves were gathered, unless it is spent.
 #[derive(Drop)]
 pub struct Net<N: Node> {
-    // In the order of their numbers.
+    // In the order in which they came.
     lives: Vec<Numbered<Life<N>>>,
     // The effects that weren't collected yet.
     gathered: Effects,
@@ -66,7 +66,7 @@ impl<N: Node> Net<N> {
     ghost use Rattle.task_run.specs.Plans.{AreFirstStates, PlanValue, graph_of};
     ghost use Rattle.flow_core.specs.Away.{AreBack, IsBack, with_lives};
     ghost use Rattle.flow_core.specs.Gathering.{LivesRise, NumbersEffects, effects_by_node};
-    ghost use Rattle.flow_core.specs.Making.{AreLivesOf, HasFewParents};
+    ghost use Rattle.flow_core.specs.Making.{AreLivesOf, Begins, Ends, HasFewParents};
     ghost use Rattle.flow_core.specs.Messages.{AreMarksOf, load_messages};
     ghost use Rattle.flow_core.specs.Nets.{EnabledIn, GrowsIn, HasCell, HasMovedTwice, HasPrefixes, HasStreamsCarried, HaveMovedTwice, IsLifeIn, IsResting, IsSound, NumberedLife, SomeEnabledIn, cell_count, moves_in, numbers_of, plans_from, plans_in, specs_in};
     ghost use Rattle.flow_core.specs.Ran.{HasRun, IsNew};
@@ -124,6 +124,44 @@ impl<N: Node> Net<N> {
     {
         self.lives.push(Numbered { number, life })?;
         Ok(())
+    }
+
+    /// A life of a plan begins at rest, behind the others, with edges that have room for 1 to 65,536 messages: its cells have the
+    /// plan's nodes, whose states are saved at the barrier at the end of the last load. An `Err` changes nothing.
+    pub fn begin(&mut self, alloc: Global, plan: LifePlan<N>, capacity: u32) -> Result<(), NoMemory>
+        requires unspent { self.old.spent ≡ false }
+        requires rest { Each IsResting self.old.lives }
+        requires few { HasFewParents plan }
+        requires some { 0 < capacity }
+        requires limit { capacity ≤ CAPACITY_LIMIT }
+        ensures begins { OnOk result (Begins N.Node self.old.last.0 plan
+            self.old.lives self.new.lives) }
+        ensures rest { Each IsResting self.new.lives }
+        ensures gathered { self.new.gathered ≡ self.old.gathered }
+        ensures last { self.new.last ≡ self.old.last }
+        ensures spent { self.new.spent ≡ false }
+        ensures err { OnErr result (self.new.lives ≡ self.old.lives) }
+    {
+        let life = life_of(alloc, plan, capacity, self.last)?;
+        self.lives.push(life)?;
+        Ok(())
+    }
+
+    /// The first life with this number ends at rest, where nothing is left to collect: its cells are gone, and the numbers of
+    /// the cells behind it close up. It takes no memory.
+    pub fn end(&mut self, number: u32)
+        requires unspent { self.old.spent ≡ false }
+        requires rest { Each IsResting self.old.lives }
+        requires collected { self.old.gathered ≡ [] }
+        requires has { Contains (numbers_of self.old.lives) number }
+        ensures ends { Ends number self.old.lives self.new.lives }
+        ensures rest { Each IsResting self.new.lives }
+        ensures gathered { self.new.gathered ≡ [] }
+        ensures last { self.new.last ≡ self.old.last }
+        ensures spent { self.new.spent ≡ false }
+    {
+        let place = place_of(&self.lives, number);
+        let _ended = self.lives.remove(place);
     }
 
     /// A load begins: the points, with the stamps that end at `upto`, go to each life, with a barrier behind each stamp of

@@ -9,7 +9,7 @@ use crate::settling::{are_unspent, settle_all};
 use crate::steps::Step;
 use edge_queue::CAPACITY_LIMIT;
 use flow_cells::Cell;
-use kap_base::{Msg, NoMemory};
+use kap_base::{Msg, NoMemory, Stamp};
 use merge_node::PARENT_LIMIT;
 use node_core::{Effects, Node};
 use std::alloc::Global;
@@ -105,7 +105,45 @@ impl<N: Node> Life<N> {
         ensures unspent { OnOk result (self.new.spent ≡ false) }
         ensures spent { OnErr result (self.new.spent ≡ true) }
     {
-        match add_cell(alloc, &mut self.cells, node, parents, capacity) {
+        match add_cell(alloc, &mut self.cells, node, parents, capacity, Stamp(0)) {
+            Ok(()) => Ok(()),
+            Err(fault) => {
+                self.spent = true;
+                Err(fault)
+            }
+        }
+    }
+
+    /// The same behind a barrier: the last one that the new cell passed has this stamp.
+    pub fn add_behind(
+        &mut self,
+        alloc: Global,
+        node: N,
+        parents: &[u32],
+        capacity: u32,
+        passed: Stamp,
+    ) -> Result<(), NoMemory>
+        requires unspent { self.old.spent ≡ false }
+        requires nothing { Each HasNothing self.old.cells }
+        requires earlier { Each (λ p. p < length self.old.cells) parents.now }
+        requires parents { length parents.now ≤ PARENT_LIMIT }
+        requires ports { one_or_more (length parents.now) ≤ N.ports (N.spec node) }
+        requires some { 0 < capacity }
+        requires limit { capacity ≤ CAPACITY_LIMIT }
+        ensures nothing { OnOk result (Each HasNothing self.new.cells) }
+        ensures nodes { OnOk result (nodes_of self.new.cells
+            ≡ nodes_of self.old.cells ++ node ∷ []) }
+        ensures parents { OnOk result (parents_of self.new.cells
+            ≡ parents_of self.old.cells ++ parents.now ∷ []) }
+        ensures passed { OnOk result (passed_of self.new.cells
+            ≡ passed_of self.old.cells ++ passed.0 ∷ []) }
+        ensures rest { OnOk result (AreQuiet self.new.cells) }
+        ensures gathered { OnOk result (Each IsGathered self.new.cells) }
+        ensures saved { OnOk result (Each (IsSaved N.Node) self.new.cells) }
+        ensures unspent { OnOk result (self.new.spent ≡ false) }
+        ensures spent { OnErr result (self.new.spent ≡ true) }
+    {
+        match add_cell(alloc, &mut self.cells, node, parents, capacity, passed) {
             Ok(()) => Ok(()),
             Err(fault) => {
                 self.spent = true;

@@ -28,7 +28,7 @@ pub const FIRST: &str = "1 1.0.0 10 plain\n1 1.1.0 10 plain\n1 1.2.0 10 plain\n\
      3 1.3.0 30 marked\n3 1.3.1 30 plain\n";
 
 /// And of the second.
-const SECOND: &str = "4 1.0.0 10 plain\n4 1.1.0 10 plain\n4 1.2.0 10 plain\n\
+pub const SECOND: &str = "4 1.0.0 10 plain\n4 1.1.0 10 plain\n4 1.2.0 10 plain\n\
      4 1.3.0 10 marked\n4 1.3.1 10 plain\n\
      5 1.0.0 20 plain\n5 1.1.0 20 plain\n5 1.2.0 20 plain\n\
      5 1.3.0 20 marked\n5 1.3.1 20 plain\n\

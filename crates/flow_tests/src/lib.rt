@@ -3,6 +3,8 @@
 #![tactic(auto)]
 
 #[cfg(test)]
+mod changes;
+#[cfg(test)]
 mod diamonds;
 #[cfg(test)]
 mod lives;
@@ -12,6 +14,8 @@ mod nets;
 mod points;
 #[cfg(test)]
 mod relay;
+#[cfg(test)]
+mod schedules;
 #[cfg(test)]
 mod sides;
 #[cfg(test)]

@@ -22,10 +22,11 @@ const BOTH: &str = "1 3.0.0 10 plain\n1 3.1.0 10 plain\n\
      3 3.0.0 30 plain\n3 3.1.0 30 plain\n\
      3 5.0.0 30 plain\n3 5.1.0 30 plain\n3 5.2.0 30 plain\n3 5.3.0 30 marked\n3 5.3.1 30 plain\n";
 
-/// The plan of a life: two relays, of which the first feeds the second.
+/// The plan of a life with two relays, of which the first feeds the second.
 pub fn plan_of_two(alloc: Global, life: u32) -> Result<LifePlan<RelayNode>, NoMemory>
     ensures few { IfOk result HasFewParents }
     ensures nodes { IfOk result (λ plan. length plan.nodes ≡ 2) }
+    ensures life { IfOk result (λ plan. plan.life ≡ life) }
 {
     let first = relay_node(alloc, life, 0, 1, false);
     let second = relay_node(alloc, life, 1, 1, false);
