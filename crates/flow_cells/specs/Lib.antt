@@ -7,6 +7,8 @@ pub mod Kept
 pub mod Handled
 -- what the moves of a cell do to it
 pub mod Moves
+-- what any number of moves leave of it
+pub mod Moved
 -- an edge that is settled, what a cell has to do, and effects that are gathered
 pub mod Settles
 pub mod Looks
@@ -23,3 +25,4 @@ pub mod MadeLaws
 pub mod Loads
 pub mod LoadLaws
 pub mod SettleLaws
+pub mod MovedLaws

@@ -12,7 +12,7 @@ use Rattle.flow_cells.specs.declared.parts.InEdge.{InEdge}
 use Rattle.flow_cells.specs.declared.parts.Core.{Core}
 use Rattle.flow_cells.specs.Runs.{begun}
 use Rattle.flow_cells.specs.Kept.{IsAt, IsGiven, KeptBy, received_of, run_of}
-use Rattle.flow_cells.specs.Made.{IsFresh, IsMade, IsNothing, IsUnused, one_or_more}
+use Rattle.flow_cells.specs.Made.{IsFresh, IsMadeBehind, IsNothing, IsUnused, one_or_more}
 
 fresh-heads : (ins : List InEdge) → Each IsFresh ins → map (λ (i : InEdge). received i.head) ins ≡ replicate (length ins) []
 fresh-heads [] h = refl
@@ -69,8 +69,8 @@ each-push Q (x ∷ xs) y h q = (h.0, each-push Q xs y h.1 q)
 
 module _ {N P S : Type 0} (g : Ghosts N P S) where
   -- the core of a cell that is made stands where its run begins
-  made-at : (n : N) (c base : Core N) → base ≡ c → IsMade g n c → IsAt g (g.spec base.node) (begun (g.state base.node) base.passed) c
-  made-at n c base same m = subst (λ (b : Core N). IsAt g (g.spec b.node) (begun (g.state b.node) b.passed) c) (sym same) (record {
+  made-at : (stamp : ℕ) (n : N) (c base : Core N) → base ≡ c → IsMadeBehind g stamp n c → IsAt g (g.spec base.node) (begun (g.state base.node) base.passed) c
+  made-at stamp n c base same m = subst (λ (b : Core N). IsAt g (g.spec b.node) (begun (g.state b.node) b.passed) c) (sym same) (record {
     spec = refl;
     state = refl;
     outs = subst (Each (IsGiven [])) (sym m.outs) tt;
@@ -80,8 +80,8 @@ module _ {N P S : Type 0} (g : Ghosts N P S) where
   })
 
   -- the core of a cell that is made keeps what a cell keeps
-  pub made-keeps : (n : N) (c base : Core N) (ins : List InEdge) (source : List Msg) (buffer : Lists) → base ≡ c → IsMade g n c → Each IsFresh ins → source ≡ [] → buffer ≡ replicate (one_or_more (length ins)) [] → one_or_more (length ins) ≤ g.ports (g.spec n) → KeptBy g base (received_of ins source) buffer c
-  made-keeps n c base ins source buffer same m fresh none is ports =
+  pub made-keeps : (stamp : ℕ) (n : N) (c base : Core N) (ins : List InEdge) (source : List Msg) (buffer : Lists) → base ≡ c → IsMadeBehind g stamp n c → Each IsFresh ins → source ≡ [] → buffer ≡ replicate (one_or_more (length ins)) [] → one_or_more (length ins) ≤ g.ports (g.spec n) → KeptBy g base (received_of ins source) buffer c
+  made-keeps stamp n c base ins source buffer same m fresh none is ports =
       let lists : received_of ins source ≡ replicate (one_or_more (length ins)) [] = ap (received_of ins) none ∙ fresh-received ins fresh in
       let node : base.node ≡ n = ap (λ (b : Core N). b.node) same ∙ m.node in
       let long : length buffer ≡ one_or_more (length ins) = parents-length (length ins) buffer is in
@@ -89,7 +89,7 @@ module _ {N P S : Type 0} (g : Ghosts N P S) where
         handled = [];
         merged = subst (λ (ls : Lists). Merges ls [] buffer) (is ∙ sym lists) done;
         stuck = subst (λ (ls : Lists). next ls ≡ None) (sym is) (some-parents (length ins));
-        at = made-at n c base same m;
+        at = made-at stamp n c base same m;
         ports = subst (λ (x : N). length buffer ≤ g.ports (g.spec x)) (sym node) (omega (arith, long, ports));
       }
 

@@ -7,7 +7,7 @@ use crate::making::{add_out, make};
 use crate::moves::{put, take};
 use crate::parts::{CellParts, InEdge, OutEdge};
 use crate::settling::settle;
-use kap_base::{Msg, NoMemory};
+use kap_base::{Msg, NoMemory, Stamp};
 use merge_node::PARENT_LIMIT;
 use node_core::{Effects, Node};
 use std::alloc::Global;
@@ -44,7 +44,8 @@ impl<N: Node> Cell<N> {
     ghost use Rattle.flow_cells.specs.Kept.{Keeps};
     ghost use Rattle.flow_cells.specs.Loads.{Begins, IsOwn, NothingWaits};
     ghost use Rattle.flow_cells.specs.Looks.{CanTake, IsQuiet};
-    ghost use Rattle.flow_cells.specs.Made.{HasNothing, IsFresh, IsMade, IsNothing, IsUnused, one_or_more};
+    ghost use Rattle.flow_cells.specs.Made.{HasNothing, IsFresh, IsMade, IsMadeBehind, IsNothing, IsUnused, one_or_more};
+    ghost use Rattle.flow_cells.specs.Moved.{HasMoved};
     ghost use Rattle.flow_cells.specs.Moves.{KeepsOthers, PutsNone, PutsOne, TakesNone, TakesOne};
     ghost use Rattle.flow_cells.specs.Settles.{IsFedBy, Settles};
     ghost use Rattle.flow_cells.specs.declared.parts.InEdge.{InEdge};
@@ -66,7 +67,30 @@ impl<N: Node> Cell<N> {
         ensures keeps { IfOk result (Keeps N.Node) }
     {
         Ok(Cell {
-            parts: make(alloc, node, ins)?,
+            parts: make(alloc, node, ins, Stamp(0))?,
+        })
+    }
+
+    /// The same behind a barrier: the last one that it passed has this stamp.
+    pub fn new_behind(
+        alloc: Global,
+        node: N,
+        ins: Vec<InEdge>,
+        passed: Stamp,
+    ) -> Result<Cell<N>, NoMemory>
+        requires limit { length ins.items ≤ PARENT_LIMIT }
+        requires fresh { Each IsFresh ins.items }
+        requires ports { one_or_more (length ins.items) ≤ N.ports (N.spec node) }
+        ensures core { IfOk result (λ cell. IsMadeBehind N.Node passed.0 node cell.core) }
+        ensures ins { IfOk result (λ cell. cell.ins.items ≡ ins.items) }
+        ensures spent { IfOk result (λ cell. cell.spent ≡ false) }
+        ensures nothing { IfOk result HasNothing }
+        ensures empty { IfOk result (λ cell. Each IsNothing cell.buffer) }
+        ensures base { IfOk result (λ cell. cell.base.value.node ≡ node) }
+        ensures keeps { IfOk result (Keeps N.Node) }
+    {
+        Ok(Cell {
+            parts: make(alloc, node, ins, passed)?,
         })
     }
 
@@ -92,6 +116,7 @@ impl<N: Node> Cell<N> {
         ensures keeps { OnOk result (Keeps N.Node self.new) }
         ensures took { result ≡ Ok true → TakesOne input self.old self.new }
         ensures none { result ≡ Ok false → TakesNone input self.old self.new }
+        ensures moved { OnOk result (HasMoved self.old self.new) }
         ensures spent { OnErr result (self.new.spent ≡ true) }
     {
         match take(alloc, &mut self.parts, input) {
@@ -110,6 +135,7 @@ impl<N: Node> Cell<N> {
         ensures keeps { Keeps N.Node self.new }
         ensures put { IsTrue result → PutsOne out self.old self.new }
         ensures none { IsFalse result → PutsNone out self.old self.new }
+        ensures moved { HasMoved self.old self.new }
     {
         put(&mut self.parts, out)
     }

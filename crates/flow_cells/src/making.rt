@@ -3,7 +3,7 @@
 ghost use Rattle.std.specs.Prelude.{◌≡◌, ◌≤◌, false, [], ◌∷◌, ◌++◌, length, IfOk, OnErr, OnOk};
 ghost use Rattle.std.specs.List.{AllByRecursion as Each};
 ghost use Rattle.flow_cells.specs.Kept.{Keeps};
-ghost use Rattle.flow_cells.specs.Made.{HasNothing, IsFresh, IsMade, IsNothing, IsUnused, one_or_more};
+ghost use Rattle.flow_cells.specs.Made.{HasNothing, IsFresh, IsMadeBehind, IsNothing, IsUnused, one_or_more};
 ghost use Rattle.flow_cells.specs.Moves.{KeepsOthers};
 
 use crate::parts::{CellParts, Core, Gathered, InEdge, OutEdge};
@@ -21,9 +21,9 @@ fn parents_of(ins: &[InEdge]) -> u32
     if ins.is_empty() { 1 } else { ins.len() as u32 }
 }
 
-/// A node in its state, with nothing to send.
-fn make_core<N: Node>(alloc: Global, node: N) -> Result<Core<N>, NoMemory>
-    ensures { IfOk result (IsMade N.Node node) }
+/// A node in its state, with nothing to send, behind a barrier.
+fn make_core<N: Node>(alloc: Global, node: N, passed: Stamp) -> Result<Core<N>, NoMemory>
+    ensures { IfOk result (IsMadeBehind N.Node passed.0 node) }
 {
     let mut saved = Bytes::new(alloc);
     node.save(&mut saved)?;
@@ -33,21 +33,22 @@ fn make_core<N: Node>(alloc: Global, node: N) -> Result<Core<N>, NoMemory>
         gathered: Gathered::Start,
         effects: Effects::new(alloc),
         saved,
-        passed: Stamp(0),
+        passed,
     })
 }
 
-/// A cell of a node with these inputs.
+/// A cell of a node with these inputs, behind a barrier.
 pub(crate) fn make<N: Node>(
     alloc: Global,
     node: N,
     ins: Vec<InEdge>,
+    passed: Stamp,
 ) -> Result<CellParts<N>, NoMemory>
     requires limit { length ins.items ≤ PARENT_LIMIT }
     requires fresh { Each IsFresh ins.items }
     requires ports { one_or_more (length ins.items) ≤ N.ports (N.spec node) }
     ensures keeps { IfOk result (Keeps N.Node) }
-    ensures core { IfOk result (λ cell. IsMade N.Node node cell.core) }
+    ensures core { IfOk result (λ cell. IsMadeBehind N.Node passed.0 node cell.core) }
     ensures ins { IfOk result (λ cell. cell.ins.items ≡ ins.items) }
     ensures spent { IfOk result (λ cell. cell.spent ≡ false) }
     ensures nothing { IfOk result HasNothing }
@@ -55,7 +56,7 @@ pub(crate) fn make<N: Node>(
     ensures base { IfOk result (λ cell. cell.base.value.node ≡ node) }
 {
     let buffer = MergeBuf::new(alloc, parents_of(&ins))?;
-    let core = make_core(alloc, node)?;
+    let core = make_core(alloc, node, passed)?;
     let none: Vec<Msg> = Vec::new(alloc);
     let source = Snapshot::of(&none);
     let base = Snapshot::of(&core);

@@ -12,6 +12,12 @@ pub mod LifeLoads
 pub mod Nets
 -- lives that are made from plans
 pub mod Making
+-- what a net has run, and what was collected
+pub mod Ran
+-- cells that move by themselves
+pub mod Away
+-- all steps, made until none can be made
+pub mod Running
 -- proofs, no definitions
 pub mod MessageLaws
 pub mod PortLaws
@@ -28,3 +34,8 @@ pub mod NumberLaws
 pub mod LifeLaws
 pub mod NetLaws
 pub mod PlanLaws
+pub mod DoneLaws
+pub mod RanLaws
+pub mod AwayLaws
+pub mod RunningLaws
+pub mod EndLaws

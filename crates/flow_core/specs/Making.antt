@@ -1,6 +1,6 @@
 -- Lives that are made from plans.
-use Rattle.std.specs.Prelude.{◌≡◌, ℕ, ◌+◌, ◌<◌, ◌≤◌, ⊤, List, [], ◌∷◌, length}
-use Rattle.std.specs.List.{AllByRecursion as Each, AllZip}
+use Rattle.std.specs.Prelude.{◌≡◌, ℕ, ◌+◌, ◌<◌, ◌≤◌, ⊤, List, [], ◌∷◌, ◌++◌, Some, length, slice_get}
+use Rattle.std.specs.List.{AllByRecursion as Each, AllZip, remove}
 use Rattle.merge_node.specs.declared.TheConstants.{PARENT_LIMIT}
 use Rattle.node_core.specs.declared.node.Node.{Ghosts}
 use Rattle.flow_cells.specs.Made.{one_or_more}
@@ -8,7 +8,7 @@ use Rattle.flow_life.specs.Making.{IsSaved, nodes_of, passed_of}
 use Rattle.flow_life.specs.Steps.{AreQuiet}
 use Rattle.flow_life.specs.Wired.{parents_of}
 use Rattle.task_run.specs.Plans.{PlanValue}
-use Rattle.flow_core.specs.Nets.{IsSound, NumberedLife}
+use Rattle.flow_core.specs.Nets.{IsSound, NumberedLife, numbers_of}
 
 -- no node has more parents than a merge can have
 abbrev pub HasFewParents : {N : Type 0} → PlanValue N → Type 0
@@ -28,16 +28,34 @@ CanAddAll ports at (n ∷ nodes) [] = ⊥
 CanAddAll ports at (n ∷ nodes) (ps ∷ pss) = CanAdd at (ports n) ps × CanAddAll ports (at + 1) nodes pss
 
 module _ {N P S : Type 0} (g : Ghosts N P S) where
-  -- a life of a plan, with its number, nodes and parents; it is at rest, each saved state is the state, and the last barrier is 0
-  pub record IsLifeOf (plan : PlanValue N) (l : NumberedLife N) : Type 0 where
+  -- A life of a plan, with its number, nodes and parents. It is at rest, each saved state is the state, and the last barrier that
+  -- each cell passed has this stamp.
+  pub record IsLifeBehind (stamp : ℕ) (plan : PlanValue N) (l : NumberedLife N) : Type 0 where
     pub number : l.number ≡ plan.life
     pub nodes : nodes_of l.life.cells ≡ plan.nodes
     pub parents : parents_of l.life.cells ≡ plan.parents
     pub rest : AreQuiet l.life.cells
     pub saved : Each (IsSaved g) l.life.cells
-    pub passed : Each (λ b. b ≡ 0) (passed_of l.life.cells)
+    pub passed : Each (λ b. b ≡ stamp) (passed_of l.life.cells)
     pub sound : IsSound l
+
+  -- the same where the stamp is 0
+  abbrev pub IsLifeOf : PlanValue N → NumberedLife N → Type 0
+  IsLifeOf = IsLifeBehind 0
 
   -- a life of each plan, in their order
   abbrev pub AreLivesOf : List (PlanValue N) → List (NumberedLife N) → Type 0
   AreLivesOf plans lives = AllZip IsLifeOf plans lives
+
+  -- a life of the plan, behind a barrier with this stamp, comes behind the others, and these stay
+  pub record Begins (stamp : ℕ) (plan : PlanValue N) (lives lives' : List (NumberedLife N)) : Type 0 where
+    pub life : NumberedLife N
+    pub made : IsLifeBehind stamp plan life
+    pub is : lives' ≡ lives ++ life ∷ []
+
+-- the life at a place, which has this number, is gone, and the others stay
+pub record Ends {N : Type 0} (number : ℕ) (lives lives' : List (NumberedLife N)) : Type 0 where
+  pub place : ℕ
+  pub within : place < length lives
+  pub has : slice_get (numbers_of lives) place ≡ Some number
+  pub is : lives' ≡ remove lives place

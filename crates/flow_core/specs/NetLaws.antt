@@ -1,6 +1,6 @@
 -- What steps of lives make of a net, and that some step can be made while it isn't at rest.
 use Rattle.std.proofs.Common.{◌≡◌, ℕ, zero, suc, ◌+◌, ◌-◌, ◌<◌, ◌≤◌, List, [], ◌∷◌, Option, Some, Result, Ok, Err, false, IfOk, length, refl, sym, ap, subst, ◌∙◌, arith}
-use Rattle.std.specs.Prelude.{slice_get}
+use Rattle.std.specs.Prelude.{OnOk, slice_get}
 use Rattle.std.specs.List.{AllByRecursion as Each, AllZip}
 use Rattle.node_core.specs.declared.node.Node.{Ghosts}
 use Rattle.flow_cells.specs.Gathers.{Gathers}
@@ -12,9 +12,11 @@ use Rattle.flow_life.specs.declared.steps.Step.TheVariants as steps
 use Rattle.flow_life.specs.Lives.{IsLife}
 use Rattle.flow_life.specs.Places.{Both, in_of, out_of}
 use Rattle.flow_life.specs.Settling.{Grows, SameReceived, SameSent}
-use Rattle.flow_life.specs.Steps.{IsEnabled, SomeEnabled}
+use Rattle.flow_life.specs.Steps.{IsEnabled, SomeEnabled, moves_of}
+use Rattle.flow_life.specs.Streams.{stream_length}
+use Rattle.flow_life.specs.Wired.{parents_of, sum_of_all}
 use Rattle.flow_life.specs.StreamLaws.{carries_prefixes}
-use Rattle.flow_core.specs.Nets.{EnabledIn, GrowsIn, HasCell, HasPrefixes, IsSound, NumberedLife, SomeEnabledIn, after, behind, cell_of, here, in_it, later, own, step_before, step_behind}
+use Rattle.flow_core.specs.Nets.{EnabledIn, GrowsIn, HasCell, HasMovedTwice, HasPrefixes, HaveMovedTwice, IsLifeIn, IsSound, NumberedLife, SomeEnabledIn, after, behind, cell_of, here, in_it, later, moves_in, own, step_before, step_behind, streams_length}
 
 -- ---- results and steps
 
@@ -22,6 +24,16 @@ use Rattle.flow_core.specs.Nets.{EnabledIn, GrowsIn, HasCell, HasPrefixes, IsSou
 pub if_ok : {T E : Type 0} {A B : T → Type 0} (r : Result T E) → ((x : T) → A x → B x) → IfOk r A → IfOk r B
 if_ok (Ok x) f a = f x a
 if_ok (Err e) f a = a
+
+-- and with what holds whatever the value
+pub if_ok_with : {T E A : Type 0} {B C : T → Type 0} (r : Result T E) → ((x : T) → A → B x → C x) → OnOk r A → IfOk r B → IfOk r C
+if_ok_with (Ok x) f a b = f x a b
+if_ok_with (Err e) f a b = a
+
+-- and two facts of the value
+pub if_ok_both : {T E : Type 0} {A B C : T → Type 0} (r : Result T E) → ((x : T) → A x → B x → C x) → IfOk r A → IfOk r B → IfOk r C
+if_ok_both (Ok x) f a b = f x a b
+if_ok_both (Err e) f a b = a
 
 behind-before : (n : ℕ) (next : Step) → step_behind n (step_before n next) ≡ next
 behind-before n (steps.Take cell input) = let same : cell + n - n ≡ cell = omega arith in ap (λ (k : ℕ). steps.Take k input) same
@@ -101,9 +113,9 @@ module _ {N : Type 0} where
   grows_here lives l l' others next is e = subst (λ (ls : List (NumberedLife N)). GrowsIn next ls (l' ∷ others)) (sym is) (in_it e)
 
   -- a list of a later life grew
-  pub grows_behind : (lives : List (NumberedLife N)) (l : NumberedLife N) (others others' : List (NumberedLife N)) (next q : Step) (n : ℕ) → lives ≡ l ∷ others → n ≡ length l.life.cells → q ≡ step_behind n next → GrowsIn q others others' → GrowsIn next lives (l ∷ others')
-  grows_behind lives l others others' next q n is long same e =
-      subst (λ (ls : List (NumberedLife N)). GrowsIn next ls (l ∷ others')) (sym is) (behind (subst (λ (k : ℕ). GrowsIn (step_behind k next) others others') long (subst (λ (s : Step). GrowsIn s others others') same e)))
+  pub grows_behind : (lives : List (NumberedLife N)) (l : NumberedLife N) (others others' : List (NumberedLife N)) (next q : Step) (n : ℕ) → lives ≡ l ∷ others → n ≡ length l.life.cells → q ≡ step_behind n next → n ≤ cell_of next → GrowsIn q others others' → GrowsIn next lives (l ∷ others')
+  grows_behind lives l others others' next q n is long same le e =
+      subst (λ (ls : List (NumberedLife N)). GrowsIn next ls (l ∷ others')) (sym is) (behind (subst (λ (k : ℕ). k ≤ cell_of next) long le) (subst (λ (k : ℕ). GrowsIn (step_behind k next) others others') long (subst (λ (s : Step). GrowsIn s others others') same e)))
 
   -- ---- some step can be made
 
@@ -156,9 +168,28 @@ module _ {N : Type 0} where
 -- ---- prefixes
 
 module _ {N P S : Type 0} (g : Ghosts N P S) where
+  -- what the first life keeps and what the others keep is what all keep
+  pub lives_more : (lives : List (NumberedLife N)) (l : NumberedLife N) (others : List (NumberedLife N)) → lives ≡ l ∷ others → Each IsSound lives → (l.life.spent ≡ false → IsLife g l.life.cells) → Each (IsLifeIn g) others → Each (IsLifeIn g) lives
+  lives_more lives l others is sound keeps rest =
+      let sounds : Each IsSound (l ∷ others) = subst (λ (ls : List (NumberedLife N)). Each IsSound ls) is sound in
+      subst (λ (ls : List (NumberedLife N)). Each (IsLifeIn g) ls) (sym is) (keeps sounds.0.unspent, rest)
+
   -- what a life keeps says that its edges have carried prefixes
   pub prefixes_more : (lives : List (NumberedLife N)) (l : NumberedLife N) (others : List (NumberedLife N)) → lives ≡ l ∷ others → Each IsSound lives → (l.life.spent ≡ false → IsLife g l.life.cells) → Each (HasPrefixes g) others → Each (HasPrefixes g) lives
   prefixes_more lives l others is sound keeps rest =
       let sounds : Each IsSound (l ∷ others) = subst (λ (ls : List (NumberedLife N)). Each IsSound ls) is sound in
       let life : IsLife g l.life.cells = keeps sounds.0.unspent in
       subst (λ (ls : List (NumberedLife N)). Each (HasPrefixes g) ls) (sym is) (carries_prefixes g l.life.cells life.ready, rest)
+
+-- ---- sums
+
+module _ {N P S : Type 0} (g : Ghosts N P S) where
+  -- what each life has moved, added up
+  pub moved_twice : (lives : List (NumberedLife N)) → Each (HasMovedTwice g) lives → HaveMovedTwice g lives
+  moved_twice [] each [] are = refl
+  moved_twice [] each (s ∷ all) are = absurd are
+  moved_twice (l ∷ lives) each [] are = absurd are
+  moved_twice (l ∷ lives) each (s ∷ all) are =
+      let a : moves_of l.life.cells ≡ sum_of_all (stream_length s) (parents_of l.life.cells) + sum_of_all (stream_length s) (parents_of l.life.cells) = each.0 s are.0 in
+      let b : moves_in lives ≡ streams_length lives all + streams_length lives all = moved_twice lives each.1 all are.1 in
+      omega (arith, a, b)

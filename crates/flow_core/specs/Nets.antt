@@ -1,6 +1,6 @@
 -- Lives side by side, whose cells are numbered life by life.
 use Rattle.std.specs.Prelude.{◌≡◌, ℕ, ◌+◌, ◌-◌, ◌<◌, ◌≤◌, Bool, false, List, [], ◌∷◌, Some, length, map, slice_get}
-use Rattle.std.specs.List.{AllByRecursion as Each}
+use Rattle.std.specs.List.{AllByRecursion as Each, AllZip}
 use Rattle.kap_base.specs.declared.items.Effect.{Effect}
 use Rattle.kap_base.specs.declared.items.Msg.{Msg}
 use Rattle.kap_base.specs.declared.items.Stamp.{Stamp}
@@ -9,11 +9,13 @@ use Rattle.flow_cells.specs.declared.parts.CellParts.{CellParts}
 use Rattle.flow_life.specs.declared.steps.Step.{Step}
 use Rattle.flow_life.specs.declared.steps.Step.TheVariants as steps
 use Rattle.flow_life.specs.Loads.{IsGathered, plan_now}
+use Rattle.flow_life.specs.Nodes.{specs_of}
 use Rattle.flow_life.specs.Settling.{Grows}
 use Rattle.flow_life.specs.Steps.{AreQuiet, IsEnabled, moves_of}
 use Rattle.flow_life.specs.Streams.{AreStreams, CarriesPrefixes, CarriesStreams, Plan, plans_of, stream_length}
+use Rattle.flow_life.specs.Trying.{mover}
 use Rattle.flow_life.specs.Wired.{parents_of, sum_of_all}
-use Rattle.flow_life.specs.Lives.{LifeValue}
+use Rattle.flow_life.specs.Lives.{IsLife, LifeValue}
 use Rattle.flow_core.specs.declared.lives.Numbered.{Numbered}
 
 -- a life with its number
@@ -34,8 +36,7 @@ pub record IsSound {N : Type 0} (l : NumberedLife N) : Type 0 where
 
 -- the cell that a step moves
 abbrev pub cell_of : Step → ℕ
-cell_of (steps.Take cell input) = cell
-cell_of (steps.Put cell out) = cell
+cell_of next = mover next
 
 -- the step that it is for lives behind so many cells
 abbrev pub step_behind : ℕ → Step → Step
@@ -60,7 +61,7 @@ pub record SomeEnabledIn {N : Type 0} (lives : List (NumberedLife N)) : Type 0 w
 -- a step makes exactly one list longer, by one message, in the life that has the cell; the others stay
 pub data GrowsIn {N : Type 0} : Step → List (NumberedLife N) → List (NumberedLife N) → Type 0 where
   in_it : {l l' : NumberedLife N} {lives : List (NumberedLife N)} {next : Step} → Grows next l.life.cells l'.life.cells → GrowsIn next (l ∷ lives) (l' ∷ lives)
-  behind : {l : NumberedLife N} {lives lives' : List (NumberedLife N)} {next : Step} → GrowsIn (step_behind (length l.life.cells) next) lives lives' → GrowsIn next (l ∷ lives) (l ∷ lives')
+  behind : {l : NumberedLife N} {lives lives' : List (NumberedLife N)} {next : Step} → length l.life.cells ≤ cell_of next → GrowsIn (step_behind (length l.life.cells) next) lives lives' → GrowsIn next (l ∷ lives) (l ∷ lives')
 
 -- how many messages were sent and received by all cells since the load
 abbrev pub moves_in : {N : Type 0} → List (NumberedLife N) → ℕ
@@ -74,6 +75,12 @@ numbers_of lives = map (λ l. l.number) lives
 -- nothing waits in it, and nothing is on an edge
 abbrev pub IsResting : {N : Type 0} → NumberedLife N → Type 0
 IsResting l = AreQuiet l.life.cells
+
+-- the length of the streams of each life, over all its edges, added up
+abbrev pub streams_length : {N : Type 0} → List (NumberedLife N) → List (List (List Msg)) → ℕ
+streams_length [] all = 0
+streams_length (l ∷ lives) [] = 0
+streams_length (l ∷ lives) (streams ∷ all) = sum_of_all (stream_length streams) (parents_of l.life.cells) + streams_length lives all
 
 -- a cell by its number
 pub data HasCell {N : Type 0} : List (NumberedLife N) → ℕ → CellParts N → Type 0 where
@@ -90,11 +97,19 @@ module _ {N P S : Type 0} (g : Ghosts N P S) where
   abbrev pub HasPrefixes : NumberedLife N → Type 0
   HasPrefixes l = CarriesPrefixes g l.life.cells
 
+  -- its cells keep what those of a life keep
+  abbrev pub IsLifeIn : NumberedLife N → Type 0
+  IsLifeIn l = IsLife g l.life.cells
+
   -- the nodes of each life at the last load
   abbrev pub plans_in : List (NumberedLife N) → List (List (Plan S))
   plans_in lives = map (λ l. plans_of g l.life.cells) lives
 
-  -- and what they are at a load of these messages
+  -- what the nodes of each life are
+  abbrev pub specs_in : List (NumberedLife N) → List (List P)
+  specs_in lives = map (λ l. specs_of g l.life.cells) lives
+
+  -- and as a load of these messages finds them
   abbrev pub plans_from : List Msg → List (NumberedLife N) → List (List (Plan S))
   plans_from source lives = map (λ l. map (plan_now g source) l.life.cells) lives
 
@@ -106,3 +121,11 @@ module _ {N P S : Type 0} (g : Ghosts N P S) where
   abbrev pub HasMovedTwice : NumberedLife N → Type 0
   HasMovedTwice l = (streams : List (List Msg)) → AreStreams (plans_of g l.life.cells) streams
       → moves_of l.life.cells ≡ sum_of_all (stream_length streams) (parents_of l.life.cells) + sum_of_all (stream_length streams) (parents_of l.life.cells)
+
+  -- the streams of each life
+  abbrev pub AreStreamsIn : List (NumberedLife N) → List (List (List Msg)) → Type 0
+  AreStreamsIn lives all = AllZip (λ l streams. AreStreams (plans_of g l.life.cells) streams) lives all
+
+  -- they have sent and received twice the length of all streams of all lives
+  abbrev pub HaveMovedTwice : List (NumberedLife N) → Type 0
+  HaveMovedTwice lives = (all : List (List (List Msg))) → AreStreamsIn lives all → moves_in lives ≡ streams_length lives all + streams_length lives all

@@ -12,6 +12,7 @@ ghost use Rattle.flow_cells.specs.Outs.{item_msgs};
 ghost use Rattle.flow_cells.specs.declared.parts.CellParts.{CellParts};
 ghost use Rattle.flow_life.specs.Lives.{IsLife};
 ghost use Rattle.flow_life.specs.Loads.{plan_now};
+ghost use Rattle.flow_life.specs.Nodes.{specs_of};
 ghost use Rattle.flow_life.specs.Streams.{AreStreams, CarriesStreams, plans_of};
 ghost use Rattle.task_run.specs.Active.{Active, IsAt, placed};
 ghost use Rattle.task_run.specs.Graphs.{Placed, graph_gives, outs_of};
@@ -62,8 +63,8 @@ pub fn loads_go_on<N: Node>()
         ≡ map (λ g. g.drops) (graph_gives N.answer points (map placed acts)) }
 {}
 
-/// A life that is at rest behind a load of more points, with the nodes that it had before, is loaded with these points too: so what
-/// its cells have given out and done in all loads is what whole lists give.
+/// A life that is at rest behind a load of more points, whose nodes are still what they were, is loaded with these points too: so
+/// what its cells have given out and done in all loads is what whole lists give.
 pub fn lives_go_on<N: Node>()
     ensures { (points new : List PointValue) (upto : Stamp) (marks : List Stamp)
         (before after : List (CellParts N)) (outs : ℕ → List Msg) (done : ℕ → List Effect)
@@ -72,7 +73,7 @@ pub fn lives_go_on<N: Node>()
         → upto.0 ≡ length (points ++ new) → AreMarksOf new upto marks
         → IsLife N.Node after
         → plans_of N.Node after ≡ map (plan_now N.Node (load_messages new upto marks)) before
-        → map placed (acts_of N.Node after) ≡ map placed (acts_of N.Node before)
+        → specs_of N.Node after ≡ specs_of N.Node before
         → CarriesStreams N.Node after → AreStreams (plans_of N.Node after) streams
         → Loaded N.first N.step (points ++ new) (acts_of N.Node after)
         (λ node. outs node ++ slice_index_or streams node [])

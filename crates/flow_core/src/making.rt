@@ -7,23 +7,24 @@ ghost use Rattle.flow_life.specs.Loads.{IsGathered};
 ghost use Rattle.flow_life.specs.Making.{IsSaved, nodes_of, passed_of};
 ghost use Rattle.flow_life.specs.Steps.{AreQuiet};
 ghost use Rattle.flow_life.specs.Wired.{parents_of};
-ghost use Rattle.flow_core.specs.Making.{AreLivesOf, CanAddAll, HasFewParents, IsLifeOf};
+ghost use Rattle.flow_core.specs.Making.{AreLivesOf, CanAddAll, HasFewParents, IsLifeBehind};
 
 use crate::lives::Numbered;
 use edge_queue::CAPACITY_LIMIT;
 use flow_life::Life;
-use kap_base::NoMemory;
+use kap_base::{NoMemory, Stamp};
 use node_core::Node;
 use std::alloc::Global;
 use task_run::{Ids, LifePlan};
 
-/// Adds cells of nodes, the last one first, with these parents, the first ones first.
+/// Adds cells of nodes, the last one first, with these parents, the first ones first, behind a barrier.
 fn add_cells<N: Node>(
     alloc: Global,
     life: &mut Life<N>,
     mut nodes: Vec<N>,
     parents: &[Ids],
     capacity: u32,
+    stamp: Stamp,
 ) -> Result<(), NoMemory>
     requires unspent { life.old.spent ≡ false }
     requires nothing { Each HasNothing life.old.cells }
@@ -32,7 +33,7 @@ fn add_cells<N: Node>(
     requires rest { AreQuiet life.old.cells }
     requires gathered { Each IsGathered life.old.cells }
     requires saved { Each (IsSaved N.Node) life.old.cells }
-    requires passed { Each (λ b. b ≡ 0) (passed_of life.old.cells) }
+    requires passed { Each (λ b. b ≡ stamp.0) (passed_of life.old.cells) }
     requires some { 0 < capacity }
     requires limit { capacity ≤ CAPACITY_LIMIT }
     ensures unspent { OnOk result (life.new.spent ≡ false) }
@@ -43,7 +44,7 @@ fn add_cells<N: Node>(
     ensures rest { OnOk result (AreQuiet life.new.cells) }
     ensures gathered { OnOk result (Each IsGathered life.new.cells) }
     ensures saved { OnOk result (Each (IsSaved N.Node) life.new.cells) }
-    ensures passed { OnOk result (Each (λ b. b ≡ 0) (passed_of life.new.cells)) }
+    ensures passed { OnOk result (Each (λ b. b ≡ stamp.0) (passed_of life.new.cells)) }
 {
     let Some((first, others)) = parents.split_first() else {
         return Ok(());
@@ -51,27 +52,28 @@ fn add_cells<N: Node>(
     let Some(node) = nodes.pop() else {
         return Ok(());
     };
-    life.add(alloc, node, first.as_slice(), capacity)?;
-    add_cells(alloc, life, nodes, others, capacity)
+    life.add_behind(alloc, node, first.as_slice(), capacity, stamp)?;
+    add_cells(alloc, life, nodes, others, capacity, stamp)
 }
 
-/// The life of a plan.
+/// The life of a plan, behind a barrier.
 pub(crate) fn life_of<N: Node>(
     alloc: Global,
     plan: LifePlan<N>,
     capacity: u32,
+    stamp: Stamp,
 ) -> Result<Numbered<Life<N>>, NoMemory>
     requires few { HasFewParents plan }
     requires some { 0 < capacity }
     requires limit { capacity ≤ CAPACITY_LIMIT }
-    ensures { IfOk result (IsLifeOf N.Node plan) }
+    ensures { IfOk result (IsLifeBehind N.Node stamp.0 plan) }
 {
     let number = plan.life;
     let mut nodes = plan.nodes.into_items();
     let parents = plan.parents.into_items();
     nodes.reverse();
     let mut life = Life::new(alloc);
-    add_cells(alloc, &mut life, nodes, &parents, capacity)?;
+    add_cells(alloc, &mut life, nodes, &parents, capacity, stamp)?;
     Ok(Numbered { number, life })
 }
 
@@ -88,7 +90,7 @@ pub(crate) fn lives_of<N: Node>(
 {
     let mut lives = Vec::new(alloc);
     'making: for plan in plans {
-        lives.push(life_of(alloc, plan, capacity)?)?;
+        lives.push(life_of(alloc, plan, capacity, Stamp(0))?)?;
     }
     Ok(lives)
 }

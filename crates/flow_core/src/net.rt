@@ -1,9 +1,12 @@
 //! A net, whose type says what its lives keep.
 
+use crate::cells::{Cells, give};
 use crate::gathering::sort_effects;
-use crate::lives::{Numbered, at_rest, dropped, keep_prefixes, load, play, step};
+use crate::listing::list_steps;
+use crate::lives::{Numbered, at_rest, dropped, keep_lives, load, place_of, play, step};
 use crate::loads::messages;
-use crate::making::lives_of;
+use crate::making::{life_of, lives_of};
+use crate::resting::{play_by, run};
 use edge_queue::CAPACITY_LIMIT;
 use flow_life::{Life, Step};
 use kap_base::{NoMemory, Point, Stamp};
@@ -17,13 +20,13 @@ use task_run::LifePlan;
 /// and that the effects of all moves were gathered, unless it is spent.
 #[derive(Drop)]
 pub struct Net<N: Node> {
-    // In the order of their numbers.
+    // In the order in which they came.
     lives: Vec<Numbered<Life<N>>>,
     // The effects that weren't collected yet.
     gathered: Effects,
     // The stamp of the barrier at the end of the last load.
     last: Stamp,
-    // Whether a call on it failed in the middle.
+    // Whether a call on it failed in the middle, or its cells are out.
     spent: bool,
 }
 
@@ -50,14 +53,24 @@ impl<N: Node> Model for Net<N> {
 }
 
 impl<N: Node> Net<N> {
-    ghost use Rattle.std.specs.Prelude.{◌≡◌, ◌+◌, ◌<◌, ◌≤◌, false, true, [], ◌∷◌, ◌++◌, IfOk, IsFalse, IsPermutation, IsTrue, OnErr, OnOk, length};
+    ghost use Rattle.std.specs.Prelude.{◌≡◌, ◌+◌, ◌<◌, ◌≤◌, ℕ, false, true, [], ◌∷◌, ◌++◌, IfOk, Contains, IsFalse, IsPermutation, IsTrue, List, OnErr, OnOk, length, map};
     ghost use Rattle.std.specs.List.{AllByRecursion as Each};
+    ghost use Rattle.kap_base.specs.Points.{PointValue};
+    ghost use Rattle.kap_base.specs.declared.items.Effect.{Effect};
     ghost use Rattle.flow_cells.specs.declared.parts.CellParts.{CellParts};
     ghost use Rattle.flow_life.specs.Loads.{IsGathered};
     ghost use Rattle.flow_life.specs.Steps.{one_if};
-    ghost use Rattle.flow_core.specs.Making.{AreLivesOf, HasFewParents};
-    ghost use Rattle.flow_core.specs.Messages.{load_messages};
-    ghost use Rattle.flow_core.specs.Nets.{EnabledIn, GrowsIn, HasCell, HasMovedTwice, HasPrefixes, HasStreamsCarried, IsResting, SomeEnabledIn, cell_count, moves_in, numbers_of, plans_from, plans_in};
+    ghost use Rattle.flow_life.specs.declared.steps.Step.{Step};
+    ghost use Rattle.task_run.specs.Graphs.{Placed};
+    ghost use Rattle.task_run.specs.Lives.{effects_of};
+    ghost use Rattle.task_run.specs.Plans.{AreFirstStates, PlanValue, graph_of};
+    ghost use Rattle.flow_core.specs.Away.{AreBack, IsBack, with_lives};
+    ghost use Rattle.flow_core.specs.Gathering.{LivesRise, NumbersEffects, effects_by_node};
+    ghost use Rattle.flow_core.specs.Making.{AreLivesOf, Begins, Ends, HasFewParents};
+    ghost use Rattle.flow_core.specs.Messages.{AreMarksOf, load_messages};
+    ghost use Rattle.flow_core.specs.Nets.{EnabledIn, GrowsIn, HasCell, HasMovedTwice, HasPrefixes, HasStreamsCarried, HaveMovedTwice, IsLifeIn, IsResting, IsSound, NumberedLife, SomeEnabledIn, cell_count, moves_in, numbers_of, plans_from, plans_in, specs_in};
+    ghost use Rattle.flow_core.specs.Ran.{HasRun, IsNew};
+    ghost use Rattle.flow_core.specs.Running.{SameEnabledIn, left_in, steps_of};
     ghost use Rattle.flow_core.specs.Sorting.{AreSorted};
 
     /// A net without lives.
@@ -84,6 +97,8 @@ impl<N: Node> Net<N> {
         ensures lives { IfOk result (λ net. AreLivesOf N.Node plans.items net.lives) }
         ensures rest { IfOk result (λ net. Each IsResting net.lives) }
         ensures gathered { IfOk result (λ net. net.gathered ≡ []) }
+        ensures new { IfOk result (λ net. AreFirstStates N.spec N.state N.first plans.items
+            → IsNew N.Node plans.items net) }
         ensures last { IfOk result (λ net. net.last.0 ≡ 0) }
         ensures spent { IfOk result (λ net. net.spent ≡ false) }
     {
@@ -111,6 +126,44 @@ impl<N: Node> Net<N> {
         Ok(())
     }
 
+    /// A life of a plan begins at rest, behind the others, with edges that have room for 1 to 65,536 messages: its cells have the
+    /// plan's nodes, whose states are saved at the barrier at the end of the last load. An `Err` changes nothing.
+    pub fn begin(&mut self, alloc: Global, plan: LifePlan<N>, capacity: u32) -> Result<(), NoMemory>
+        requires unspent { self.old.spent ≡ false }
+        requires rest { Each IsResting self.old.lives }
+        requires few { HasFewParents plan }
+        requires some { 0 < capacity }
+        requires limit { capacity ≤ CAPACITY_LIMIT }
+        ensures begins { OnOk result (Begins N.Node self.old.last.0 plan
+            self.old.lives self.new.lives) }
+        ensures rest { Each IsResting self.new.lives }
+        ensures gathered { self.new.gathered ≡ self.old.gathered }
+        ensures last { self.new.last ≡ self.old.last }
+        ensures spent { self.new.spent ≡ false }
+        ensures err { OnErr result (self.new.lives ≡ self.old.lives) }
+    {
+        let life = life_of(alloc, plan, capacity, self.last)?;
+        self.lives.push(life)?;
+        Ok(())
+    }
+
+    /// The first life with this number ends at rest, where nothing is left to collect: its cells are gone, and the numbers of
+    /// the cells behind it close up. It takes no memory.
+    pub fn end(&mut self, number: u32)
+        requires unspent { self.old.spent ≡ false }
+        requires rest { Each IsResting self.old.lives }
+        requires collected { self.old.gathered ≡ [] }
+        requires has { Contains (numbers_of self.old.lives) number }
+        ensures ends { Ends number self.old.lives self.new.lives }
+        ensures rest { Each IsResting self.new.lives }
+        ensures gathered { self.new.gathered ≡ [] }
+        ensures last { self.new.last ≡ self.old.last }
+        ensures spent { self.new.spent ≡ false }
+    {
+        let place = place_of(&self.lives, number);
+        let _ended = self.lives.remove(place);
+    }
+
     /// A load begins: the points, with the stamps that end at `upto`, go to each life, with a barrier behind each stamp of
     /// `marks` and one behind the last point. From now on what is sent, received and done is counted anew, each node from the
     /// state in which it is. Streams handle the points in this call. After NoMemory the net is spent.
@@ -127,11 +180,22 @@ impl<N: Node> Net<N> {
         ensures numbers { OnOk result (numbers_of self.new.lives ≡ numbers_of self.old.lives) }
         ensures plans { OnOk result (plans_in N.Node self.new.lives
             ≡ plans_from N.Node (load_messages points.now upto marks.now) self.old.lives) }
+        ensures specs { OnOk result (specs_in N.Node self.new.lives ≡ specs_in N.Node self.old.lives) }
+        ensures steps { OnOk result (steps_of self.new.lives ≡ steps_of self.old.lives) }
         ensures count { OnOk result (moves_in self.new.lives ≡ 0) }
+        ensures first { OnOk result ((plans : List (PlanValue N)) → IsNew N.Node plans self.old
+            → upto.0 ≡ length points.now → AreMarksOf points.now upto marks.now
+            → HasRun N.Node (map (graph_of N.spec) plans) points.now [] self.new) }
+        ensures again { OnOk result ((lives : List (List (Placed N.Spec)))
+            (before : List PointValue) (collected : List Effect)
+            → HasRun N.Node lives before collected self.old
+            → upto.0 ≡ length (before ++ points.now) → AreMarksOf points.now upto marks.now
+            → HasRun N.Node lives (before ++ points.now) collected self.new) }
         ensures last { OnOk result (self.new.last ≡ upto) }
         ensures unspent { OnOk result (self.new.spent ≡ false) }
         ensures spent { OnErr result (self.new.spent ≡ true) }
     {
+        keep_lives(&self.lives);
         self.spent = true;
         let source = messages(alloc, points, upto, marks)?;
         load(alloc, &mut self.lives, &source, &mut self.gathered)?;
@@ -141,18 +205,28 @@ impl<N: Node> Net<N> {
     }
 
     /// Makes a step. `false` comes exactly where it isn't enabled: there is no such cell, input or out, the edge is empty or
-    /// a message waits to be sent (take), or none waits or the edge has no free place (put). After NoMemory the net is
-    /// spent.
+    /// a message waits to be sent (take), or none waits or the edge has no free place (put); then what can be made is as
+    /// before. After NoMemory the net is spent.
     pub fn step(&mut self, alloc: Global, next: Step) -> Result<bool, NoMemory>
         requires { self.old.spent ≡ false }
         ensures numbers { OnOk result (numbers_of self.new.lives ≡ numbers_of self.old.lives) }
         ensures plans { OnOk result (plans_in N.Node self.new.lives ≡ plans_in N.Node self.old.lives) }
+        ensures specs { OnOk result (specs_in N.Node self.new.lives ≡ specs_in N.Node self.old.lives) }
         ensures yes { IfOk result (λ made. IsTrue made → EnabledIn self.old.lives next) }
         ensures no { IfOk result (λ made. IsFalse made → EnabledIn self.old.lives next → ⊥) }
         ensures grows { IfOk result (λ made. IsTrue made
             → GrowsIn next self.old.lives self.new.lives) }
+        ensures steps { OnOk result (steps_of self.new.lives ≡ steps_of self.old.lives) }
         ensures count { IfOk result (λ made. moves_in self.new.lives
             ≡ moves_in self.old.lives + one_if made) }
+        ensures left { IfOk result (λ made. left_in N.Node self.old.lives
+            ≡ left_in N.Node self.new.lives + one_if made) }
+        ensures still { IfOk result (λ made. IsFalse made
+            → SameEnabledIn self.old.lives self.new.lives) }
+        ensures runs { OnOk result ((lives : List (List (Placed N.Spec)))
+            (points : List PointValue) (collected : List Effect)
+            → HasRun N.Node lives points collected self.old
+            → HasRun N.Node lives points collected self.new) }
         ensures last { OnOk result (self.new.last ≡ self.old.last) }
         ensures unspent { OnOk result (self.new.spent ≡ false) }
         ensures spent { OnErr result (self.new.spent ≡ true) }
@@ -168,8 +242,14 @@ impl<N: Node> Net<N> {
         requires { self.old.spent ≡ false }
         ensures numbers { OnOk result (numbers_of self.new.lives ≡ numbers_of self.old.lives) }
         ensures plans { OnOk result (plans_in N.Node self.new.lives ≡ plans_in N.Node self.old.lives) }
+        ensures specs { OnOk result (specs_in N.Node self.new.lives ≡ specs_in N.Node self.old.lives) }
+        ensures steps { OnOk result (steps_of self.new.lives ≡ steps_of self.old.lives) }
         ensures count { IfOk result (λ made. moves_in self.new.lives
             ≡ moves_in self.old.lives + made) }
+        ensures runs { OnOk result ((lives : List (List (Placed N.Spec)))
+            (points : List PointValue) (collected : List Effect)
+            → HasRun N.Node lives points collected self.old
+            → HasRun N.Node lives points collected self.new) }
         ensures last { OnOk result (self.new.last ≡ self.old.last) }
         ensures unspent { OnOk result (self.new.spent ≡ false) }
         ensures spent { OnErr result (self.new.spent ≡ true) }
@@ -180,17 +260,134 @@ impl<N: Node> Net<N> {
         Ok(made)
     }
 
+    /// All its steps, by cell, of each cell its takes by input and then its puts by out; each that can be made is among them.
+    /// They stay the same whatever it runs. NoMemory comes where an allocation fails or a number has more than 32 bits.
+    pub fn steps(&self, alloc: Global) -> Result<Vec<Step>, NoMemory>
+        ensures steps { IfOk result (λ steps. steps.items ≡ steps_of self.now.lives) }
+        ensures all { IfOk result (λ steps. (next : Step)
+            → EnabledIn self.now.lives next → Contains steps.items next) }
+    {
+        list_steps(alloc, &self.lives)
+    }
+
+    /// Makes steps until nothing is left to do, in the order of a number: of all steps, c in number, at the turn j from 0 it
+    /// tries the one at `number` + j · (2 · `number` + 1) mod c and then the following ones round, makes the first that is
+    /// enabled, and ends where none is. After NoMemory the net is spent.
+    pub fn play_by(&mut self, alloc: Global, number: u32) -> Result<(), NoMemory>
+        requires { self.old.spent ≡ false }
+        ensures rest { OnOk result (Each IsResting self.new.lives) }
+        ensures numbers { OnOk result (numbers_of self.new.lives ≡ numbers_of self.old.lives) }
+        ensures plans { OnOk result (plans_in N.Node self.new.lives ≡ plans_in N.Node self.old.lives) }
+        ensures specs { OnOk result (specs_in N.Node self.new.lives ≡ specs_in N.Node self.old.lives) }
+        ensures steps { OnOk result (steps_of self.new.lives ≡ steps_of self.old.lives) }
+        ensures runs { OnOk result ((lives : List (List (Placed N.Spec)))
+            (points : List PointValue) (collected : List Effect)
+            → HasRun N.Node lives points collected self.old
+            → HasRun N.Node lives points collected self.new) }
+        ensures last { OnOk result (self.new.last ≡ self.old.last) }
+        ensures unspent { OnOk result (self.new.spent ≡ false) }
+        ensures spent { OnErr result (self.new.spent ≡ true) }
+    {
+        self.spent = true;
+        play_by(alloc, &mut self.lives, number, &mut self.gathered)?;
+        self.spent = false;
+        Ok(())
+    }
+
+    /// Makes steps until nothing is left to do, by one thread: cell by cell all that can be made, and again. After NoMemory the
+    /// net is spent.
+    pub fn run(&mut self, alloc: Global) -> Result<(), NoMemory>
+        requires { self.old.spent ≡ false }
+        ensures rest { OnOk result (Each IsResting self.new.lives) }
+        ensures numbers { OnOk result (numbers_of self.new.lives ≡ numbers_of self.old.lives) }
+        ensures plans { OnOk result (plans_in N.Node self.new.lives ≡ plans_in N.Node self.old.lives) }
+        ensures specs { OnOk result (specs_in N.Node self.new.lives ≡ specs_in N.Node self.old.lives) }
+        ensures steps { OnOk result (steps_of self.new.lives ≡ steps_of self.old.lives) }
+        ensures runs { OnOk result ((lives : List (List (Placed N.Spec)))
+            (points : List PointValue) (collected : List Effect)
+            → HasRun N.Node lives points collected self.old
+            → HasRun N.Node lives points collected self.new) }
+        ensures last { OnOk result (self.new.last ≡ self.old.last) }
+        ensures unspent { OnOk result (self.new.spent ≡ false) }
+        ensures spent { OnErr result (self.new.spent ≡ true) }
+    {
+        self.spent = true;
+        run(alloc, &mut self.lives, &mut self.gathered)?;
+        self.spent = false;
+        Ok(())
+    }
+
     /// Whether nothing is pending, unsent, buffered or on an edge. While it isn't so, some step is enabled; where it is so,
-    /// each edge has carried its stream.
+    /// each edge has carried its stream, and the messages sent and received since the load are twice the streams' length.
     pub fn at_rest(&self) -> bool
         requires { self.now.spent ≡ false }
         ensures rest { IsTrue result → Each IsResting self.now.lives }
         ensures busy { IsFalse result → Each IsResting self.now.lives → ⊥ }
         ensures streams { IsTrue result → Each (HasStreamsCarried N.Node) self.now.lives }
         ensures twice { IsTrue result → Each (HasMovedTwice N.Node) self.now.lives }
+        ensures twice_in_all { IsTrue result → HaveMovedTwice N.Node self.now.lives }
+        ensures none { IsTrue result → left_in N.Node self.now.lives ≡ 0 }
         ensures alive { IsFalse result → SomeEnabledIn self.now.lives }
+        ensures all { IsTrue result → (lives : List (List (Placed N.Spec)))
+            (points : List PointValue) (collected : List Effect)
+            → HasRun N.Node lives points collected self.now
+            → IsPermutation (effects_by_node N.answer lives points)
+            (collected ++ self.now.gathered) }
     {
+        keep_lives(&self.lives);
         at_rest(&self.lives)
+    }
+
+    /// Takes the cells out, so that each may move by itself. Until they are given back the net is spent. It takes no memory.
+    pub fn take_cells(&mut self, alloc: Global) -> Cells<N>
+        requires { self.old.spent ≡ false }
+        ensures cells { result.lives.items ≡ self.old.lives }
+        ensures sound { Each IsSound result.lives.items }
+        ensures lives { Each (IsLifeIn N.Node) result.lives.items }
+        ensures none { self.new.lives ≡ [] }
+        ensures runs { (lives : List (List (Placed N.Spec)))
+            (points : List PointValue) (collected : List Effect)
+            → HasRun N.Node lives points collected self.old
+            → HasRun N.Node lives points collected (with_lives result.lives.items self.new) }
+        ensures gathered { self.new.gathered ≡ self.old.gathered }
+        ensures last { self.new.last ≡ self.old.last }
+        ensures spent { self.new.spent ≡ true }
+    {
+        keep_lives(&self.lives);
+        self.spent = true;
+        let lives = mem::replace(&mut self.lives, Vec::new(alloc));
+        Cells { lives }
+    }
+
+    /// Gives a net the cells that the last `take_cells` gave, in their order, each after moves of its own, of which none failed.
+    /// Each edge is settled and the effects are gathered. After NoMemory the net is spent.
+    pub fn give_cells(&mut self, alloc: Global, cells: Cells<N>) -> Result<(), NoMemory>
+        requires none { self.old.lives ≡ [] }
+        requires back { AreBack N.Node cells.lives.items }
+        ensures numbers { OnOk result ((before : List (NumberedLife N))
+            → IsBack N.Node before cells.lives.items
+            → numbers_of self.new.lives ≡ numbers_of before) }
+        ensures plans { OnOk result ((before : List (NumberedLife N))
+            → IsBack N.Node before cells.lives.items
+            → plans_in N.Node self.new.lives ≡ plans_in N.Node before) }
+        ensures specs { OnOk result ((before : List (NumberedLife N))
+            → IsBack N.Node before cells.lives.items
+            → specs_in N.Node self.new.lives ≡ specs_in N.Node before) }
+        ensures runs { OnOk result ((lives : List (List (Placed N.Spec)))
+            (points : List PointValue) (collected : List Effect) (before : List (NumberedLife N))
+            → IsBack N.Node before cells.lives.items
+            → HasRun N.Node lives points collected (with_lives before self.old)
+            → HasRun N.Node lives points collected self.new) }
+        ensures last { OnOk result (self.new.last ≡ self.old.last) }
+        ensures unspent { OnOk result (self.new.spent ≡ false) }
+        ensures spent { OnErr result (self.new.spent ≡ true) }
+    {
+        self.spent = true;
+        let mut lives = cells.lives;
+        give(alloc, &mut lives, &mut self.gathered)?;
+        self.lives = lives;
+        self.spent = false;
+        Ok(())
     }
 
     /// What each edge has carried is a prefix of its stream.
@@ -198,13 +395,23 @@ impl<N: Node> Net<N> {
         requires { self.now.spent ≡ false }
         ensures { Each (HasPrefixes N.Node) self.now.lives }
     {
-        keep_prefixes(&self.lives);
+        keep_lives(&self.lives);
     }
 
     /// The effects since the last call, by stamp, then by life, then by node, then by number. It takes no memory.
     pub fn collect(&mut self, alloc: Global) -> Effects
         ensures same { IsPermutation self.old.gathered result }
         ensures sorted { AreSorted result }
+        ensures runs { (lives : List (List (Placed N.Spec))) (points : List PointValue)
+            (collected : List Effect) → HasRun N.Node lives points collected self.old
+            → HasRun N.Node lives points (collected ++ result) self.new }
+        ensures whole { (numbers : (p : N.Spec) → NumbersEffects (N.answer p))
+            (lives : List (List (Placed N.Spec))) (old new : List PointValue) (lowest : ℕ)
+            (collected : List Effect) → LivesRise N.life N.number lowest lives
+            → IsPermutation (effects_by_node N.answer lives old) collected
+            → IsPermutation (effects_by_node N.answer lives (old ++ new))
+            (collected ++ self.old.gathered)
+            → effects_of N.answer lives (old ++ new) ≡ effects_of N.answer lives old ++ result }
         ensures none { self.new.gathered ≡ [] }
         ensures lives { self.new.lives ≡ self.old.lives }
         ensures last { self.new.last ≡ self.old.last }
@@ -223,7 +430,7 @@ impl<N: Node> Net<N> {
         dropped(&self.lives, cell)
     }
 
-    /// Whether a call on it failed in the middle.
+    /// Whether a call on it failed in the middle, or its cells are out.
     pub fn is_spent(&self) -> bool
         ensures { result ≡ self.now.spent }
     {

@@ -14,10 +14,20 @@ pub mod Settling
 pub mod Loads
 -- effects are gathered
 pub mod Gathers
+-- what nodes are, and what was gathered from each
+pub mod Nodes
+-- all steps, in order
+pub mod Listing
+-- what is still to be sent and to be received
+pub mod Left
+-- what a step leaves of what can be made and gathered
+pub mod Trying
 -- a cell is added
 pub mod Making
 -- what a life keeps
 pub mod Lives
+-- cells that move by themselves
+pub mod Loose
 -- proofs, no definitions
 pub mod PlaceLaws
 pub mod ChangeLaws
@@ -33,3 +43,9 @@ pub mod GatherLaws
 pub mod SplitLaws
 pub mod MakingLaws
 pub mod StartLaws
+pub mod NodeLaws
+pub mod LooseLaws
+pub mod TryLaws
+pub mod OneLaws
+pub mod LeftLaws
+pub mod ListingLaws

@@ -59,15 +59,6 @@ closed-for : (ins : List InEdge) (source : List Msg) → IsClosed source → IsC
 closed-for [] source closed = closed-own source closed
 closed-for (e ∷ ins) source closed = tt
 
--- without inputs all is a cell's own, and with some nothing
-pub own-all : (ins : List InEdge) (source : List Msg) → length ins ≡ 0 → own_of ins source ≡ source
-own-all [] source h = refl
-own-all (e ∷ ins) source h = absurd (omega (arith, h))
-
-pub own-none : (ins : List InEdge) (source : List Msg) → 0 < length ins → own_of ins source ≡ []
-own-none [] source h = absurd (omega (arith, h))
-own-none (e ∷ ins) source h = refl
-
 -- nothing is for any cell
 pub none-own : (ins : List InEdge) → IsOwn ins []
 none-own [] = tt

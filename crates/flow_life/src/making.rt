@@ -12,13 +12,13 @@ ghost use Rattle.flow_life.specs.Wired.{parents_of};
 
 use edge_queue::{CAPACITY_LIMIT, pair};
 use flow_cells::{Cell, InEdge, OutEdge};
-use kap_base::NoMemory;
+use kap_base::{NoMemory, Stamp};
 use merge_node::{PARENT_LIMIT, Queue};
 use node_core::Node;
 use std::alloc::Global;
 
 /// A number of 32 bits. `NoMemory` comes where it is too great.
-fn number_of(n: usize) -> Result<u32, NoMemory>
+pub(crate) fn number_of(n: usize) -> Result<u32, NoMemory>
     ensures { IfOk result (λ number. number ≡ n) }
 {
     match u32::try_from(n) {
@@ -66,13 +66,14 @@ fn add_edge<N: Node>(
     Ok(())
 }
 
-/// Adds a cell behind the others, where nothing was received since the load.
+/// Adds a cell behind the others, and behind a barrier, where nothing was received since the load.
 pub(crate) fn add_cell<N: Node>(
     alloc: Global,
     cells: &mut Vec<Cell<N>>,
     node: N,
     parents: &[u32],
     capacity: u32,
+    passed: Stamp,
 ) -> Result<(), NoMemory>
     requires life { IsLife N.Node cells.old.items }
     requires nothing { Each HasNothing cells.old.items }
@@ -86,7 +87,8 @@ pub(crate) fn add_cell<N: Node>(
     ensures nodes { OnOk result (nodes_of cells.new.items ≡ nodes_of cells.old.items ++ node ∷ []) }
     ensures parents { OnOk result (parents_of cells.new.items
         ≡ parents_of cells.old.items ++ parents.now ∷ []) }
-    ensures passed { OnOk result (passed_of cells.new.items ≡ passed_of cells.old.items ++ 0 ∷ []) }
+    ensures passed { OnOk result (passed_of cells.new.items
+        ≡ passed_of cells.old.items ++ passed.0 ∷ []) }
     ensures rest { OnOk result (AreQuiet cells.new.items) }
     ensures gathered { OnOk result (Each IsGathered cells.new.items) }
     ensures saved { OnOk result (Each (IsSaved N.Node) cells.new.items) }
@@ -95,7 +97,7 @@ pub(crate) fn add_cell<N: Node>(
     'adding: for parent in parents {
         add_edge(alloc, cells, &mut ins, *parent, capacity)?;
     }
-    let cell = Cell::new(alloc, node, ins)?;
+    let cell = Cell::new_behind(alloc, node, ins, passed)?;
     cells.push(cell)?;
     Ok(())
 }

@@ -1,13 +1,15 @@
 -- Loads and steps leave the cells of a net.
-use Rattle.std.proofs.Common.{◌≡◌, ℕ, suc, ◌+◌, List, [], ◌∷◌, ◌++◌, length, map, refl, sym, ap, ◌∙◌, arith}
+use Rattle.std.proofs.Common.{◌≡◌, ℕ, suc, ◌+◌, List, [], ◌∷◌, ◌++◌, length, map, refl, sym, ap, subst, ◌∙◌, arith}
+use Rattle.std.specs.Prelude.{Contains}
 use Rattle.std.specs.List.{AllZip}
+use Rattle.std.proofs.lemmas.List.Elements.{Contains-append_left}
 use Rattle.kap_base.specs.declared.items.Msg.{Msg}
 use Rattle.node_core.specs.declared.node.Node.{Ghosts}
 use Rattle.flow_life.specs.Loads.{plan_now}
 use Rattle.flow_life.specs.Streams.{Plan, plan_of}
 use Rattle.task_run.specs.Plans.{PlanValue}
-use Rattle.flow_core.specs.Making.{AreLivesOf}
-use Rattle.flow_core.specs.Nets.{NumberedLife, cell_count, plans_from, plans_in}
+use Rattle.flow_core.specs.Making.{AreLivesOf, Begins}
+use Rattle.flow_core.specs.Nets.{NumberedLife, cell_count, numbers_of, plans_from, plans_in}
 
 length-map : {A B : Type 0} (f : A → B) (xs : List A) → length (map f xs) ≡ length xs
 length-map f [] = refl
@@ -22,6 +24,10 @@ plan_count (ps ∷ pss) = length ps + plan_count pss
 pub added_cells : {N : Type 0} (lives : List (NumberedLife N)) (l : NumberedLife N) → cell_count (lives ++ l ∷ []) ≡ cell_count lives + length l.life.cells
 added_cells [] l = omega arith
 added_cells (m ∷ lives) l = let e : cell_count (lives ++ l ∷ []) ≡ cell_count lives + length l.life.cells = added_cells lives l in omega arith
+
+numbers-append : {N : Type 0} (xs ys : List (NumberedLife N)) → numbers_of (xs ++ ys) ≡ numbers_of xs ++ numbers_of ys
+numbers-append [] ys = refl
+numbers-append (x ∷ xs) ys = ap (λ (ns : List ℕ). x.number ∷ ns) (numbers-append xs ys)
 
 module _ {N P S : Type 0} (g : Ghosts N P S) where
   counted : (lives : List (NumberedLife N)) → plan_count (plans_in g lives) ≡ cell_count lives
@@ -47,3 +53,14 @@ module _ {N P S : Type 0} (g : Ghosts N P S) where
       let e : length l.life.cells ≡ length plan.nodes = sym (length-map (λ c. c.core.node) l.life.cells) ∙ ap length z.0.nodes in
       omega arith
   plan_cells plan (l ∷ m ∷ lives) z = absurd z.1
+
+  -- a net of one plan has its life
+  pub plan_there : (plan : PlanValue N) (lives : List (NumberedLife N)) → AreLivesOf g (plan ∷ []) lives → Contains (numbers_of lives) plan.life
+  plan_there plan [] z = absurd z
+  plan_there plan (l ∷ lives) z = (0, omega arith, z.0.number)
+
+  -- a life that begins leaves the others there
+  pub begun_there : (stamp : ℕ) (plan : PlanValue N) (lives lives' : List (NumberedLife N)) (n : ℕ) → Begins g stamp plan lives lives' → Contains (numbers_of lives) n → Contains (numbers_of lives') n
+  begun_there stamp plan lives lives' n b has =
+      subst (λ (ls : List (NumberedLife N)). Contains (numbers_of ls) n) (sym b.is)
+      (subst (λ (ns : List ℕ). Contains ns n) (sym (numbers-append lives (b.life ∷ []))) (Contains-append_left (numbers_of lives) (numbers_of (b.life ∷ [])) n has))

@@ -28,7 +28,7 @@ pub const FIRST: &str = "1 1.0.0 10 plain\n1 1.1.0 10 plain\n1 1.2.0 10 plain\n\
      3 1.3.0 30 marked\n3 1.3.1 30 plain\n";
 
 /// And of the second.
-const SECOND: &str = "4 1.0.0 10 plain\n4 1.1.0 10 plain\n4 1.2.0 10 plain\n\
+pub const SECOND: &str = "4 1.0.0 10 plain\n4 1.1.0 10 plain\n4 1.2.0 10 plain\n\
      4 1.3.0 10 marked\n4 1.3.1 10 plain\n\
      5 1.0.0 20 plain\n5 1.1.0 20 plain\n5 1.2.0 20 plain\n\
      5 1.3.0 20 marked\n5 1.3.1 20 plain\n\
@@ -67,7 +67,7 @@ fn right() -> [Step; 4] {
 }
 
 /// A diamond as a net of life 1, with room for so many messages on each edge.
-fn diamond_net(alloc: Global, capacity: u32) -> Result<Net<RelayNode>, NoMemory>
+pub fn diamond_net(alloc: Global, capacity: u32) -> Result<Net<RelayNode>, NoMemory>
     requires some { 0 < capacity }
     requires limit { capacity ≤ CAPACITY_LIMIT }
     ensures unspent { IfOk result (λ net. net.spent ≡ false) }

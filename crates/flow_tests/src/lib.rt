@@ -1,6 +1,9 @@
-//! Tests of lives and nets: steps counted by hand, and effects that are the same for all orders of steps.
+//! Tests of lives and nets: steps counted by hand, effects that are the same for all orders of steps, and workers beside each
+//! other.
 #![tactic(auto)]
 
+#[cfg(test)]
+mod changes;
 #[cfg(test)]
 mod diamonds;
 #[cfg(test)]
@@ -12,4 +15,8 @@ mod points;
 #[cfg(test)]
 mod relay;
 #[cfg(test)]
+mod schedules;
+#[cfg(test)]
 mod sides;
+#[cfg(test)]
+mod workers;

@@ -1,12 +1,12 @@
 //! Nets of any nodes: made, loaded and played until they are at rest.
 
-ghost use Rattle.std.specs.Prelude.{◌≡◌, ◌+◌, ◌<◌, ◌≤◌, false, [], IfOk, IsTrue, OnOk, length};
+ghost use Rattle.std.specs.Prelude.{◌≡◌, ◌+◌, ◌<◌, ◌≤◌, false, [], Contains, IfOk, IsTrue, OnOk, length};
 ghost use Rattle.std.specs.List.{AllByRecursion as Each};
 ghost use Rattle.flow_cells.specs.Made.{HasNothing, one_or_more};
 ghost use Rattle.flow_life.specs.Loads.{IsGathered};
 ghost use Rattle.flow_life.specs.Steps.{AreQuiet};
 ghost use Rattle.flow_core.specs.Making.{HasFewParents};
-ghost use Rattle.flow_core.specs.Nets.{IsResting, cell_count};
+ghost use Rattle.flow_core.specs.Nets.{IsResting, cell_count, numbers_of};
 
 use crate::points::check_effects;
 use edge_queue::CAPACITY_LIMIT;
@@ -84,7 +84,7 @@ pub fn add_life<N: Node>(net: &mut Net<N>, number: u32, life: Life<N>) -> Result
 }
 
 /// A net of the life of a plan.
-#[tactic(auto, using(crate::proofs::CellLaws::plan_cells))]
+#[tactic(auto, using(crate::proofs::CellLaws::plan_cells, crate::proofs::CellLaws::plan_there))]
 pub fn net_of_plan<N: Node>(
     alloc: Global,
     plan: LifePlan<N>,
@@ -94,6 +94,9 @@ pub fn net_of_plan<N: Node>(
     requires some { 0 < capacity }
     requires limit { capacity ≤ CAPACITY_LIMIT }
     ensures unspent { IfOk result (λ net. net.spent ≡ false) }
+    ensures rest { IfOk result (λ net. Each IsResting net.lives) }
+    ensures gathered { IfOk result (λ net. net.gathered ≡ []) }
+    ensures has { IfOk result (λ net. Contains (numbers_of net.lives) plan.life) }
     ensures last { IfOk result (λ net. net.last.0 ≡ 0) }
     ensures cells { IfOk result (λ net. cell_count net.lives ≡ length plan.nodes) }
 {

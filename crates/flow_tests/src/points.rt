@@ -32,6 +32,16 @@ pub fn three_points(rt: &(impl AllocGlobal + Abort)) -> Result<Vec<Point>, Fail>
     Ok(points)
 }
 
+/// A hundred points, at the times 1 to 100.
+pub fn hundred_points(rt: &(impl AllocGlobal + Abort)) -> Result<Vec<Point>, Fail> {
+    let mut points = Vec::new(rt.alloc());
+    for time in 1u32..101 {
+        let line = format!(in rt.alloc(); "m x=1i {time}")?;
+        points.push(point(rt, &line)?)?;
+    }
+    Ok(points)
+}
+
 /// The time of the point that is logged, and whether it is marked; nothing of an event.
 fn logged(what: &What) -> (i64, &'static str) {
     match what {
@@ -53,7 +63,8 @@ fn put_effect(alloc: Global, effect: &Effect, text: &mut Bytes) -> Result<(), Fa
     Ok(())
 }
 
-fn text_of(alloc: Global, effects: &Effects) -> Result<Bytes, Fail> {
+/// Effects, one a line.
+pub fn text_of(alloc: Global, effects: &Effects) -> Result<Bytes, Fail> {
     let mut text = Bytes::new(alloc);
     for effect in effects.as_slice() {
         put_effect(alloc, effect, &mut text)?;

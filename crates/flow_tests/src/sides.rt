@@ -22,18 +22,19 @@ const BOTH: &str = "1 3.0.0 10 plain\n1 3.1.0 10 plain\n\
      3 3.0.0 30 plain\n3 3.1.0 30 plain\n\
      3 5.0.0 30 plain\n3 5.1.0 30 plain\n3 5.2.0 30 plain\n3 5.3.0 30 marked\n3 5.3.1 30 plain\n";
 
-/// The plan of life 3: two relays, of which the first feeds the second.
-fn plan_of_two(alloc: Global) -> Result<LifePlan<RelayNode>, NoMemory>
+/// The plan of a life with two relays, of which the first feeds the second.
+pub fn plan_of_two(alloc: Global, life: u32) -> Result<LifePlan<RelayNode>, NoMemory>
     ensures few { IfOk result HasFewParents }
     ensures nodes { IfOk result (λ plan. length plan.nodes ≡ 2) }
+    ensures life { IfOk result (λ plan. plan.life ≡ life) }
 {
-    let first = relay_node(alloc, 3, 0, 1, false);
-    let second = relay_node(alloc, 3, 1, 1, false);
+    let first = relay_node(alloc, life, 0, 1, false);
+    let second = relay_node(alloc, life, 1, 1, false);
     let nodes = Vec::from_array(alloc, [first, second])?;
     let ids = Vec::from_array(alloc, [0u32])?;
     let parents = Vec::from_array(alloc, [Ids::new(alloc), Ids::from_items(ids)])?;
     Ok(LifePlan {
-        life: 3,
+        life,
         nodes: ItemList::from_items(nodes),
         parents: ItemList::from_items(parents),
     })
@@ -45,7 +46,7 @@ fn two_lives(alloc: Global) -> Result<Net<RelayNode>, NoMemory>
     ensures last { IfOk result (λ net. net.last.0 ≡ 0) }
     ensures cells { IfOk result (λ net. cell_count net.lives ≡ 6) }
 {
-    let mut net = net_of_plan(alloc, plan_of_two(alloc)?, 1)?;
+    let mut net = net_of_plan(alloc, plan_of_two(alloc, 3)?, 1)?;
     add_life(&mut net, 5, diamond(alloc, 5, 2)?)?;
     Ok(net)
 }

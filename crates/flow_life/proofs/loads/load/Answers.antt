@@ -1,4 +1,6 @@
+use Rattle.flow_life.specs.ListingLaws.{ends-loaded}
 use Rattle.flow_life.specs.LoadLaws.{can-load, loaded-closed, moves-loaded, plans-loaded, ready-loaded}
+use Rattle.flow_life.specs.NodeLaws.{specs-loaded}
 use Rattle.flow_life.specs.StreamLaws.{carries_prefixes}
 use Rattle.flow_life.proofs.loads.load.Goals as goal
 
@@ -16,6 +18,11 @@ returns-clause-life g c =
 pub returns-clause-plans : goal.returns-clause-plans
 returns-clause-plans g c = plans-loaded g.N.Node c.args.source.now c.args.cells.now c.load_cells.new.cells c.in_ok-load_cells.ensures.loads
 
+pub returns-clause-specs : goal.returns-clause-specs
+returns-clause-specs g c =
+    let e = c.in_ok-load_cells.ensures in
+    specs-loaded g.N.Node c.args.source.now c.args.cells.now c.load_cells.new.cells e.keeps e.loads
+
 pub returns-clause-prefixes : goal.returns-clause-prefixes
 returns-clause-prefixes g c =
     let e = c.in_ok-load_cells.ensures in
@@ -23,3 +30,6 @@ returns-clause-prefixes g c =
 
 pub returns-clause-count : goal.returns-clause-count
 returns-clause-count g c = moves-loaded c.args.source.now c.args.cells.now c.load_cells.new.cells c.in_ok-load_cells.ensures.loads
+
+pub returns-clause-ends : goal.returns-clause-ends
+returns-clause-ends g c = ends-loaded c.args.source.now c.args.cells.now c.load_cells.new.cells c.in_ok-load_cells.ensures.loads

@@ -74,7 +74,7 @@ returns-clause-parents g c =
 
 pub returns-clause-passed : goal.returns-clause-passed
 returns-clause-passed g c =
-    map-push (λ (x : CellParts g.row.N.Denot). x.core.passed.0) c.adding.cells.items c.in_ok-cell.cell c.push.new.self.items (passed_of c.args.cells.now.items) 0
+    map-push (λ (x : CellParts g.row.N.Denot). x.core.passed.0) c.adding.cells.items c.in_ok-cell.cell c.push.new.self.items (passed_of c.args.cells.now.items) c.args.passed.0
     c.in_ok-push.ensures.items c.adding.invariant.passed c.in_ok-cell.ensures.core.passed
 
 pub returns-clause-life : goal.returns-clause-life

@@ -1,4 +1,5 @@
 use Rattle.std.proofs.Common.{◌≡◌, ◌+◌, ◌≤◌}
+use Rattle.flow_life.specs.Nodes.{gathered_of, specs_of}
 use Rattle.flow_life.specs.Steps.{moves_of}
 use Rattle.flow_life.specs.Streams.{plans_of}
 use Rattle.flow_life.specs.Lives.{IsLife}
@@ -10,5 +11,7 @@ invariant-playing g l = record {
   made : l.made ≤ l.next-index;
   life : IsLife g.N.Node l.cells;
   plans : plans_of g.N.Node l.cells ≡ plans_of g.N.Node l.fn.cells;
+  specs : specs_of g.N.Node l.cells ≡ specs_of g.N.Node l.fn.cells;
+  gathered : gathered_of l.cells ≡ gathered_of l.fn.cells;
   count : moves_of l.cells ≡ moves_of l.fn.cells + l.made;
 }

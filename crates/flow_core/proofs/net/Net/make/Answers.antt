@@ -6,3 +6,6 @@ invariant_of-result g c = λ _. lives_sound g.N.Node _ _ c.in_ok-lives_of.ensure
 
 pub returns-clause-rest : goal.returns-clause-rest
 returns-clause-rest g c = lives_rest g.N.Node _ _ c.in_ok-lives_of.ensures
+
+pub returns-clause-new : goal.returns-clause-new
+returns-clause-new g c = λ first. record { lives = c.in_ok-lives_of.ensures; first = first; gathered = c.new.ensures }

@@ -1,0 +1,5 @@
+use Rattle.std.proofs.Common.{length}
+use Rattle.flow_life.proofs.settling.+are_unspent.Given as goal
+
+abbrev pub decreases-are_unspent : goal.decreases-are_unspent
+decreases-are_unspent g l = length l.cells.now

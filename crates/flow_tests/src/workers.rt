@@ -1,0 +1,131 @@
+//! Nets that workers run: the effects are those of one thread, and the workers have their turns beside each other.
+
+ghost use Rattle.std.specs.Prelude.{◌≡◌, ◌<◌, ◌≤◌, false, IfOk};
+ghost use Rattle.std.specs.List.{AllByRecursion as Each};
+ghost use Rattle.flow_core.specs.Nets.{IsResting};
+
+use crate::diamonds::diamond_net;
+use crate::points::{hundred_points, text_of};
+use crate::relay::RelayNode;
+use crate::sides::plan_of_two;
+use flow_core::Net;
+use kap_base::{Bytes, NoMemory, Stamp};
+use kap_io::{Gate, NoGate};
+use node_workers::{WORKER_LIMIT, run_epoch};
+use std::alloc::Global;
+use std::process::Abort;
+use std::sync::atomic::{AtomicU64, Ordering};
+use std::test::Fail;
+use std::thread;
+use std::thread::Threads;
+
+/// How often a held worker looks at most.
+const LOOKS: u64 = 20_000_000;
+
+/// A gate that holds the second turn of worker 0 until worker 1 has had one.
+#[derive(Drop)]
+struct Holding {
+    // How often worker 1 came to a second or later turn, and so has had one.
+    had: AtomicU64,
+    // How often the limit of looks was met.
+    missed: AtomicU64,
+}
+
+impl Gate for Holding {
+    fn pass(&self, worker: u32, turn: u64) {
+        if worker == 1 && turn > 0 {
+            self.had.fetch_add(1, Ordering::SeqCst);
+        }
+        if worker == 0 && turn == 1 {
+            self.wait();
+        }
+    }
+}
+
+impl Holding {
+    fn wait(&self) {
+        for _ in 0..LOOKS {
+            if self.had.load(Ordering::SeqCst) > 0 {
+                return;
+            }
+            thread::yield_now();
+        }
+        self.missed.fetch_add(1, Ordering::SeqCst);
+    }
+}
+
+/// Two chains of two relays, the lives 3 and 5.
+fn two_chains(alloc: Global) -> Result<Net<RelayNode>, NoMemory>
+    ensures unspent { IfOk result (λ net. net.spent ≡ false) }
+    ensures rest { IfOk result (λ net. Each IsResting net.lives) }
+    ensures last { IfOk result (λ net. net.last.0 ≡ 0) }
+{
+    let plans = Vec::from_array(alloc, [plan_of_two(alloc, 3)?, plan_of_two(alloc, 5)?])?;
+    let net = Net::make(alloc, plans, 4)?;
+    Ok(net)
+}
+
+/// What one thread makes of a hundred points.
+fn run_alone(rt: &(impl AllocGlobal + Abort), mut net: Net<RelayNode>) -> Result<Bytes, Fail>
+    requires unspent { net.spent ≡ false }
+    requires rest { Each IsResting net.lives }
+    requires last { net.last.0 ≡ 0 }
+{
+    let points = hundred_points(rt)?;
+    net.load(
+        rt.alloc(),
+        &points,
+        Stamp(points.len() as u64),
+        &[Stamp(50)],
+    )?;
+    net.run(rt.alloc())?;
+    let effects = net.collect(rt.alloc());
+    text_of(rt.alloc(), &effects)
+}
+
+/// What workers make of them.
+fn run_by<R: AllocGlobal + Abort + Threads + Sync>(
+    rt: &R,
+    mut net: Net<RelayNode>,
+    workers: u32,
+    gate: &(impl Gate + Sync),
+) -> Result<Bytes, Fail>
+    requires unspent { net.spent ≡ false }
+    requires rest { Each IsResting net.lives }
+    requires last { net.last.0 ≡ 0 }
+    requires some { 0 < workers }
+    requires limit { workers ≤ WORKER_LIMIT }
+{
+    let points = hundred_points(rt)?;
+    net.load(
+        rt.alloc(),
+        &points,
+        Stamp(points.len() as u64),
+        &[Stamp(50)],
+    )?;
+    run_epoch(rt, rt.alloc(), &mut net, workers, gate)?;
+    assert!(rt; net.at_rest());
+    let effects = net.collect(rt.alloc());
+    text_of(rt.alloc(), &effects)
+}
+
+#[test]
+fn two_workers_have_their_turns_beside_each_other(rt: HostRuntime) -> Result<(), Fail> {
+    let gate = Holding {
+        had: AtomicU64::new(0),
+        missed: AtomicU64::new(0),
+    };
+    let due = run_alone(&rt, two_chains(rt.alloc())?)?;
+    let text = run_by(&rt, two_chains(rt.alloc())?, 2, &gate)?;
+    assert_eq!(rt; text.as_slice(), due.as_slice());
+    assert_eq!(rt; gate.missed.load(Ordering::SeqCst), 0);
+    Ok(())
+}
+
+#[test]
+fn workers_share_the_cells_of_a_life(rt: HostRuntime) -> Result<(), Fail> {
+    let due = run_alone(&rt, diamond_net(rt.alloc(), 2)?)?;
+    let text = run_by(&rt, diamond_net(rt.alloc(), 2)?, 4, &NoGate)?;
+    assert_eq!(rt; text.as_slice(), due.as_slice());
+    Ok(())
+}

@@ -1,0 +1,10 @@
+use Rattle.std.proofs.Common.{◌≡◌, false}
+use Rattle.flow_cells.specs.Moved.{HasMoved}
+use Rattle.node_workers.proofs.turns.move_cell.Given as goal
+
+-- it is the same cell, on which no call failed
+abbrev pub invariant-moving : goal.invariant-moving
+invariant-moving g l = record {
+  unspent : l.cell.spent ≡ false;
+  moved : HasMoved l.fn.cell l.cell;
+}

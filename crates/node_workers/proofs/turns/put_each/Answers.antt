@@ -1,0 +1,12 @@
+use Rattle.std.proofs.Common.{◌∙◌}
+use Rattle.flow_cells.specs.MovedLaws.{HasMoved-refl, HasMoved-trans}
+use Rattle.node_workers.proofs.turns.put_each.Goals as goal
+
+pub putting-init : goal.putting-init
+putting-init g c = record { unspent = c.requires; moved = HasMoved-refl c.args.cell.now }
+
+pub putting-preserved : goal.putting-preserved
+putting-preserved g c =
+    let i = c.putting.invariant in
+    let m = c.put_some.ensures in
+    record { unspent = m.spent ∙ i.unspent; moved = HasMoved-trans c.args.cell.now c.putting.cell c.put_some.new.cell i.moved m }

@@ -1,0 +1,15 @@
+use Rattle.std.proofs.Common.{◌∙◌}
+use Rattle.flow_cells.specs.MovedLaws.{HasMoved-refl, HasMoved-trans}
+use Rattle.node_workers.proofs.turns.put_some.Goals as goal
+
+pub putting-init : goal.putting-init
+putting-init g c = record { unspent = c.requires; moved = HasMoved-refl c.args.cell.now }
+
+pub putting-preserved : goal.putting-preserved
+putting-preserved g c =
+    let i = c.putting.invariant in
+    let m = c.put.ensures.moved in
+    record { unspent = m.spent ∙ i.unspent; moved = HasMoved-trans c.args.cell.now c.putting.cell c.put.new.self i.moved m }
+
+pub returns-then-not-put : goal.returns-then-not-put
+returns-then-not-put g c = HasMoved-trans c.args.cell.now c.putting.cell c.put.new.self c.putting.invariant.moved c.put.ensures.moved

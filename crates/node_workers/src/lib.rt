@@ -1,0 +1,20 @@
+//! A net's moves, made by threads beside each other.
+#![tactic(auto)]
+
+mod epochs;
+mod sharing;
+mod turns;
+
+pub use epochs::run_epoch;
+
+/// How many workers there are at most.
+pub const WORKER_LIMIT: u32 = 64;
+
+/// How many turns a worker has on its cells, or on those of each of its lives, at most. The caller makes the moves that are left.
+pub const TURN_LIMIT: u64 = 1_000_000;
+
+/// After so many turns in a row that moved nothing a worker ends that has a part of a life. One that has a whole life ends after one.
+pub const IDLE_LIMIT: u32 = 1_000;
+
+/// How often a cell puts and takes in one turn at most.
+pub const MOVE_LIMIT: u32 = 64;
