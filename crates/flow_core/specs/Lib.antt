@@ -14,6 +14,8 @@ pub mod Nets
 pub mod Making
 -- what a net has run, and what was collected
 pub mod Ran
+-- what the nodes of lives dropped
+pub mod Drops
 -- proofs, no definitions
 pub mod MessageLaws
 pub mod PortLaws
@@ -32,3 +34,4 @@ pub mod NetLaws
 pub mod PlanLaws
 pub mod DoneLaws
 pub mod RanLaws
+pub mod CountLaws

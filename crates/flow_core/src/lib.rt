@@ -1,6 +1,7 @@
 //! Nets: lives side by side, each with the cells of one graph.
 #![tactic(auto)]
 
+mod counting;
 mod gathering;
 mod laws;
 mod lives;
