@@ -102,6 +102,12 @@ module _ {N : Type 0} where
         (subst (λ (ls : List (List Effect)). IsPermutation (together (effects_since mid)) (together ls ++ left_of mid)) (same ∙ sym (since-quiet old quiet)) (since-split mid));
   }
 
+  -- where a step isn't made nothing is done
+  pub idle_gathers : (old new : List (CellParts N)) (g : List Effect) → Each IsGathered old → Each IsGathered new → gathered_of new ≡ gathered_of old → GathersAll (together (effects_since old)) (together (effects_since new)) g g
+  idle_gathers old new g quiet quiet' same =
+      subst (λ (ls : List (List Effect)). GathersAll (together (effects_since old)) (together ls) g g) (sym (since-quiet new quiet' ∙ same ∙ sym (since-quiet old quiet)))
+      (gathers_none (together (effects_since old)) g)
+
   since-loaded : (source : List Msg) (old mid : List (CellParts N)) → AllZip (LoadsFrom source) old mid → together (effects_since mid) ≡ left_of mid
   since-loaded source [] [] z = refl
   since-loaded source [] (d ∷ mid) z = absurd z

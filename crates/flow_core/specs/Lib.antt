@@ -16,6 +16,8 @@ pub mod Making
 pub mod Ran
 -- what the nodes of lives dropped
 pub mod Drops
+-- all steps, made until none can be made
+pub mod Running
 -- proofs, no definitions
 pub mod MessageLaws
 pub mod PortLaws
@@ -35,3 +37,4 @@ pub mod PlanLaws
 pub mod DoneLaws
 pub mod RanLaws
 pub mod CountLaws
+pub mod RunningLaws

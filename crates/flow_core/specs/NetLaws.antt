@@ -1,6 +1,6 @@
 -- What steps of lives make of a net, and that some step can be made while it isn't at rest.
 use Rattle.std.proofs.Common.{◌≡◌, ℕ, zero, suc, ◌+◌, ◌-◌, ◌<◌, ◌≤◌, List, [], ◌∷◌, Option, Some, Result, Ok, Err, false, IfOk, length, refl, sym, ap, subst, ◌∙◌, arith}
-use Rattle.std.specs.Prelude.{slice_get}
+use Rattle.std.specs.Prelude.{OnOk, slice_get}
 use Rattle.std.specs.List.{AllByRecursion as Each, AllZip}
 use Rattle.node_core.specs.declared.node.Node.{Ghosts}
 use Rattle.flow_cells.specs.Gathers.{Gathers}
@@ -24,6 +24,16 @@ use Rattle.flow_core.specs.Nets.{EnabledIn, GrowsIn, HasCell, HasMovedTwice, Has
 pub if_ok : {T E : Type 0} {A B : T → Type 0} (r : Result T E) → ((x : T) → A x → B x) → IfOk r A → IfOk r B
 if_ok (Ok x) f a = f x a
 if_ok (Err e) f a = a
+
+-- and with what holds whatever the value
+pub if_ok_with : {T E A : Type 0} {B C : T → Type 0} (r : Result T E) → ((x : T) → A → B x → C x) → OnOk r A → IfOk r B → IfOk r C
+if_ok_with (Ok x) f a b = f x a b
+if_ok_with (Err e) f a b = a
+
+-- and two facts of the value
+pub if_ok_both : {T E : Type 0} {A B C : T → Type 0} (r : Result T E) → ((x : T) → A x → B x → C x) → IfOk r A → IfOk r B → IfOk r C
+if_ok_both (Ok x) f a b = f x a b
+if_ok_both (Err e) f a b = a
 
 behind-before : (n : ℕ) (next : Step) → step_behind n (step_before n next) ≡ next
 behind-before n (steps.Take cell input) = let same : cell + n - n ≡ cell = omega arith in ap (λ (k : ℕ). steps.Take k input) same
@@ -103,9 +113,9 @@ module _ {N : Type 0} where
   grows_here lives l l' others next is e = subst (λ (ls : List (NumberedLife N)). GrowsIn next ls (l' ∷ others)) (sym is) (in_it e)
 
   -- a list of a later life grew
-  pub grows_behind : (lives : List (NumberedLife N)) (l : NumberedLife N) (others others' : List (NumberedLife N)) (next q : Step) (n : ℕ) → lives ≡ l ∷ others → n ≡ length l.life.cells → q ≡ step_behind n next → GrowsIn q others others' → GrowsIn next lives (l ∷ others')
-  grows_behind lives l others others' next q n is long same e =
-      subst (λ (ls : List (NumberedLife N)). GrowsIn next ls (l ∷ others')) (sym is) (behind (subst (λ (k : ℕ). GrowsIn (step_behind k next) others others') long (subst (λ (s : Step). GrowsIn s others others') same e)))
+  pub grows_behind : (lives : List (NumberedLife N)) (l : NumberedLife N) (others others' : List (NumberedLife N)) (next q : Step) (n : ℕ) → lives ≡ l ∷ others → n ≡ length l.life.cells → q ≡ step_behind n next → n ≤ cell_of next → GrowsIn q others others' → GrowsIn next lives (l ∷ others')
+  grows_behind lives l others others' next q n is long same le e =
+      subst (λ (ls : List (NumberedLife N)). GrowsIn next ls (l ∷ others')) (sym is) (behind (subst (λ (k : ℕ). k ≤ cell_of next) long le) (subst (λ (k : ℕ). GrowsIn (step_behind k next) others others') long (subst (λ (s : Step). GrowsIn s others others') same e)))
 
   -- ---- some step can be made
 

@@ -13,6 +13,7 @@ use Rattle.flow_life.specs.Nodes.{specs_of}
 use Rattle.flow_life.specs.Settling.{Grows}
 use Rattle.flow_life.specs.Steps.{AreQuiet, IsEnabled, moves_of}
 use Rattle.flow_life.specs.Streams.{AreStreams, CarriesPrefixes, CarriesStreams, Plan, plans_of, stream_length}
+use Rattle.flow_life.specs.Trying.{mover}
 use Rattle.flow_life.specs.Wired.{parents_of, sum_of_all}
 use Rattle.flow_life.specs.Lives.{IsLife, LifeValue}
 use Rattle.flow_core.specs.declared.lives.Numbered.{Numbered}
@@ -35,8 +36,7 @@ pub record IsSound {N : Type 0} (l : NumberedLife N) : Type 0 where
 
 -- the cell that a step moves
 abbrev pub cell_of : Step → ℕ
-cell_of (steps.Take cell input) = cell
-cell_of (steps.Put cell out) = cell
+cell_of next = mover next
 
 -- the step that it is for lives behind so many cells
 abbrev pub step_behind : ℕ → Step → Step
@@ -61,7 +61,7 @@ pub record SomeEnabledIn {N : Type 0} (lives : List (NumberedLife N)) : Type 0 w
 -- a step makes exactly one list longer, by one message, in the life that has the cell; the others stay
 pub data GrowsIn {N : Type 0} : Step → List (NumberedLife N) → List (NumberedLife N) → Type 0 where
   in_it : {l l' : NumberedLife N} {lives : List (NumberedLife N)} {next : Step} → Grows next l.life.cells l'.life.cells → GrowsIn next (l ∷ lives) (l' ∷ lives)
-  behind : {l : NumberedLife N} {lives lives' : List (NumberedLife N)} {next : Step} → GrowsIn (step_behind (length l.life.cells) next) lives lives' → GrowsIn next (l ∷ lives) (l ∷ lives')
+  behind : {l : NumberedLife N} {lives lives' : List (NumberedLife N)} {next : Step} → length l.life.cells ≤ cell_of next → GrowsIn (step_behind (length l.life.cells) next) lives lives' → GrowsIn next (l ∷ lives) (l ∷ lives')
 
 -- how many messages were sent and received by all cells since the load
 abbrev pub moves_in : {N : Type 0} → List (NumberedLife N) → ℕ

@@ -4,10 +4,12 @@
 mod counting;
 mod gathering;
 mod laws;
+mod listing;
 mod lives;
 mod loads;
 mod making;
 mod net;
+mod resting;
 
 pub use gathering::sort_effects;
 pub use laws::{lives_go_on, loads_go_on, loads_have_messages, sorted_effects_are_whole};

@@ -2,16 +2,20 @@
 
 ghost use Rattle.std.specs.Prelude.{◌≡◌, ◌+◌, ◌++◌, ◌<◌, ◌≤◌, ℕ, IfOk, IsFalse, IsTrue, OnOk, length, map};
 ghost use Rattle.std.specs.List.{AllByRecursion as Each};
+ghost use Rattle.flow_life.specs.Left.{left_of};
+ghost use Rattle.flow_life.specs.Listing.{ends_of};
 ghost use Rattle.flow_life.specs.Nodes.{specs_of};
 ghost use Rattle.flow_life.specs.Settling.{Grows};
 ghost use Rattle.flow_life.specs.Steps.{IsEnabled, moves_of, one_if};
 ghost use Rattle.flow_life.specs.Loads.{plan_now};
 ghost use Rattle.flow_life.specs.Streams.{plans_of};
+ghost use Rattle.flow_life.specs.Trying.{SameEnabled};
 ghost use Rattle.flow_cells.specs.declared.parts.CellParts.{CellParts};
 ghost use Rattle.merge_node.specs.Merge.{IsClosed};
 ghost use Rattle.flow_core.specs.LifeLoads.{effects_since};
 ghost use Rattle.flow_core.specs.Nets.{EnabledIn, GrowsIn, HasCell, HasMovedTwice, HasPrefixes, HasStreamsCarried, IsLifeIn, IsResting, IsSound, SomeEnabledIn, cell_count, cell_of, moves_in, numbers_of, plans_from, plans_in, specs_in, step_behind};
 ghost use Rattle.flow_core.specs.Ran.{GathersAll, effects_in, together};
+ghost use Rattle.flow_core.specs.Running.{SameEnabledIn, ends_in, left_in};
 
 use flow_life::{Life, Step};
 use kap_base::{Msg, NoMemory};
@@ -28,7 +32,7 @@ pub struct Numbered<L> {
 }
 
 /// The number of the cell that a step moves.
-fn cell_of(next: Step) -> u32
+pub(crate) fn cell_of(next: Step) -> u32
     ensures { result ≡ cell_of next }
 {
     match next {
@@ -54,14 +58,15 @@ fn step_behind(next: Step, cells: u32) -> Step
     }
 }
 
-/// Makes a step of a life, where it is enabled, and gathers the effects.
+/// Makes a step of a life, where it is enabled, and gathers the effects, which are of the cell that it moves.
 fn step_life<N: Node>(
     alloc: Global,
     life: &mut Numbered<Life<N>>,
     next: Step,
     gathered: &mut Effects,
 ) -> Result<bool, NoMemory>
-    requires { IsSound life.old }
+    requires sound { IsSound life.old }
+    requires cell { cell_of next < length life.old.life.cells }
     ensures number { life.new.number ≡ life.old.number }
     ensures sound { OnOk result (IsSound life.new) }
     ensures plans { OnOk result
@@ -74,12 +79,20 @@ fn step_life<N: Node>(
         → Grows next life.old.life.cells life.new.life.cells) }
     ensures count { IfOk result (λ made. moves_of life.new.life.cells
         ≡ moves_of life.old.life.cells + one_if made) }
+    ensures ends { OnOk result (ends_of life.new.life.cells ≡ ends_of life.old.life.cells) }
+    ensures left { IfOk result (λ made. left_of N.Node life.old.life.cells
+        ≡ left_of N.Node life.new.life.cells + one_if made) }
+    ensures still { IfOk result (λ made. IsFalse made
+        → SameEnabled life.old.life.cells life.new.life.cells) }
     ensures gathers { OnOk result (GathersAll (together (effects_since life.old.life.cells))
         (together (effects_since life.new.life.cells)) gathered.old gathered.new) }
 {
     let made = life.life.step(alloc, next)?;
-    life.life.gather(alloc, gathered)?;
-    Ok(made)
+    if !made {
+        return Ok(false);
+    }
+    life.life.gather_from(alloc, cell_of(next), gathered)?;
+    Ok(true)
 }
 
 /// Makes a step of the life that has the cell, where it is enabled, and gathers the effects.
@@ -98,6 +111,10 @@ pub(crate) fn step<N: Node>(
     ensures no { IfOk result (λ made. IsFalse made → EnabledIn lives.old next → ⊥) }
     ensures grows { IfOk result (λ made. IsTrue made → GrowsIn next lives.old lives.new) }
     ensures count { IfOk result (λ made. moves_in lives.new ≡ moves_in lives.old + one_if made) }
+    ensures ends { OnOk result (ends_in lives.new ≡ ends_in lives.old) }
+    ensures left { IfOk result (λ made. left_in N.Node lives.old
+        ≡ left_in N.Node lives.new + one_if made) }
+    ensures still { IfOk result (λ made. IsFalse made → SameEnabledIn lives.old lives.new) }
     ensures gathers { OnOk result (GathersAll (effects_in lives.old) (effects_in lives.new)
         gathered.old gathered.new) }
 {
@@ -118,6 +135,7 @@ pub(crate) fn at_rest<N: Node>(lives: &[Numbered<Life<N>>]) -> bool
     ensures busy { IsFalse result → Each IsResting lives.now → ⊥ }
     ensures streams { IsTrue result → Each (HasStreamsCarried N.Node) lives.now }
     ensures twice { IsTrue result → Each (HasMovedTwice N.Node) lives.now }
+    ensures none { IsTrue result → left_in N.Node lives.now ≡ 0 }
     ensures alive { IsFalse result → SomeEnabledIn lives.now }
 {
     let Some((first, others)) = lives.split_first() else {
@@ -157,6 +175,7 @@ fn load_life<N: Node>(
         ≡ map (plan_now N.Node source.now) life.old.life.cells) }
     ensures specs { OnOk result
         (specs_of N.Node life.new.life.cells ≡ specs_of N.Node life.old.life.cells) }
+    ensures ends { OnOk result (ends_of life.new.life.cells ≡ ends_of life.old.life.cells) }
     ensures count { OnOk result (moves_of life.new.life.cells ≡ 0) }
     ensures given { OnOk result (gathered.new
         ≡ gathered.old ++ together (effects_since life.new.life.cells)) }
@@ -180,6 +199,7 @@ pub(crate) fn load<N: Node>(
     ensures sound { OnOk result (Each IsSound lives.new) }
     ensures plans { OnOk result (plans_in N.Node lives.new ≡ plans_from N.Node source.now lives.old) }
     ensures specs { OnOk result (specs_in N.Node lives.new ≡ specs_in N.Node lives.old) }
+    ensures ends { OnOk result (ends_in lives.new ≡ ends_in lives.old) }
     ensures count { OnOk result (moves_in lives.new ≡ 0) }
     ensures given { OnOk result (gathered.new ≡ gathered.old ++ effects_in lives.new) }
 {
@@ -203,6 +223,7 @@ pub(crate) fn play<N: Node>(
     ensures sound { OnOk result (Each IsSound lives.new) }
     ensures plans { OnOk result (plans_in N.Node lives.new ≡ plans_in N.Node lives.old) }
     ensures specs { OnOk result (specs_in N.Node lives.new ≡ specs_in N.Node lives.old) }
+    ensures ends { OnOk result (ends_in lives.new ≡ ends_in lives.old) }
     ensures count { IfOk result (λ made. moves_in lives.new ≡ moves_in lives.old + made) }
     ensures gathers { OnOk result (GathersAll (effects_in lives.old) (effects_in lives.new)
         gathered.old gathered.new) }

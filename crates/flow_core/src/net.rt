@@ -2,9 +2,11 @@
 
 use crate::counting::counts_of;
 use crate::gathering::sort_effects;
+use crate::listing::list_steps;
 use crate::lives::{Numbered, at_rest, dropped, keep_lives, load, play, step};
 use crate::loads::messages;
 use crate::making::lives_of;
+use crate::resting::{play_by, run};
 use edge_queue::CAPACITY_LIMIT;
 use flow_life::{Life, Step};
 use kap_base::{NoMemory, Point, Stamp};
@@ -51,13 +53,14 @@ impl<N: Node> Model for Net<N> {
 }
 
 impl<N: Node> Net<N> {
-    ghost use Rattle.std.specs.Prelude.{◌≡◌, ◌+◌, ◌<◌, ◌≤◌, ℕ, false, true, [], ◌∷◌, ◌++◌, IfOk, IsFalse, IsPermutation, IsTrue, List, OnErr, OnOk, length, map};
+    ghost use Rattle.std.specs.Prelude.{◌≡◌, ◌+◌, ◌<◌, ◌≤◌, ℕ, false, true, [], ◌∷◌, ◌++◌, IfOk, Contains, IsFalse, IsPermutation, IsTrue, List, OnErr, OnOk, length, map};
     ghost use Rattle.std.specs.List.{AllByRecursion as Each};
     ghost use Rattle.kap_base.specs.Points.{PointValue};
     ghost use Rattle.kap_base.specs.declared.items.Effect.{Effect};
     ghost use Rattle.flow_cells.specs.declared.parts.CellParts.{CellParts};
     ghost use Rattle.flow_life.specs.Loads.{IsGathered};
     ghost use Rattle.flow_life.specs.Steps.{one_if};
+    ghost use Rattle.flow_life.specs.declared.steps.Step.{Step};
     ghost use Rattle.task_run.specs.Graphs.{Placed};
     ghost use Rattle.task_run.specs.Lives.{dropped_of, effects_of};
     ghost use Rattle.task_run.specs.Plans.{AreFirstStates, PlanValue, graph_of};
@@ -67,6 +70,7 @@ impl<N: Node> Net<N> {
     ghost use Rattle.flow_core.specs.Messages.{AreMarksOf, load_messages};
     ghost use Rattle.flow_core.specs.Nets.{EnabledIn, GrowsIn, HasCell, HasMovedTwice, HasPrefixes, HasStreamsCarried, HaveMovedTwice, IsResting, SomeEnabledIn, cell_count, moves_in, numbers_of, plans_from, plans_in, specs_in};
     ghost use Rattle.flow_core.specs.Ran.{HasRun, IsNew};
+    ghost use Rattle.flow_core.specs.Running.{SameEnabledIn, left_in, steps_of};
     ghost use Rattle.flow_core.specs.Sorting.{AreSorted};
 
     /// A net without lives.
@@ -139,6 +143,7 @@ impl<N: Node> Net<N> {
         ensures plans { OnOk result (plans_in N.Node self.new.lives
             ≡ plans_from N.Node (load_messages points.now upto marks.now) self.old.lives) }
         ensures specs { OnOk result (specs_in N.Node self.new.lives ≡ specs_in N.Node self.old.lives) }
+        ensures steps { OnOk result (steps_of self.new.lives ≡ steps_of self.old.lives) }
         ensures count { OnOk result (moves_in self.new.lives ≡ 0) }
         ensures first { OnOk result ((plans : List (PlanValue N)) → IsNew N.Node plans self.old
             → upto.0 ≡ length points.now → AreMarksOf points.now upto marks.now
@@ -162,8 +167,8 @@ impl<N: Node> Net<N> {
     }
 
     /// Makes a step. `false` comes exactly where it isn't enabled: there is no such cell, input or out, the edge is empty or
-    /// a message waits to be sent (take), or none waits or the edge has no free place (put). After NoMemory the net is
-    /// spent.
+    /// a message waits to be sent (take), or none waits or the edge has no free place (put); then what can be made is as
+    /// before. After NoMemory the net is spent.
     pub fn step(&mut self, alloc: Global, next: Step) -> Result<bool, NoMemory>
         requires { self.old.spent ≡ false }
         ensures numbers { OnOk result (numbers_of self.new.lives ≡ numbers_of self.old.lives) }
@@ -173,8 +178,13 @@ impl<N: Node> Net<N> {
         ensures no { IfOk result (λ made. IsFalse made → EnabledIn self.old.lives next → ⊥) }
         ensures grows { IfOk result (λ made. IsTrue made
             → GrowsIn next self.old.lives self.new.lives) }
+        ensures steps { OnOk result (steps_of self.new.lives ≡ steps_of self.old.lives) }
         ensures count { IfOk result (λ made. moves_in self.new.lives
             ≡ moves_in self.old.lives + one_if made) }
+        ensures left { IfOk result (λ made. left_in N.Node self.old.lives
+            ≡ left_in N.Node self.new.lives + one_if made) }
+        ensures still { IfOk result (λ made. IsFalse made
+            → SameEnabledIn self.old.lives self.new.lives) }
         ensures runs { OnOk result ((lives : List (List (Placed N.Spec)))
             (points : List PointValue) (collected : List Effect)
             → HasRun N.Node lives points collected self.old
@@ -195,6 +205,7 @@ impl<N: Node> Net<N> {
         ensures numbers { OnOk result (numbers_of self.new.lives ≡ numbers_of self.old.lives) }
         ensures plans { OnOk result (plans_in N.Node self.new.lives ≡ plans_in N.Node self.old.lives) }
         ensures specs { OnOk result (specs_in N.Node self.new.lives ≡ specs_in N.Node self.old.lives) }
+        ensures steps { OnOk result (steps_of self.new.lives ≡ steps_of self.old.lives) }
         ensures count { IfOk result (λ made. moves_in self.new.lives
             ≡ moves_in self.old.lives + made) }
         ensures runs { OnOk result ((lives : List (List (Placed N.Spec)))
@@ -211,6 +222,63 @@ impl<N: Node> Net<N> {
         Ok(made)
     }
 
+    /// All its steps, by cell, of each cell its takes by input and then its puts by out; each that can be made is among them.
+    /// They stay the same whatever it runs. NoMemory comes where an allocation fails or a number has more than 32 bits.
+    pub fn steps(&self, alloc: Global) -> Result<Vec<Step>, NoMemory>
+        ensures steps { IfOk result (λ steps. steps.items ≡ steps_of self.now.lives) }
+        ensures all { IfOk result (λ steps. (next : Step)
+            → EnabledIn self.now.lives next → Contains steps.items next) }
+    {
+        list_steps(alloc, &self.lives)
+    }
+
+    /// Makes steps until nothing is left to do, in the order of a number: of all steps, c in number, at the turn j from 0 it
+    /// tries the one at `number` + j · (2 · `number` + 1) mod c and then the following ones round, makes the first that is
+    /// enabled, and ends where none is. After NoMemory the net is spent.
+    pub fn play_by(&mut self, alloc: Global, number: u32) -> Result<(), NoMemory>
+        requires { self.old.spent ≡ false }
+        ensures rest { OnOk result (Each IsResting self.new.lives) }
+        ensures numbers { OnOk result (numbers_of self.new.lives ≡ numbers_of self.old.lives) }
+        ensures plans { OnOk result (plans_in N.Node self.new.lives ≡ plans_in N.Node self.old.lives) }
+        ensures specs { OnOk result (specs_in N.Node self.new.lives ≡ specs_in N.Node self.old.lives) }
+        ensures steps { OnOk result (steps_of self.new.lives ≡ steps_of self.old.lives) }
+        ensures runs { OnOk result ((lives : List (List (Placed N.Spec)))
+            (points : List PointValue) (collected : List Effect)
+            → HasRun N.Node lives points collected self.old
+            → HasRun N.Node lives points collected self.new) }
+        ensures last { OnOk result (self.new.last ≡ self.old.last) }
+        ensures unspent { OnOk result (self.new.spent ≡ false) }
+        ensures spent { OnErr result (self.new.spent ≡ true) }
+    {
+        self.spent = true;
+        play_by(alloc, &mut self.lives, number, &mut self.gathered)?;
+        self.spent = false;
+        Ok(())
+    }
+
+    /// Makes steps until nothing is left to do, by one thread: cell by cell all that can be made, and again. After NoMemory the
+    /// net is spent.
+    pub fn run(&mut self, alloc: Global) -> Result<(), NoMemory>
+        requires { self.old.spent ≡ false }
+        ensures rest { OnOk result (Each IsResting self.new.lives) }
+        ensures numbers { OnOk result (numbers_of self.new.lives ≡ numbers_of self.old.lives) }
+        ensures plans { OnOk result (plans_in N.Node self.new.lives ≡ plans_in N.Node self.old.lives) }
+        ensures specs { OnOk result (specs_in N.Node self.new.lives ≡ specs_in N.Node self.old.lives) }
+        ensures steps { OnOk result (steps_of self.new.lives ≡ steps_of self.old.lives) }
+        ensures runs { OnOk result ((lives : List (List (Placed N.Spec)))
+            (points : List PointValue) (collected : List Effect)
+            → HasRun N.Node lives points collected self.old
+            → HasRun N.Node lives points collected self.new) }
+        ensures last { OnOk result (self.new.last ≡ self.old.last) }
+        ensures unspent { OnOk result (self.new.spent ≡ false) }
+        ensures spent { OnErr result (self.new.spent ≡ true) }
+    {
+        self.spent = true;
+        run(alloc, &mut self.lives, &mut self.gathered)?;
+        self.spent = false;
+        Ok(())
+    }
+
     /// Whether nothing is pending, unsent, buffered or on an edge. While it isn't so, some step is enabled; where it is so,
     /// each edge has carried its stream, and the messages sent and received since the load are twice the streams' length.
     pub fn at_rest(&self) -> bool
@@ -220,6 +288,7 @@ impl<N: Node> Net<N> {
         ensures streams { IsTrue result → Each (HasStreamsCarried N.Node) self.now.lives }
         ensures twice { IsTrue result → Each (HasMovedTwice N.Node) self.now.lives }
         ensures twice_in_all { IsTrue result → HaveMovedTwice N.Node self.now.lives }
+        ensures none { IsTrue result → left_in N.Node self.now.lives ≡ 0 }
         ensures alive { IsFalse result → SomeEnabledIn self.now.lives }
         ensures all { IsTrue result → (lives : List (List (Placed N.Spec)))
             (points : List PointValue) (collected : List Effect)

@@ -128,17 +128,17 @@ module _ {N : Type 0} where
         out = h.out;
       }
 
-  -- while something waits or is on an edge, some step can be made
-  pub alive : (cells : List (CellParts N)) → IsWired cells → (AreQuiet cells → ⊥) → SomeEnabled cells
-  alive cells w busy = ⊎_elim
+  -- nothing waits or is on an edge, or some step can be made
+  pub rest-or-alive : (cells : List (CellParts N)) → IsWired cells → AreQuiet cells ⊎ SomeEnabled cells
+  rest-or-alive cells w = ⊎_elim
       (λ none. ⊎_elim
-      (λ q. absurd (busy q))
+      (λ q. inl q)
       (λ (b : Busy cells).
       let f = any-found knows_some b.c.ins.items b.has in
-      record {
+      inr (record {
         step = steps.Take b.j f.i;
         enabled = record { parts = b.c; at = b.at; can = record { edge = f.x; at = f.at; knows = f.holds; none = none b.j b.c b.at } };
-      })
+      }))
       (busy-or cells none))
       (λ (l : Last cells).
       let f = any-found (λ (o : OutEdge). is_some (slice_get o.unsent 0)) l.c.core.outs.items l.has in
@@ -146,16 +146,20 @@ module _ {N : Type 0} where
       let at : out_of cells l.j f.i ≡ Some x = out-at cells l.j f.i l.c l.at ∙ f.at in
       let a = across cells w l.j f.i x at in
       ⊎_elim
-      (λ room. record {
+      (λ room. inr (record {
         step = steps.Put l.j f.i;
         enabled = record { edge = x; far = a.far; at = at; at_child = a.at; waits = first-waits x.unsent f.holds; room = room };
-      })
+      }))
       (λ full.
       let d : CellOfIn cells x.child x.input a.far = cell-of_in cells x.child x.input a.far a.at in
       let some : 0 < edge_capacity x.tail = a.some in
-      record {
+      inr (record {
         step = steps.Take x.child x.input;
         enabled = record { parts = d.cell; at = d.at; can = record { edge = a.far; at = d.here; knows = some-knows (known a.far.head) (omega (arith, some, full)); none = l.later x.child d.cell a.before d.at } };
-      })
+      }))
       (less-or (length (known a.far.head)) (edge_capacity x.tail)))
       (last cells)
+
+  -- while something waits or is on an edge, some step can be made
+  pub alive : (cells : List (CellParts N)) → IsWired cells → (AreQuiet cells → ⊥) → SomeEnabled cells
+  alive cells w busy = ⊎_elim (λ q. absurd (busy q)) (λ s. s) (rest-or-alive cells w)

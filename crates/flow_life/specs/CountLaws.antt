@@ -76,10 +76,10 @@ sent-sum n (o ∷ outs) h =
     let b : sent_count outs ≡ times n (length outs) = sent-sum n outs (λ i x at. h (suc i) x at) in
     omega (arith, a, b)
 
-first : (j : ℕ) → j ≡ 0 + j
+pub first : (j : ℕ) → j ≡ 0 + j
 first j = omega arith
 
-behind : (n j : ℕ) → n + suc j ≡ suc n + j
+pub behind : (n j : ℕ) → n + suc j ≡ suc n + j
 behind n j = omega arith
 
 module _ {N : Type 0} where

@@ -18,11 +18,11 @@ use Rattle.flow_life.specs.Streams.{AreStreams, IsStream, Plan, plans_of, run_fr
 use Rattle.flow_life.specs.Graphs.{HasStreams, IsGraph, IsGraphFrom}
 
 -- all that is determined of lists
-record Merged (ls : Lists) : Type 0 where
-  merged : List Entry
-  rest : Lists
-  merges : Merges ls merged rest
-  stuck : next rest ≡ None
+pub record Merged (ls : Lists) : Type 0 where
+  pub merged : List Entry
+  pub rest : Lists
+  pub merges : Merges ls merged rest
+  pub stuck : next rest ≡ None
 
 -- the next message, or none
 data Looked (ls : Lists) : Type 0 where
@@ -41,7 +41,7 @@ merge-by (suc n) ls lt (some t e) =
     let r = merge-by n t.rest (omega (arith, lt, fewer)) (looked-of t.rest (next t.rest) refl) in
     record { merged = (t.parent, t.msg) ∷ r.merged; rest = r.rest; merges = more t e r.merges; stuck = r.stuck }
 
-merge-all : (ls : Lists) → Merged ls
+pub merge-all : (ls : Lists) → Merged ls
 merge-all ls = merge-by (suc (total ls)) ls (omega arith) (looked-of ls (next ls) refl)
 
 get-front : (xs ys : List (List Msg)) (i : ℕ) → i < length xs → get_or (xs ++ ys) i [] ≡ get_or xs i []
@@ -59,8 +59,18 @@ into-front xs ys [] source h = refl
 into-front xs ys (p ∷ ps) source h = at-front xs ys (p ∷ ps) h
 
 module _ {S : Type 0} where
+  -- what a node gives out in whole, where these are the streams of the nodes before it
+  abbrev pub stream_of : List (List Msg) → Plan S → List Msg
+  stream_of known p = (run_from p (merge-all (streams_into known p.parents p.source)).merged).outs
+
+  -- it is a stream
+  pub stream-is : (known : List (List Msg)) (p : Plan S) → IsStream known p (stream_of known p)
+  stream-is known p =
+      let m = merge-all (streams_into known p.parents p.source) in
+      record { merged = m.merged; rest = m.rest; merges = m.merges; stuck = m.stuck; is = refl }
+
   -- a stream stays one, whatever comes behind
-  stays : (ss ys : List (List Msg)) (p : Plan S) (s : List Msg) → Each (λ (q : ℕ). q < length ss) p.parents → IsStream ss p s → IsStream (ss ++ ys) p s
+  pub stays : (ss ys : List (List Msg)) (p : Plan S) (s : List Msg) → Each (λ (q : ℕ). q < length ss) p.parents → IsStream ss p s → IsStream (ss ++ ys) p s
   stays ss ys p s h t = record {
     merged = t.merged;
     rest = t.rest;
@@ -77,9 +87,8 @@ module _ {S : Type 0} where
   solve : (n : ℕ) (ss : List (List Msg)) (plans : List (Plan S)) → length ss ≡ n → IsGraphFrom n plans → Solved ss plans
   solve n ss [] len graph = record { rest = []; are = tt }
   solve n ss (p ∷ ps) len graph =
-      let m = merge-all (streams_into ss p.parents p.source) in
-      let s = (run_from p m.merged).outs in
-      let here : IsStream ss p s = record { merged = m.merged; rest = m.rest; merges = m.merges; stuck = m.stuck; is = refl } in
+      let s = stream_of ss p in
+      let here : IsStream ss p s = stream-is ss p in
       let r = solve (suc n) (ss ++ s ∷ []) ps (length-append ss (s ∷ []) ∙ omega (arith, len)) graph.1 in
       let same : (ss ++ s ∷ []) ++ r.rest ≡ ss ++ s ∷ r.rest = append_assoc ss (s ∷ []) r.rest in
       record {

@@ -16,6 +16,12 @@ pub mod Loads
 pub mod Gathers
 -- what nodes are, and what was gathered from each
 pub mod Nodes
+-- all steps, in order
+pub mod Listing
+-- what is still to be sent and to be received
+pub mod Left
+-- what a step leaves of what can be made and gathered
+pub mod Trying
 -- a cell is added
 pub mod Making
 -- what a life keeps
@@ -36,3 +42,7 @@ pub mod SplitLaws
 pub mod MakingLaws
 pub mod StartLaws
 pub mod NodeLaws
+pub mod TryLaws
+pub mod OneLaws
+pub mod LeftLaws
+pub mod ListingLaws

@@ -14,7 +14,7 @@ use Rattle.flow_life.specs.PlaceLaws.{each-get, get-set_other, map-set}
 use Rattle.flow_life.specs.Settling.{SettlesIn}
 
 -- what settling leaves of two cells it leaves of all
-settle-stays : {N A : Type 0} (f : CellParts N → A) (j k p : ℕ) (cells cells' : List (CellParts N)) → (s : SettlesIn j k p cells cells') → f s.new_parent ≡ f s.old_parent → f s.new_child ≡ f s.old_child → map f cells' ≡ map f cells
+pub settle-stays : {N A : Type 0} (f : CellParts N → A) (j k p : ℕ) (cells cells' : List (CellParts N)) → (s : SettlesIn j k p cells cells') → f s.new_parent ≡ f s.old_parent → f s.new_child ≡ f s.old_child → map f cells' ≡ map f cells
 settle-stays f j k p cells cells' s parent child =
     let lt : p < j = s.before in
     let mid = set cells p s.new_parent in

@@ -1,15 +1,17 @@
 //! Effects are gathered from the cells of a life.
 
-ghost use Rattle.std.specs.Prelude.{◌≡◌, ◌++◌, OnOk};
+ghost use Rattle.std.specs.Prelude.{◌≡◌, ◌<◌, ◌++◌, OnOk, length};
 ghost use Rattle.std.specs.List.{AllByRecursion as Each, AllZip};
 ghost use Rattle.flow_cells.specs.Gathers.{Gathers};
 ghost use Rattle.flow_cells.specs.Kept.{Keeps};
 ghost use Rattle.flow_life.specs.Gathers.{effects_of};
+ghost use Rattle.flow_life.specs.Listing.{ends_of};
 ghost use Rattle.flow_life.specs.Lives.{IsLife};
 ghost use Rattle.flow_life.specs.Loads.{IsGathered};
 ghost use Rattle.flow_life.specs.Nodes.{specs_of};
 ghost use Rattle.flow_life.specs.Steps.{moves_of};
 ghost use Rattle.flow_life.specs.Streams.{plans_of};
+ghost use Rattle.flow_life.specs.Trying.{IsGatheredBut, SameEnabled};
 ghost use Rattle.flow_life.specs.Wired.{IsUnspent};
 
 use flow_cells::Cell;
@@ -51,5 +53,28 @@ pub(crate) fn gather<N: Node>(
     ensures given { OnOk result (to.new ≡ to.old ++ effects_of cells.old) }
 {
     gather_cells(alloc, cells, to)?;
+    Ok(())
+}
+
+/// Puts the effects of one cell behind others, where no other cell has any.
+pub(crate) fn gather_from<N: Node>(
+    alloc: Global,
+    cells: &mut [Cell<N>],
+    cell: u32,
+    to: &mut Effects,
+) -> Result<(), NoMemory>
+    requires life { IsLife N.Node cells.old }
+    requires cell { cell < length cells.old }
+    requires others { IsGatheredBut cell cells.old }
+    ensures life { OnOk result (IsLife N.Node cells.new) }
+    ensures gathers { OnOk result (AllZip Gathers cells.old cells.new) }
+    ensures gathered { OnOk result (Each IsGathered cells.new) }
+    ensures plans { OnOk result (plans_of N.Node cells.new ≡ plans_of N.Node cells.old) }
+    ensures specs { OnOk result (specs_of N.Node cells.new ≡ specs_of N.Node cells.old) }
+    ensures count { OnOk result (moves_of cells.new ≡ moves_of cells.old) }
+    ensures given { OnOk result (to.new ≡ to.old ++ effects_of cells.old) }
+{
+    let from = &mut cells[cell as usize];
+    from.gather(alloc, to)?;
     Ok(())
 }

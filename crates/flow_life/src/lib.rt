@@ -4,6 +4,7 @@
 mod gathering;
 mod laws;
 mod life;
+mod listing;
 mod loads;
 mod making;
 mod moves;

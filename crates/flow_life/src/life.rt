@@ -1,6 +1,7 @@
 //! A life whose type says what its cells keep.
 
-use crate::gathering::gather;
+use crate::gathering::{gather, gather_from};
+use crate::listing::list_steps;
 use crate::loads::load;
 use crate::making::add_cell;
 use crate::playing::{at_rest, play, step};
@@ -48,6 +49,8 @@ impl<N: Node> Life<N> {
     ghost use Rattle.flow_cells.specs.Made.{HasNothing, one_or_more};
     ghost use Rattle.flow_cells.specs.declared.parts.CellParts.{CellParts};
     ghost use Rattle.flow_life.specs.Gathers.{effects_of};
+    ghost use Rattle.flow_life.specs.Left.{left_of};
+    ghost use Rattle.flow_life.specs.Listing.{ends_of, steps_from};
     ghost use Rattle.flow_life.specs.Lives.{IsLife};
     ghost use Rattle.flow_life.specs.Loads.{IsGathered, LoadsFrom, plan_now};
     ghost use Rattle.flow_life.specs.Making.{IsSaved, nodes_of, passed_of};
@@ -55,6 +58,7 @@ impl<N: Node> Life<N> {
     ghost use Rattle.flow_life.specs.Settling.{Grows};
     ghost use Rattle.flow_life.specs.Steps.{AreQuiet, HasEmptyBuffers, IsEnabled, SomeEnabled, moves_of, one_if};
     ghost use Rattle.flow_life.specs.Streams.{AreStreams, CarriesPrefixes, CarriesStreams, plans_of, stream_length};
+    ghost use Rattle.flow_life.specs.Trying.{IsGatheredBut, SameEnabled, mover};
     ghost use Rattle.flow_life.specs.Wired.{parents_of, sum_of_all};
 
     /// A life without cells.
@@ -108,8 +112,8 @@ impl<N: Node> Life<N> {
     }
 
     /// Makes a step. `false` comes exactly where it isn't enabled: there is no such cell, input or out, the edge is
-    /// empty or a message waits to be sent (take), or none waits or the edge has no free place (put). After NoMemory
-    /// the life is spent.
+    /// empty or a message waits to be sent (take), or none waits or the edge has no free place (put); then what can be
+    /// made is as before. It has effects of the cell that it moves alone. After NoMemory the life is spent.
     pub fn step(&mut self, alloc: Global, next: Step) -> Result<bool, NoMemory>
         requires { self.old.spent ≡ false }
         ensures prefixes { OnOk result (CarriesPrefixes N.Node self.new.cells) }
@@ -124,6 +128,15 @@ impl<N: Node> Life<N> {
             → Grows next self.old.cells self.new.cells) }
         ensures count { IfOk result (λ made. moves_of self.new.cells
             ≡ moves_of self.old.cells + one_if made) }
+        ensures ends { OnOk result (ends_of self.new.cells ≡ ends_of self.old.cells) }
+        ensures left { IfOk result (λ made. left_of N.Node self.old.cells
+            ≡ left_of N.Node self.new.cells + one_if made) }
+        ensures still { IfOk result (λ made. IsFalse made
+            → SameEnabled self.old.cells self.new.cells) }
+        ensures others { OnOk result (Each IsGathered self.old.cells
+            → IsGatheredBut (mover next) self.new.cells) }
+        ensures idle { IfOk result (λ made. IsFalse made
+            → Each IsGathered self.old.cells → Each IsGathered self.new.cells) }
         ensures unspent { OnOk result (self.new.spent ≡ false) }
         ensures spent { OnErr result (self.new.spent ≡ true) }
     {
@@ -172,6 +185,7 @@ impl<N: Node> Life<N> {
             → moves_of self.now.cells
             ≡ sum_of_all (stream_length streams) (parents_of self.now.cells)
             + sum_of_all (stream_length streams) (parents_of self.now.cells) }
+        ensures none { IsTrue result → left_of N.Node self.now.cells ≡ 0 }
         ensures alive { IsFalse result → SomeEnabled self.now.cells }
     {
         at_rest(&self.cells)
@@ -191,6 +205,7 @@ impl<N: Node> Life<N> {
         ensures specs { OnOk result (specs_of N.Node self.new.cells
             ≡ specs_of N.Node self.old.cells) }
         ensures prefixes { OnOk result (CarriesPrefixes N.Node self.new.cells) }
+        ensures ends { OnOk result (ends_of self.new.cells ≡ ends_of self.old.cells) }
         ensures count { OnOk result (moves_of self.new.cells ≡ 0) }
         ensures unspent { OnOk result (self.new.spent ≡ false) }
         ensures spent { OnErr result (self.new.spent ≡ true) }
@@ -226,6 +241,45 @@ impl<N: Node> Life<N> {
                 Err(fault)
             }
         }
+    }
+
+    /// The same where one cell alone may have effects that weren't gathered yet: it looks at this cell and no other.
+    pub fn gather_from(
+        &mut self,
+        alloc: Global,
+        cell: u32,
+        to: &mut Effects,
+    ) -> Result<(), NoMemory>
+        requires unspent { self.old.spent ≡ false }
+        requires cell { cell < length self.old.cells }
+        requires others { IsGatheredBut cell self.old.cells }
+        ensures gathers { OnOk result (AllZip Gathers self.old.cells self.new.cells) }
+        ensures gathered { OnOk result (Each IsGathered self.new.cells) }
+        ensures plans { OnOk result (plans_of N.Node self.new.cells
+            ≡ plans_of N.Node self.old.cells) }
+        ensures specs { OnOk result (specs_of N.Node self.new.cells
+            ≡ specs_of N.Node self.old.cells) }
+        ensures count { OnOk result (moves_of self.new.cells ≡ moves_of self.old.cells) }
+        ensures given { OnOk result (to.new ≡ to.old ++ effects_of self.old.cells) }
+        ensures unspent { OnOk result (self.new.spent ≡ false) }
+        ensures spent { OnErr result (self.new.spent ≡ true) }
+    {
+        match gather_from(alloc, &mut self.cells, cell, to) {
+            Ok(()) => Ok(()),
+            Err(fault) => {
+                self.spent = true;
+                Err(fault)
+            }
+        }
+    }
+
+    /// Adds its steps behind others, its cells numbered from here on: cell by cell the takes by input, then the puts by
+    /// out. NoMemory comes where an allocation fails or a number has more than 32 bits; some are there then.
+    pub fn list_steps(&self, from: usize, to: &mut Vec<Step>) -> Result<(), NoMemory>
+        ensures { OnOk result (to.new.items
+            ≡ to.old.items ++ steps_from from (ends_of self.now.cells)) }
+    {
+        list_steps(&self.cells, from, to)
     }
 
     /// How many cells it has.

@@ -4,6 +4,7 @@ ghost use Rattle.std.specs.Prelude.{◌≡◌, map, IfOk, OnOk};
 ghost use Rattle.std.specs.List.{AllByRecursion as Each, AllZip};
 ghost use Rattle.flow_cells.specs.Kept.{Keeps};
 ghost use Rattle.merge_node.specs.Merge.{IsClosed};
+ghost use Rattle.flow_life.specs.Listing.{ends_of};
 ghost use Rattle.flow_life.specs.Lives.{IsLife};
 ghost use Rattle.flow_life.specs.Loads.{CanLoad, IsGathered, LoadsFrom, plan_now};
 ghost use Rattle.flow_life.specs.Nodes.{specs_of};
@@ -68,6 +69,7 @@ pub(crate) fn load<N: Node>(
         ≡ map (plan_now N.Node source.now) cells.old) }
     ensures specs { OnOk result (specs_of N.Node cells.new ≡ specs_of N.Node cells.old) }
     ensures prefixes { OnOk result (CarriesPrefixes N.Node cells.new) }
+    ensures ends { OnOk result (ends_of cells.new ≡ ends_of cells.old) }
     ensures count { OnOk result (moves_of cells.new ≡ 0) }
 {
     load_cells(alloc, cells, source)?;

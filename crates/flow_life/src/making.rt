@@ -18,7 +18,7 @@ use node_core::Node;
 use std::alloc::Global;
 
 /// A number of 32 bits. `NoMemory` comes where it is too great.
-fn number_of(n: usize) -> Result<u32, NoMemory>
+pub(crate) fn number_of(n: usize) -> Result<u32, NoMemory>
     ensures { IfOk result (λ number. number ≡ n) }
 {
     match u32::try_from(n) {

@@ -1,10 +1,13 @@
 //! The two moves of the cells of a life.
 
 ghost use Rattle.std.specs.Prelude.{◌≡◌, ◌+◌, IfOk, IsFalse, IsTrue, OnOk};
+ghost use Rattle.std.specs.List.{AllByRecursion as Each};
+ghost use Rattle.flow_life.specs.Loads.{IsGathered};
 ghost use Rattle.flow_life.specs.Nodes.{gathered_of, specs_of};
 ghost use Rattle.flow_life.specs.Settling.{Receives, Sends};
 ghost use Rattle.flow_life.specs.Steps.{CanPutAt, CanTakeAt, moves_of, one_if};
 ghost use Rattle.flow_life.specs.Streams.{plans_of};
+ghost use Rattle.flow_life.specs.Trying.{IsGatheredBut, SameEnabled};
 ghost use Rattle.flow_life.specs.Wired.{IsReady};
 
 use crate::settling::settle_input;
@@ -24,6 +27,8 @@ pub(crate) fn put<N: Node>(cells: &mut [Cell<N>], cell: u32, out: u32) -> bool
     ensures no { IsFalse result → CanPutAt cells.old cell out → ⊥ }
     ensures sends { IsTrue result → Sends cell out cells.old cells.new }
     ensures count { moves_of cells.new ≡ moves_of cells.old + one_if result }
+    ensures still { IsFalse result → SameEnabled cells.old cells.new }
+    ensures left { Each IsGathered cells.old → Each IsGathered cells.new }
 {
     if cell as usize >= cells.len() {
         return false;
@@ -54,6 +59,10 @@ pub(crate) fn take<N: Node>(
     ensures no { IfOk result (λ made. IsFalse made → CanTakeAt cells.old cell input → ⊥) }
     ensures receives { IfOk result (λ made. IsTrue made → Receives cell input cells.old cells.new) }
     ensures count { IfOk result (λ made. moves_of cells.new ≡ moves_of cells.old + one_if made) }
+    ensures still { IfOk result (λ made. IsFalse made → SameEnabled cells.old cells.new) }
+    ensures left { OnOk result (Each IsGathered cells.old → IsGatheredBut cell cells.new) }
+    ensures idle { IfOk result (λ made. IsFalse made
+        → Each IsGathered cells.old → Each IsGathered cells.new) }
 {
     if cell as usize >= cells.len() {
         return Ok(false);

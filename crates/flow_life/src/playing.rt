@@ -3,11 +3,15 @@
 ghost use Rattle.std.specs.Prelude.{◌≡◌, ◌+◌, IfOk, IsFalse, IsTrue, List, OnOk};
 ghost use Rattle.std.specs.List.{AllByRecursion as Each};
 ghost use Rattle.kap_base.specs.declared.items.Msg.{Msg};
+ghost use Rattle.flow_life.specs.Left.{left_of};
+ghost use Rattle.flow_life.specs.Listing.{ends_of};
 ghost use Rattle.flow_life.specs.Lives.{IsLife};
+ghost use Rattle.flow_life.specs.Loads.{IsGathered};
 ghost use Rattle.flow_life.specs.Nodes.{gathered_of, specs_of};
 ghost use Rattle.flow_life.specs.Settling.{Grows};
 ghost use Rattle.flow_life.specs.Steps.{AreQuiet, HasEmptyBuffers, IsEnabled, SomeEnabled, moves_of, one_if};
 ghost use Rattle.flow_life.specs.Streams.{AreStreams, CarriesPrefixes, CarriesStreams, plans_of, stream_length};
+ghost use Rattle.flow_life.specs.Trying.{IsGatheredBut, SameEnabled, mover};
 ghost use Rattle.flow_life.specs.Wired.{parents_of, sum_of_all};
 
 use crate::moves::{put, take};
@@ -33,6 +37,14 @@ pub(crate) fn step<N: Node>(
     ensures no { IfOk result (λ made. IsFalse made → IsEnabled cells.old next → ⊥) }
     ensures grows { IfOk result (λ made. IsTrue made → Grows next cells.old cells.new) }
     ensures count { IfOk result (λ made. moves_of cells.new ≡ moves_of cells.old + one_if made) }
+    ensures ends { OnOk result (ends_of cells.new ≡ ends_of cells.old) }
+    ensures left { IfOk result (λ made. left_of N.Node cells.old
+        ≡ left_of N.Node cells.new + one_if made) }
+    ensures still { IfOk result (λ made. IsFalse made → SameEnabled cells.old cells.new) }
+    ensures others { OnOk result (Each IsGathered cells.old
+        → IsGatheredBut (mover next) cells.new) }
+    ensures idle { IfOk result (λ made. IsFalse made
+        → Each IsGathered cells.old → Each IsGathered cells.new) }
 {
     match next {
         Step::Take { cell, input } => take(alloc, cells, cell, input),
@@ -88,6 +100,7 @@ pub(crate) fn at_rest<N: Node>(cells: &[Cell<N>]) -> bool
         → AreStreams (plans_of N.Node cells.now) streams
         → moves_of cells.now ≡ sum_of_all (stream_length streams) (parents_of cells.now)
         + sum_of_all (stream_length streams) (parents_of cells.now) }
+    ensures none { IsTrue result → left_of N.Node cells.now ≡ 0 }
     ensures alive { IsFalse result → SomeEnabled cells.now }
 {
     are_quiet(cells)

@@ -1,7 +1,8 @@
 use Rattle.std.proofs.Common.{◌<◌, ◌≤◌, length, arith}
 use Rattle.flow_core.specs.DoneLaws.{gathers_none, lives_behind, lives_here, on_ok}
 use Rattle.flow_core.specs.Nets.{cell_of}
-use Rattle.flow_core.specs.NetLaws.{enabled_behind, enabled_here, grows_behind, grows_here, if_ok, never_here}
+use Rattle.flow_core.specs.NetLaws.{enabled_behind, enabled_here, grows_behind, grows_here, if_ok, if_ok_with, never_here}
+use Rattle.flow_core.specs.RunningLaws.{same_behind, same_here}
 use Rattle.flow_core.proofs.lives.+step.Goals as goal
 
 pub returns-then-cell_of-cells-clause-yes : goal.returns-then-cell_of-cells-clause-yes
@@ -25,7 +26,8 @@ returns-clause-yes g t c =
 
 pub returns-clause-grows : goal.returns-clause-grows
 returns-clause-grows g t c =
-    if_ok c.step.result (λ made grows true'. grows_behind _ _ _ _ c.args.next _ _ c.in-Some.ensures.cases.0 c.cells-cells.ensures c.step_behind.ensures (grows true')) c.step.ensures.grows
+    let le : c.cells-cells.result ≤ cell_of c.args.next = omega arith in
+    if_ok c.step.result (λ made grows true'. grows_behind _ _ _ _ c.args.next _ _ c.in-Some.ensures.cases.0 c.cells-cells.ensures c.step_behind.ensures le (grows true')) c.step.ensures.grows
 
 pub returns-in_default-clause-gathers : goal.returns-in_default-clause-gathers
 returns-in_default-clause-gathers g t c = gathers_none _ _
@@ -35,3 +37,9 @@ returns-then-cell_of-cells-clause-gathers g t c = on_ok c.step_life.result (live
 
 pub returns-clause-gathers : goal.returns-clause-gathers
 returns-clause-gathers g t c = on_ok c.step.result (lives_behind c.args.lives.now c.in-Some.first.now c.in-Some.others.now c.step.new.lives c.args.gathered.now c.step.new.gathered c.in-Some.ensures.cases.0) c.step.ensures.gathers
+
+pub returns-then-cell_of-cells-clause-still : goal.returns-then-cell_of-cells-clause-still
+returns-then-cell_of-cells-clause-still g t c = if_ok_with c.step_life.result (λ made ends same none. same_here _ _ _ _ c.in-Some.ensures.cases.0 ends (same none)) c.step_life.ensures.ends c.step_life.ensures.still
+
+pub returns-clause-still : goal.returns-clause-still
+returns-clause-still g t c = if_ok c.step.result (λ made same none. same_behind _ _ _ _ c.in-Some.ensures.cases.0 (same none)) c.step.ensures.still

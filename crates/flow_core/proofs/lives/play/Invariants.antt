@@ -2,6 +2,7 @@ use Rattle.std.proofs.Common.{◌≡◌, ◌+◌, ◌≤◌}
 use Rattle.std.specs.List.{AllByRecursion as Each}
 use Rattle.flow_core.specs.Nets.{IsSound, moves_in, numbers_of, plans_in, specs_in}
 use Rattle.flow_core.specs.Ran.{GathersAll, effects_in}
+use Rattle.flow_core.specs.Running.{ends_in}
 use Rattle.flow_core.proofs.lives.play.Given as goal
 
 -- as many lists grew by one message as steps were made
@@ -12,6 +13,7 @@ invariant-playing g l = record {
   sound : Each IsSound l.lives;
   plans : plans_in g.N.Node l.lives ≡ plans_in g.N.Node l.fn.lives;
   specs : specs_in g.N.Node l.lives ≡ specs_in g.N.Node l.fn.lives;
+  ends : ends_in l.lives ≡ ends_in l.fn.lives;
   count : moves_in l.lives ≡ moves_in l.fn.lives + l.made;
   gathers : GathersAll (effects_in l.fn.lives) (effects_in l.lives) l.fn.gathered l.gathered;
 }

@@ -1,3 +1,4 @@
+use Rattle.flow_life.specs.ListingLaws.{ends-loaded}
 use Rattle.flow_life.specs.LoadLaws.{can-load, loaded-closed, moves-loaded, plans-loaded, ready-loaded}
 use Rattle.flow_life.specs.NodeLaws.{specs-loaded}
 use Rattle.flow_life.specs.StreamLaws.{carries_prefixes}
@@ -29,3 +30,6 @@ returns-clause-prefixes g c =
 
 pub returns-clause-count : goal.returns-clause-count
 returns-clause-count g c = moves-loaded c.args.source.now c.args.cells.now c.load_cells.new.cells c.in_ok-load_cells.ensures.loads
+
+pub returns-clause-ends : goal.returns-clause-ends
+returns-clause-ends g c = ends-loaded c.args.source.now c.args.cells.now c.load_cells.new.cells c.in_ok-load_cells.ensures.loads

@@ -1,15 +1,19 @@
 use Rattle.std.proofs.Common.{◌≡◌, ℕ, ◌<◌, List, length, get_or, set, Some, sym, ◌∙◌, arith}
 use Rattle.std.specs.Prelude.{slice_get}
+use Rattle.std.specs.List.{AllByRecursion as Each}
 use Rattle.flow_cells.specs.declared.parts.CellParts.{CellParts}
 use Rattle.flow_cells.specs.OutLaws.{get-here}
 use Rattle.flow_cells.specs.Moves.{PutsOne}
 use Rattle.node_core.specs.declared.node.Node.{Ghosts}
+use Rattle.flow_life.specs.Loads.{IsGathered}
+use Rattle.flow_life.specs.OneLaws.{held-left, put-left}
 use Rattle.flow_life.specs.Settling.{HasEdge, Sends, SettlesIn}
 use Rattle.flow_life.specs.PlaceLaws.{each-get, get-within, in-within, out-within}
 use Rattle.flow_life.specs.Steps.{CanPutAt}
 use Rattle.flow_life.specs.Wired.{IsUnspent}
 use Rattle.flow_life.specs.NodeLaws.{Stays, held-stays, put-stays}
 use Rattle.flow_life.specs.StepLaws.{Made}
+use Rattle.flow_life.specs.TryLaws.{same-held, same-refl}
 use Rattle.flow_life.specs.PutLaws.{Held, could-put, edge-as, put-edge, put-held, put-made, put-sends, put-there, settles-as, stuck-put}
 use Rattle.flow_life.proofs.moves.put.Given as given
 use Rattle.flow_life.proofs.moves.put.Goals as goal
@@ -21,6 +25,7 @@ record IsPut {N P S : Type 0} (g : Ghosts N P S) (cell out : ℕ) (cells now : L
   stays : Stays g cells now
   could : CanPutAt cells cell out
   sends : Sends cell out cells now
+  left : Each IsGathered cells → Each IsGathered now
 
 -- the cell that moves
 here : {N : Type 0} (cells : List (CellParts N)) (cell : ℕ) (d : CellParts N) → cell < length cells → slice_get cells cell ≡ Some (get_or cells cell d)
@@ -63,6 +68,7 @@ whole g c =
       stays = put-stays g.N.Node cells now c.args.cell c.args.out t.old.child t.old.input mover c.put.new.self at t s;
       could = could-put cells now c.args.cell c.args.out mover c.put.new.self c.requires.wired at t s;
       sends = put-sends cells now c.args.cell c.args.out mover c.put.new.self c.requires.wired at t s;
+      left = put-left cells now c.args.cell c.args.out t.old.child t.old.input mover c.put.new.self at t s;
     }
 
 pub returns-then-cell-cells-clause-no : goal.returns-then-cell-cells-clause-no
@@ -139,3 +145,21 @@ returns-clause-sends g c = λ _. (whole g (goal.at.returns-clause-sends g c).Aft
 
 pub returns-clause-count : goal.returns-clause-count
 returns-clause-count g c = (whole g (goal.at.returns-clause-count g c).After-settle_input).made.count
+
+pub returns-then-cell-cells-clause-still : goal.returns-then-cell-cells-clause-still
+returns-then-cell-cells-clause-still g c = λ _. same-refl c.args.cells.now
+
+pub returns-then-not-put-clause-still : goal.returns-then-not-put-clause-still
+returns-then-not-put-clause-still g c = λ _.
+    let cells = c.args.cells.now in
+    let mover = get_or cells c.args.cell c.index-cells-cell.result in
+    same-held cells c.args.cell c.args.out mover c.put.new.self (here cells c.args.cell c.index-cells-cell.result (omega arith)) (c.put.ensures.none c.if-not-put.true)
+
+pub returns-then-not-put-clause-left : goal.returns-then-not-put-clause-left
+returns-then-not-put-clause-left g c =
+    let cells = c.args.cells.now in
+    let mover = get_or cells c.args.cell c.index-cells-cell.result in
+    held-left cells c.args.cell c.args.out mover c.put.new.self (here cells c.args.cell c.index-cells-cell.result (omega arith)) (c.put.ensures.none c.if-not-put.true)
+
+pub returns-clause-left : goal.returns-clause-left
+returns-clause-left g c = (whole g (goal.at.returns-clause-left g c).After-settle_input).left

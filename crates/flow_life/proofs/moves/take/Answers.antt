@@ -1,15 +1,21 @@
 use Rattle.std.proofs.Common.{◌≡◌, ℕ, ◌+◌, ◌<◌, Bool, true, false, List, length, get_or, set, Some, Ok, refl, sym, ap, subst, ◌∙◌, arith}
+use Rattle.std.proofs.lemmas.List.{set-get_or}
 use Rattle.std.specs.Prelude.{IsFalse, slice_get}
+use Rattle.std.specs.List.{AllByRecursion as Each}
 use Rattle.node_core.specs.declared.node.Node.{Ghosts}
 use Rattle.flow_cells.specs.declared.parts.CellParts.{CellParts}
 use Rattle.flow_cells.specs.OutLaws.{get-here}
 use Rattle.flow_cells.specs.Looks.{CanTake}
 use Rattle.flow_cells.specs.Moves.{TakesOne}
+use Rattle.flow_life.specs.Loads.{IsGathered}
+use Rattle.flow_life.specs.OneLaws.{all-but, take-left}
 use Rattle.flow_life.specs.Settling.{HasEdge, Receives}
 use Rattle.flow_life.specs.Steps.{CanTakeAt, moves_of, one_if}
 use Rattle.flow_life.specs.Wired.{IsUnspent}
 use Rattle.flow_life.specs.PlaceLaws.{each-get, found-same, get-within, in-within}
 use Rattle.flow_life.specs.NodeLaws.{Stays, take-stays}
+use Rattle.flow_life.specs.Trying.{IsGatheredBut, SameEnabled}
+use Rattle.flow_life.specs.TryLaws.{same-refl}
 use Rattle.flow_life.specs.StepLaws.{Made, take-edge, take-made, take-receives, take-sure}
 use Rattle.flow_life.proofs.moves.take.Given as given
 use Rattle.flow_life.proofs.moves.take.Goals as goal
@@ -21,6 +27,7 @@ record IsTaken {N P S : Type 0} (g : Ghosts N P S) (cell input : ℕ) (cells now
   stays : Stays g cells now
   could : CanTakeAt cells cell input
   receives : Receives cell input cells now
+  left : Each IsGathered cells → IsGatheredBut cell now
   yes : took ≡ true
 
 -- a take that could be made
@@ -66,6 +73,7 @@ whole g c t =
       stays = take-stays g.N.Node cells now c.args.cell c.args.input c.parent-parent.result mover c.take.new.self c.requires.keeps t.at c.in_ok-took.ensures.keeps t.takes c.settle_input.ensures.settles;
       could = record { parts = mover; at = t.at; can = t.can };
       receives = take-receives cells now c.args.cell c.args.input c.parent-parent.result mover c.take.new.self c.requires.wired t.at t.takes t.from c.settle_input.ensures.settles;
+      left = λ all. take-left cells now c.args.cell c.args.input c.parent-parent.result c.take.new.self all c.settle_input.ensures.settles;
       yes = t.yes;
     }
 
@@ -146,3 +154,36 @@ returns-clause-count g c =
     let p = goal.at.returns-clause-count g c in
     let t = took-it g p.In_ok-took in
     (whole g p.After-settle_input t).made.count ∙ ap (λ (n : ℕ). moves_of c.args.cells.now + n) (sym (ap one_if t.yes))
+
+pub returns-then-cell-cells-clause-still : goal.returns-then-cell-cells-clause-still
+returns-then-cell-cells-clause-still g c = λ _. same-refl c.args.cells.now
+
+pub returns-then-cell-cells-clause-left : goal.returns-then-cell-cells-clause-left
+returns-then-cell-cells-clause-left g c = all-but c.args.cells.now c.args.cell
+
+pub returns-then-not-can_take-clause-still : goal.returns-then-not-can_take-clause-still
+returns-then-not-can_take-clause-still g c = λ _.
+    let cells = c.args.cells.now in
+    subst (SameEnabled cells) (sym (set-get_or cells c.args.cell c.index-cells-cell.result)) (same-refl cells)
+
+pub returns-then-not-can_take-clause-left : goal.returns-then-not-can_take-clause-left
+returns-then-not-can_take-clause-left g c = λ all.
+    let cells = c.args.cells.now in
+    subst (IsGatheredBut c.args.cell) (sym (set-get_or cells c.args.cell c.index-cells-cell.result)) (all-but cells c.args.cell all)
+
+pub returns-clause-still : goal.returns-clause-still
+returns-clause-still g c = λ none.
+    let took = (took-it g (goal.at.returns-clause-still g c).In_ok-took).yes in
+    let never : true ≡ false = subst IsFalse took none in
+    absurd cc
+
+pub returns-clause-left : goal.returns-clause-left
+returns-clause-left g c =
+    let p = goal.at.returns-clause-left g c in
+    (whole g p.After-settle_input (took-it g p.In_ok-took)).left
+
+pub returns-clause-idle : goal.returns-clause-idle
+returns-clause-idle g c = λ none _.
+    let took = (took-it g (goal.at.returns-clause-idle g c).In_ok-took).yes in
+    let never : true ≡ false = subst IsFalse took none in
+    absurd cc

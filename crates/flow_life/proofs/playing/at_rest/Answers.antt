@@ -1,5 +1,6 @@
 use Rattle.flow_life.specs.AliveLaws.{alive}
 use Rattle.flow_life.specs.CountLaws.{moves-twice}
+use Rattle.flow_life.specs.LeftLaws.{left-none}
 use Rattle.flow_life.specs.RestLaws.{buffers_empty, carries_streams}
 use Rattle.flow_life.proofs.playing.at_rest.Goals as goal
 
@@ -14,3 +15,6 @@ returns-clause-twice g c = λ rest streams are. moves-twice g.N.Node c.args.cell
 
 pub returns-clause-alive : goal.returns-clause-alive
 returns-clause-alive g c = λ busy. alive c.args.cells.now c.requires.ready.wired (c.are_quiet.ensures.no busy)
+
+pub returns-clause-none : goal.returns-clause-none
+returns-clause-none g c = λ rest. left-none g.N.Node c.args.cells.now c.requires (c.are_quiet.ensures.yes rest)

@@ -1,0 +1,14 @@
+use Rattle.std.specs.List.{AllByRecursion as Each}
+use Rattle.flow_core.specs.Nets.{IsSound}
+use Rattle.flow_core.specs.Running.{GoesOn, left_in}
+use Rattle.flow_core.proofs.resting.exhaust.Given as goal
+
+-- lives go on from where they were
+abbrev pub invariant-making : goal.invariant-making
+invariant-making g l = record {
+  sound : Each IsSound l.lives;
+  goes : GoesOn g.N.Node l.fn.lives l.lives l.fn.gathered l.gathered;
+}
+
+abbrev pub decreases-making : goal.decreases-making
+decreases-making g l = left_in g.N.Node l.lives
