@@ -30,3 +30,16 @@ pub trait Mover<N: Node> {
         ensures unspent { OnOk result (net.new.spent ≡ false) }
         ensures spent { OnErr result (net.new.spent ≡ true) };
 }
+
+/// In one thread, in the order that a number gives, which begins anew with each epoch.
+#[derive(Clone, Copy, Debug)]
+pub struct BySchedule {
+    /// The number.
+    pub number: u32,
+}
+
+impl<N: Node> Mover<N> for BySchedule {
+    fn move_to_rest(&mut self, alloc: Global, net: &mut Net<N>) -> Result<(), NoMemory> {
+        net.play_by(alloc, self.number)
+    }
+}
