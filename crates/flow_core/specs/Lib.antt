@@ -16,6 +16,8 @@ pub mod Making
 pub mod Ran
 -- cells that move by themselves
 pub mod Away
+-- what the nodes of lives dropped
+pub mod Drops
 -- all steps, made until none can be made
 pub mod Running
 -- proofs, no definitions
@@ -37,5 +39,6 @@ pub mod PlanLaws
 pub mod DoneLaws
 pub mod RanLaws
 pub mod AwayLaws
+pub mod CountLaws
 pub mod RunningLaws
 pub mod EndLaws

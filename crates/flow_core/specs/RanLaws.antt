@@ -24,14 +24,15 @@ use Rattle.flow_life.specs.Streams.{CarriesStreams, Plan, plans_of}
 use Rattle.flow_life.specs.Wired.{parents_of}
 use Rattle.task_run.specs.Active.{AreFirst, placed}
 use Rattle.task_run.specs.Graphs.{Placed, gives_behind, graph_gives, node_gives, stamped_from}
-use Rattle.task_run.specs.Lives.{effects_of}
+use Rattle.task_run.specs.Lives.{dropped_of, effects_of}
 use Rattle.task_run.specs.Plans.{AreFirstNodes, AreFirstStates, PlanValue, graph_of}
 use Rattle.flow_core.specs.DoneLaws.{paired}
+use Rattle.flow_core.specs.Drops.{drops_in, drops_of}
 use Rattle.flow_core.specs.GatherLaws.{sorted_more}
 use Rattle.flow_core.specs.Gathering.{LivesRise, NumbersEffects, effects_by_node}
 use Rattle.flow_core.specs.LifeLaws.{nodes_loaded, nodes_moved, planned, rests_more}
 use Rattle.flow_core.specs.LifeLoads.{acts_of, effects_since}
-use Rattle.flow_core.specs.LoadedLaws.{loaded_stands}
+use Rattle.flow_core.specs.LoadedLaws.{loaded_drops, loaded_stands}
 use Rattle.flow_core.specs.Loads.{IsPlanOf, Loaded, start}
 use Rattle.flow_core.specs.Making.{AreLivesOf, IsLifeOf}
 use Rattle.flow_core.specs.Messages.{AreMarksOf, load_messages}
@@ -74,9 +75,10 @@ module _ {P : Type 0} (answer : P → Answer) where
   none-behind earlier [] = refl
   none-behind earlier (d ∷ nodes) = none-behind (earlier ++ node_gives answer 0 [] earlier d ∷ []) nodes
 
-  none-given : (lives : List (List (Placed P))) → effects_by_node answer lives [] ≡ []
-  none-given [] = refl
-  none-given (nodes ∷ lives) = ap (λ (es : List Effect). es ++ effects_by_node answer lives []) (none-behind [] nodes) ∙ none-given lives
+  -- of no points lives give nothing
+  pub none_given : (lives : List (List (Placed P))) → effects_by_node answer lives [] ≡ []
+  none_given [] = refl
+  none_given (nodes ∷ lives) = ap (λ (es : List Effect). es ++ effects_by_node answer lives []) (none-behind [] nodes) ∙ none_given lives
 
 module _ {N P S : Type 0} (g : Ghosts N P S) where
   count-since : (cells : List (CellParts N)) → length (effects_since cells) ≡ length (map placed (acts_of g cells))
@@ -102,14 +104,17 @@ module _ {N P S : Type 0} (g : Ghosts N P S) where
   placed-graph [] = refl
   placed-graph (c ∷ cells) = ap (λ (ds : List (Placed P)). record { spec = g.spec c.core.node; parents = map (λ (e : InEdge). e.from) c.ins.items } ∷ ds) (placed-graph cells)
 
+  graph-of-life : (plan : PlanValue N) (l : NumberedLife N) → IsLifeOf g plan l → map placed (acts_of g l.life.cells) ≡ graph_of g.spec plan
+  graph-of-life plan l is =
+      placed-graph l.life.cells
+      ∙ ap (λ (ns : List N). map (λ p. record { spec = g.spec p.0; parents = p.1 }) (zip ns (parents_of l.life.cells))) is.nodes
+      ∙ ap (λ (ps : List (List ℕ)). map (λ p. record { spec = g.spec p.0; parents = p.1 }) (zip plan.nodes ps)) is.parents
+
   life-first : (source : List Msg) (plan : PlanValue N) (l l' : NumberedLife N) → IsLifeOf g plan l → AreFirstNodes g.spec g.state g.first plan.nodes
       → plans_of g l'.life.cells ≡ map (plan_now g source) l.life.cells → specs_of g l'.life.cells ≡ specs_of g l.life.cells → LifeHasRun g [] source (graph_of g.spec plan) l'
   life-first source plan l l' is first plans specs =
       let cells = l.life.cells in
-      let nodes : map placed (acts_of g cells) ≡ graph_of g.spec plan =
-      placed-graph cells
-      ∙ ap (λ (ns : List N). map (λ p. record { spec = g.spec p.0; parents = p.1 }) (zip ns (parents_of cells))) is.nodes
-      ∙ ap (λ (ps : List (List ℕ)). map (λ p. record { spec = g.spec p.0; parents = p.1 }) (zip plan.nodes ps)) is.parents in
+      let nodes : map placed (acts_of g cells) ≡ graph_of g.spec plan = graph-of-life plan l is in
       record {
         acts = acts_of g cells;
         outs = λ node. [];
@@ -150,7 +155,7 @@ module _ {N P S : Type 0} (g : Ghosts N P S) where
         ran = subst (λ (ls : List (NumberedLife N)). AllZip (LifeHasRun g [] (load_messages new net'.last marks)) lives ls) (sym here)
             (subst (λ (s : Stamp). AllZip (LifeHasRun g [] (load_messages new s marks)) lives now) (sym last) (lives-first (load_messages new upto marks) plans net.lives now is.lives is.first planned_is specs));
         effects = subst (λ (ls : List (NumberedLife N)). IsPermutation (effects_by_node g.answer lives [] ++ effects_in ls) net'.gathered) (sym here)
-            (subst (λ (es : List Effect). IsPermutation (es ++ all) net'.gathered) (sym (none-given g.answer lives))
+            (subst (λ (es : List Effect). IsPermutation (es ++ all) net'.gathered) (sym (none_given g.answer lives))
             (subst (λ (es : List Effect). IsPermutation all es) (sym (given ∙ ap (λ (es : List Effect). es ++ all) is.gathered)) (IsPermutation-refl all)));
       }
 
@@ -347,3 +352,48 @@ module _ {N P S : Type 0} (g : Ghosts N P S) where
               (subst (λ (es : List Effect). IsPermutation (first ++ done) es) (append_assoc collected net.gathered done)
               (IsPermutation-append_left done first (collected ++ net.gathered) (run_rests lives before collected net h kept quiet))));
         }
+
+    -- ---- what was dropped
+
+    drops-acts : (cells : List (CellParts N)) → drops_of g cells ≡ map (λ a. g.drops a.state) (acts_of g cells)
+    drops-acts [] = refl
+    drops-acts (c ∷ cells) = ap (λ (ns : List ℕ). g.drops (g.state c.core.node) ∷ ns) (drops-acts cells)
+
+    module _ (counts : (p : P) (xs : List Input) → g.drops (fold (g.step p) (g.first p) xs).state ≡ (given (g.answer p) xs).drops) where
+      -- what nodes that were loaded with points dropped is what they drop of these points
+      loaded-drop : (points : List PointValue) (nodes : List (Placed P)) (cells : List (CellParts N)) (outs : ℕ → List Msg) (done : ℕ → List Effect)
+          → Loaded g.first g.step points (acts_of g cells) outs done → map placed (acts_of g cells) ≡ nodes → drops_of g cells ≡ map (λ (x : Given). x.drops) (graph_gives g.answer points nodes)
+      loaded-drop points nodes cells outs done loaded are =
+          drops-acts cells
+          ∙ loaded_drops g.answer g.life g.number stamped g.first g.step folds g.drops counts loaded
+          ∙ ap (λ (ds : List (Placed P)). map (λ (x : Given). x.drops) (graph_gives g.answer points ds)) are
+
+      lives-drop : (old new : List PointValue) (last : Stamp) (marks : List Stamp) (all : List (List (Placed P))) (lives : List (NumberedLife N)) → last.0 ≡ length (old ++ new) → AreMarksOf new last marks
+          → AllZip (LifeHasRun g old (load_messages new last marks)) all lives → Each (IsLifeIn g) lives → Each IsResting lives → drops_in g lives ≡ dropped_of g.answer all (old ++ new)
+      lives-drop old new last marks [] [] long are h kept quiet = refl
+      lives-drop old new last marks [] (l ∷ lives) long are h kept quiet = absurd h
+      lives-drop old new last marks (nodes ∷ all) [] long are h kept quiet = absurd h
+      lives-drop old new last marks (nodes ∷ all) (l ∷ lives) long are h kept quiet =
+          let r = life-rests old new last marks nodes l long are h.0 kept.0 quiet.0 in
+          ap (λ (ns : List ℕ). ns ∷ drops_in g lives) (loaded-drop (old ++ new) nodes l.life.cells r.outs r.done r.loaded h.0.nodes_are)
+          ∙ ap (λ (ls : List (List ℕ)). map (λ (x : Given). x.drops) (graph_gives g.answer (old ++ new) nodes) ∷ ls) (lives-drop old new last marks all lives long are h.1 kept.1 quiet.1)
+
+      -- at rest the nodes have dropped what they drop of all points
+      pub run_drops : (lives : List (List (Placed P))) (points : List PointValue) (collected : List Effect) (net : NetValue N) → HasRun g lives points collected net
+          → Each (IsLifeIn g) net.lives → Each IsResting net.lives → drops_in g net.lives ≡ dropped_of g.answer lives points
+      run_drops lives points collected net h kept quiet =
+          lives-drop h.old h.new net.last h.marks lives net.lives (h.last ∙ ap length h.points_are) h.marks_are h.ran kept quiet
+          ∙ ap (dropped_of g.answer lives) (sym h.points_are)
+
+      lives-new : (plans : List (PlanValue N)) (lives : List (NumberedLife N)) → AreLivesOf g plans lives → AreFirstStates g.spec g.state g.first plans → drops_in g lives ≡ dropped_of g.answer (map (graph_of g.spec) plans) []
+      lives-new [] [] are first = refl
+      lives-new [] (l ∷ lives) are first = absurd are
+      lives-new (p ∷ ps) [] are first = absurd are
+      lives-new (p ∷ ps) (l ∷ lives) are first =
+          let acts = first-acts l.life.cells (subst (λ (ns : List N). AreFirstNodes g.spec g.state g.first ns) (sym are.0.nodes) first.0) in
+          ap (λ (ns : List ℕ). ns ∷ drops_in g lives) (loaded-drop [] (graph_of g.spec p) l.life.cells (λ node. []) (λ node. []) (start (acts_of g l.life.cells) acts) (graph-of-life p l are.0))
+          ∙ ap (λ (ls : List (List ℕ)). map (λ (x : Given). x.drops) (graph_gives g.answer [] (graph_of g.spec p)) ∷ ls) (lives-new ps lives are.1 first.1)
+
+      -- and before the first load they have dropped nothing, as they drop of no points
+      pub new_drops : (plans : List (PlanValue N)) (net : NetValue N) → IsNew g plans net → drops_in g net.lives ≡ dropped_of g.answer (map (graph_of g.spec) plans) []
+      new_drops plans net is = lives-new plans net.lives is.lives is.first

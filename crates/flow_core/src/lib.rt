@@ -2,6 +2,7 @@
 #![tactic(auto)]
 
 mod cells;
+mod counting;
 mod gathering;
 mod laws;
 mod listing;

@@ -1,6 +1,7 @@
 //! A net, whose type says what its lives keep.
 
 use crate::cells::{Cells, give};
+use crate::counting::counts_of;
 use crate::gathering::sort_effects;
 use crate::listing::list_steps;
 use crate::lives::{Numbered, at_rest, dropped, keep_lives, load, place_of, play, step};
@@ -14,7 +15,7 @@ use node_core::{Effects, Node};
 use std::alloc::Global;
 use std::marker::Model;
 use std::mem;
-use task_run::LifePlan;
+use task_run::{Counts, LifePlan};
 
 /// Lives side by side, whose cells are numbered life by life, from 0 on. Its type says that the edges of each life are settled
 /// and that the effects of all moves were gathered, unless it is spent.
@@ -62,9 +63,10 @@ impl<N: Node> Net<N> {
     ghost use Rattle.flow_life.specs.Steps.{one_if};
     ghost use Rattle.flow_life.specs.declared.steps.Step.{Step};
     ghost use Rattle.task_run.specs.Graphs.{Placed};
-    ghost use Rattle.task_run.specs.Lives.{effects_of};
+    ghost use Rattle.task_run.specs.Lives.{dropped_of, effects_of};
     ghost use Rattle.task_run.specs.Plans.{AreFirstStates, PlanValue, graph_of};
     ghost use Rattle.flow_core.specs.Away.{AreBack, IsBack, with_lives};
+    ghost use Rattle.flow_core.specs.Drops.{drops_in};
     ghost use Rattle.flow_core.specs.Gathering.{LivesRise, NumbersEffects, effects_by_node};
     ghost use Rattle.flow_core.specs.Making.{AreLivesOf, Begins, Ends, HasFewParents};
     ghost use Rattle.flow_core.specs.Messages.{AreMarksOf, load_messages};
@@ -431,6 +433,25 @@ impl<N: Node> Net<N> {
     }
 
     /// Whether a call on it failed in the middle, or its cells are out.
+    /// How many inputs each node of each life dropped and counted, life by life and node by node: at rest of all points, and of
+    /// none where nothing was loaded.
+    pub fn counts(&self, alloc: Global) -> Result<Counts, NoMemory>
+        requires { self.now.spent ≡ false }
+        ensures counts { IfOk result (λ counts. counts ≡ drops_in N.Node self.now.lives) }
+        ensures new { IfOk result (λ counts. (plans : List (PlanValue N))
+            → IsNew N.Node plans self.now
+            → counts ≡ dropped_of N.answer (map (graph_of N.spec) plans) []) }
+        ensures ran { Each IsResting self.now.lives
+            → IfOk result (λ counts. (lives : List (List (Placed N.Spec)))
+            (points : List PointValue) (collected : List Effect)
+            → HasRun N.Node lives points collected self.now
+            → counts ≡ dropped_of N.answer lives points) }
+    {
+        keep_lives(&self.lives);
+        counts_of(alloc, &self.lives)
+    }
+
+    /// Whether a call on it failed in the middle.
     pub fn is_spent(&self) -> bool
         ensures { result ≡ self.now.spent }
     {

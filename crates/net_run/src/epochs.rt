@@ -1,0 +1,43 @@
+//! One epoch through a net.
+
+ghost use Rattle.std.specs.Prelude.{◌≡◌, ◌+◌, ◌++◌, false, IfOk, List, OnOk, length, map};
+ghost use Rattle.std.specs.List.{AllByRecursion as Each};
+ghost use Rattle.kap_base.specs.Points.{PointValue};
+ghost use Rattle.task_run.specs.Lives.{effects_of};
+ghost use Rattle.task_run.specs.Plans.{PlanValue, graph_of};
+ghost use Rattle.flow_core.specs.Nets.{IsResting};
+ghost use Rattle.net_run.specs.Epochs.{Stands};
+
+use crate::moving::Mover;
+use crate::numbering::NumberingNode;
+use flow_core::Net;
+use kap_base::{NoMemory, Point, Stamp};
+use node_core::Effects;
+use std::alloc::Global;
+
+/// Loads an epoch of points, with stamps that end at `upto`, and answers its effects at rest. After NoMemory the net can't go on.
+pub(crate) fn run_epoch<N: NumberingNode, M: Mover<N>>(
+    alloc: Global,
+    net: &mut Net<N>,
+    points: &[Point],
+    upto: Stamp,
+    mover: &mut M,
+) -> Result<Effects, NoMemory>
+    requires unspent { net.old.spent ≡ false }
+    requires rest { Each IsResting net.old.lives }
+    requires upto { upto.0 ≡ net.old.last.0 + length points.now }
+    ensures last { OnOk result (net.new.last ≡ upto) }
+    ensures stands { OnOk result ((plans : List (PlanValue N)) (before : List PointValue)
+        → Stands N.Node plans before net.old
+        → Stands N.Node plans (before ++ points.now) net.new) }
+    ensures effects { IfOk result (λ effects. (plans : List (PlanValue N))
+        (before : List PointValue) → Stands N.Node plans before net.old
+        → effects_of N.answer (map (graph_of N.spec) plans) (before ++ points.now)
+        ≡ effects_of N.answer (map (graph_of N.spec) plans) before ++ effects) }
+{
+    net.load(alloc, points, upto, &[])?;
+    mover.move_to_rest(alloc, net)?;
+    // At rest the net has gathered all that its nodes give for the points so far.
+    let _rests = net.at_rest();
+    Ok(net.collect(alloc))
+}

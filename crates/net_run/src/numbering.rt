@@ -1,0 +1,20 @@
+//! Nodes that number their effects.
+
+ghost use Rattle.flow_core.specs.Gathering.{NumbersEffects};
+ghost use Rattle.flow_core.specs.NumberLaws.{stamped_numbers};
+ghost use Rattle.net_run.specs.Numbering.{both_number};
+
+use node_core::{Both, Kind, Node, Numbered};
+
+/// A node that numbers its effects: where the stamps of its inputs don't fall, the numbers of its effects with one stamp rise.
+pub trait NumberingNode: Node {
+    ghost numbers: { (p : Self.Spec) → NumbersEffects (Self.answer p) };
+}
+
+impl<K: Kind + Drop> NumberingNode for Numbered<K> {
+    ghost numbers = { λ p. stamped_numbers p.life p.node (K.saying p.kind) };
+}
+
+impl<A: NumberingNode, B: NumberingNode> NumberingNode for Both<A, B> {
+    ghost numbers = { both_number A.answer B.answer A.numbers B.numbers };
+}

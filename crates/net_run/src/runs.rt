@@ -1,0 +1,125 @@
+//! Lives that run through a net.
+
+use crate::epochs::run_epoch;
+use crate::moving::Mover;
+use crate::numbering::NumberingNode;
+use crate::trail::Trail;
+use edge_queue::CAPACITY_LIMIT;
+use flow_core::Net;
+use kap_base::{NoMemory, Point, Stamp};
+use node_core::{Effects, Node};
+use std::alloc::Global;
+use std::marker::Model;
+use std::snapshot::Snapshot;
+use task_run::{Counts, LifePlan};
+
+/// Lives that run through a net, one epoch of points after the other. Contracts see the nodes of each life, the points of all
+/// epochs, and whether memory ran out. It keeps the states of the nodes, and no points once their epoch is done.
+#[derive(Drop)]
+pub struct NetRun<N: Node> {
+    net: Net<N>,
+    /// How many points were loaded.
+    given: u64,
+    spent: bool,
+    // What was planned of the lives, and the points: clauses alone see them.
+    plans: Snapshot<Vec<LifePlan<N>>>,
+    trail: Trail,
+}
+
+impl<N: Node> Model for NetRun<N> {
+    ghost use Rattle.std.specs.Coded.{codes};
+    ghost use Rattle.std.specs.Prelude.{◌≡◌, false, map};
+    ghost use Rattle.kap_base.specs.Maps.{key_map_code};
+    ghost use Rattle.task_run.specs.Lives.{RunValue};
+    ghost use Rattle.task_run.specs.Plans.{graph_of};
+    ghost use Rattle.net_run.specs.Epochs.{Stands};
+    ghost use Rattle.net_run.specs.Trails.{points_of};
+
+    ghost Value = { RunValue N.Spec };
+
+    ghost coded = { Prim.hlevel (codes, key_map_code) };
+
+    ghost view = { λ r. record {
+      lives = map (graph_of N.spec) r.plans.value.items;
+      points = points_of r.trail;
+      spent = r.spent;
+    } };
+
+    ghost invariant = { λ r. r.spent ≡ false
+        → (r.given ≡ r.net.last.0) × Stands N.Node r.plans.value.items (points_of r.trail) r.net };
+}
+
+impl<N: NumberingNode> NetRun<N> {
+    ghost use Rattle.std.specs.Prelude.{◌≡◌, ◌++◌, ◌<◌, ◌≤◌, false, [], IfOk, OnOk, is_err, map};
+    ghost use Rattle.std.specs.List.{AllByRecursion as Each};
+    ghost use Rattle.task_run.specs.Lives.{dropped_of, effects_of};
+    ghost use Rattle.task_run.specs.Plans.{AreFirstStates, graph_of};
+    ghost use Rattle.flow_core.specs.Gathering.{LivesRise};
+    ghost use Rattle.flow_core.specs.Making.{HasFewParents};
+
+    /// A net of lives whose nodes are in their first states, before the first point. Their numbers rise from 1 on, and their edges
+    /// have room for 1 to 65,536 messages.
+    pub fn new(alloc: Global, plans: Vec<LifePlan<N>>, capacity: u32) -> Result<NetRun<N>, NoMemory>
+        requires first { AreFirstStates N.spec N.state N.first plans.items }
+        requires rise { LivesRise N.life N.number 1 (map (graph_of N.spec) plans.items) }
+        requires few { Each HasFewParents plans.items }
+        requires some { 0 < capacity }
+        requires limit { capacity ≤ CAPACITY_LIMIT }
+        ensures { IfOk result (λ run. run
+            ≡ record { lives = map (graph_of N.spec) plans.items; points = []; spent = false }) }
+    {
+        let planned = Snapshot::of(&plans);
+        Ok(NetRun {
+            net: Net::make(alloc, plans, capacity)?,
+            given: 0,
+            spent: false,
+            plans: planned,
+            trail: Trail::Start,
+        })
+    }
+
+    /// Whether memory ran out in a call of `run`. Then the run can't go on.
+    pub fn spent(&self) -> bool
+        ensures { result ≡ self.now.spent }
+    {
+        self.spent
+    }
+
+    /// Loads an epoch of points into the net, lets it come to rest, and answers what the nodes do for them. A point's stamp is its
+    /// place among all points so far, from 1 on. The effects of all points, in their order, go on by these. After NoMemory the run
+    /// is spent.
+    pub fn run<M: Mover<N>>(
+        &mut self,
+        alloc: Global,
+        points: Vec<Point>,
+        mover: &mut M,
+    ) -> Result<Effects, NoMemory>
+        requires { self.old.spent ≡ false }
+        ensures lives { OnOk result (self.new.lives ≡ self.old.lives) }
+        ensures points { OnOk result (self.new.points ≡ self.old.points ++ points.items) }
+        ensures spent { self.new.spent ≡ is_err result }
+        ensures effects { IfOk result (λ effects.
+            effects_of N.answer self.old.lives (self.old.points ++ points.items)
+            ≡ effects_of N.answer self.old.lives self.old.points ++ effects) }
+    {
+        self.spent = true;
+        let Some(upto) = self.given.checked_add(points.len() as u64) else {
+            return Err(NoMemory);
+        };
+        let trail = Trail::More(Snapshot::of(&self.trail), Snapshot::of(&points));
+        let effects = run_epoch(alloc, &mut self.net, &points, Stamp(upto), mover)?;
+        self.trail = trail;
+        self.given = upto;
+        self.spent = false;
+        Ok(effects)
+    }
+
+    /// How many inputs each node of each life dropped and counted, life by life and node by node.
+    pub fn dropped(&self, alloc: Global) -> Result<Counts, NoMemory>
+        requires { self.now.spent ≡ false }
+        ensures { IfOk result (λ counts.
+            counts ≡ dropped_of N.answer self.now.lives self.now.points) }
+    {
+        self.net.counts(alloc)
+    }
+}
