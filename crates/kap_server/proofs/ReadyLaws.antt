@@ -1,12 +1,17 @@
 -- Tasks are made ready one after the other.
-use Rattle.std.proofs.Common.{◌≡◌, ℕ, ◌+◌, List, [], ◌∷◌, ◌++◌, map, refl, sym, ap, ◌∙◌, subst, append_assoc, append-nil}
+use Rattle.std.proofs.Common.{◌≡◌, ℕ, ◌+◌, List, [], ◌∷◌, ◌++◌, length, map, arith, refl, sym, ap, ◌∙◌, subst, append_assoc, append-nil}
 use Rattle.std.specs.Prelude.{◌||◌}
-use Rattle.std.specs.List.{list_any}
+use Rattle.std.specs.List.{AllByRecursion as Each, list_any}
 use Rattle.std.specs.Str.{bytes_eq}
 use Rattle.std.proofs.lemmas.List.{map-append}
+use Rattle.kap_base.specs.Tree.{Tree}
+use Rattle.flow_core.specs.Gathering.{LivesRise}
+use Rattle.flow_core.specs.Making.{HasFewParents}
 use Rattle.tick_compile.specs.declared.tasks.Task.{Task}
 use Rattle.task_run.specs.Plans.{AreFirstNodes, AreFirstStates, PlanValue, graph_of}
-use Rattle.node_set.specs.Tasks.{Planned}
+use Rattle.task_run.specs.EffectOrder.{NodesNumbered}
+use Rattle.task_graph.specs.declared.spec.NodeSpec.{NodeSpec}
+use Rattle.node_set.specs.Tasks.{Planned, Sits, nodes_from}
 use Rattle.task_run.specs.Graphs.{Placed}
 use Rattle.effect_text.specs.declared.names.TaskNames.{TaskNames}
 use Rattle.kap_server.specs.Pairs.{AreTasks, is_among, names_of, task_names}
@@ -35,11 +40,16 @@ module _ {N P S : Type 0} (spec : N → P) (state : N → S) (first : P → S) (
     names_are = sym (append-nil names);
     plans_are = sym (append-nil (map (graph_of spec) plans));
     begin = λ h. h;
+    few = λ h. h;
   }
 
   begins_behind : (plans : List (PlanValue N)) (plan : PlanValue N) → AreFirstStates spec state first plans → AreFirstNodes spec state first plan.nodes → AreFirstStates spec state first (plans ++ plan ∷ [])
   begins_behind [] plan h new = (new, tt)
   begins_behind (p ∷ ps) plan h new = (h.0, begins_behind ps plan h.1 new)
+
+  few_behind : (plans : List (PlanValue N)) (plan : PlanValue N) → Each HasFewParents plans → HasFewParents plan → Each HasFewParents (plans ++ plan ∷ [])
+  few_behind [] plan h new = (new, tt)
+  few_behind (p ∷ ps) plan h new = (h.0, few_behind ps plan h.1 new)
 
   pub ids_behind : (pair : Pair) (task : Task) (names names_after : List TaskNames) → names_after ≡ names ++ names_of pair task ∷ [] → ids_of names_after ≡ ids_of names ++ pair.id ∷ []
   ids_behind pair task names names_after is = ap ids_of is ∙ map-append (λ (t : TaskNames). t.id) names (names_of pair task ∷ [])
@@ -60,4 +70,22 @@ module _ {N P S : Type 0} (spec : N → P) (state : N → S) (first : P → S) (
             ∙ append_assoc (map (graph_of spec) p1) (graph_of spec plan ∷ []) lives
             ∙ ap (λ (n : List (Placed P)). map (graph_of spec) p1 ++ n ∷ lives) one.puts.made;
         begin = λ h. all.begin (subst (AreFirstStates spec state first) (sym one.puts.plans_are) (begins_behind p1 plan h one.puts.begins));
+        few = λ h. all.few (subst (Each HasFewParents) (sym one.puts.plans_are) (few_behind p1 plan h one.puts.few));
       }
+
+-- ---- the lives of tasks
+
+module _ {P : Type 0} (planned : Planned P) (ports life_of number_of : P → ℕ)
+    (sits : (task : List ℕ) (life number : ℕ) (node : NodeSpec Tree) → Sits ports life_of number_of life number (length node.parents) node.spec (planned task life number node)) where
+  nodes_numbered : (task : List ℕ) (life number : ℕ) (nodes : List (NodeSpec Tree)) → NodesNumbered life_of number_of life number (nodes_from planned task life number nodes)
+  nodes_numbered task life number [] = tt
+  nodes_numbered task life number (node ∷ nodes) =
+      let at = sits task life number node in
+      ((at.life_is, at.number_is), nodes_numbered task life (number + 1) nodes)
+
+  -- they are numbered from here on
+  pub lives_rise : (life : ℕ) (pairs : List Pair) (tasks : List Task) → LivesRise life_of number_of life (lives_from planned life pairs tasks)
+  lives_rise life [] tasks = tt
+  lives_rise life (pair ∷ pairs) [] = tt
+  lives_rise life (pair ∷ pairs) (task ∷ tasks) =
+      (life, omega arith, nodes_numbered pair.id life 0 task.graph, lives_rise (life + 1) pairs tasks)

@@ -9,14 +9,15 @@ use Rattle.kap_io.specs.Pieces.{AppendsPrefix}
 use Rattle.recording_file.specs.declared.fault.RecFault.{RecFault}
 use Rattle.recording_file.specs.declared.fault.RecFault.TheVariants as faults
 use Rattle.recording_file.specs.Recording.{Reading, Stop, Ended, Faulty, Undecided, reading_of}
-use Rattle.recording_file.specs.Reading.{ReaderState, ReaderReads, Gives, GaveAll, Fails, StopsAt, HasRead}
+use Rattle.recording_file.specs.Reading.{ReaderState, ReaderReads, GaveAll, Fails, StopsAt, HasRead}
 use Rattle.recording_file.proofs.ReadLaws.{read_none, read_more, told}
 use Rattle.recording_file.proofs.RecordLaws.{recorded}
 use Rattle.kap_server.specs.declared.status.Status.{Status}
 use Rattle.kap_server.specs.declared.status.Status.TheVariants as statuses
 use Rattle.kap_server.specs.Statuses.{status_of, status_at}
 use Rattle.kap_server.specs.Command.{IsUnlessFailed}
-use Rattle.kap_server.specs.Replaying.{AddsLines, Grows, HasWritten, IsWritten, Replayed, TextOf, Writes, WritesPrefix, WritesSome, due_of}
+use Rattle.kap_server.specs.Replaying.{AddsText, Grows, HasWritten, IsWritten, Replayed, TextOf, Writes, WritesPrefix, WritesSome, due_of}
+use Rattle.kap_server.specs.Gathering.{Gathers}
 use Rattle.kap_server.specs.Runs.{EndsWritten}
 
 -- a prefix of what is due is one of the whole text
@@ -67,14 +68,14 @@ module _ (text rest : TextOf) (none : text [] ≡ []) (grows : Grows text) where
       is = on.is ∙ ap (λ (l : List ℕ). on.done ++ l) moved.rest ∙ sym (append_assoc on.done moved.piece left);
     }
 
-    -- a point was given, and its text is due
-    pub written_point : (b : ReaderState) (u : Option (List ℕ)) (p : PointValue) (more : List ℕ) → ReaderReads a b t u → Gives a b p → AddsLines text a.given p due more → HasWritten text more b s u w v
-    written_point b u p more reads gives adds = record {
-      read = read_more a b s t u on.read reads;
-      first = gives.next;
+    -- points were given, and their text is due
+    pub written_points : (b : ReaderState) (u : Option (List ℕ)) (points : List PointValue) (more : List ℕ) → Gathers a b t u points → AddsText text a.given points due more → HasWritten text more b s u w v
+    written_points b u points more gathers adds = record {
+      read = gathers.read s on.read;
+      first = gathers.first on.first;
       done = on.done;
       written = on.written;
-      is = ap text gives.given ∙ adds.are
+      is = ap text gathers.given ∙ adds.are
           ∙ ap (λ (l : List ℕ). l ++ adds.lines) on.is
           ∙ append_assoc on.done due adds.lines
           ∙ ap (λ (l : List ℕ). on.done ++ l) (sym adds.added);

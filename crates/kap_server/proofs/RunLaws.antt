@@ -16,6 +16,7 @@ use Rattle.tick_compile.specs.declared.script_fault.ScriptFault.TheVariants as f
 use Rattle.tick_compile.specs.declared.tasks.Task.{Task}
 use Rattle.effect_text.specs.declared.names.TaskNames.{TaskNames}
 use Rattle.task_run.specs.Plans.{PlanValue, graph_of}
+use Rattle.kap_server.specs.declared.options.ReplayOptions.{ReplayOptions}
 use Rattle.kap_server.specs.declared.status.Status.{Status}
 use Rattle.kap_server.specs.declared.status.Status.TheVariants as statuses
 use Rattle.kap_server.specs.Command.{IsUnlessFailed}
@@ -166,21 +167,25 @@ module _ {P : Type 0} (answer : P → Answer) (planned : Planned P) (refused : L
 
 -- ---- what the words ask for
 
-pub same_counts : (a b : Bool) (p q : List Pair) → ◌≡◌ {A = Option Request} (Some (Replay a p)) (Some (Replay b q)) → a ≡ b
-same_counts a b p q e = cc
+-- they ask for the same
+abbrev AreSame : ReplayOptions → ReplayOptions → List Pair → List Pair → Type 0
+AreSame a b p q = ◌≡◌ {A = Option Request} (Some (Replay a p)) (Some (Replay b q))
 
-pub same_pairs : (a b : Bool) (p q : List Pair) → ◌≡◌ {A = Option Request} (Some (Replay a p)) (Some (Replay b q)) → p ≡ q
+same_options : (a b : ReplayOptions) (p q : List Pair) → AreSame a b p q → a ≡ b
+same_options a b p q e = cc
+
+same_pairs : (a b : ReplayOptions) (p q : List Pair) → AreSame a b p q → p ≡ q
 same_pairs a b p q e = cc
 
-pub not_none : (a : Bool) (p : List Pair) → ◌≡◌ {A = Option Request} (Some (Replay a p)) None → ⊥
+pub not_none : (a : ReplayOptions) (p : List Pair) → ◌≡◌ {A = Option Request} (Some (Replay a p)) None → ⊥
 not_none a p e = absurd cc
 
-pub ran_as_asked : {P : Type 0} (answer : P → Answer) (planned : Planned P) (refused : List ℕ) (a b : Bool) (p q : List Pair) (result : Status) (s t w v : Option (List ℕ))
-    → ◌≡◌ {A = Option Request} (Some (Replay a p)) (Some (Replay b q)) → Ran answer planned refused a p result s t w v → Ran answer planned refused b q result s t w v
+pub ran_as_asked : {P : Type 0} (answer : P → Answer) (planned : Planned P) (refused : List ℕ) (a b : ReplayOptions) (p q : List Pair) (result : Status) (s t w v : Option (List ℕ))
+    → AreSame a b p q → Ran answer planned refused a.counts p result s t w v → Ran answer planned refused b.counts q result s t w v
 ran_as_asked answer planned refused a b p q result s t w v e h =
-    subst (λ n. Ran answer planned refused n q result s t w v) (same_counts a b p q e) (subst (λ ps. Ran answer planned refused a ps result s t w v) (same_pairs a b p q e) h)
+    subst (λ (o : ReplayOptions). Ran answer planned refused o.counts q result s t w v) (same_options a b p q e) (subst (λ ps. Ran answer planned refused a.counts ps result s t w v) (same_pairs a b p q e) h)
 
-pub few_or_many : (a b : Bool) (p q : List Pair) → ◌≡◌ {A = Option Request} (Some (Replay a p)) (Some (Replay b q)) → nat_lt 64 (length p) ≡ false → 64 < length q → ⊥
+pub few_or_many : (a b : ReplayOptions) (p q : List Pair) → AreSame a b p q → nat_lt 64 (length p) ≡ false → 64 < length q → ⊥
 few_or_many a b p q e few many =
     let m : 64 < length p = subst (λ l. 64 < length l) (sym (same_pairs a b p q e)) many in
     let n : length p ≤ 64 = grind (arith, nat_tests) in

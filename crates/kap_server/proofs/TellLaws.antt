@@ -1,4 +1,4 @@
--- The text of what nodes do on one point more.
+-- The text of what nodes do on further points.
 use Rattle.std.proofs.Common.{◌≡◌, ℕ, suc, List, [], ◌∷◌, ◌++◌, length, refl, sym, ap, ◌∙◌, append_assoc, append-nil}
 use Rattle.std.proofs.lemmas.Grind.{flat_map-append}
 use Rattle.kap_base.specs.Points.{PointValue}
@@ -9,7 +9,7 @@ use Rattle.effect_text.proofs.TextLaws.{text_more}
 use Rattle.effect_text.specs.declared.names.TaskNames.{TaskNames}
 use Rattle.task_run.specs.Graphs.{Placed}
 use Rattle.task_run.specs.Lives.{effects_of, life_effects_with}
-use Rattle.kap_server.specs.Replaying.{AddsLines, Grows}
+use Rattle.kap_server.specs.Replaying.{AddsText, Grows}
 use Rattle.kap_server.specs.Runs.{run_text}
 
 module _ {P : Type 0} (answer : P → Answer) (names : List TaskNames) (lives : List (List (Placed P))) where
@@ -26,29 +26,43 @@ module _ {P : Type 0} (answer : P → Answer) (names : List TaskNames) (lives : 
   abbrev pub GoesOn : Type 0
   GoesOn = (points : List PointValue) (p : PointValue) → effects_of answer lives (points ++ p ∷ []) ≡ effects_of answer lives points ++ next points p
 
-  -- the lines of one point more
-  abbrev lines_of : List PointValue → PointValue → List ℕ
-  lines_of points p = text_behind names (events_of (effects_of answer lives points)) (next points p)
+  -- further effects of these points go on from those of the others
+  abbrev pub GoBehind : List PointValue → List PointValue → List Effect → Type 0
+  GoBehind points new effects = effects_of answer lives (points ++ new) ≡ effects_of answer lives points ++ effects
 
-  text_next : GoesOn → (points : List PointValue) (p : PointValue) → run_text answer names lives (points ++ p ∷ []) ≡ run_text answer names lives points ++ lines_of points p
-  text_next on points p = ap (text_of names) (on points p) ∙ text_more names [] (effects_of answer lives points) (next points p)
+  -- the lines of further effects
+  abbrev lines_of : List PointValue → List Effect → List ℕ
+  lines_of points effects = text_behind names (events_of (effects_of answer lives points)) effects
 
-  pub adds_lines : GoesOn → (points : List PointValue) (p : PointValue) (due due_after : List ℕ) → due_after ≡ due ++ lines_of points p
-      → AddsLines (run_text answer names lives) points p due due_after
-  adds_lines on points p due due_after added = record {
-    lines = lines_of points p;
+  text_next : (points new : List PointValue) (effects : List Effect) → GoBehind points new effects → run_text answer names lives (points ++ new) ≡ run_text answer names lives points ++ lines_of points effects
+  text_next points new effects on = ap (text_of names) on ∙ text_more names [] (effects_of answer lives points) effects
+
+  -- their lines are the text of the points behind that of the others
+  pub adds_text : (points new : List PointValue) (effects : List Effect) (due due_after : List ℕ) → GoBehind points new effects → due_after ≡ due ++ lines_of points effects
+      → AddsText (run_text answer names lives) points new due due_after
+  adds_text points new effects due due_after on added = record {
+    lines = lines_of points effects;
     added = added;
-    are = text_next on points p;
+    are = text_next points new effects on;
   }
 
-  pub events_next : GoesOn → (points : List PointValue) (p : PointValue) → events_of (effects_of answer lives (points ++ p ∷ [])) ≡ events_of (effects_of answer lives points) ++ events_of (next points p)
-  events_next on points p = ap events_of (on points p) ∙ flat_map-append (λ e. event_in e.what) (effects_of answer lives points) (next points p)
+  -- no points add nothing
+  pub adds_none : (points new : List PointValue) (due : List ℕ) → new ≡ [] → AddsText (run_text answer names lives) points new due due
+  adds_none points new due none = record {
+    lines = [];
+    added = sym (append-nil due);
+    are = ap (λ (l : List PointValue). run_text answer names lives (points ++ l)) none ∙ ap (run_text answer names lives) (append-nil points) ∙ sym (append-nil (run_text answer names lives points));
+  }
+
+  pub events_next : (points new : List PointValue) (effects : List Effect) → GoBehind points new effects
+      → events_of (effects_of answer lives (points ++ new)) ≡ events_of (effects_of answer lives points) ++ events_of effects
+  events_next points new effects on = ap events_of on ∙ flat_map-append (λ e. event_in e.what) (effects_of answer lives points) effects
 
   pub grows : GoesOn → Grows (run_text answer names lives)
   grows on points [] = ([], ap (run_text answer names lives) (append-nil points) ∙ sym (append-nil (run_text answer names lives points)))
   grows on points (p ∷ others) =
       let g = grows on (points ++ p ∷ []) others in
       let text : List PointValue → List ℕ = run_text answer names lives in (
-        lines_of points p ++ g.0,
-        ap text (sym (append_assoc points (p ∷ []) others)) ∙ g.1 ∙ ap (λ (l : List ℕ). l ++ g.0) (text_next on points p) ∙ append_assoc (text points) (lines_of points p) g.0,
+        lines_of points (next points p) ++ g.0,
+        ap text (sym (append_assoc points (p ∷ []) others)) ∙ g.1 ∙ ap (λ (l : List ℕ). l ++ g.0) (text_next points (p ∷ []) (next points p) (on points p)) ∙ append_assoc (text points) (lines_of points (next points p)) g.0,
       )

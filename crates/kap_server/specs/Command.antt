@@ -1,6 +1,7 @@
 -- What a command answers, and when.
-use Rattle.std.specs.Prelude.{◌≡◌, ◌⊎◌, ℕ, ◌<◌, ◌≤◌, Bool, List, length, Some}
+use Rattle.std.specs.Prelude.{◌≡◌, ◌⊎◌, ℕ, ◌<◌, ◌≤◌, List, length, Some}
 use Rattle.kap_base.specs.declared.limits.TheConstants.{TASK_LIMIT}
+use Rattle.kap_server.specs.declared.options.ReplayOptions.{ReplayOptions}
 use Rattle.kap_server.specs.declared.status.Status.{Status}
 use Rattle.kap_server.specs.declared.status.Status.TheVariants.{NoMemory, ReadFault, WriteFault, DiskFault}
 use Rattle.kap_server.specs.Words.{Check, Init, Pair, Replay, Tasks, request_in}
@@ -14,16 +15,16 @@ pub record ExactlyWhere (result status : Status) (fact : Type 0) : Type 0 where
 abbrev pub AsksToCheck : List (List ℕ) → Type 0
 AsksToCheck words = request_in words ≡ Some Check
 
--- the words ask for a replay for these tasks, which aren't too many
-pub record AsksToReplay (words : List (List ℕ)) (counts : Bool) (pairs : List Pair) : Type 0 where
-  pub asks : request_in words ≡ Some (Replay counts pairs)
+-- the words ask for a replay for these tasks, which aren't too many, so as these options say
+pub record AsksToReplay (words : List (List ℕ)) (options : ReplayOptions) (pairs : List Pair) : Type 0 where
+  pub asks : request_in words ≡ Some (Replay options pairs)
   pub few : length pairs ≤ TASK_LIMIT
 
 -- the words ask for a replay for more tasks than there may be
 pub record AsksForTooMany (words : List (List ℕ)) : Type 0 where
-  pub counts : Bool
+  pub options : ReplayOptions
   pub pairs : List Pair
-  pub asks : request_in words ≡ Some (Replay counts pairs)
+  pub asks : request_in words ≡ Some (Replay options pairs)
   pub many : TASK_LIMIT < length pairs
 
 -- the words ask for a new store

@@ -1,8 +1,11 @@
+pub mod Options
 pub mod Words
 pub mod Statuses
 pub mod ReadingIn
 pub mod Checking
 pub mod Replaying
+pub mod Gathering
+pub mod Running
 pub mod Pairs
 pub mod Runs
 pub mod Readying

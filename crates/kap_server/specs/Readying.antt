@@ -1,5 +1,7 @@
 -- Tasks that are made ready to run.
 use Rattle.std.specs.Prelude.{◌≡◌, ℕ, ◌+◌, ◌++◌, Bool, false, List, [], ◌∷◌, map}
+use Rattle.std.specs.List.{AllByRecursion as Each}
+use Rattle.flow_core.specs.Making.{HasFewParents}
 use Rattle.tick_compile.specs.Tasks.{is_refusal}
 use Rattle.tick_compile.specs.declared.tasks.Task.{Task}
 use Rattle.task_run.specs.Plans.{AreFirstNodes, AreFirstStates, PlanValue, graph_of}
@@ -26,6 +28,7 @@ module _ {N P S : Type 0} (spec : N → P) (state : N → S) (first : P → S) (
     pub plan : PlanValue N
     pub made : graph_of spec plan ≡ nodes_from planned id life 0 task.graph
     pub begins : AreFirstNodes spec state first plan.nodes
+    pub few : HasFewParents plan
     pub names_are : names_after ≡ names ++ record { id = id; nodes = map (λ node. node.name) task.graph } ∷ []
     pub plans_are : plans_after ≡ plans ++ plan ∷ []
 
@@ -42,3 +45,4 @@ module _ {N P S : Type 0} (spec : N → P) (state : N → S) (first : P → S) (
     pub names_are : names_after ≡ names ++ task_names pairs tasks
     pub plans_are : map (graph_of spec) plans_after ≡ map (graph_of spec) plans ++ lives_from planned life pairs tasks
     pub begin : AreFirstStates spec state first plans → AreFirstStates spec state first plans_after
+    pub few : Each HasFewParents plans → Each HasFewParents plans_after

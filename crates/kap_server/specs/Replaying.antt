@@ -63,11 +63,11 @@ Replayed text rest DiskFault s t w v = ⊥
 abbrev pub Grows : TextOf → Type 0
 Grows text = (points others : List PointValue) → (more : List ℕ) × (text (points ++ others) ≡ text points ++ more)
 
--- the text of a point behind others was added to what is due
-pub record AddsLines (text : TextOf) (points : List PointValue) (p : PointValue) (due due_after : List ℕ) : Type 0 where
+-- the text of points behind others was added to what is due
+pub record AddsText (text : TextOf) (points new : List PointValue) (due due_after : List ℕ) : Type 0 where
   pub lines : List ℕ
   pub added : due_after ≡ due ++ lines
-  pub are : text (points ++ p ∷ []) ≡ text points ++ lines
+  pub are : text (points ++ new) ≡ text points ++ lines
 
 -- a prefix of what is due was appended, and the rest is still due
 pub record WritesSome (due left : List ℕ) (w v : Option (List ℕ)) : Type 0 where

@@ -1,20 +1,23 @@
 -- The words of a command line.
-use Rattle.std.specs.Prelude.{ℕ, Bool, true, false, not, ◌&&◌, ◌==◌, List, [], ◌∷◌, map, slice_index, Option, Some, None, codes, string_bytes, if◌then◌else◌}
+use Rattle.std.specs.Prelude.{ℕ, ⊤, Bool, true, false, not, ◌&&◌, ◌==◌, List, [], ◌∷◌, map, slice_index, Option, Some, None, codes, string_bytes, if◌then◌else◌}
+use Rattle.std.specs.Option.{option_and_then}
 use Rattle.std.specs.Str.{bytes_eq}
 use Rattle.kap_base.specs.Texts.{hyphen, is_task_id}
+use Rattle.kap_server.specs.declared.options.ReplayOptions.{ReplayOptions}
 use Rattle.kap_server.specs.declared.words.Request.{Request as LentRequest}
 use Rattle.kap_server.specs.declared.words.Request.TheVariants as lent
+use Rattle.kap_server.specs.Options.{HasRoom, no_options, with_counts, with_value}
 
 -- the id of a task, and its script
 pub record Pair : Type 0 where
   pub id : List ℕ
   pub script : List ℕ
 
--- what the words of a command line ask for: to check a script; to replay a recording for these tasks, and to tell what was dropped, or
--- not; to make a store; or to list the tasks of one
+-- what the words of a command line ask for: to check a script; to replay a recording for these tasks, so as options say; to make a
+-- store; or to list the tasks of one
 pub data Request : Type 0 where
   Check : Request
-  Replay : (counts : Bool) (pairs : List Pair) → Request
+  Replay : (options : ReplayOptions) (pairs : List Pair) → Request
   Init : Request
   Tasks : Request
 
@@ -27,7 +30,7 @@ pairs_of (id ∷ script ∷ words) = record { id = id; script = script } ∷ pai
 -- the same of words that are lent
 abbrev pub request_of : LentRequest → Request
 request_of lent.Check = Check
-request_of (lent.Replay counts words) = Replay counts (pairs_of (map string_bytes words.now))
+request_of (lent.Replay options words) = Replay options (pairs_of (map string_bytes words.now))
 request_of lent.Init = Init
 request_of lent.Tasks = Tasks
 
@@ -41,17 +44,19 @@ are_pairs [] = true
 are_pairs (id ∷ []) = false
 are_pairs (id ∷ script ∷ words) = is_task_id id && are_pairs words
 
--- `ID SCRIPT [ID SCRIPT]..`, where no option stands in the first id's place
-abbrev pub request_of_pairs : Bool → List (List ℕ) → Option Request
-request_of_pairs counts [] = None
-request_of_pairs counts (id ∷ words) =
-    if not (is_option id) && are_pairs (id ∷ words) then Some (Replay counts (pairs_of (id ∷ words))) else None
+-- `ID SCRIPT [ID SCRIPT]..`, behind these options
+abbrev pub request_of_pairs : ReplayOptions → List (List ℕ) → Option Request
+request_of_pairs options words = if are_pairs words then Some (Replay options (pairs_of words)) else None
 
--- the same with `--counts` before it, or without
-abbrev pub replay_request : List (List ℕ) → Option Request
-replay_request [] = None
-replay_request (word ∷ words) =
-    if bytes_eq word (codes "--counts") then request_of_pairs true words else request_of_pairs false (word ∷ words)
+-- The same with further options before it, each at most once: `--counts`, or another one with its value. The first id is no word
+-- that begins as an option does.
+abbrev pub replay_request : ReplayOptions → List (List ℕ) → Option Request
+replay_request options [] = None
+replay_request options (word ∷ []) = if is_option word then None else request_of_pairs options (word ∷ [])
+replay_request options (word ∷ value ∷ words) =
+    if not (is_option word) then request_of_pairs options (word ∷ value ∷ words) else
+    if bytes_eq word (codes "--counts") then option_and_then (λ o. replay_request o (value ∷ words)) (with_counts options)
+    else option_and_then (λ o. replay_request o words) (with_value options word value)
 
 -- this request, where no words stand behind its command
 abbrev pub request_alone : Request → List (List ℕ) → Option Request
@@ -63,7 +68,7 @@ abbrev pub request_in : List (List ℕ) → Option Request
 request_in [] = None
 request_in (command ∷ words) =
     if bytes_eq command (codes "check") then request_alone Check words else
-    if bytes_eq command (codes "replay") then replay_request words else
+    if bytes_eq command (codes "replay") then replay_request no_options words else
     if bytes_eq command (codes "init") then request_alone Init words else
     if bytes_eq command (codes "tasks") then request_alone Tasks words else None
 
@@ -71,7 +76,7 @@ request_in (command ∷ words) =
 abbrev pub reads_input : Option Request → Bool
 reads_input None = false
 reads_input (Some Check) = true
-reads_input (Some (Replay counts pairs)) = true
+reads_input (Some (Replay options pairs)) = true
 reads_input (Some Init) = false
 reads_input (Some Tasks) = false
 
@@ -79,7 +84,7 @@ reads_input (Some Tasks) = false
 abbrev pub writes_output : Option Request → Bool
 writes_output None = false
 writes_output (Some Check) = true
-writes_output (Some (Replay counts pairs)) = true
+writes_output (Some (Replay options pairs)) = true
 writes_output (Some Init) = false
 writes_output (Some Tasks) = true
 
@@ -87,6 +92,13 @@ writes_output (Some Tasks) = true
 abbrev pub uses_disk : Option Request → Bool
 uses_disk None = false
 uses_disk (Some Check) = false
-uses_disk (Some (Replay counts pairs)) = false
+uses_disk (Some (Replay options pairs)) = false
 uses_disk (Some Init) = true
 uses_disk (Some Tasks) = true
+
+-- a capacity that a request gives is one that edges can have
+abbrev pub RequestHasRoom : LentRequest → Type 0
+RequestHasRoom lent.Check = ⊤
+RequestHasRoom (lent.Replay options words) = HasRoom options
+RequestHasRoom lent.Init = ⊤
+RequestHasRoom lent.Tasks = ⊤

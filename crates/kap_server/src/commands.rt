@@ -1,6 +1,6 @@
 //! The commands by their words.
 
-ghost use Rattle.std.specs.Prelude.{◌≡◌, ◌⊎◌, ◌≤◌, [], false, true, ℕ, Bool, IsTrue, List, None, Some, length, map, string_bytes};
+ghost use Rattle.std.specs.Prelude.{◌≡◌, ◌⊎◌, ◌≤◌, [], false, true, ℕ, IsTrue, List, None, Some, length, map, string_bytes};
 ghost use Rattle.std.specs.Io.KnownBytes.{Keeps};
 ghost use Rattle.kap_base.specs.Points.{is_time};
 ghost use Rattle.kap_base.specs.Words.{HasRisen};
@@ -16,11 +16,13 @@ ghost use Rattle.kap_server.specs.Command.{AsksForTasks, AsksForTooMany, AsksToC
 ghost use Rattle.kap_server.specs.Command.{ExactlyWhere, IsUnlessDiskFailed, IsUnlessFailed};
 ghost use Rattle.kap_server.specs.Listing.{Listed, ListsTasks};
 ghost use Rattle.kap_server.specs.Making.{HasHead, Made};
+ghost use Rattle.kap_server.specs.Options.{HasRoom};
 ghost use Rattle.kap_server.specs.Pairs.{AreNoTasks, AreTasks};
 ghost use Rattle.kap_server.specs.Readying.{is_pattern_refused};
 ghost use Rattle.kap_server.specs.Runs.{Ran, refusal_of};
 ghost use Rattle.kap_server.specs.Statuses.{status_at};
 ghost use Rattle.kap_server.specs.Words.{Pair, pairs_of, reads_input, request_in, uses_disk, writes_output};
+ghost use Rattle.kap_server.specs.declared.options.ReplayOptions.{ReplayOptions};
 ghost use Rattle.kap_server.specs.declared.status.Status.{Status};
 ghost use Rattle.store_records.specs.declared.rec.Rec.{Rec};
 ghost use Rattle.topic_store.specs.Stores.{IsNoStore, Stands};
@@ -28,6 +30,7 @@ ghost use Rattle.topic_store.specs.Stores.{IsNoStore, Stands};
 use crate::checking::check;
 use crate::listing::list_tasks;
 use crate::making::init;
+use crate::options::ReplayOptions;
 use crate::readying::{Ready, add_tasks, are_too_many};
 use crate::replaying::replay;
 use crate::status::Status;
@@ -35,21 +38,23 @@ use crate::words::{Request, request_in};
 use kap_base::TASK_LIMIT;
 use kap_io::{Disk, Sink, Source};
 use lambda_types::Patterns;
+use net_run::NumberingNode;
 use node_core::Node;
 use node_set::{AnyNode, ScriptNode};
 use std::alloc::Global;
 
 /// Replays the recording that the input gives, for the tasks of these words.
-fn replay_pairs<S: Source, K: Sink, P: Patterns, N: ScriptNode>(
+fn replay_pairs<S: Source, K: Sink, P: Patterns, N: ScriptNode + NumberingNode>(
     alloc: Global,
-    counts: bool,
+    options: ReplayOptions,
     words: &[String],
     input: &mut S,
     out: &mut K,
     pats: &mut P,
 ) -> Status
-    requires { length (pairs_of (map string_bytes words.now)) ≤ TASK_LIMIT }
-    ensures ran { Ran N.answer N.planned (P.refused pats.new) counts
+    requires few { length (pairs_of (map string_bytes words.now)) ≤ TASK_LIMIT }
+    requires room { HasRoom options }
+    ensures ran { Ran N.answer N.planned (P.refused pats.new) options.counts
         (pairs_of (map string_bytes words.now)) result
         (S.left input.old) (S.left input.new) (K.written out.old) (K.written out.new) }
     ensures read { result ≡ Status.Ok → HasEnded (S.left input.old) (S.left input.new) }
@@ -67,7 +72,7 @@ fn replay_pairs<S: Source, K: Sink, P: Patterns, N: ScriptNode>(
     match add_tasks(alloc, 1, words, &mut ready, pats) {
         Ok(()) => {
             let Ready { names, plans } = ready;
-            replay(alloc, counts, &names, plans, input, out)
+            replay(alloc, options, &names, plans, input, out)
         }
         Err(status) => status,
     }
@@ -77,10 +82,13 @@ fn replay_pairs<S: Source, K: Sink, P: Patterns, N: ScriptNode>(
 ///
 /// - `check`: it reads a script from the input, and writes its canonical form, where it is a task's. A script has at most 65,536
 ///   bytes.
-/// - `replay [--counts] ID SCRIPT [ID SCRIPT]..`, where each ID names a task (1 to 64 ASCII letters, digits, `_`, `-` and `.`; the
-///   first doesn't begin with `--`), and SCRIPT is the task's script: it reads a recording from the input, and writes the lines of
-///   the points that the tasks log and of the changes of level of their alerts, in order of the points that caused them, then of
-///   the tasks, then of their nodes; behind them, with `--counts`, how many points each node dropped. There are at most 64 tasks.
+/// - `replay [--capacity C] [--schedule N] [--counts] ID SCRIPT [ID SCRIPT]..`, where each ID names a task (1 to 64 ASCII letters,
+///   digits, `_`, `-` and `.`; the first doesn't begin with `--`), and SCRIPT is the task's script: it reads a recording from the
+///   input, and writes the lines of the points that the tasks log and of the changes of level of their alerts, in order of the
+///   points that caused them, then of the tasks, then of their nodes; behind them, with `--counts`, how many points each node
+///   dropped. There are at most 64 tasks. With `--schedule` the points go through a net, in the order that N gives, from 0 to
+///   4,294,967,295, whose edges have room for C messages, from 1 to 65,536; `--capacity` alone does nothing. The options stand in
+///   any order, each at most once.
 /// - `init`: it makes an empty store on the disk, where no head of one stands there.
 /// - `tasks`: it writes a line `ID enabled` or `ID disabled` for each task of the store on the disk, in byte order of their ids, and
 ///   changes nothing.
@@ -115,22 +123,23 @@ pub fn command<S: Source, K: Sink, D: Disk, P: Patterns>(
         → AsksToCheck (map string_bytes words.now) → S.left input.old ≡ Some text
         → ChecksTo (refusal_of result (P.refused pats.new)) text status
         → IsUnlessFailed result status }
-    // Of a replay the text of what the nodes give for the points is written, as the status says; or the first pair that
-    // is no task is refused, before anything is read or written.
-    ensures ran { (counts : Bool) (pairs : List Pair)
-        → AsksToReplay (map string_bytes words.now) counts pairs
-        → Ran ⟦<AnyNode as Node>⟧.answer node_spec (P.refused pats.new) counts pairs result
+    // Of a replay the text of what the nodes give for the points is written, as the status says, whatever the order and
+    // the capacity of a net; or the first pair that is no task is refused, before anything is read or written.
+    ensures ran { (options : ReplayOptions) (pairs : List Pair)
+        → AsksToReplay (map string_bytes words.now) options pairs
+        → Ran ⟦<AnyNode as Node>⟧.answer node_spec (P.refused pats.new) options.counts pairs result
         (S.left input.old) (S.left input.new) (K.written out.old) (K.written out.new) }
     // Of tasks its status is Ok where the input is a recording, and else that of its first fault, unless memory ran out, a
     // device failed, or a pattern was refused.
-    ensures status { (counts : Bool) (pairs : List Pair) (tasks : List Task) (bytes : List ℕ)
-        → AsksToReplay (map string_bytes words.now) counts pairs → AreTasks [] pairs tasks
+    ensures status { (options : ReplayOptions) (pairs : List Pair) (tasks : List Task)
+        (bytes : List ℕ)
+        → AsksToReplay (map string_bytes words.now) options pairs → AreTasks [] pairs tasks
         → S.left input.old ≡ Some bytes → is_pattern_refused result ≡ false
         → IsUnlessFailed result (status_at (reading_of bytes).stop) }
     // Where some pair is no task its status says why the first of them is none, unless memory ran out or a pattern was
     // refused.
-    ensures refused { (counts : Bool) (pairs : List Pair) (status : Status)
-        → AsksToReplay (map string_bytes words.now) counts pairs → AreNoTasks None [] pairs status
+    ensures refused { (options : ReplayOptions) (pairs : List Pair) (status : Status)
+        → AsksToReplay (map string_bytes words.now) options pairs → AreNoTasks None [] pairs status
         → is_pattern_refused result ≡ false → (result ≡ status) ⊎ (result ≡ Status.NoMemory) }
     // Of `init` a store of no records was made, where no head stood there, and then each image stands for it.
     ensures made { AsksToInit (map string_bytes words.now)
@@ -182,11 +191,11 @@ pub fn command<S: Source, K: Sink, D: Disk, P: Patterns>(
     match request_in(words) {
         None => Status::Usage,
         Some(Request::Check) => check(alloc, input, out, pats),
-        Some(Request::Replay { counts, words }) => {
+        Some(Request::Replay { options, words }) => {
             if are_too_many(words) {
                 return Status::TooManyTasks;
             }
-            replay_pairs::<S, K, P, AnyNode>(alloc, counts, words, input, out, pats)
+            replay_pairs::<S, K, P, AnyNode>(alloc, options, words, input, out, pats)
         }
         Some(Request::Init) => init(alloc, disk),
         Some(Request::Tasks) => list_tasks(alloc, out, disk),

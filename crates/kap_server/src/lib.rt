@@ -3,11 +3,14 @@
 
 mod checking;
 mod commands;
+mod gathering;
 mod laws;
 mod listing;
 mod making;
+mod options;
 mod readying;
 mod replaying;
+mod running;
 mod status;
 mod telling;
 mod texts;

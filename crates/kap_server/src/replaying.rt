@@ -1,20 +1,28 @@
 //! The replay of tasks that are ready to run.
 
 ghost use Rattle.std.specs.Prelude.{◌≡◌, ◌≤◌, false, map, OnOk, OnErr};
+ghost use Rattle.std.specs.List.{AllByRecursion as Each};
 ghost use Rattle.kap_base.specs.Words.{HasRisen};
 ghost use Rattle.kap_io.specs.Causes.{HasCause};
 ghost use Rattle.kap_io.specs.Pieces.{AppendsPrefix};
 ghost use Rattle.recording_file.specs.Reading.{HasEnded};
+ghost use Rattle.flow_core.specs.Gathering.{LivesRise};
+ghost use Rattle.flow_core.specs.Making.{HasFewParents};
 ghost use Rattle.task_run.specs.Plans.{AreFirstStates, graph_of};
+ghost use Rattle.kap_server.specs.Options.{HasRoom};
 ghost use Rattle.kap_server.specs.Replaying.{IsWritten, WritesSome, Replayed};
+ghost use Rattle.kap_server.specs.Running.{value_of};
 ghost use Rattle.kap_server.specs.Runs.{EndsWritten, run_rest, run_text};
 
+use crate::gathering::{Epoch, Pause, gather};
+use crate::options::ReplayOptions;
+use crate::running::epoch_of;
 use crate::status::Status;
 use crate::telling::Telling;
 use effect_text::TaskNames;
 use kap_base::{Bytes, NoMemory};
 use kap_io::{Failed, Sink, Source, write_all};
-use node_core::Node;
+use net_run::NumberingNode;
 use recording_file::Reader;
 use std::alloc::Global;
 use task_run::LifePlan;
@@ -60,7 +68,7 @@ fn write_rest<K: Sink>(out: &mut K, text: &Bytes, status: Status) -> Status
 }
 
 /// Writes the rest of the text of a whole recording, and the lines of what was dropped, where they are wanted.
-fn write_end<K: Sink, N: Node>(
+fn write_end<K: Sink, N: NumberingNode>(
     alloc: Global,
     counts: bool,
     names: &[TaskNames],
@@ -68,9 +76,10 @@ fn write_end<K: Sink, N: Node>(
     mut text: Bytes,
     out: &mut K,
 ) -> Status
-    requires { telling.now.run.spent ≡ false }
-    ensures written { EndsWritten result (K.written out.old) (K.written out.new)
-        text (run_rest N.answer counts names.now telling.now.run.lives telling.now.run.points)
+    requires { (value_of telling.now.run).spent ≡ false }
+    ensures written { EndsWritten result (K.written out.old) (K.written out.new) text
+        (run_rest N.answer counts names.now
+        (value_of telling.now.run).lives (value_of telling.now.run).points)
         (K.faults out.old) (K.faults out.new) }
     ensures later { K.faults out.old ≤ K.faults out.new }
 {
@@ -80,19 +89,23 @@ fn write_end<K: Sink, N: Node>(
     }
 }
 
-/// Replays the recording that the input gives: the text of what the nodes do, and behind it of what they dropped, where that is
-/// wanted. What is due is written before each read of the input that may wait.
-pub(crate) fn replay<S: Source, K: Sink, N: Node>(
+/// Replays the recording that the input gives: the text of what the nodes do, epoch by epoch, and behind it of what they dropped,
+/// where that is wanted. What is due is written before each read of the input that may wait.
+pub(crate) fn replay<S: Source, K: Sink, N: NumberingNode>(
     alloc: Global,
-    counts: bool,
+    options: ReplayOptions,
     names: &[TaskNames],
     plans: Vec<LifePlan<N>>,
     input: &mut S,
     out: &mut K,
 ) -> Status
-    requires { AreFirstStates N.spec N.state N.first plans.items }
-    ensures replayed { Replayed (run_text N.answer names.now (map (graph_of N.spec) plans.items))
-        (run_rest N.answer counts names.now (map (graph_of N.spec) plans.items)) result
+    requires first { AreFirstStates N.spec N.state N.first plans.items }
+    requires rise { LivesRise N.life N.number 1 (map (graph_of N.spec) plans.items) }
+    requires few { Each HasFewParents plans.items }
+    requires room { HasRoom options }
+    ensures replayed { Replayed
+        (run_text N.answer names.now (map (graph_of N.spec) plans.items))
+        (run_rest N.answer options.counts names.now (map (graph_of N.spec) plans.items)) result
         (S.left input.old) (S.left input.new) (K.written out.old) (K.written out.new) }
     ensures read { result ≡ Status.Ok → HasEnded (S.left input.old) (S.left input.new) }
     ensures read_fault { result ≡ Status.ReadFault
@@ -100,10 +113,11 @@ pub(crate) fn replay<S: Source, K: Sink, N: Node>(
     ensures write_fault { result ≡ Status.WriteFault
         → HasRisen (K.faults out.old) (K.faults out.new) }
 {
-    let mut telling = match Telling::new(alloc, plans) {
+    let mut telling = match Telling::new(alloc, options, plans) {
         Ok(telling) => telling,
         Err(NoMemory) => return Status::NoMemory,
     };
+    let limit = epoch_of(&telling.run);
     let mut reader = Reader::new(alloc);
     let mut text = Bytes::new(alloc);
     'replaying: loop {
@@ -111,14 +125,18 @@ pub(crate) fn replay<S: Source, K: Sink, N: Node>(
             Ok(()) => {}
             Err(_) => return Status::WriteFault,
         }
-        let point = match reader.next(alloc, input) {
-            Ok(Some(point)) => point,
-            Ok(None) => return write_end(alloc, counts, names, &telling, text, out),
-            Err(fault) => return write_rest(out, &text, Status::from(fault)),
+        let Epoch { points, pause } = match gather(alloc, &mut reader, limit, input) {
+            Ok(epoch) => epoch,
+            Err(NoMemory) => return Status::NoMemory,
         };
-        match telling.tell(alloc, names, point, &mut text) {
+        match telling.tell(alloc, names, points, &mut text) {
             Ok(()) => {}
             Err(NoMemory) => return Status::NoMemory,
+        }
+        match pause {
+            Pause::More => {}
+            Pause::End => return write_end(alloc, options.counts, names, &telling, text, out),
+            Pause::Fault(fault) => return write_rest(out, &text, Status::from(fault)),
         }
     }
 }

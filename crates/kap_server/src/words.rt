@@ -1,9 +1,11 @@
 //! The words of a command line.
 
-ghost use Rattle.std.specs.Prelude.{◌≡◌, false, true, map, string_bytes};
+ghost use Rattle.std.specs.Prelude.{◌≡◌, IfSome, map, string_bytes};
 ghost use Rattle.std.specs.Option.{option_map};
-ghost use Rattle.kap_server.specs.Words.{are_pairs, is_option, replay_request, request_alone, request_in, request_of, request_of_pairs};
+ghost use Rattle.kap_server.specs.Options.{HasRoom};
+ghost use Rattle.kap_server.specs.Words.{RequestHasRoom, are_pairs, is_option, replay_request, request_alone, request_in, request_of, request_of_pairs};
 
+use crate::options::{ReplayOptions, no_options, with_counts, with_value};
 use kap_base::is_task_id;
 
 /// What the words of a command line ask for.
@@ -11,9 +13,12 @@ use kap_base::is_task_id;
 pub(crate) enum Request<'a> {
     /// To check the script that the input gives.
     Check,
-    /// To replay the recording that the input gives, for the tasks of these words, each an id and a script behind it; and to tell
-    /// what was dropped, where `counts`.
-    Replay { counts: bool, words: &'a [String] },
+    /// To replay the recording that the input gives, for the tasks of these words, each an id and a script behind it, so as the
+    /// options say.
+    Replay {
+        options: ReplayOptions,
+        words: &'a [String],
+    },
     /// To make a store.
     Init,
     /// To list the tasks of a store.
@@ -49,33 +54,42 @@ fn are_pairs(words: &[String]) -> bool
 }
 
 /// To replay the recording for the tasks of the words, where they are ids and scripts.
-fn request_of_pairs(counts: bool, words: &[String]) -> Option<Request<'_>>
-    ensures { option_map request_of result
-        ≡ request_of_pairs counts (map string_bytes words.now) }
+fn request_of_pairs(options: ReplayOptions, words: &[String]) -> Option<Request<'_>>
+    ensures request { option_map request_of result
+        ≡ request_of_pairs options (map string_bytes words.now) }
+    ensures room { HasRoom options → IfSome result RequestHasRoom }
 {
-    let (id, _) = words.split_first()?;
-    if is_option(id.as_bytes()) || !are_pairs(words) {
+    if !are_pairs(words) {
         return None;
     }
-    Some(Request::Replay { counts, words })
+    Some(Request::Replay { options, words })
 }
 
-/// The same behind options.
-fn replay_request(words: &[String]) -> Option<Request<'_>>
-    ensures { option_map request_of result ≡ replay_request (map string_bytes words.now) }
+/// The same behind further options, each at most once.
+fn replay_request(options: ReplayOptions, words: &[String]) -> Option<Request<'_>>
+    ensures request { option_map request_of result
+        ≡ replay_request options (map string_bytes words.now) }
+    ensures room { HasRoom options → IfSome result RequestHasRoom }
 {
     let (word, rest) = words.split_first()?;
-    if word.as_str() == "--counts" {
-        request_of_pairs(true, rest)
-    } else {
-        request_of_pairs(false, words)
+    if !is_option(word.as_bytes()) {
+        return request_of_pairs(options, words);
     }
+    let (value, behind) = rest.split_first()?;
+    if word.as_str() == "--counts" {
+        return replay_request(with_counts(options)?, rest);
+    }
+    replay_request(
+        with_value(options, word.as_str(), value.as_str())?,
+        behind,
+    )
 }
 
 /// This request, where no words stand behind its command.
 fn request_alone<'a>(request: Request<'a>, words: &[String]) -> Option<Request<'a>>
-    ensures { option_map request_of result
+    ensures request { option_map request_of result
         ≡ request_alone (request_of request.entry) (map string_bytes words.now) }
+    ensures room { RequestHasRoom request.entry → IfSome result RequestHasRoom }
 {
     if words.is_empty() {
         Some(request)
@@ -86,13 +100,14 @@ fn request_alone<'a>(request: Request<'a>, words: &[String]) -> Option<Request<'
 
 /// What the words of the command line ask for.
 pub(crate) fn request_in(words: &[String]) -> Option<Request<'_>>
-    ensures { option_map request_of result ≡ request_in (map string_bytes words.now) }
+    ensures request { option_map request_of result ≡ request_in (map string_bytes words.now) }
+    ensures room { IfSome result RequestHasRoom }
 {
     let (command, rest) = words.split_first()?;
     if command.as_str() == "check" {
         request_alone(Request::Check, rest)
     } else if command.as_str() == "replay" {
-        replay_request(rest)
+        replay_request(no_options(), rest)
     } else if command.as_str() == "init" {
         request_alone(Request::Init, rest)
     } else if command.as_str() == "tasks" {

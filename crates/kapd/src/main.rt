@@ -25,15 +25,21 @@ Commands:
   check                       reads a script from standard input, looks at its tokens, grammar, names, nodes with
                               their arguments and properties, lambdas with their patterns, and graph, and writes
                               its canonical form
-  replay [--counts] ID SCRIPT [ID SCRIPT]..
+  replay [--capacity C] [--schedule N] [--counts] ID SCRIPT [ID SCRIPT]..
                               reads a recording from standard input, and writes what the tasks do at its points
   init                        makes an empty store in the folder, which must be there: its files are head, left and
                               right
   tasks                       writes a line `ID enabled` or `ID disabled` for each task of the store in the folder
 
-  --counts  tells behind that how many points each node dropped
-  ID        a task's name: 1 to 64 ASCII letters, digits, `_`, `-` and `.`; the first doesn't begin with `--`
-  SCRIPT    the task's script, a TICKscript of at most 65,536 bytes
+  --counts      tells behind that how many points each node dropped
+  --schedule N  sends the points through a net of the nodes, in the order that N (0 to 4294967295) gives: the output
+                is the same for each N
+  --capacity C  gives each edge of that net room for C messages (1 to 65536; else 64): the output is the same for
+                each C; without --schedule it does nothing
+  ID            a task's name: 1 to 64 ASCII letters, digits, `_`, `-` and `.`; the first doesn't begin with `--`
+  SCRIPT        the task's script, a TICKscript of at most 65,536 bytes
+
+Options stand in any order before the first ID, each at most once.
 
 A replay has at most 64 tasks. A task's nodes are of these kinds: stream, from, where, eval, groupBy, log, default,
 delete, shift, sample, window, sum, count, min, max, first, last, spread, distinct, top, bottom, stateCount,

@@ -1,7 +1,7 @@
 -- Nodes that were made for those of a graph are what is planned of a task.
 use Rattle.std.proofs.Common.{◌≡◌, ℕ, ◌+◌, ◌<◌, ◌≤◌, Bool, true, false, Option, None, Some, List, [], ◌∷◌, ◌++◌, length, map, refl, sym, ap, ◌∙◌, subst, append_assoc, append-nil, arith}
-use Rattle.std.specs.Prelude.{◌&&◌, IsTrue, if◌then◌else◌, nat_eq, nat_le, nat_lt, zip}
-use Rattle.std.specs.List.{list_all}
+use Rattle.std.specs.Prelude.{◌&&◌, ◌||◌, IsTrue, if◌then◌else◌, nat_eq, nat_le, nat_lt, zip}
+use Rattle.std.specs.List.{AllByRecursion as Each, list_all}
 use Rattle.std.proofs.lemmas.Bool.Decides.{nat_tests}
 use Rattle.kap_base.specs.Tree.{Tree}
 use Rattle.kap_base.proofs.TestLaws.{first_of, second_of}
@@ -10,7 +10,7 @@ use Rattle.task_graph.specs.Graphs.{IsGraph, are_behind, are_different, fault_fr
 use Rattle.task_graph.specs.Graphs.{first as earlier}
 use Rattle.task_graph.specs.declared.graph.GraphFault.{GraphFault}
 use Rattle.task_graph.specs.declared.graph.GraphFault.TheVariants.{TooManyNodes}
-use Rattle.task_graph.specs.declared.graph.TheConstants.{NODE_LIMIT}
+use Rattle.task_graph.specs.declared.graph.TheConstants.{NODE_LIMIT, PARENT_LIMIT}
 use Rattle.task_graph.specs.declared.spec.NodeSpec.{NodeSpec}
 use Rattle.task_graph.specs.declared.spec.Spec.{Spec}
 use Rattle.task_graph.specs.declared.spec.Spec.TheVariants.{Stream, From, Where, Eval, GroupBy, Log, Default, Delete, Shift, Sample, Window, Select, StateCount, ChangeDetect, Difference, CumulativeSum, Elapsed, Union, Join, Alert}
@@ -81,6 +81,32 @@ few_from all number (node ∷ nodes) le h =
 -- a graph has few nodes
 pub few : (graph : List (NodeSpec Tree)) → IsGraph graph → 0 + length graph ≤ NODE_LIMIT
 few graph h = few_from graph 0 graph (omega arith) h.faultless
+
+-- a later question is asked where an earlier one has no answer
+asked_later : (b : Bool) (fault : GraphFault) (rest : Option GraphFault) → (if b then Some fault else rest) ≡ None → (b ≡ false) × (rest ≡ None)
+asked_later true fault rest h = absurd cc
+asked_later false fault rest h = (refl, h)
+
+second_none : (a b : Bool) → (a || b) ≡ false → b ≡ false
+second_none true b h = absurd cc
+second_none false b h = h
+
+-- a node without a fault has few parents
+few_parents_of : (all : List (NodeSpec Tree)) (number : ℕ) (node : NodeSpec Tree) → node_fault all number node ≡ None → length node.parents ≤ PARENT_LIMIT
+few_parents_of all number node h =
+    let behind = asked_later _ _ _ (asked_later _ _ _ h).1 in
+    let low : nat_lt PARENT_LIMIT (length node.parents) ≡ false = second_none _ _ (asked_later _ _ _ behind.1).0 in
+    grind (arith, nat_tests)
+
+few_parents_from : (all : List (NodeSpec Tree)) (number : ℕ) (nodes : List (NodeSpec Tree)) → fault_from all number nodes ≡ None → Each (λ (ps : List ℕ). length ps ≤ PARENT_LIMIT) (map (λ n. n.parents) nodes)
+few_parents_from all number [] h = tt
+few_parents_from all number (node ∷ nodes) h =
+    let none = no_fault (node_fault all number node) (fault_from all (number + 1) nodes) h in
+    (few_parents_of all number node none.0, few_parents_from all (number + 1) nodes none.1)
+
+-- each node of a graph has few parents
+pub few_parents : (graph : List (NodeSpec Tree)) → IsGraph graph → Each (λ (ps : List ℕ). length ps ≤ PARENT_LIMIT) (map (λ n. n.parents) graph)
+few_parents graph h = few_parents_from graph 0 graph h.faultless
 
 module _ {N P S : Type 0} (spec : N → P) (state : N → S) (first : P → S) (planned : Planned P) (task : List ℕ) where
   abbrev Are : ℕ → ℕ → List (NodeSpec Tree) → List N → Type 0

@@ -28,19 +28,19 @@ returns-else-are_too_many-clause-too_many g c =
 pub returns-else-are_too_many-clause-ran : goal.returns-else-are_too_many-clause-ran
 returns-else-are_too_many-clause-ran g c =
     let asked = rw (c.in-Some-Replay.is, c.in-Some-Replay.field-0-is) at c.request_in.ensures in
-    λ counts pairs asks. ran_as_asked _ _ _ _ _ _ _ c.replay_pairs.result _ _ _ _ (asked ∙ asks.asks) c.replay_pairs.ensures.ran
+    λ options pairs asks. ran_as_asked _ _ _ _ _ _ _ c.replay_pairs.result _ _ _ _ (asked ∙ asks.asks) c.replay_pairs.ensures.ran
 
 pub returns-else-are_too_many-clause-status : goal.returns-else-are_too_many-clause-status
 returns-else-are_too_many-clause-status g c =
     let asked = rw (c.in-Some-Replay.is, c.in-Some-Replay.field-0-is) at c.request_in.ensures in
-    λ counts pairs tasks bytes asks are told plain.
-    ran_status _ _ _ _ _ c.replay_pairs.result _ _ _ _ (ran_as_asked _ _ _ _ counts _ pairs c.replay_pairs.result _ _ _ _ (asked ∙ asks.asks) c.replay_pairs.ensures.ran) tasks bytes are told plain
+    λ options pairs tasks bytes asks are told plain.
+    ran_status _ _ _ _ _ c.replay_pairs.result _ _ _ _ (ran_as_asked _ _ _ _ options _ pairs c.replay_pairs.result _ _ _ _ (asked ∙ asks.asks) c.replay_pairs.ensures.ran) tasks bytes are told plain
 
 pub returns-else-are_too_many-clause-refused : goal.returns-else-are_too_many-clause-refused
 returns-else-are_too_many-clause-refused g c =
     let asked = rw (c.in-Some-Replay.is, c.in-Some-Replay.field-0-is) at c.request_in.ensures in
-    λ counts pairs status asks none plain.
-    ran_refused _ _ _ _ _ c.replay_pairs.result _ _ _ _ (ran_as_asked _ _ _ _ counts _ pairs c.replay_pairs.result _ _ _ _ (asked ∙ asks.asks) c.replay_pairs.ensures.ran) status none plain
+    λ options pairs status asks none plain.
+    ran_refused _ _ _ _ _ c.replay_pairs.result _ _ _ _ (ran_as_asked _ _ _ _ options _ pairs c.replay_pairs.result _ _ _ _ (asked ∙ asks.asks) c.replay_pairs.ensures.ran) status none plain
 
 pub returns-else-are_too_many-clause-disk_fault : goal.returns-else-are_too_many-clause-disk_fault
 returns-else-are_too_many-clause-disk_fault g c = λ e. absurd (ran_not_disk _ _ _ _ _ c.replay_pairs.result _ _ _ _ c.replay_pairs.ensures.ran e)

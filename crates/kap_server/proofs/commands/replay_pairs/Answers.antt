@@ -1,7 +1,7 @@
 use Rattle.std.proofs.Common.{map, inl, inr, arith}
 use Rattle.std.specs.Prelude.{string_bytes}
 use Rattle.std.proofs.lemmas.List.{length-map}
-use Rattle.kap_server.proofs.PairLaws.{words_of_pairs}
+use Rattle.kap_server.proofs.WordLaws.{words_of_pairs}
 use Rattle.kap_server.proofs.RunLaws.{not_ok, not_read_fault, not_write_fault, refused_or_out, runs_tasks}
 use Rattle.kap_server.proofs.commands.replay_pairs.Goals as goal
 

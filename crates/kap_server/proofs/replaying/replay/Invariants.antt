@@ -4,6 +4,7 @@ use Rattle.task_run.specs.Lives.{effects_of}
 use Rattle.task_run.specs.Plans.{graph_of}
 use Rattle.topic_core.specs.Topics.{StandsFor}
 use Rattle.kap_server.specs.Replaying.{HasWritten}
+use Rattle.kap_server.specs.Running.{value_of}
 use Rattle.kap_server.specs.Runs.{run_text}
 use Rattle.kap_server.proofs.replaying.replay.Given as goal
 
@@ -13,12 +14,13 @@ invariant-replaying g l =
     let source = g.S.Source in
     let sink = g.K.Sink in
     let node = g.N.Node in
+    let run = value_of l.telling.run in
     record {
       not_spent : l.reader.spent ≡ false;
-      alive : l.telling.run.spent ≡ false;
-      lives : l.telling.run.lives ≡ map (graph_of node.spec) l.fn.plans.items;
-      fed : l.telling.run.points ≡ l.reader.given;
-      topics : StandsFor (events_of (effects_of node.answer l.telling.run.lives l.telling.run.points)) l.telling.topics;
+      alive : run.spent ≡ false;
+      lives : run.lives ≡ map (graph_of node.spec) l.fn.plans.items;
+      fed : run.points ≡ l.reader.given;
+      topics : StandsFor (events_of (effects_of node.answer run.lives run.points)) l.telling.topics;
       written : HasWritten (run_text node.answer l.names (map (graph_of node.spec) l.fn.plans.items)) l.text l.reader (source.left l.initial.input) (source.left l.input) (sink.written l.initial.out) (sink.written l.out);
       reads_later : source.faults l.initial.input ≤ source.faults l.input;
       writes_later : sink.faults l.initial.out ≤ sink.faults l.out;

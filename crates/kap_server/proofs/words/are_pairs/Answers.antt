@@ -1,6 +1,6 @@
 use Rattle.std.proofs.Common.{◌∙◌, sym}
 use Rattle.std.specs.Prelude.{string_bytes}
-use Rattle.kap_server.proofs.PairLaws.{one_word}
+use Rattle.kap_server.proofs.WordLaws.{one_word}
 use Rattle.kap_server.proofs.words.are_pairs.Goals as goal
 
 pub returns-in-len1 : goal.returns-in-len1

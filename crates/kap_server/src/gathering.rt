@@ -1,0 +1,70 @@
+//! Points are gathered into an epoch.
+
+ghost use Rattle.std.specs.Prelude.{◌≡◌, ◌<◌, ◌≤◌, false, IfOk};
+ghost use Rattle.kap_base.specs.Words.{HasRisen};
+ghost use Rattle.recording_file.specs.declared.fault.RecFault.{RecFault};
+ghost use Rattle.kap_server.specs.Gathering.{Pauses};
+
+use kap_base::{NoMemory, Point};
+use kap_io::Source;
+use recording_file::{RecFault, Reader};
+use std::alloc::Global;
+
+/// Why an epoch ends.
+#[derive(Drop)]
+pub(crate) enum Pause {
+    /// It has as many points as it may, or the next one may have to be waited for.
+    More,
+    /// The recording has ended.
+    End,
+    /// The recording is faulty, or can't be read on.
+    Fault(RecFault),
+}
+
+/// The points of an epoch, and why it ends.
+#[derive(Drop)]
+pub(crate) struct Epoch {
+    pub(crate) points: Vec<Point>,
+    pub(crate) pause: Pause,
+}
+
+/// Reads points, up to `limit` of them, and no longer than the next one is surely there.
+pub(crate) fn gather<S: Source>(
+    alloc: Global,
+    reader: &mut Reader,
+    limit: usize,
+    input: &mut S,
+) -> Result<Epoch, NoMemory>
+    requires spent { reader.old.spent ≡ false }
+    ensures pauses { IfOk result (λ e. Pauses e.pause reader.old reader.new
+        (S.left input.old) (S.left input.new) e.points.items) }
+    ensures later { S.faults input.old ≤ S.faults input.new }
+    ensures rose { IfOk result (λ e. e.pause ≡ Pause.Fault RecFault.ReadFault
+        → HasRisen (S.faults input.old) (S.faults input.new)) }
+{
+    let mut points = Vec::new(alloc);
+    'gathering: loop {
+        let point = match reader.next(alloc, input) {
+            Ok(Some(point)) => point,
+            Ok(None) => {
+                return Ok(Epoch {
+                    points,
+                    pause: Pause::End,
+                });
+            }
+            Err(fault) => {
+                return Ok(Epoch {
+                    points,
+                    pause: Pause::Fault(fault),
+                });
+            }
+        };
+        points.push(point)?;
+        if limit <= points.len() || !reader.holds_point() {
+            return Ok(Epoch {
+                points,
+                pause: Pause::More,
+            });
+        }
+    }
+}

@@ -1,0 +1,145 @@
+//! The options of a replay.
+
+ghost use Rattle.std.specs.Prelude.{◌≡◌, ◌==◌, ◌<◌, ◌≤◌, IfSome, slice_index, string_bytes};
+ghost use Rattle.edge_queue.specs.declared.TheConstants.{CAPACITY_LIMIT};
+ghost use Rattle.kap_server.specs.Options.{HasRoom, has_leading_zero, no_options, number_in, number_within, with_capacity, with_counts, with_schedule, with_value};
+
+use edge_queue::CAPACITY_LIMIT;
+
+/// For how many messages each edge of a net has room, where no option says it.
+const CAPACITY: u32 = 64;
+
+/// How a replay is to run, and what it is to tell.
+#[derive(Clone, Copy)]
+pub(crate) struct ReplayOptions {
+    /// Whether it tells how many points each node dropped.
+    pub counts: bool,
+    /// The number of the order in which a net is to run, where one is given.
+    pub schedule: Option<u32>,
+    /// For how many messages each edge of a net is to have room, where that is given.
+    pub capacity: Option<u32>,
+}
+
+/// No options.
+pub(crate) fn no_options() -> ReplayOptions
+    ensures options { result ≡ no_options }
+    ensures room { HasRoom result }
+{
+    ReplayOptions {
+        counts: false,
+        schedule: None,
+        capacity: None,
+    }
+}
+
+/// For how many messages each edge of a net has room.
+pub(crate) fn capacity_of(options: ReplayOptions) -> u32
+    requires { HasRoom options }
+    ensures some { 0 < result }
+    ensures limit { result ≤ CAPACITY_LIMIT }
+{
+    match options.capacity {
+        Some(capacity) => capacity,
+        None => CAPACITY,
+    }
+}
+
+fn has_plus(word: &[u8]) -> bool
+    ensures { result ≡ (slice_index word.now 0 == 43) }
+{
+    matches!(word, [b'+', ..])
+}
+
+/// Whether a zero stands before other bytes.
+fn has_leading_zero(word: &[u8]) -> bool
+    ensures { result ≡ has_leading_zero word.now }
+{
+    matches!(word, [b'0', _, ..])
+}
+
+/// The number below 2^32 that digits write without a sign or a leading zero.
+fn number_in(word: &str) -> Option<u32>
+    ensures { result ≡ number_in word.now }
+{
+    if has_plus(word.as_bytes()) || has_leading_zero(word.as_bytes()) {
+        return None;
+    }
+    word.parse::<u32>().ok()
+}
+
+/// The number that a word writes so, where it lies within limits.
+fn number_within(low: u32, high: u32, word: &str) -> Option<u32>
+    ensures number { result ≡ number_within low high word.now }
+    ensures within { IfSome result (λ n. (low ≤ n) × (n ≤ high)) }
+{
+    let number = number_in(word)?;
+    if number < low || high < number {
+        return None;
+    }
+    Some(number)
+}
+
+/// With `--counts`, where it wasn't given before.
+pub(crate) fn with_counts(options: ReplayOptions) -> Option<ReplayOptions>
+    ensures options { result ≡ with_counts options }
+    ensures room { HasRoom options → IfSome result HasRoom }
+{
+    if options.counts {
+        return None;
+    }
+    Some(ReplayOptions {
+        counts: true,
+        schedule: options.schedule,
+        capacity: options.capacity,
+    })
+}
+
+/// With `--schedule` and this value, where it wasn't given before.
+fn with_schedule(options: ReplayOptions, value: &str) -> Option<ReplayOptions>
+    ensures options { result ≡ with_schedule options value.now }
+    ensures room { HasRoom options → IfSome result HasRoom }
+{
+    if options.schedule.is_some() {
+        return None;
+    }
+    let number = number_in(value)?;
+    Some(ReplayOptions {
+        counts: options.counts,
+        schedule: Some(number),
+        capacity: options.capacity,
+    })
+}
+
+/// With `--capacity` and this value, where it wasn't given before.
+fn with_capacity(options: ReplayOptions, value: &str) -> Option<ReplayOptions>
+    ensures options { result ≡ with_capacity options value.now }
+    ensures room { IfSome result HasRoom }
+{
+    if options.capacity.is_some() {
+        return None;
+    }
+    let number = number_within(1, CAPACITY_LIMIT, value)?;
+    Some(ReplayOptions {
+        counts: options.counts,
+        schedule: options.schedule,
+        capacity: Some(number),
+    })
+}
+
+/// With the option of this name and this value, where it is one and wasn't given before.
+pub(crate) fn with_value(
+    options: ReplayOptions,
+    name: &str,
+    value: &str,
+) -> Option<ReplayOptions>
+    ensures options { result ≡ with_value options name.now value.now }
+    ensures room { HasRoom options → IfSome result HasRoom }
+{
+    if name == "--schedule" {
+        with_schedule(options, value)
+    } else if name == "--capacity" {
+        with_capacity(options, value)
+    } else {
+        None
+    }
+}
