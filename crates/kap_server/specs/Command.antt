@@ -4,7 +4,7 @@ use Rattle.kap_base.specs.declared.limits.TheConstants.{TASK_LIMIT}
 use Rattle.kap_server.specs.declared.options.ReplayOptions.{ReplayOptions}
 use Rattle.kap_server.specs.declared.status.Status.{Status}
 use Rattle.kap_server.specs.declared.status.Status.TheVariants.{NoMemory, ReadFault, WriteFault, DiskFault}
-use Rattle.kap_server.specs.Words.{Check, Init, Pair, Replay, Tasks, request_in}
+use Rattle.kap_server.specs.Words.{Check, Generate, Init, Pair, Replay, Summarize, Tasks, request_in}
 
 -- this status comes exactly where the fact holds, but for want of memory
 pub record ExactlyWhere (result status : Status) (fact : Type 0) : Type 0 where
@@ -21,11 +21,31 @@ pub record AsksToReplay (words : List (List ℕ)) (options : ReplayOptions) (pai
   pub few : length pairs ≤ TASK_LIMIT
 
 -- the words ask for a replay for more tasks than there may be
-pub record AsksForTooMany (words : List (List ℕ)) : Type 0 where
+pub record ReplaysTooMany (words : List (List ℕ)) : Type 0 where
   pub options : ReplayOptions
   pub pairs : List Pair
   pub asks : request_in words ≡ Some (Replay options pairs)
   pub many : TASK_LIMIT < length pairs
+
+-- the words ask for a summary for more tasks than there may be
+pub record SummarizesTooMany (words : List (List ℕ)) : Type 0 where
+  pub count : ℕ
+  pub pairs : List Pair
+  pub asks : request_in words ≡ Some (Summarize count pairs)
+  pub many : TASK_LIMIT < length pairs
+
+-- the words ask for one of these for more tasks than there may be
+abbrev pub AsksForTooMany : List (List ℕ) → Type 0
+AsksForTooMany words = ReplaysTooMany words ⊎ SummarizesTooMany words
+
+-- the words ask for the sample recording of so many points
+abbrev pub AsksToGenerate : List (List ℕ) → ℕ → Type 0
+AsksToGenerate words n = request_in words ≡ Some (Generate n)
+
+-- the words ask for the summary of its replay for these tasks, which aren't too many
+pub record AsksToSummarize (words : List (List ℕ)) (n : ℕ) (pairs : List Pair) : Type 0 where
+  pub asks : request_in words ≡ Some (Summarize n pairs)
+  pub few : length pairs ≤ TASK_LIMIT
 
 -- the words ask for a new store
 abbrev pub AsksToInit : List (List ℕ) → Type 0

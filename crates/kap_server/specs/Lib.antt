@@ -12,3 +12,4 @@ pub mod Readying
 pub mod Making
 pub mod Listing
 pub mod Command
+pub mod Generating

@@ -1,23 +1,26 @@
 -- The words of a command line.
-use Rattle.std.specs.Prelude.{ℕ, ⊤, Bool, true, false, not, ◌&&◌, ◌==◌, List, [], ◌∷◌, map, slice_index, Option, Some, None, codes, string_bytes, if◌then◌else◌}
+use Rattle.std.specs.Prelude.{ℕ, ◌≤◌, ⊤, Bool, true, false, not, ◌&&◌, ◌==◌, List, [], ◌∷◌, map, slice_index, Option, Some, None, codes, string_bytes, if◌then◌else◌}
 use Rattle.std.specs.Option.{option_and_then}
 use Rattle.std.specs.Str.{bytes_eq}
 use Rattle.kap_base.specs.Texts.{hyphen, is_task_id}
+use Rattle.sample_points.specs.declared.samples.TheConstants.{SAMPLE_LIMIT}
 use Rattle.kap_server.specs.declared.options.ReplayOptions.{ReplayOptions}
 use Rattle.kap_server.specs.declared.words.Request.{Request as LentRequest}
 use Rattle.kap_server.specs.declared.words.Request.TheVariants as lent
-use Rattle.kap_server.specs.Options.{HasRoom, no_options, with_counts, with_value}
+use Rattle.kap_server.specs.Options.{HasRoom, no_options, number_within, with_counts, with_value}
 
 -- the id of a task, and its script
 pub record Pair : Type 0 where
   pub id : List ℕ
   pub script : List ℕ
 
--- what the words of a command line ask for: to check a script; to replay a recording for these tasks, so as options say; to make a
--- store; or to list the tasks of one
+-- what the words of a command line ask for: to check a script; to replay a recording for these tasks, so as options say; to
+-- write the sample recording of so many points, or the summary of its replay for these tasks; to make a store; or to list the tasks of one
 pub data Request : Type 0 where
   Check : Request
   Replay : (options : ReplayOptions) (pairs : List Pair) → Request
+  Generate : (count : ℕ) → Request
+  Summarize : (count : ℕ) (pairs : List Pair) → Request
   Init : Request
   Tasks : Request
 
@@ -31,6 +34,8 @@ pairs_of (id ∷ script ∷ words) = record { id = id; script = script } ∷ pai
 abbrev pub request_of : LentRequest → Request
 request_of lent.Check = Check
 request_of (lent.Replay options words) = Replay options (pairs_of (map string_bytes words.now))
+request_of (lent.Generate count) = Generate count
+request_of (lent.Summarize count words) = Summarize count (pairs_of (map string_bytes words.now))
 request_of lent.Init = Init
 request_of lent.Tasks = Tasks
 
@@ -58,6 +63,17 @@ replay_request options (word ∷ value ∷ words) =
     if bytes_eq word (codes "--counts") then option_and_then (λ o. replay_request o (value ∷ words)) (with_counts options)
     else option_and_then (λ o. replay_request o words) (with_value options word value)
 
+-- the sample recording of so many points, where no words stand behind the number, else `ID SCRIPT [ID SCRIPT]..`
+abbrev pub gen_of : Option ℕ → List (List ℕ) → Option Request
+gen_of None words = None
+gen_of (Some n) [] = Some (Generate n)
+gen_of (Some n) (word ∷ words) = if are_pairs (word ∷ words) then Some (Summarize n (pairs_of (word ∷ words))) else None
+
+-- the number of points, 1 to 1,000,000, and words behind it
+abbrev pub gen_request : List (List ℕ) → Option Request
+gen_request [] = None
+gen_request (word ∷ words) = gen_of (number_within 1 SAMPLE_LIMIT word) words
+
 -- this request, where no words stand behind its command
 abbrev pub request_alone : Request → List (List ℕ) → Option Request
 request_alone request [] = Some request
@@ -69,6 +85,7 @@ request_in [] = None
 request_in (command ∷ words) =
     if bytes_eq command (codes "check") then request_alone Check words else
     if bytes_eq command (codes "replay") then replay_request no_options words else
+    if bytes_eq command (codes "gen") then gen_request words else
     if bytes_eq command (codes "init") then request_alone Init words else
     if bytes_eq command (codes "tasks") then request_alone Tasks words else None
 
@@ -77,6 +94,8 @@ abbrev pub reads_input : Option Request → Bool
 reads_input None = false
 reads_input (Some Check) = true
 reads_input (Some (Replay options pairs)) = true
+reads_input (Some (Generate n)) = false
+reads_input (Some (Summarize n pairs)) = false
 reads_input (Some Init) = false
 reads_input (Some Tasks) = false
 
@@ -85,6 +104,8 @@ abbrev pub writes_output : Option Request → Bool
 writes_output None = false
 writes_output (Some Check) = true
 writes_output (Some (Replay options pairs)) = true
+writes_output (Some (Generate n)) = true
+writes_output (Some (Summarize n pairs)) = true
 writes_output (Some Init) = false
 writes_output (Some Tasks) = true
 
@@ -93,12 +114,16 @@ abbrev pub uses_disk : Option Request → Bool
 uses_disk None = false
 uses_disk (Some Check) = false
 uses_disk (Some (Replay options pairs)) = false
+uses_disk (Some (Generate n)) = false
+uses_disk (Some (Summarize n pairs)) = false
 uses_disk (Some Init) = true
 uses_disk (Some Tasks) = true
 
--- a capacity that a request gives is one that edges can have
-abbrev pub RequestHasRoom : LentRequest → Type 0
-RequestHasRoom lent.Check = ⊤
-RequestHasRoom (lent.Replay options words) = HasRoom options
-RequestHasRoom lent.Init = ⊤
-RequestHasRoom lent.Tasks = ⊤
+-- a capacity that a request gives is one that edges can have, and a number of points one that a sample recording can have
+abbrev pub IsWithinLimits : LentRequest → Type 0
+IsWithinLimits lent.Check = ⊤
+IsWithinLimits (lent.Replay options words) = HasRoom options
+IsWithinLimits (lent.Generate count) = count ≤ SAMPLE_LIMIT
+IsWithinLimits (lent.Summarize count words) = count ≤ SAMPLE_LIMIT
+IsWithinLimits lent.Init = ⊤
+IsWithinLimits lent.Tasks = ⊤

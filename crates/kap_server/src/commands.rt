@@ -10,10 +10,12 @@ ghost use Rattle.kap_io.specs.declared.disk.Part.{Part};
 ghost use Rattle.node_set.specs.Nodes.{node_spec};
 ghost use Rattle.recording_file.specs.Reading.{HasEnded};
 ghost use Rattle.recording_file.specs.Recording.{reading_of};
+ghost use Rattle.sample_points.specs.Samples.{sample_text};
 ghost use Rattle.tick_compile.specs.declared.tasks.Task.{Task};
 ghost use Rattle.kap_server.specs.Checking.{Checked, ChecksTo};
-ghost use Rattle.kap_server.specs.Command.{AsksForTasks, AsksForTooMany, AsksToCheck, AsksToInit, AsksToReplay};
+ghost use Rattle.kap_server.specs.Command.{AsksForTasks, AsksForTooMany, AsksToCheck, AsksToGenerate, AsksToInit, AsksToReplay, AsksToSummarize};
 ghost use Rattle.kap_server.specs.Command.{ExactlyWhere, IsUnlessDiskFailed, IsUnlessFailed};
+ghost use Rattle.kap_server.specs.Generating.{Summed, WritesText};
 ghost use Rattle.kap_server.specs.Listing.{Listed, ListsTasks};
 ghost use Rattle.kap_server.specs.Making.{HasHead, Made};
 ghost use Rattle.kap_server.specs.Options.{HasRoom};
@@ -28,6 +30,7 @@ ghost use Rattle.store_records.specs.declared.rec.Rec.{Rec};
 ghost use Rattle.topic_store.specs.Stores.{IsNoStore, Stands};
 
 use crate::checking::check;
+use crate::generating::{write_recording, write_summary};
 use crate::listing::list_tasks;
 use crate::making::init;
 use crate::options::ReplayOptions;
@@ -89,6 +92,9 @@ fn replay_pairs<S: Source, K: Sink, P: Patterns, N: ScriptNode + NumberingNode>(
 ///   dropped. There are at most 64 tasks. With `--schedule` the points go through a net, in the order that N gives, from 0 to
 ///   4,294,967,295, whose edges have room for C messages, from 1 to 65,536; `--capacity` alone does nothing. The options stand in
 ///   any order, each at most once.
+/// - `gen N`: it writes the sample recording of N points, from 1 to 1,000,000: a point a second, of one of eight hosts in turn.
+/// - `gen N ID SCRIPT [ID SCRIPT]..`: it writes a summary of a replay of this recording: the numbers of points, of lines of logged
+///   points and of lines of changes of level, and how many bytes these lines have.
 /// - `init`: it makes an empty store on the disk, where no head of one stands there.
 /// - `tasks`: it writes a line `ID enabled` or `ID disabled` for each task of the store on the disk, in byte order of their ids, and
 ///   changes nothing.
@@ -107,7 +113,7 @@ pub fn command<S: Source, K: Sink, D: Disk, P: Patterns>(
     // Usage exactly where the words aren't those of a command.
     ensures usage { ExactlyWhere result Status.Usage
         (request_in (map string_bytes words.now) ≡ None) }
-    // TooManyTasks exactly where they ask for a replay for more than 64 tasks.
+    // TooManyTasks exactly where they ask for a replay, or a summary, for more than 64 tasks.
     ensures too_many { ExactlyWhere result Status.TooManyTasks
         (AsksForTooMany (map string_bytes words.now)) }
     // After these nothing was read or written.
@@ -141,6 +147,13 @@ pub fn command<S: Source, K: Sink, D: Disk, P: Patterns>(
     ensures refused { (options : ReplayOptions) (pairs : List Pair) (status : Status)
         → AsksToReplay (map string_bytes words.now) options pairs → AreNoTasks None [] pairs status
         → is_pattern_refused result ≡ false → (result ≡ status) ⊎ (result ≡ Status.NoMemory) }
+    // Of `gen` alone the sample recording is written, as the status says.
+    ensures generated { (n : ℕ) → AsksToGenerate (map string_bytes words.now) n
+        → WritesText (sample_text n) result (K.written out.old) (K.written out.new) }
+    // Of `gen` for tasks the summary of its replay is; or the first pair that is no task is refused, before anything is written.
+    ensures summed { (n : ℕ) (pairs : List Pair) → AsksToSummarize (map string_bytes words.now) n pairs
+        → Summed ⟦<AnyNode as Node>⟧.answer node_spec (P.refused pats.new) n pairs result
+        (K.written out.old) (K.written out.new) }
     // Of `init` a store of no records was made, where no head stood there, and then each image stands for it.
     ensures made { AsksToInit (map string_bytes words.now)
         → Made (IsTrue D.tells) result (D.seen disk.old) (D.seen disk.new) (D.may_leave disk.new) }
@@ -196,6 +209,13 @@ pub fn command<S: Source, K: Sink, D: Disk, P: Patterns>(
                 return Status::TooManyTasks;
             }
             replay_pairs::<S, K, P, AnyNode>(alloc, options, words, input, out, pats)
+        }
+        Some(Request::Generate { count }) => write_recording(alloc, u64::from(count), out),
+        Some(Request::Summarize { count, words }) => {
+            if are_too_many(words) {
+                return Status::TooManyTasks;
+            }
+            write_summary::<K, P, AnyNode>(alloc, u64::from(count), words, out, pats)
         }
         Some(Request::Init) => init(alloc, disk),
         Some(Request::Tasks) => list_tasks(alloc, out, disk),

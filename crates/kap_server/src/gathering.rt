@@ -7,7 +7,7 @@ ghost use Rattle.kap_server.specs.Gathering.{Pauses};
 
 use kap_base::{NoMemory, Point};
 use kap_io::Source;
-use recording_file::{RecFault, Reader};
+use recording_file::{Reader, RecFault};
 use std::alloc::Global;
 
 /// Why an epoch ends.

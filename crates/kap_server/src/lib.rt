@@ -4,6 +4,7 @@
 mod checking;
 mod commands;
 mod gathering;
+mod generating;
 mod laws;
 mod listing;
 mod making;

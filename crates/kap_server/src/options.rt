@@ -68,7 +68,7 @@ fn number_in(word: &str) -> Option<u32>
 }
 
 /// The number that a word writes so, where it lies within limits.
-fn number_within(low: u32, high: u32, word: &str) -> Option<u32>
+pub(crate) fn number_within(low: u32, high: u32, word: &str) -> Option<u32>
     ensures number { result ≡ number_within low high word.now }
     ensures within { IfSome result (λ n. (low ≤ n) × (n ≤ high)) }
 {
@@ -127,11 +127,7 @@ fn with_capacity(options: ReplayOptions, value: &str) -> Option<ReplayOptions>
 }
 
 /// With the option of this name and this value, where it is one and wasn't given before.
-pub(crate) fn with_value(
-    options: ReplayOptions,
-    name: &str,
-    value: &str,
-) -> Option<ReplayOptions>
+pub(crate) fn with_value(options: ReplayOptions, name: &str, value: &str) -> Option<ReplayOptions>
     ensures options { result ≡ with_value options name.now value.now }
     ensures room { HasRoom options → IfSome result HasRoom }
 {

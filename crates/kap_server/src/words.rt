@@ -3,10 +3,11 @@
 ghost use Rattle.std.specs.Prelude.{◌≡◌, IfSome, map, string_bytes};
 ghost use Rattle.std.specs.Option.{option_map};
 ghost use Rattle.kap_server.specs.Options.{HasRoom};
-ghost use Rattle.kap_server.specs.Words.{RequestHasRoom, are_pairs, is_option, replay_request, request_alone, request_in, request_of, request_of_pairs};
+ghost use Rattle.kap_server.specs.Words.{IsWithinLimits, are_pairs, gen_request, is_option, replay_request, request_alone, request_in, request_of, request_of_pairs};
 
-use crate::options::{ReplayOptions, no_options, with_counts, with_value};
+use crate::options::{ReplayOptions, no_options, number_within, with_counts, with_value};
 use kap_base::is_task_id;
+use sample_points::SAMPLE_LIMIT;
 
 /// What the words of a command line ask for.
 #[derive(Clone, Copy)]
@@ -17,6 +18,15 @@ pub(crate) enum Request<'a> {
     /// options say.
     Replay {
         options: ReplayOptions,
+        words: &'a [String],
+    },
+    /// To write the sample recording of so many points.
+    Generate {
+        count: u32,
+    },
+    /// To write the summary of a replay of it, for the tasks of these words.
+    Summarize {
+        count: u32,
         words: &'a [String],
     },
     /// To make a store.
@@ -57,7 +67,7 @@ fn are_pairs(words: &[String]) -> bool
 fn request_of_pairs(options: ReplayOptions, words: &[String]) -> Option<Request<'_>>
     ensures request { option_map request_of result
         ≡ request_of_pairs options (map string_bytes words.now) }
-    ensures room { HasRoom options → IfSome result RequestHasRoom }
+    ensures room { HasRoom options → IfSome result IsWithinLimits }
 {
     if !are_pairs(words) {
         return None;
@@ -69,7 +79,7 @@ fn request_of_pairs(options: ReplayOptions, words: &[String]) -> Option<Request<
 fn replay_request(options: ReplayOptions, words: &[String]) -> Option<Request<'_>>
     ensures request { option_map request_of result
         ≡ replay_request options (map string_bytes words.now) }
-    ensures room { HasRoom options → IfSome result RequestHasRoom }
+    ensures room { HasRoom options → IfSome result IsWithinLimits }
 {
     let (word, rest) = words.split_first()?;
     if !is_option(word.as_bytes()) {
@@ -79,17 +89,30 @@ fn replay_request(options: ReplayOptions, words: &[String]) -> Option<Request<'_
     if word.as_str() == "--counts" {
         return replay_request(with_counts(options)?, rest);
     }
-    replay_request(
-        with_value(options, word.as_str(), value.as_str())?,
-        behind,
-    )
+    replay_request(with_value(options, word.as_str(), value.as_str())?, behind)
+}
+
+/// To write the sample recording of so many points, or the summary of its replay for the tasks of the words behind the number.
+fn gen_request(words: &[String]) -> Option<Request<'_>>
+    ensures request { option_map request_of result ≡ gen_request (map string_bytes words.now) }
+    ensures limits { IfSome result IsWithinLimits }
+{
+    let (word, rest) = words.split_first()?;
+    let count = number_within(1, SAMPLE_LIMIT as u32, word.as_str())?;
+    if rest.is_empty() {
+        return Some(Request::Generate { count });
+    }
+    if !are_pairs(rest) {
+        return None;
+    }
+    Some(Request::Summarize { count, words: rest })
 }
 
 /// This request, where no words stand behind its command.
 fn request_alone<'a>(request: Request<'a>, words: &[String]) -> Option<Request<'a>>
     ensures request { option_map request_of result
         ≡ request_alone (request_of request.entry) (map string_bytes words.now) }
-    ensures room { RequestHasRoom request.entry → IfSome result RequestHasRoom }
+    ensures room { IsWithinLimits request.entry → IfSome result IsWithinLimits }
 {
     if words.is_empty() {
         Some(request)
@@ -101,13 +124,15 @@ fn request_alone<'a>(request: Request<'a>, words: &[String]) -> Option<Request<'
 /// What the words of the command line ask for.
 pub(crate) fn request_in(words: &[String]) -> Option<Request<'_>>
     ensures request { option_map request_of result ≡ request_in (map string_bytes words.now) }
-    ensures room { IfSome result RequestHasRoom }
+    ensures room { IfSome result IsWithinLimits }
 {
     let (command, rest) = words.split_first()?;
     if command.as_str() == "check" {
         request_alone(Request::Check, rest)
     } else if command.as_str() == "replay" {
         replay_request(no_options(), rest)
+    } else if command.as_str() == "gen" {
+        gen_request(rest)
     } else if command.as_str() == "init" {
         request_alone(Request::Init, rest)
     } else if command.as_str() == "tasks" {

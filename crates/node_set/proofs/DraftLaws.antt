@@ -5,11 +5,11 @@ use Rattle.std.specs.List.{AllByRecursion as Each, list_all}
 use Rattle.std.proofs.lemmas.Bool.Decides.{nat_tests}
 use Rattle.kap_base.specs.Tree.{Tree}
 use Rattle.kap_base.proofs.TestLaws.{first_of, second_of}
-use Rattle.task_graph.specs.Edges.{is_stream}
-use Rattle.task_graph.specs.Graphs.{IsGraph, are_behind, are_different, fault_from, has_shape, is_fit, node_fault}
+use Rattle.task_graph.specs.Edges.{cannot_stand, ends_chain, is_stream, is_wrong_kind}
+use Rattle.task_graph.specs.Graphs.{IsGraph, are_behind, are_different, fault_from, has_shape, is_fit, node_fault, some_parent as has_parent}
 use Rattle.task_graph.specs.Graphs.{first as earlier}
 use Rattle.task_graph.specs.declared.graph.GraphFault.{GraphFault}
-use Rattle.task_graph.specs.declared.graph.GraphFault.TheVariants.{TooManyNodes}
+use Rattle.task_graph.specs.declared.graph.GraphFault.TheVariants.{Chain, Kind, Parents, TooManyNodes}
 use Rattle.task_graph.specs.declared.graph.TheConstants.{NODE_LIMIT, PARENT_LIMIT}
 use Rattle.task_graph.specs.declared.spec.NodeSpec.{NodeSpec}
 use Rattle.task_graph.specs.declared.spec.Spec.{Spec}
@@ -94,8 +94,15 @@ second_none false b h = h
 -- a node without a fault has few parents
 few_parents_of : (all : List (NodeSpec Tree)) (number : ℕ) (node : NodeSpec Tree) → node_fault all number node ≡ None → length node.parents ≤ PARENT_LIMIT
 few_parents_of all number node h =
-    let behind = asked_later _ _ _ (asked_later _ _ _ h).1 in
-    let low : nat_lt PARENT_LIMIT (length node.parents) ≡ false = second_none _ _ (asked_later _ _ _ behind.1).0 in
+    let chains : Bool = has_parent (ends_chain {L = Tree}) all node.parents in
+    let stands : Bool = has_parent (cannot_stand {L = Tree} node.spec) all node.parents in
+    let wrong : Bool = has_parent (is_wrong_kind {L = Tree} node.spec) all node.parents in
+    let many : Bool = nat_lt PARENT_LIMIT (length node.parents) in
+    let last : Option GraphFault = if wrong then Some (Kind number) else None in
+    let third : Option GraphFault = if stands || many then Some (Parents number) else last in
+    let second : Option GraphFault = if chains then Some (Chain number) else third in
+    let behind : third ≡ None = (asked_later chains (Chain number) third (asked_later (nat_le NODE_LIMIT number) TooManyNodes second h).1).1 in
+    let low : many ≡ false = second_none stands many (asked_later (stands || many) (Parents number) last behind).0 in
     grind (arith, nat_tests)
 
 few_parents_from : (all : List (NodeSpec Tree)) (number : ℕ) (nodes : List (NodeSpec Tree)) → fault_from all number nodes ≡ None → Each (λ (ps : List ℕ). length ps ≤ PARENT_LIMIT) (map (λ n. n.parents) nodes)
