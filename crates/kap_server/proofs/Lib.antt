@@ -8,4 +8,4 @@ pub mod ReadyLaws
 pub mod TellLaws
 pub mod RunLaws
 pub mod ListLaws
-pub mod EndLaws
+mod GenLaws

@@ -1,8 +1,9 @@
 use Rattle.std.proofs.Common.{sym, ◌∙◌}
 use Rattle.std.specs.Prelude.{IsTrue}
 use Rattle.kap_server.proofs.CheckLaws.{check_answers}
+use Rattle.kap_server.proofs.GenLaws.{few_to_replay, few_to_summarize, summary_not_none, summed_as_asked, summed_not, summed_tells}
 use Rattle.kap_server.proofs.ListLaws.{lists_tasks, tells_place}
-use Rattle.kap_server.proofs.RunLaws.{few_or_many, not_none, ran_as_asked, ran_not_disk, ran_not_many, ran_not_usage, ran_refused, ran_status}
+use Rattle.kap_server.proofs.RunLaws.{not_none, ran_as_asked, ran_not_disk, ran_not_many, ran_not_usage, ran_refused, ran_status}
 use Rattle.kap_server.proofs.commands.command.Goals as goal
 
 pub returns-in-Some-Check-clause-check_status : goal.returns-in-Some-Check-clause-check_status
@@ -11,7 +12,7 @@ returns-in-Some-Check-clause-check_status g c = λ text status asks told to.
 
 pub returns-else-are_too_many-clause-usage : goal.returns-else-are_too_many-clause-usage
 returns-else-are_too_many-clause-usage g c =
-    let asked = rw (c.in-Some-Replay.is, c.in-Some-Replay.field-0-is) at c.request_in.ensures in
+    let asked = rw (c.in-Some-Replay.is, c.in-Some-Replay.field-0-is) at c.request_in.ensures.request in
     record {
       only = λ e. absurd (ran_not_usage _ _ _ _ _ c.replay_pairs.result _ _ _ _ c.replay_pairs.ensures.ran e);
       always = λ none. absurd (not_none _ _ (asked ∙ none));
@@ -19,31 +20,61 @@ returns-else-are_too_many-clause-usage g c =
 
 pub returns-else-are_too_many-clause-too_many : goal.returns-else-are_too_many-clause-too_many
 returns-else-are_too_many-clause-too_many g c =
-    let asked = rw (c.in-Some-Replay.is, c.in-Some-Replay.field-0-is) at c.request_in.ensures in
+    let asked = rw (c.in-Some-Replay.is, c.in-Some-Replay.field-0-is) at c.request_in.ensures.request in
     record {
       only = λ e. absurd (ran_not_many _ _ _ _ _ c.replay_pairs.result _ _ _ _ c.replay_pairs.ensures.ran e);
-      always = λ asks. absurd (few_or_many _ _ _ _ (asked ∙ asks.asks) (sym c.are_too_many.ensures ∙ c.if-are_too_many.false) asks.many);
+      always = λ asks. absurd (few_to_replay _ _ _ (sym asked) (sym c.are_too_many.ensures ∙ c.if-are_too_many.false) asks);
     }
 
 pub returns-else-are_too_many-clause-ran : goal.returns-else-are_too_many-clause-ran
 returns-else-are_too_many-clause-ran g c =
-    let asked = rw (c.in-Some-Replay.is, c.in-Some-Replay.field-0-is) at c.request_in.ensures in
+    let asked = rw (c.in-Some-Replay.is, c.in-Some-Replay.field-0-is) at c.request_in.ensures.request in
     λ options pairs asks. ran_as_asked _ _ _ _ _ _ _ c.replay_pairs.result _ _ _ _ (asked ∙ asks.asks) c.replay_pairs.ensures.ran
 
 pub returns-else-are_too_many-clause-status : goal.returns-else-are_too_many-clause-status
 returns-else-are_too_many-clause-status g c =
-    let asked = rw (c.in-Some-Replay.is, c.in-Some-Replay.field-0-is) at c.request_in.ensures in
+    let asked = rw (c.in-Some-Replay.is, c.in-Some-Replay.field-0-is) at c.request_in.ensures.request in
     λ options pairs tasks bytes asks are told plain.
     ran_status _ _ _ _ _ c.replay_pairs.result _ _ _ _ (ran_as_asked _ _ _ _ options _ pairs c.replay_pairs.result _ _ _ _ (asked ∙ asks.asks) c.replay_pairs.ensures.ran) tasks bytes are told plain
 
 pub returns-else-are_too_many-clause-refused : goal.returns-else-are_too_many-clause-refused
 returns-else-are_too_many-clause-refused g c =
-    let asked = rw (c.in-Some-Replay.is, c.in-Some-Replay.field-0-is) at c.request_in.ensures in
+    let asked = rw (c.in-Some-Replay.is, c.in-Some-Replay.field-0-is) at c.request_in.ensures.request in
     λ options pairs status asks none plain.
     ran_refused _ _ _ _ _ c.replay_pairs.result _ _ _ _ (ran_as_asked _ _ _ _ options _ pairs c.replay_pairs.result _ _ _ _ (asked ∙ asks.asks) c.replay_pairs.ensures.ran) status none plain
 
 pub returns-else-are_too_many-clause-disk_fault : goal.returns-else-are_too_many-clause-disk_fault
 returns-else-are_too_many-clause-disk_fault g c = λ e. absurd (ran_not_disk _ _ _ _ _ c.replay_pairs.result _ _ _ _ c.replay_pairs.ensures.ran e)
+
+pub returns-else-are_too_many-2-clause-usage : goal.returns-else-are_too_many-2-clause-usage
+returns-else-are_too_many-2-clause-usage g c =
+    let asked = rw (c.in-Some-Summarize.is, c.in-Some-Summarize.field-0-is) at c.request_in.ensures.request in
+    record {
+      only = λ e. absurd ((summed_not _ _ _ _ _ c.write_summary.result _ _ c.write_summary.ensures.summed).1 e);
+      always = λ none. absurd (summary_not_none _ _ (asked ∙ none));
+    }
+
+pub returns-else-are_too_many-2-clause-too_many : goal.returns-else-are_too_many-2-clause-too_many
+returns-else-are_too_many-2-clause-too_many g c =
+    let asked = rw (c.in-Some-Summarize.is, c.in-Some-Summarize.field-0-is) at c.request_in.ensures.request in
+    record {
+      only = λ e. absurd ((summed_not _ _ _ _ _ c.write_summary.result _ _ c.write_summary.ensures.summed).2 e);
+      always = λ asks. absurd (few_to_summarize _ _ _ (sym asked) (sym c.are_too_many-2.ensures ∙ c.if-are_too_many-2.false) asks);
+    }
+
+pub returns-else-are_too_many-2-clause-nothing : goal.returns-else-are_too_many-2-clause-nothing
+returns-else-are_too_many-2-clause-nothing g c = λ e. absurd (summed_tells _ _ _ _ _ c.write_summary.result _ _ c.write_summary.ensures.summed e)
+
+pub returns-else-are_too_many-2-clause-summed : goal.returns-else-are_too_many-2-clause-summed
+returns-else-are_too_many-2-clause-summed g c =
+    let asked = rw (c.in-Some-Summarize.is, c.in-Some-Summarize.field-0-is) at c.request_in.ensures.request in
+    λ n pairs asks. summed_as_asked _ _ _ _ n _ pairs c.write_summary.result _ _ (asked ∙ asks.asks) c.write_summary.ensures.summed
+
+pub returns-else-are_too_many-2-clause-read_fault : goal.returns-else-are_too_many-2-clause-read_fault
+returns-else-are_too_many-2-clause-read_fault g c = λ e. absurd ((summed_not _ _ _ _ _ c.write_summary.result _ _ c.write_summary.ensures.summed).4 e)
+
+pub returns-else-are_too_many-2-clause-disk_fault : goal.returns-else-are_too_many-2-clause-disk_fault
+returns-else-are_too_many-2-clause-disk_fault g c = λ e. absurd ((summed_not _ _ _ _ _ c.write_summary.result _ _ c.write_summary.ensures.summed).3 e)
 
 pub returns-in-Some-Tasks-clause-tasks : goal.returns-in-Some-Tasks-clause-tasks
 returns-in-Some-Tasks-clause-tasks g c = λ rs asks tells stands.

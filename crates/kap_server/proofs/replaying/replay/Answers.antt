@@ -105,13 +105,14 @@ returns-in-End-clause-replayed g c =
     let last = stops.last in
     let told = c.tell.new.text in
     let now = written_points text rest none more _ _ _ _ due c.replaying.reader on last stops.left new told stops.gathers (rw (before.lives, before.fed) at c.in-Ok-tell.ensures.text) in
+    let sink = g.K.Sink in
     let run = value_of c.tell.new.self.run in
     let lives_are : run.lives ≡ lives = c.in-Ok-tell.ensures.lives ∙ before.lives in
     let fed : run.points ≡ last.given = c.in-Ok-tell.ensures.points ∙ ap (λ (l : List PointValue). l ++ new) before.fed ∙ sym stops.gathers.given in
     let rest_is : run_rest node.answer c.args.options.counts names run.lives run.points ≡ rest last.given =
     ap (λ (ls : List (List (Placed g.row.N-Spec.Denot))). run_rest node.answer c.args.options.counts names ls run.points) lives_are ∙ ap rest fed in
     ended_so text rest none more c.write_end.result _ _ _ _ _ told (rest last.given) _ _
-    (subst (λ (r : List ℕ). EndsWritten c.write_end.result _ _ told r _ _) rest_is c.write_end.ensures.written)
+    (subst (λ (r : List ℕ). EndsWritten c.write_end.result (sink.written c.write_piece.new.out) (sink.written c.write_end.new.out) told r (sink.faults c.write_piece.new.out) (sink.faults c.write_end.new.out)) rest_is c.write_end.ensures.written)
     (λ q. ends_well text rest none more _ _ _ _ told last now c.gather.new.reader _ stops.reads _ stops.stops q)
     (λ q. ends_cut text rest none more _ _ _ _ told last now c.gather.new.reader _ stops.reads _ stops.stops q)
 
