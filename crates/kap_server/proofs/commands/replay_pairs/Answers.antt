@@ -15,8 +15,8 @@ add_tasks-requires g c =
     let same = length-map c.args.words.now string_bytes in
     omega (arith, few, high, same)
 
-pub replay-requires-rise : goal.replay-requires-rise
-replay-requires-rise g c =
+pub replay-requires-clause-rise : goal.replay-requires-clause-rise
+replay-requires-clause-rise g c =
     let node = g.N.Node in
     let adds = rw (c.new.ensures.items, c.new-2.ensures.items) at c.in-Ok.ensures.ok in
     subst (LivesRise node.life node.number 1) (sym adds.plans_are)
