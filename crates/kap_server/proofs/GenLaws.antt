@@ -49,8 +49,8 @@ module _ {P : Type 0} (answer : P → Answer) (planned : Planned P) (refused : L
   summed_not (inr (inr r)) = (λ e. let x = sym e ∙ r.why in absurd cc, λ e. let x = sym e ∙ r.why in absurd cc, λ e. let x = sym e ∙ r.why in absurd cc, λ e. let x = sym e ∙ r.why in absurd cc)
 
   pub summed_tells : Summed answer planned refused n pairs result w v → (result ≡ statuses.Usage) ⊎ (result ≡ statuses.TooManyTasks) → ⊥
-  summed_tells h (inl e) = (summed_not h).1 e
-  summed_tells h (inr e) = (summed_not h).2 e
+  summed_tells h (inl e) = (summed_not h).0 e
+  summed_tells h (inr e) = (summed_not h).1 e
 
 -- ---- what the words ask for
 
@@ -63,10 +63,10 @@ same_tasks a b p q e = cc
 pub summary_not_none : (a : ℕ) (p : List Pair) → ◌≡◌ {A = Option Request} (Some (Summarize a p)) None → ⊥
 summary_not_none a p e = absurd cc
 
-pub summed_as_asked : {P : Type 0} (answer : P → Answer) (planned : Planned P) (refused : List ℕ) (a b : ℕ) (p q : List Pair) (result : Status) (w v : Option (List ℕ))
-    → ◌≡◌ {A = Option Request} (Some (Summarize a p)) (Some (Summarize b q)) → Summed answer planned refused a p result w v → Summed answer planned refused b q result w v
-summed_as_asked answer planned refused a b p q result w v e h =
-    subst (λ m. Summed answer planned refused m q result w v) (same_number a b p q e) (subst (λ ps. Summed answer planned refused a ps result w v) (same_tasks a b p q e) h)
+pub summed_as_asked : {P : Type 0} (answer : P → Answer) (planned : Planned P) (refused : List ℕ) (m a b : ℕ) (p q : List Pair) (result : Status) (w v : Option (List ℕ))
+    → m ≡ a → ◌≡◌ {A = Option Request} (Some (Summarize a p)) (Some (Summarize b q)) → Summed answer planned refused m p result w v → Summed answer planned refused b q result w v
+summed_as_asked answer planned refused m a b p q result w v n e h =
+    subst (λ k. Summed answer planned refused k q result w v) (n ∙ same_number a b p q e) (subst (λ ps. Summed answer planned refused m ps result w v) (same_tasks a b p q e) h)
 
 -- as many as there may be are not too many
 pub few_to_replay : (words : List (List ℕ)) (a : ReplayOptions) (p : List Pair) → request_in words ≡ Some (Replay a p) → nat_lt 64 (length p) ≡ false → AsksForTooMany words → ⊥

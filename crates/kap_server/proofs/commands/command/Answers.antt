@@ -50,7 +50,7 @@ pub returns-else-are_too_many-2-clause-usage : goal.returns-else-are_too_many-2-
 returns-else-are_too_many-2-clause-usage g c =
     let asked = rw (c.in-Some-Summarize.is, c.in-Some-Summarize.field-0-is) at c.request_in.ensures.request in
     record {
-      only = λ e. absurd ((summed_not _ _ _ _ _ c.write_summary.result _ _ c.write_summary.ensures.summed).1 e);
+      only = λ e. absurd ((summed_not _ _ (g.P.Patterns.refused c.write_summary.new.pats) _ _ c.write_summary.result (g.K.Sink.written c.args.out.now) (g.K.Sink.written c.write_summary.new.out) c.write_summary.ensures.summed).0 e);
       always = λ none. absurd (summary_not_none _ _ (asked ∙ none));
     }
 
@@ -58,23 +58,23 @@ pub returns-else-are_too_many-2-clause-too_many : goal.returns-else-are_too_many
 returns-else-are_too_many-2-clause-too_many g c =
     let asked = rw (c.in-Some-Summarize.is, c.in-Some-Summarize.field-0-is) at c.request_in.ensures.request in
     record {
-      only = λ e. absurd ((summed_not _ _ _ _ _ c.write_summary.result _ _ c.write_summary.ensures.summed).2 e);
-      always = λ asks. absurd (few_to_summarize _ _ _ (sym asked) (sym c.are_too_many-2.ensures ∙ c.if-are_too_many-2.false) asks);
+      only = λ e. absurd ((summed_not _ _ (g.P.Patterns.refused c.write_summary.new.pats) _ _ c.write_summary.result (g.K.Sink.written c.args.out.now) (g.K.Sink.written c.write_summary.new.out) c.write_summary.ensures.summed).1 e);
+      always = λ asks. absurd (few_to_summarize _ _ _ (sym asked) (sym c.are_too_many-in-Some-Summarize.ensures ∙ c.if-are_too_many-2.false) asks);
     }
 
 pub returns-else-are_too_many-2-clause-nothing : goal.returns-else-are_too_many-2-clause-nothing
-returns-else-are_too_many-2-clause-nothing g c = λ e. absurd (summed_tells _ _ _ _ _ c.write_summary.result _ _ c.write_summary.ensures.summed e)
+returns-else-are_too_many-2-clause-nothing g c = λ e. absurd (summed_tells _ _ (g.P.Patterns.refused c.write_summary.new.pats) _ _ c.write_summary.result (g.K.Sink.written c.args.out.now) (g.K.Sink.written c.write_summary.new.out) c.write_summary.ensures.summed e)
 
 pub returns-else-are_too_many-2-clause-summed : goal.returns-else-are_too_many-2-clause-summed
 returns-else-are_too_many-2-clause-summed g c =
     let asked = rw (c.in-Some-Summarize.is, c.in-Some-Summarize.field-0-is) at c.request_in.ensures.request in
-    λ n pairs asks. summed_as_asked _ _ _ _ n _ pairs c.write_summary.result _ _ (asked ∙ asks.asks) c.write_summary.ensures.summed
+    λ n pairs asks. summed_as_asked _ _ (g.P.Patterns.refused c.write_summary.new.pats) _ _ n _ pairs c.write_summary.result (g.K.Sink.written c.args.out.now) (g.K.Sink.written c.write_summary.new.out) c.from-in-Some-Summarize.ensures (asked ∙ asks.asks) c.write_summary.ensures.summed
 
 pub returns-else-are_too_many-2-clause-read_fault : goal.returns-else-are_too_many-2-clause-read_fault
-returns-else-are_too_many-2-clause-read_fault g c = λ e. absurd ((summed_not _ _ _ _ _ c.write_summary.result _ _ c.write_summary.ensures.summed).4 e)
+returns-else-are_too_many-2-clause-read_fault g c = λ e. absurd ((summed_not _ _ (g.P.Patterns.refused c.write_summary.new.pats) _ _ c.write_summary.result (g.K.Sink.written c.args.out.now) (g.K.Sink.written c.write_summary.new.out) c.write_summary.ensures.summed).3 e)
 
 pub returns-else-are_too_many-2-clause-disk_fault : goal.returns-else-are_too_many-2-clause-disk_fault
-returns-else-are_too_many-2-clause-disk_fault g c = λ e. absurd ((summed_not _ _ _ _ _ c.write_summary.result _ _ c.write_summary.ensures.summed).3 e)
+returns-else-are_too_many-2-clause-disk_fault g c = λ e. absurd ((summed_not _ _ (g.P.Patterns.refused c.write_summary.new.pats) _ _ c.write_summary.result (g.K.Sink.written c.args.out.now) (g.K.Sink.written c.write_summary.new.out) c.write_summary.ensures.summed).2 e)
 
 pub returns-in-Some-Tasks-clause-tasks : goal.returns-in-Some-Tasks-clause-tasks
 returns-in-Some-Tasks-clause-tasks g c = λ rs asks tells stands.
