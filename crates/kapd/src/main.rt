@@ -19,7 +19,7 @@ use std::{env, io, time};
 /// What `kapd --help` prints.
 const HELP: &str = "kapd PLACE COMMAND ..
 
-PLACE is the folder of a store; or `-`, an empty disk in memory, gone at the end. `check` and `replay` don't look at it.
+PLACE is the folder of a store; or `-`, an empty disk in memory, gone at the end. `check`, `replay` and `gen` don't look at it.
 Commands:
 
   check                       reads a script from standard input, looks at its tokens, grammar, names, nodes with
@@ -27,6 +27,10 @@ Commands:
                               its canonical form
   replay [--capacity C] [--schedule N] [--counts] ID SCRIPT [ID SCRIPT]..
                               reads a recording from standard input, and writes what the tasks do at its points
+  gen N                       writes a sample recording of N points (1 to 1000000): a point a second, of one of eight
+                              hosts in turn
+  gen N ID SCRIPT [ID SCRIPT]..
+                              writes how many points it has, and how many lines and bytes a replay of it would write
   init                        makes an empty store in the folder, which must be there: its files are head, left and
                               right
   tasks                       writes a line `ID enabled` or `ID disabled` for each task of the store in the folder
@@ -41,7 +45,7 @@ Commands:
 
 Options stand in any order before the first ID, each at most once.
 
-A replay has at most 64 tasks. A task's nodes are of these kinds: stream, from, where, eval, groupBy, log, default,
+A replay, or a gen, has at most 64 tasks. A task's nodes are of these kinds: stream, from, where, eval, groupBy, log, default,
 delete, shift, sample, window, sum, count, min, max, first, last, spread, distinct, top, bottom, stateCount,
 changeDetect, difference, cumulativeSum, elapsed, union, join and alert. Other kinds of Kapacitor 1.6 are refused as
 NoKind.
