@@ -14,6 +14,8 @@ pub mod Nets
 pub mod Making
 -- what a net has run, and what was collected
 pub mod Ran
+-- what the edges of a net have carried
+pub mod Carried
 -- cells that move by themselves
 pub mod Away
 -- what the nodes of lives dropped
@@ -37,7 +39,9 @@ pub mod LifeLaws
 pub mod NetLaws
 pub mod PlanLaws
 pub mod DoneLaws
+pub mod ReceivedLaws
 pub mod RanLaws
+pub mod CarriedLaws
 pub mod AwayLaws
 pub mod CountLaws
 pub mod RunningLaws

@@ -1,12 +1,12 @@
 -- What a net of planned lives has run: loads of points, one after the other; and which effects were collected.
 use Rattle.std.specs.Prelude.{◌≡◌, ℕ, List, [], ◌∷◌, ◌++◌, IsPermutation, length, map}
-use Rattle.std.specs.List.{AllZip}
+use Rattle.std.specs.List.{AllByRecursion as Each, AllZip}
 use Rattle.kap_base.specs.Points.{PointValue}
 use Rattle.kap_base.specs.declared.items.Effect.{Effect}
 use Rattle.kap_base.specs.declared.items.Msg.{Msg}
 use Rattle.kap_base.specs.declared.items.Stamp.{Stamp}
 use Rattle.node_core.specs.declared.node.Node.{Ghosts}
-use Rattle.flow_life.specs.Streams.{plans_of}
+use Rattle.flow_life.specs.Streams.{Plan, plans_of}
 use Rattle.task_run.specs.Active.{Active, placed}
 use Rattle.task_run.specs.Graphs.{Placed}
 use Rattle.task_run.specs.Plans.{AreFirstStates, PlanValue}
@@ -26,6 +26,10 @@ together (es ∷ lists) = es ++ together lists
 abbrev pub effects_in : {N : Type 0} → List (NumberedLife N) → List Effect
 effects_in [] = []
 effects_in (l ∷ lives) = together (effects_since l.life.cells) ++ effects_in lives
+
+-- what a node had received from its parents before a load is what these had given out
+abbrev pub HasReceived : {S : Type 0} → (ℕ → List Msg) → Plan S → Type 0
+HasReceived outs p = p.carried ≡ map outs p.parents
 
 -- what was done more, in any order, stands behind what was gathered before
 pub record GathersAll (done done' gathered gathered' : List Effect) : Type 0 where
@@ -47,6 +51,7 @@ module _ {N P S : Type 0} (g : Ghosts N P S) where
     pub done : ℕ → List Effect
     pub before : Loaded g.first g.step points acts outs done
     pub planned : AllZip (IsPlanOf g.step source) acts (plans_of g l.life.cells)
+    pub carried : Each (HasReceived outs) (plans_of g l.life.cells)
     pub nodes_were : map placed acts ≡ nodes
     pub nodes_are : map placed (acts_of g l.life.cells) ≡ nodes
 

@@ -1,5 +1,5 @@
 -- What calls on a net make of what it has run and of what was collected.
-use Rattle.std.proofs.Common.{◌≡◌, ℕ, zero, suc, List, [], ◌∷◌, ◌++◌, IsPermutation, drop, flat_map, get_or, length, map, zip, refl, sym, ap, subst, ◌∙◌, append-nil, append_assoc, arith}
+use Rattle.std.proofs.Common.{◌≡◌, ℕ, zero, suc, List, [], ◌∷◌, ◌++◌, Some, IsPermutation, drop, flat_map, get_or, length, map, zip, refl, sym, ap, subst, ◌∙◌, append-nil, append_assoc, arith}
 use Rattle.std.specs.List.{AllByRecursion as Each, AllZip}
 use Rattle.std.proofs.lemmas.List.Sorted.{IsPermutation-append, IsPermutation-append_left, IsPermutation-append_right, IsPermutation-refl, IsPermutation-sym, IsPermutation-trans}
 use Rattle.kap_base.specs.Points.{PointValue}
@@ -10,6 +10,7 @@ use Rattle.kap_base.specs.declared.items.Stamp.{Stamp}
 use Rattle.node_core.specs.declared.node.Node.{Ghosts}
 use Rattle.node_core.specs.Cut.{IsStamped}
 use Rattle.node_core.specs.Meaning.{Answer, Given, Input, fold, given, nothing}
+use Rattle.edge_queue.specs.Edges.{ring_received}
 use Rattle.flow_cells.specs.declared.parts.CellParts.{CellParts}
 use Rattle.flow_cells.specs.declared.parts.InEdge.{InEdge}
 use Rattle.flow_life.specs.GraphLaws.{graph_streams, life_graph}
@@ -18,6 +19,7 @@ use Rattle.flow_life.specs.Lives.{IsLife}
 use Rattle.flow_life.specs.Loads.{plan_now}
 use Rattle.flow_life.specs.Making.{nodes_of}
 use Rattle.flow_life.specs.Nodes.{specs_of}
+use Rattle.flow_life.specs.Places.{in_of}
 use Rattle.flow_life.specs.RestLaws.{carries_streams}
 use Rattle.flow_life.specs.Steps.{AreQuiet}
 use Rattle.flow_life.specs.Streams.{CarriesStreams, Plan, plans_of}
@@ -38,7 +40,8 @@ use Rattle.flow_core.specs.Making.{AreLivesOf, IsLifeOf}
 use Rattle.flow_core.specs.Messages.{AreMarksOf, load_messages}
 use Rattle.flow_core.specs.Nets.{IsLifeIn, IsResting, NetValue, NumberedLife, plans_from, plans_in, specs_in}
 use Rattle.flow_core.specs.PortLaws.{head_same}
-use Rattle.flow_core.specs.Ran.{GathersAll, HasRun, IsNew, LifeHasRun, effects_in, together}
+use Rattle.flow_core.specs.Ran.{GathersAll, HasReceived, HasRun, IsNew, LifeHasRun, effects_in, together}
+use Rattle.flow_core.specs.ReceivedLaws.{received_at, received_now, untouched_in}
 use Rattle.flow_core.specs.Sorting.{AreSorted}
 
 none-more : {A : Type 0} (x : A) (xs : List A) → x ∷ xs ≡ [] → ⊥
@@ -96,7 +99,7 @@ module _ {N P S : Type 0} (g : Ghosts N P S) where
 
   -- ---- the first load
 
-  first-acts : (cells : List (CellParts N)) → AreFirstNodes g.spec g.state g.first (nodes_of cells) → AreFirst g.first (acts_of g cells)
+  pub first-acts : (cells : List (CellParts N)) → AreFirstNodes g.spec g.state g.first (nodes_of cells) → AreFirst g.first (acts_of g cells)
   first-acts [] h = tt
   first-acts (c ∷ cells) h = (h.0, first-acts cells h.1)
 
@@ -104,7 +107,7 @@ module _ {N P S : Type 0} (g : Ghosts N P S) where
   placed-graph [] = refl
   placed-graph (c ∷ cells) = ap (λ (ds : List (Placed P)). record { spec = g.spec c.core.node; parents = map (λ (e : InEdge). e.from) c.ins.items } ∷ ds) (placed-graph cells)
 
-  graph-of-life : (plan : PlanValue N) (l : NumberedLife N) → IsLifeOf g plan l → map placed (acts_of g l.life.cells) ≡ graph_of g.spec plan
+  pub graph-of-life : (plan : PlanValue N) (l : NumberedLife N) → IsLifeOf g plan l → map placed (acts_of g l.life.cells) ≡ graph_of g.spec plan
   graph-of-life plan l is =
       placed-graph l.life.cells
       ∙ ap (λ (ns : List N). map (λ p. record { spec = g.spec p.0; parents = p.1 }) (zip ns (parents_of l.life.cells))) is.nodes
@@ -121,6 +124,7 @@ module _ {N P S : Type 0} (g : Ghosts N P S) where
         done = λ node. [];
         before = start (acts_of g cells) (first-acts cells (subst (λ (ns : List N). AreFirstNodes g.spec g.state g.first ns) (sym is.nodes) first));
         planned = subst (λ (ps : List (Plan S)). AllZip (IsPlanOf g.step source) (acts_of g cells) ps) (sym plans) (planned g source cells);
+        carried = subst (λ (ps : List (Plan S)). Each (HasReceived (λ node. [])) ps) (sym plans) (received_now g (λ node. []) source cells (λ j k e at. untouched_in cells j k e is.empty at));
         nodes_were = nodes;
         nodes_are = nodes_loaded g source cells l'.life.cells specs plans ∙ nodes;
       }
@@ -169,6 +173,7 @@ module _ {N P S : Type 0} (g : Ghosts N P S) where
     done = h.done;
     before = h.before;
     planned = subst (λ (ps : List (Plan S)). AllZip (IsPlanOf g.step source) h.acts ps) (sym plans) h.planned;
+    carried = subst (λ (ps : List (Plan S)). Each (HasReceived h.outs) ps) (sym plans) h.carried;
     nodes_were = h.nodes_were;
     nodes_are = nodes_moved g l.life.cells l'.life.cells specs plans ∙ h.nodes_are;
   }
@@ -235,16 +240,18 @@ module _ {N P S : Type 0} (g : Ghosts N P S) where
   -- ---- at rest
 
   module _ (stamped : (p : P) (before : List Input) (x : Input) → IsStamped (g.life p) (g.number p) x.1.stamp.0 (g.answer p before x)) (folds : (p : P) (xs : List Input) → (fold (g.step p) (g.first p) xs).given ≡ given (g.answer p) xs) where
-    -- a life at rest is loaded with all points, and its cells did what the nodes give for the last ones
-    record LifeRests (old points : List PointValue) (nodes : List (Placed P)) (l : NumberedLife N) : Type 0 where
-      outs : ℕ → List Msg
-      done : ℕ → List Effect
-      loaded : Loaded g.first g.step points (acts_of g l.life.cells) outs done
-      does : IsPermutation (flat_map (λ (x : Given). x.effects) (graph_gives g.answer points nodes)) (flat_map (λ (x : Given). x.effects) (graph_gives g.answer old nodes) ++ together (effects_since l.life.cells))
+    -- a life at rest is loaded with all points, each of its edges has carried what its parent has given out, and its cells did what
+    -- the nodes give for the last ones
+    pub record LifeRests (old points : List PointValue) (nodes : List (Placed P)) (l : NumberedLife N) : Type 0 where
+      pub outs : ℕ → List Msg
+      pub done : ℕ → List Effect
+      pub loaded : Loaded g.first g.step points (acts_of g l.life.cells) outs done
+      pub received : (j k : ℕ) (e : InEdge) → in_of l.life.cells j k ≡ Some e → ring_received e.head ≡ outs e.from
+      pub does : IsPermutation (flat_map (λ (x : Given). x.effects) (graph_gives g.answer points nodes)) (flat_map (λ (x : Given). x.effects) (graph_gives g.answer old nodes) ++ together (effects_since l.life.cells))
 
-    life-rests : (old new : List PointValue) (last : Stamp) (marks : List Stamp) (nodes : List (Placed P)) (l : NumberedLife N) → last.0 ≡ length (old ++ new) → AreMarksOf new last marks
+    pub life_rests : (old new : List PointValue) (last : Stamp) (marks : List Stamp) (nodes : List (Placed P)) (l : NumberedLife N) → last.0 ≡ length (old ++ new) → AreMarksOf new last marks
         → LifeHasRun g old (load_messages new last marks) nodes l → IsLife g l.life.cells → AreQuiet l.life.cells → LifeRests old (old ++ new) nodes l
-    life-rests old new last marks nodes l long are h life quiet =
+    life_rests old new last marks nodes l long are h life quiet =
         let cells = l.life.cells in
         let points = old ++ new in
         let s : HasStreams (plans_of g cells) = graph_streams (plans_of g cells) (life_graph g cells life) in
@@ -256,6 +263,7 @@ module _ {N P S : Type 0} (g : Ghosts N P S) where
           outs = λ node. h.outs node ++ get_or s.streams node [];
           done = λ node. h.done node ++ get_or (effects_since cells) node [];
           loaded = loaded;
+          received = received_at g h.outs cells s.streams h.carried carries s.are;
           does = together-more (graph_gives g.answer points nodes) (graph_gives g.answer old nodes) (effects_since cells)
               (count-graph g.answer points nodes ∙ sym (count-graph g.answer old nodes))
               (count-since cells ∙ ap length h.nodes_are ∙ sym (count-graph g.answer old nodes))
@@ -276,7 +284,7 @@ module _ {N P S : Type 0} (g : Ghosts N P S) where
         let a = flat_map (λ (x : Given). x.effects) (graph_gives g.answer points nodes) in
         let b = flat_map (λ (x : Given). x.effects) (graph_gives g.answer old nodes) in
         let d = together (effects_since l.life.cells) in
-        let r = life-rests old new last marks nodes l long are h.0 kept.0 quiet.0 in
+        let r = life_rests old new last marks nodes l long are h.0 kept.0 quiet.0 in
         let bs = effects_by_node g.answer all old in
         let ds = effects_in lives in
         IsPermutation-trans (a ++ effects_by_node g.answer all points) ((b ++ d) ++ (bs ++ ds)) ((b ++ bs) ++ (d ++ ds))
@@ -313,7 +321,7 @@ module _ {N P S : Type 0} (g : Ghosts N P S) where
     lives-again old earlier before last was source (nodes ∷ all) (l ∷ lives) [] same long are h kept quiet plans specs = absurd (none-more (map (plan_now g source) l.life.cells) (plans_from g source lives) (sym plans))
     lives-again old earlier before last was source (nodes ∷ all) (l ∷ lives) (l' ∷ lives') same long are h kept quiet plans specs =
         let cells = l.life.cells in
-        let r = life-rests old earlier last was nodes l long are h.0 kept.0 quiet.0 in
+        let r = life_rests old earlier last was nodes l long are h.0 kept.0 quiet.0 in
         let plans_are : plans_of g l'.life.cells ≡ map (plan_now g source) cells = first-plans-now source lives lives' l l' plans in
         let specs_are : specs_of g l'.life.cells ≡ specs_of g cells = first-specs lives lives' l l' specs in (
           record {
@@ -322,6 +330,7 @@ module _ {N P S : Type 0} (g : Ghosts N P S) where
             done = r.done;
             before = subst (λ (ps : List PointValue). Loaded g.first g.step ps (acts_of g cells) r.outs r.done) (sym same) r.loaded;
             planned = subst (λ (ps : List (Plan S)). AllZip (IsPlanOf g.step source) (acts_of g cells) ps) (sym plans_are) (planned g source cells);
+            carried = subst (λ (ps : List (Plan S)). Each (HasReceived r.outs) ps) (sym plans_are) (received_now g r.outs source cells r.received);
             nodes_were = h.0.nodes_are;
             nodes_are = nodes_loaded g source cells l'.life.cells specs_are plans_are ∙ h.0.nodes_are;
           },
@@ -374,7 +383,7 @@ module _ {N P S : Type 0} (g : Ghosts N P S) where
       lives-drop old new last marks [] (l ∷ lives) long are h kept quiet = absurd h
       lives-drop old new last marks (nodes ∷ all) [] long are h kept quiet = absurd h
       lives-drop old new last marks (nodes ∷ all) (l ∷ lives) long are h kept quiet =
-          let r = life-rests old new last marks nodes l long are h.0 kept.0 quiet.0 in
+          let r = life_rests old new last marks nodes l long are h.0 kept.0 quiet.0 in
           ap (λ (ns : List ℕ). ns ∷ drops_in g lives) (loaded-drop (old ++ new) nodes l.life.cells r.outs r.done r.loaded h.0.nodes_are)
           ∙ ap (λ (ls : List (List ℕ)). map (λ (x : Given). x.drops) (graph_gives g.answer (old ++ new) nodes) ∷ ls) (lives-drop old new last marks all lives long are h.1 kept.1 quiet.1)
 

@@ -4,7 +4,7 @@ ghost use Rattle.std.specs.Prelude.{◌≡◌, ◌<◌, ◌≤◌, ◌++◌, [],
 ghost use Rattle.std.specs.List.{AllByRecursion as Each};
 ghost use Rattle.flow_cells.specs.Made.{HasNothing};
 ghost use Rattle.flow_life.specs.Loads.{IsGathered};
-ghost use Rattle.flow_life.specs.Making.{IsSaved, nodes_of, passed_of};
+ghost use Rattle.flow_life.specs.Making.{HasCarriedNothing, IsSaved, nodes_of, passed_of};
 ghost use Rattle.flow_life.specs.Steps.{AreQuiet};
 ghost use Rattle.flow_life.specs.Wired.{parents_of};
 ghost use Rattle.flow_core.specs.Making.{AreLivesOf, CanAddAll, HasFewParents, IsLifeBehind};
@@ -31,6 +31,7 @@ fn add_cells<N: Node>(
     requires can { CanAddAll (λ n. N.ports (N.spec n)) (length life.old.cells)
         (reverse nodes.items) parents.now }
     requires rest { AreQuiet life.old.cells }
+    requires carried { Each HasCarriedNothing life.old.cells }
     requires gathered { Each IsGathered life.old.cells }
     requires saved { Each (IsSaved N.Node) life.old.cells }
     requires passed { Each (λ b. b ≡ stamp.0) (passed_of life.old.cells) }
@@ -42,6 +43,7 @@ fn add_cells<N: Node>(
     ensures parents { OnOk result (parents_of life.new.cells
         ≡ parents_of life.old.cells ++ parents.now) }
     ensures rest { OnOk result (AreQuiet life.new.cells) }
+    ensures carried { OnOk result (Each HasCarriedNothing life.new.cells) }
     ensures gathered { OnOk result (Each IsGathered life.new.cells) }
     ensures saved { OnOk result (Each (IsSaved N.Node) life.new.cells) }
     ensures passed { OnOk result (Each (λ b. b ≡ stamp.0) (passed_of life.new.cells)) }

@@ -66,6 +66,7 @@ impl<N: Node> Net<N> {
     ghost use Rattle.task_run.specs.Lives.{dropped_of, effects_of};
     ghost use Rattle.task_run.specs.Plans.{AreFirstStates, PlanValue, graph_of};
     ghost use Rattle.flow_core.specs.Away.{AreBack, IsBack, with_lives};
+    ghost use Rattle.flow_core.specs.Carried.{HasCarried};
     ghost use Rattle.flow_core.specs.Drops.{drops_in};
     ghost use Rattle.flow_core.specs.Gathering.{LivesRise, NumbersEffects, effects_by_node};
     ghost use Rattle.flow_core.specs.Making.{AreLivesOf, Begins, Ends, HasFewParents};
@@ -320,7 +321,8 @@ impl<N: Node> Net<N> {
     }
 
     /// Whether nothing is pending, unsent, buffered or on an edge. While it isn't so, some step is enabled; where it is so,
-    /// each edge has carried its stream, and the messages sent and received since the load are twice the streams' length.
+    /// each edge has carried its stream, and the messages sent and received since the load are twice the streams' length. Over
+    /// all loads each edge has then carried, barriers aside, what its parent gives out for all points so far.
     pub fn at_rest(&self) -> bool
         requires { self.now.spent ≡ false }
         ensures rest { IsTrue result → Each IsResting self.now.lives }
@@ -335,6 +337,13 @@ impl<N: Node> Net<N> {
             → HasRun N.Node lives points collected self.now
             → IsPermutation (effects_by_node N.answer lives points)
             (collected ++ self.now.gathered) }
+        ensures carried { IsTrue result → (lives : List (List (Placed N.Spec)))
+            (points : List PointValue) (collected : List Effect)
+            → HasRun N.Node lives points collected self.now
+            → HasCarried N.Node lives points self.now }
+        ensures carried_none { IsTrue result → (plans : List (PlanValue N))
+            → IsNew N.Node plans self.now
+            → HasCarried N.Node (map (graph_of N.spec) plans) [] self.now }
     {
         keep_lives(&self.lives);
         at_rest(&self.lives)

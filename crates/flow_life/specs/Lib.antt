@@ -30,6 +30,7 @@ pub mod Lives
 pub mod Loose
 -- proofs, no definitions
 pub mod PlaceLaws
+pub mod BeforeLaws
 pub mod ChangeLaws
 pub mod StreamLaws
 pub mod GraphLaws

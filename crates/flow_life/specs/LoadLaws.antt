@@ -13,6 +13,7 @@ use Rattle.flow_cells.specs.declared.parts.CellParts.{CellParts}
 use Rattle.flow_cells.specs.Kept.{Keeps}
 use Rattle.flow_cells.specs.Loads.{InLoads, IsOwn, NothingWaits, OutLoads}
 use Rattle.flow_cells.specs.Looks.{IsQuiet}
+use Rattle.flow_life.specs.BeforeLaws.{befores-loaded}
 use Rattle.flow_life.specs.Places.{Both, in_of, out_of}
 use Rattle.flow_life.specs.PlaceLaws.{CellOfIn, Other, both-left, both-right, cell-of_in, each-get, each-of, zip-both}
 use Rattle.flow_life.specs.Streams.{Plan, plan_of, plans_of}
@@ -177,7 +178,7 @@ module _ {N P S : Type 0} (g : Ghosts N P S) where
   }
 
   plan-loaded : (source : List Msg) (c d : CellParts N) → LoadsFrom source c d → plan_of g d ≡ plan_now g source c
-  plan-loaded source c d b = rw (b.node, b.passed, b.source, froms-loaded c.ins.items d.ins.items b.ins) refl
+  plan-loaded source c d b = rw (b.node, b.passed, b.source, froms-loaded c.ins.items d.ins.items b.ins, befores-loaded c.ins.items d.ins.items b.ins) refl
 
   -- each node begins in the state in which it is
   pub plans-loaded : (source : List Msg) (cells cells' : List (CellParts N)) → AllZip (LoadsFrom source) cells cells' → plans_of g cells' ≡ map (plan_now g source) cells

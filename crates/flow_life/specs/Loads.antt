@@ -7,7 +7,7 @@ use Rattle.flow_cells.specs.declared.parts.InEdge.{InEdge}
 use Rattle.flow_cells.specs.declared.parts.CellParts.{CellParts}
 use Rattle.flow_cells.specs.Loads.{Begins, NothingWaits}
 use Rattle.flow_cells.specs.Made.{IsNothing}
-use Rattle.flow_life.specs.Streams.{Plan}
+use Rattle.flow_life.specs.Streams.{Plan, rings_of}
 
 -- the points and barriers of a load are for streams, which have no parents
 abbrev pub own_of : List InEdge → List Msg → List Msg
@@ -38,4 +38,5 @@ module _ {N P S : Type 0} (g : Ghosts N P S) where
     passed = c.core.passed;
     source = own_of c.ins.items source;
     parents = map (λ (e : InEdge). e.from) c.ins.items;
+    carried = rings_of c.ins.items;
   }

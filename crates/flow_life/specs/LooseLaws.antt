@@ -17,25 +17,18 @@ use Rattle.flow_cells.specs.MoveLaws.{Eases-refl, Still-refl}
 use Rattle.flow_cells.specs.Moves.{Eases, Still}
 use Rattle.flow_cells.specs.OutLaws.{zip-refl, zip-trans, zip-weaker}
 use Rattle.flow_cells.specs.Settles.{Settles}
+use Rattle.flow_life.specs.BeforeLaws.{befores-came, befores-still}
 use Rattle.flow_life.specs.ChangeLaws.{Calm, Ends, SameIn, SameOut, SettledEnds}
 use Rattle.flow_life.specs.Graphs.{IsLoaded}
 use Rattle.flow_life.specs.Lives.{IsLife}
 use Rattle.flow_life.specs.Loose.{AreSettledTo, HasInput, HasInputs, HasLooked, IsJoined, IsLoose, IsSettledAt, IsTied}
 use Rattle.flow_life.specs.Nodes.{gathered_of, specs_of}
-use Rattle.flow_life.specs.PlaceLaws.{Other, both-left, both-right, found-same, get-set_other, in-at, in-within, same_place, zip-both, zip-length}
+use Rattle.flow_life.specs.PlaceLaws.{Other, both-left, both-right, found-same, get-set_other, in-at, in-within, same_place, zip-both, zip-length, zip-map}
 use Rattle.flow_life.specs.Places.{Both, in_of, out_of}
 use Rattle.flow_life.specs.Settling.{HasEdge, SettlesIn}
 use Rattle.flow_life.specs.StepLaws.{settle-ends}
 use Rattle.flow_life.specs.Streams.{plan_of, plans_of}
 use Rattle.flow_life.specs.Wired.{Feeds, IsFed, IsUnspent, IsWired, outs_of, parents_of, sum_by_out, sum_of_all}
-
--- ---- lists
-
-zip-map : {A B : Type 0} (f : A → B) (R : A → A → Type 0) → ((x y : A) → R x y → f y ≡ f x) → (xs ys : List A) → AllZip R xs ys → map f ys ≡ map f xs
-zip-map f R h [] [] z = refl
-zip-map f R h [] (y ∷ ys) z = absurd z
-zip-map f R h (x ∷ xs) [] z = absurd z
-zip-map f R h (x ∷ xs) (y ∷ ys) z = ap (λ b. b ∷ map f ys) (h x y z.0) ∙ ap (λ bs. f x ∷ bs) (zip-map f R h xs ys z.1)
 
 -- ---- ends
 
@@ -410,7 +403,7 @@ module _ {N : Type 0} where
 module _ {N P S : Type 0} (g : Ghosts N P S) where
   -- cells that looked have the plans that they had
   pub looked_plans : (cells cells' : List (CellParts N)) → AllZip HasLooked cells cells' → plans_of g cells' ≡ plans_of g cells
-  looked_plans cells cells' z = zip-map (plan_of g) HasLooked (λ c d h. rw (h.base, h.source, froms-looked c d h) refl) cells cells' z
+  looked_plans cells cells' z = zip-map (plan_of g) HasLooked (λ c d h. rw (h.base, h.source, froms-looked c d h, befores-still c.ins.items d.ins.items h.ins) refl) cells cells' z
 
   -- and the nodes
   pub looked_specs : (cells cells' : List (CellParts N)) → AllZip HasLooked cells cells' → specs_of g cells' ≡ specs_of g cells
@@ -418,7 +411,7 @@ module _ {N P S : Type 0} (g : Ghosts N P S) where
 
   -- cells that moved have the plans that they had
   pub moved_plans : (cells cells' : List (CellParts N)) → AllZip HasMoved cells cells' → plans_of g cells' ≡ plans_of g cells
-  moved_plans cells cells' z = zip-map (plan_of g) HasMoved (λ c d h. rw (h.base, h.source, froms-moved c d h) refl) cells cells' z
+  moved_plans cells cells' z = zip-map (plan_of g) HasMoved (λ c d h. rw (h.base, h.source, froms-moved c d h, befores-came c.ins.items d.ins.items h.ins) refl) cells cells' z
 
   -- the nodes of cells that moved, and then looked, are what they were
   pub back_specs : (before old new : List (CellParts N)) → Each (Keeps g) before → Each (Keeps g) new → AllZip HasMoved before old → AllZip HasLooked old new → specs_of g new ≡ specs_of g before

@@ -1,7 +1,8 @@
 -- A cell is added to a life, edge by edge.
-use Rattle.std.specs.Prelude.{◌≡◌, ℕ, ◌+◌, ◌⊎◌, List, Some, length, map, slice_get}
+use Rattle.std.specs.Prelude.{◌≡◌, ℕ, ◌+◌, ◌⊎◌, List, [], Some, length, map, slice_get}
 use Rattle.std.specs.List.{AllByRecursion as Each}
 use Rattle.node_core.specs.declared.node.Node.{Ghosts}
+use Rattle.edge_queue.specs.Edges.{ring_received}
 use Rattle.flow_cells.specs.declared.parts.OutEdge.{OutEdge}
 use Rattle.flow_cells.specs.declared.parts.InEdge.{InEdge}
 use Rattle.flow_cells.specs.declared.parts.CellParts.{CellParts}
@@ -17,6 +18,14 @@ nodes_of cells = map (λ c. c.core.node) cells
 -- the stamp of the last barrier that each cell passed
 abbrev pub passed_of : {N : Type 0} → List (CellParts N) → List ℕ
 passed_of cells = map (λ c. c.core.passed.0) cells
+
+-- no message was received on an edge since it was made
+abbrev pub IsUntouched : InEdge → Type 0
+IsUntouched e = ring_received e.head ≡ []
+
+-- and so of each input of a cell
+abbrev pub HasCarriedNothing : {N : Type 0} → CellParts N → Type 0
+HasCarriedNothing c = Each IsUntouched c.ins.items
 
 -- an out feeds one of the inputs of the cell that comes next
 pub record FeedsNext (ins : List InEdge) (cell parent i : ℕ) (o : OutEdge) : Type 0 where

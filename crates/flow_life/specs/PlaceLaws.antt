@@ -56,6 +56,13 @@ map-set f [] i x y e h = refl
 map-set f (z ∷ xs) zero x y e h = ap (λ b. b ∷ map f xs) (h ∙ ap f (found-same (Some z) x z e refl))
 map-set f (z ∷ xs) (suc i) x y e h = ap (λ bs. f z ∷ bs) (map-set f xs i x y e h)
 
+-- what a function makes of one list is what it makes of another, value by value
+pub zip-map : {A B : Type 0} (f : A → B) (R : A → A → Type 0) → ((x y : A) → R x y → f y ≡ f x) → (xs ys : List A) → AllZip R xs ys → map f ys ≡ map f xs
+zip-map f R h [] [] z = refl
+zip-map f R h [] (y ∷ ys) z = absurd z
+zip-map f R h (x ∷ xs) [] z = absurd z
+zip-map f R h (x ∷ xs) (y ∷ ys) z = ap (λ b. b ∷ map f ys) (h x y z.0) ∙ ap (λ bs. f x ∷ bs) (zip-map f R h xs ys z.1)
+
 -- what holds of each holds of the one that is found
 pub each-get : {A : Type 0} (P : A → Type 0) (xs : List A) (i : ℕ) (x : A) → slice_get xs i ≡ Some x → Each P xs → P x
 each-get P [] i x e h = absurd cc

@@ -19,7 +19,7 @@ use Rattle.flow_cells.specs.MoveLaws.{Still-refl}
 use Rattle.flow_cells.specs.Moves.{Eases, IsStuck, PutsNone, PutsOne, Still}
 use Rattle.flow_life.specs.Places.{in_of, out_of}
 use Rattle.flow_life.specs.PlaceLaws.{Other, both-refl, both-right, each-get, found-same, get-set, get-set_other, get-within, in-at, ins-set, out-at, outs-set, same_places, zip-both, zip-length}
-use Rattle.flow_life.specs.Streams.{plans_of}
+use Rattle.flow_life.specs.Streams.{befores_of, plans_of}
 use Rattle.flow_life.specs.Wired.{IsFed, IsReady, IsUnspent, IsWired}
 use Rattle.flow_life.specs.Steps.{CanPutAt, moves_of, received_count, sent_count}
 use Rattle.flow_life.specs.Settling.{HasEdge, SameReceived, Sends, SettlesIn}
@@ -172,7 +172,7 @@ module _ {N P S : Type 0} (g : Ghosts N P S) where
           unspent = settle-unspent g t.old.child k j mid cells' s (each-set IsUnspent cells j d r.unspent spent);
           wired = wired-changes t.old.child k j i cells cells' r.wired weak (ap (λ (x : InEdge). x.from) e ∙ a.from) (ap (λ (x : InEdge). x.out) e ∙ a.out);
         };
-        plans = settle-plans g t.old.child k j mid cells' s ∙ plans-set g cells j c d at t.others.base t.others.source (ap (λ v. map (λ (x : InEdge). x.from) v.items) t.others.ins);
+        plans = settle-plans g t.old.child k j mid cells' s ∙ plans-set g cells j c d at t.others.base t.others.source (ap (λ v. map (λ (x : InEdge). x.from) v.items) t.others.ins) (ap (λ v. befores_of v.items) t.others.ins);
         count = settle-moves t.old.child k j mid cells' s ∙ moves-set cells j 1 c d at (omega (arith, b, h));
       }
 
@@ -199,7 +199,7 @@ module _ {N P S : Type 0} (g : Ghosts N P S) where
               (λ n m. outs-set Calm Calm-refl cells j c d n m at (λ here. zip-both Calm c.core.outs.items d.core.outs.items m calm))
               (parents-set cells j c d at froms) (counts-set cells j c d at (zip-length Eases c.core.outs.items d.core.outs.items t.outs));
         };
-        plans = plans-set g cells j c d at t.others.base t.others.source froms;
+        plans = plans-set g cells j c d at t.others.base t.others.source froms (ap (λ v. befores_of v.items) t.others.ins);
         count = omega (arith, count);
       }
 

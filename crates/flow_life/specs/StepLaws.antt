@@ -19,10 +19,11 @@ use Rattle.flow_cells.specs.Looks.{CanTake, knows_some}
 use Rattle.flow_cells.specs.Moves.{Eases, KnowsNone, Still, TakesAt, TakesNone, TakesOne}
 use Rattle.flow_life.specs.Places.{Both, in_of, out_of}
 use Rattle.flow_life.specs.PlaceLaws.{Other, both-refl, both-right, each-get, found-same, get-set, get-set_other, get-within, in-at, ins-set, map-set, out-at, outs-set, same_places, zip-both, zip-length}
-use Rattle.flow_life.specs.Streams.{plan_of, plans_of}
+use Rattle.flow_life.specs.Streams.{befores_of, plan_of, plans_of}
 use Rattle.flow_life.specs.Wired.{IsFed, IsReady, IsUnspent, IsWired, outs_of, parents_of}
 use Rattle.flow_life.specs.Steps.{moves_of, received_count, sent_count}
 use Rattle.flow_life.specs.Settling.{HasEdge, Receives, SameSent, SettlesIn}
+use Rattle.flow_life.specs.BeforeLaws.{befores-looked, befores-taken}
 use Rattle.flow_life.specs.ChangeLaws.{Calm, Calm-refl, Ends, SameIn, SameOut, SettledEnds, Then, settled-map, then-settled, waits_calm, wired-changes}
 use Rattle.flow_life.specs.CountLaws.{moves-set, one-more, received-set, sent-calm, sent-set}
 
@@ -106,8 +107,8 @@ module _ {N : Type 0} where
 
 module _ {N P S : Type 0} (g : Ghosts N P S) where
   -- a cell's moves leave its plan
-  pub plans-set : (cells : List (CellParts N)) (j : ℕ) (c d : CellParts N) → slice_get cells j ≡ Some c → d.base ≡ c.base → d.source ≡ c.source → map (λ (e : InEdge). e.from) d.ins.items ≡ map (λ (e : InEdge). e.from) c.ins.items → plans_of g (set cells j d) ≡ plans_of g cells
-  plans-set cells j c d at base source from = map-set (plan_of g) cells j c d at (rw (base, source, from) refl)
+  pub plans-set : (cells : List (CellParts N)) (j : ℕ) (c d : CellParts N) → slice_get cells j ≡ Some c → d.base ≡ c.base → d.source ≡ c.source → map (λ (e : InEdge). e.from) d.ins.items ≡ map (λ (e : InEdge). e.from) c.ins.items → befores_of d.ins.items ≡ befores_of c.ins.items → plans_of g (set cells j d) ≡ plans_of g cells
+  plans-set cells j c d at base source from before = map-set (plan_of g) cells j c d at (rw (base, source, from, before) refl)
 
   pub settle-plans : (j k p : ℕ) (cells cells' : List (CellParts N)) → SettlesIn j k p cells cells' → plans_of g cells' ≡ plans_of g cells
   settle-plans j k p cells cells' s =
@@ -117,7 +118,9 @@ module _ {N P S : Type 0} (g : Ghosts N P S) where
       let at_child : slice_get mid j ≡ Some s.old_child = get-set_other cells p j s.new_parent (λ e. absurd (omega (arith, lt, e))) ∙ s.at_child in
       ap (plans_of g) s.is
       ∙ plans-set mid j s.old_child s.new_child at_child t.of_child.base t.of_child.source (ap (map (λ (e : InEdge). e.from)) t.ins ∙ map-set (λ (e : InEdge). e.from) s.old_child.ins.items k t.edge t.edge' t.at_child t.head.from)
+      (ap befores_of t.ins ∙ befores-looked s.old_child.ins.items k t.edge t.edge' t.at_child t.head)
       ∙ plans-set cells p s.old_parent s.new_parent s.at_parent t.of_parent.base t.of_parent.source (ap (λ v. map (λ (e : InEdge). e.from) v.items) t.of_parent.ins)
+      (ap (λ v. befores_of v.items) t.of_parent.ins)
 
   pub settle-unspent : (j k p : ℕ) (cells cells' : List (CellParts N)) → SettlesIn j k p cells cells' → Each IsUnspent cells → Each IsUnspent cells'
   settle-unspent j k p cells cells' s all =
@@ -251,7 +254,8 @@ module _ {N P S : Type 0} (g : Ghosts N P S) where
           unspent = settle-unspent g j k p mid cells' s (each-set IsUnspent cells j d r.unspent spent);
           wired = wired-changes j k p t.old.out cells cells' r.wired weak (ap (λ (x : InEdge). x.from) e ∙ from) (ap (λ (x : InEdge). x.out) e);
         };
-        plans = settle-plans g j k p mid cells' s ∙ plans-set g cells j c d at t.base t.source (ap (map (λ (x : InEdge). x.from)) t.ins ∙ map-set (λ (x : InEdge). x.from) c.ins.items k t.old t.new t.at t.takes.from);
+        plans = settle-plans g j k p mid cells' s ∙ plans-set g cells j c d at t.base t.source (ap (map (λ (x : InEdge). x.from)) t.ins ∙ map-set (λ (x : InEdge). x.from) c.ins.items k t.old t.new t.at t.takes.from)
+            (ap befores_of t.ins ∙ befores-taken t.msg c.ins.items k t.old t.new t.at t.takes);
         count = settle-moves j k p mid cells' s ∙ moves-set cells j 1 c d at (omega (arith, a, b));
       }
 

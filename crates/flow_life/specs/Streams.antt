@@ -1,5 +1,5 @@
 -- What each node of a graph gives out in whole.
-use Rattle.std.specs.Prelude.{◌≡◌, ℕ, List, [], ◌∷◌, None, Some, length, map, slice_get, slice_index_or}
+use Rattle.std.specs.Prelude.{◌≡◌, ℕ, List, [], ◌∷◌, None, Some, length, map, slice_get, slice_index_or, take}
 use Rattle.std.specs.List.{AllZip}
 use mathlib.Core.List.{IsPrefix}
 use Rattle.kap_base.specs.declared.items.Msg.{Msg}
@@ -8,7 +8,9 @@ use Rattle.node_core.specs.declared.node.Node.{Ghosts}
 use Rattle.node_core.specs.Meaning.{Input, Move}
 use Rattle.merge_node.specs.Merge.{Entry, Lists}
 use Rattle.merge_node.specs.Buffers.{Merges, next}
-use Rattle.edge_queue.specs.Edges.{received, sent}
+use Rattle.rtrb.specs.Ring.{received as popped}
+use Rattle.edge_queue.specs.declared.ends.Head.{Head}
+use Rattle.edge_queue.specs.Edges.{received, ring_received, sent}
 use Rattle.flow_cells.specs.declared.parts.OutEdge.{OutEdge}
 use Rattle.flow_cells.specs.declared.parts.InEdge.{InEdge}
 use Rattle.flow_cells.specs.declared.parts.CellParts.{CellParts}
@@ -16,13 +18,27 @@ use Rattle.flow_cells.specs.Runs.{Run, begun, run}
 use Rattle.flow_cells.specs.Kept.{IsAt, run_of}
 use Rattle.flow_life.specs.Places.{in_of, out_of}
 
--- a node at a load: its step, its state, the last barrier that it passed, the points and barriers of the load, its parents
+-- what was received on an edge before the last load
+abbrev pub received_before : Head → List Msg
+received_before h = take (length (popped h.base.value)) (popped h.consumer)
+
+-- the same of each input, in order
+abbrev pub befores_of : List InEdge → List (List Msg)
+befores_of ins = map (λ (e : InEdge). received_before e.head) ins
+
+-- what was received on each input since it was made, in order
+abbrev pub rings_of : List InEdge → List (List Msg)
+rings_of ins = map (λ (e : InEdge). ring_received e.head) ins
+
+-- a node at a load: its step, its state, the last barrier that it passed, the points and barriers of the load, its parents, and
+-- what it had received from each of them before
 pub record Plan (S : Type 0) : Type 0 where
   pub step : S → Input → Move S
   pub start : S
   pub passed : Stamp
   pub source : List Msg
   pub parents : List ℕ
+  pub carried : List (List Msg)
 
 -- how long the stream of a node is
 abbrev pub stream_length : List (List Msg) → ℕ → ℕ
@@ -63,6 +79,7 @@ module _ {N P S : Type 0} (g : Ghosts N P S) where
     passed = c.base.value.passed;
     source = c.source.value.items;
     parents = map (λ (e : InEdge). e.from) c.ins.items;
+    carried = befores_of c.ins.items;
   }
 
   -- the nodes of all cells

@@ -56,7 +56,7 @@ impl<N: Node> Life<N> {
     ghost use Rattle.flow_life.specs.Lives.{IsLife};
     ghost use Rattle.flow_life.specs.Loads.{IsGathered, LoadsFrom, plan_now};
     ghost use Rattle.flow_life.specs.Loose.{HasLooked, IsLoose};
-    ghost use Rattle.flow_life.specs.Making.{IsSaved, nodes_of, passed_of};
+    ghost use Rattle.flow_life.specs.Making.{HasCarriedNothing, IsSaved, nodes_of, passed_of};
     ghost use Rattle.flow_life.specs.Nodes.{gathered_of, specs_of};
     ghost use Rattle.flow_life.specs.Settling.{Grows};
     ghost use Rattle.flow_life.specs.Steps.{AreQuiet, HasEmptyBuffers, IsEnabled, SomeEnabled, moves_of, one_if};
@@ -102,6 +102,8 @@ impl<N: Node> Life<N> {
         ensures rest { OnOk result (AreQuiet self.new.cells) }
         ensures gathered { OnOk result (Each IsGathered self.new.cells) }
         ensures saved { OnOk result (Each (IsSaved N.Node) self.new.cells) }
+        ensures carried { OnOk result (Each HasCarriedNothing self.old.cells
+            → Each HasCarriedNothing self.new.cells) }
         ensures unspent { OnOk result (self.new.spent ≡ false) }
         ensures spent { OnErr result (self.new.spent ≡ true) }
     {
@@ -140,6 +142,8 @@ impl<N: Node> Life<N> {
         ensures rest { OnOk result (AreQuiet self.new.cells) }
         ensures gathered { OnOk result (Each IsGathered self.new.cells) }
         ensures saved { OnOk result (Each (IsSaved N.Node) self.new.cells) }
+        ensures carried { OnOk result (Each HasCarriedNothing self.old.cells
+            → Each HasCarriedNothing self.new.cells) }
         ensures unspent { OnOk result (self.new.spent ≡ false) }
         ensures spent { OnErr result (self.new.spent ≡ true) }
     {

@@ -6,7 +6,7 @@ ghost use Rattle.flow_cells.specs.Made.{HasNothing, one_or_more};
 ghost use Rattle.flow_cells.specs.declared.parts.InEdge.{InEdge};
 ghost use Rattle.flow_life.specs.Lives.{IsLife};
 ghost use Rattle.flow_life.specs.Loads.{IsGathered};
-ghost use Rattle.flow_life.specs.Making.{AreBlank, IsSaved, nodes_of, passed_of};
+ghost use Rattle.flow_life.specs.Making.{AreBlank, HasCarriedNothing, IsSaved, IsUntouched, nodes_of, passed_of};
 ghost use Rattle.flow_life.specs.Steps.{AreQuiet};
 ghost use Rattle.flow_life.specs.Wired.{parents_of};
 
@@ -46,6 +46,10 @@ fn add_edge<N: Node>(
     ensures passed { OnOk result (passed_of cells.new ≡ passed_of cells.old) }
     ensures from { OnOk result (map (λ (e : InEdge). e.from) ins.new.items
         ≡ map (λ (e : InEdge). e.from) ins.old.items ++ parent ∷ []) }
+    ensures untouched { OnOk result (Each IsUntouched ins.old.items
+        → Each IsUntouched ins.new.items) }
+    ensures carried { OnOk result (Each HasCarriedNothing cells.old
+        → Each HasCarriedNothing cells.new) }
 {
     let child = number_of(cells.len())?;
     let input = number_of(ins.len())?;
@@ -92,6 +96,8 @@ pub(crate) fn add_cell<N: Node>(
     ensures rest { OnOk result (AreQuiet cells.new.items) }
     ensures gathered { OnOk result (Each IsGathered cells.new.items) }
     ensures saved { OnOk result (Each (IsSaved N.Node) cells.new.items) }
+    ensures carried { OnOk result (Each HasCarriedNothing cells.old.items
+        → Each HasCarriedNothing cells.new.items) }
 {
     let mut ins = Vec::new(alloc);
     'adding: for parent in parents {

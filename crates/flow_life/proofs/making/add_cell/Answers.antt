@@ -1,7 +1,7 @@
-use Rattle.std.proofs.Common.{◌≡◌, ℕ, List, [], ◌∷◌, ◌++◌, drop, get_or, length, map, take, refl, sym, ap, ◌∙◌, arith}
+use Rattle.std.proofs.Common.{◌≡◌, ℕ, List, [], ◌∷◌, ◌++◌, drop, get_or, length, map, take, refl, sym, ap, subst, ◌∙◌, arith}
 use Rattle.std.specs.List.{AllByRecursion as Each}
 use Rattle.flow_life.specs.Lives.{IsLife}
-use Rattle.flow_life.specs.Making.{AreBlank, nodes_of, passed_of}
+use Rattle.flow_life.specs.Making.{AreBlank, HasCarriedNothing, IsUntouched, nodes_of, passed_of}
 use Rattle.flow_life.specs.Wired.{parents_of}
 use Rattle.std.proofs.lemmas.List.{take_more}
 use Rattle.std.proofs.Math.Seq.{take-append_seam, take-length}
@@ -23,6 +23,8 @@ adding-init g c = record {
   nodes = refl;
   parents = refl;
   passed = refl;
+  untouched = holds-of (Each IsUntouched) [] c.new-ins.result.items c.new-ins.ensures.items tt;
+  carried = λ all. all;
 }
 
 pub adding-preserved : goal.adding-preserved
@@ -42,6 +44,8 @@ adding-preserved g c =
       nodes = ap nodes_of back ∙ e.nodes ∙ ap nodes_of old ∙ i.nodes;
       parents = ap parents_of back ∙ e.parents ∙ ap parents_of old ∙ i.parents;
       passed = ap passed_of back ∙ e.passed ∙ ap passed_of old ∙ i.passed;
+      untouched = e.untouched i.untouched;
+      carried = λ all. holds-of (Each HasCarriedNothing) new (take c.adding.cells.len (new ++ drop (length new) items)) back (e.carried (subst (Each HasCarriedNothing) (sym old) (i.carried all)));
     }
 
 life : (g : given.Over) (c : goal.In_ok-push g) → IsLife g.N.Node c.push.new.self.items
@@ -97,3 +101,9 @@ pub returns-clause-saved : goal.returns-clause-saved
 returns-clause-saved g c =
     let p = (goal.at.returns-clause-saved g c).In_ok-push in
     nothing-saved g.N.Node c.push.new.self.items (life g p).ready (nothing g p)
+
+pub returns-clause-carried : goal.returns-clause-carried
+returns-clause-carried g c = λ all.
+    let e = c.in_ok-cell.ensures in
+    holds-of (Each HasCarriedNothing) (c.adding.cells.items ++ c.in_ok-cell.cell ∷ []) c.push.new.self.items c.in_ok-push.ensures.items
+    (each-append HasCarriedNothing c.adding.cells.items (c.in_ok-cell.cell ∷ []) (c.adding.invariant.carried all) (subst (Each IsUntouched) (sym e.ins) c.adding.invariant.untouched, tt))

@@ -1,15 +1,17 @@
 use Rattle.std.proofs.Common.{◌≡◌, ℕ, ◌<◌, List, [], ◌∷◌, ◌++◌, length, map, get_or, set, Some, refl, sym, ap, subst, ◌∙◌, arith}
 use Rattle.std.specs.Prelude.{slice_get}
+use Rattle.std.specs.List.{AllByRecursion as Each}
 use Rattle.edge_queue.specs.Edges.{edge_capacity}
 use Rattle.flow_cells.specs.declared.parts.CellParts.{CellParts}
 use Rattle.flow_cells.specs.declared.parts.InEdge.{InEdge}
 use Rattle.flow_cells.specs.declared.parts.OutEdge.{OutEdge}
 use Rattle.flow_cells.specs.Made.{HasNothing}
-use Rattle.flow_cells.specs.OutLaws.{get-here}
-use Rattle.flow_life.specs.Making.{AreBlank}
+use Rattle.flow_cells.specs.OutLaws.{each-set, get-here}
+use Rattle.flow_life.specs.Making.{AreBlank, HasCarriedNothing, IsUntouched}
 use Rattle.flow_life.specs.PlaceLaws.{each-get, map-set}
 use Rattle.flow_life.specs.Wired.{IsUnspent}
 use Rattle.flow_life.specs.MakingLaws.{blank-edge, fresh-head, holds-of, unused-tail}
+use Rattle.flow_life.specs.SplitLaws.{each-append}
 use Rattle.flow_life.proofs.making.add_edge.Goals as goal
 
 pub add_out-requires-clause-unspent : goal.add_out-requires-clause-unspent
@@ -65,3 +67,18 @@ returns-clause-passed g c =
     let mover = get_or cells c.args.parent c.index-cells-parent.result in
     let at : slice_get cells c.args.parent ≡ Some mover = get-here cells c.args.parent c.index-cells-parent.result (omega arith) in
     map-set (λ (x : CellParts g.row.N.Denot). x.core.passed.0) cells c.args.parent mover c.add_out.new.self at (ap (λ v. v.0) c.in_ok-add_out.ensures.others.passed)
+
+pub returns-clause-untouched : goal.returns-clause-untouched
+returns-clause-untouched g c = λ all.
+    let ins = c.args.ins.now.items in
+    let e : InEdge = record { head = c.in_ok-tail.head; from = c.args.parent; out = c.in_ok-out.out } in
+    holds-of (Each IsUntouched) (ins ++ e ∷ []) c.push.new.self.items c.in_ok-push.ensures.items
+    (each-append IsUntouched ins (e ∷ []) all (c.in_ok-tail.ensures.empty.1, tt))
+
+pub returns-clause-carried : goal.returns-clause-carried
+returns-clause-carried g c = λ all.
+    let cells = c.args.cells.now in
+    let mover = get_or cells c.args.parent c.index-cells-parent.result in
+    let at : slice_get cells c.args.parent ≡ Some mover = get-here cells c.args.parent c.index-cells-parent.result (omega arith) in
+    each-set HasCarriedNothing cells c.args.parent c.add_out.new.self all
+    (subst (λ v. Each IsUntouched v.items) (sym c.in_ok-add_out.ensures.others.ins) (each-get HasCarriedNothing cells c.args.parent mover at all))
