@@ -36,6 +36,7 @@ module _ {N P S : Type 0} (g : Ghosts N P S) where
     pub outs : Each (IsGiven r.outs) c.outs.items
     pub effects : gathered c.gathered ++ c.effects ≡ r.effects
     pub saved : c.saved ≡ g.spell p r.saved
+    pub fits : g.fits p r.saved
     pub passed : c.passed ≡ r.passed
 
   -- the run of a core on what was handled since the load

@@ -38,6 +38,7 @@ module _ {N P S : Type 0} (g : Ghosts N P S) where
     pub outs : c.outs.items ≡ []
     pub effects : gathered c.gathered ++ c.effects ≡ []
     pub saved : c.saved ≡ g.spell (g.spec n) (g.state n)
+    pub fits : g.fits (g.spec n) (g.state n)
     pub passed : c.passed.0 ≡ stamp
 
   -- the same, where it passed no barrier

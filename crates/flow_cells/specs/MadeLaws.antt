@@ -76,6 +76,7 @@ module _ {N P S : Type 0} (g : Ghosts N P S) where
     outs = subst (Each (IsGiven [])) (sym m.outs) tt;
     effects = m.effects;
     saved = m.saved ∙ ap (λ (x : N). g.spell (g.spec x) (g.state x)) (sym m.node);
+    fits = subst (λ (x : N). g.fits (g.spec x) (g.state x)) (sym m.node) m.fits;
     passed = refl;
   })
 
@@ -109,6 +110,7 @@ module _ {N P S : Type 0} (g : Ghosts N P S) where
           outs = subst (Each (IsGiven [])) (sym outs) (each-push (IsGiven []) c.outs.items o at.outs (unused-given o unused));
           effects = cc (at.effects);
           saved = saved ∙ at.saved;
+          fits = at.fits;
           passed = passed ∙ at.passed;
         };
         ports = k.ports;

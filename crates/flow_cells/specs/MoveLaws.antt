@@ -102,6 +102,7 @@ module _ {N P S : Type 0} (g : Ghosts N P S) where
       outs = outs (run_of g base k.handled).outs k.at.outs;
       effects = cc (k.at.effects);
       saved = saved ∙ k.at.saved;
+      fits = k.at.fits;
       passed = passed ∙ k.at.passed;
     };
     ports = k.ports;

@@ -51,6 +51,7 @@ module _ {N P S : Type 0} (g : Ghosts N P S) where
       outs = subst (λ v. Each (IsGiven (run_of g base k.handled).outs) v.items) (sym outs) k.at.outs;
       effects = effects ∙ k.at.effects;
       saved = saved ∙ k.at.saved;
+      fits = k.at.fits;
       passed = passed ∙ k.at.passed;
     };
     ports = k.ports;

@@ -255,6 +255,13 @@ impl<N: Node> Cell<N> {
         self.parts.core.node.dropped()
     }
 
+    /// The spelling of its node's state at the last barrier that it passed, or at the load where it passed none since.
+    pub fn saved(&self) -> &[u8]
+        ensures { result.now ≡ self.now.core.saved }
+    {
+        self.parts.core.saved.as_slice()
+    }
+
     /// Whether a call on it failed in the middle.
     pub fn is_spent(&self) -> bool
         ensures { result ≡ self.now.spent }

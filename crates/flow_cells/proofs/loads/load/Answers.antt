@@ -28,6 +28,7 @@ returns-clause-keeps g c =
       outs = c.load_outs.ensures.given;
       effects = c.requires.gathered;
       saved = c.in_ok-save.ensures.ok ∙ ap (λ l. l ++ node.spell (node.spec cell.core.node) (node.state cell.core.node)) c.clear.ensures;
+      fits = c.in_ok-save.ensures.fits;
       passed = refl;
     }) in
     let handles : Handles node first buffer c.handle_all.new.core c.handle_all.new.buffer =

@@ -27,5 +27,6 @@ returns-clause-reacts g c = λ r at.
           ∙ ap (λ l. l ++ (node.step (node.spec core.node) (node.state core.node) (c.args.parent, c.args.item)).given.effects) at.effects
           ∙ ap (λ s. r.effects ++ (node.step (node.spec core.node) s (c.args.parent, c.args.item)).given.effects) at.state;
       saved = at.saved;
+      fits = at.fits;
       passed = at.passed;
     }

@@ -1,4 +1,4 @@
-use Rattle.std.proofs.Common.{◌∙◌, ◌++◌, [], ◌∷◌, refl, ap}
+use Rattle.std.proofs.Common.{◌∙◌, ◌++◌, [], ◌∷◌, refl, ap, subst}
 use Rattle.kap_base.specs.declared.items.Msg.TheVariants as messages
 use Rattle.flow_cells.specs.OutLaws.{given_by, waits_by}
 use Rattle.flow_cells.proofs.parts.Core.pass.Goals as goal
@@ -16,5 +16,6 @@ returns-clause-reacts g c = λ parent r at.
       outs = given_by r.outs (messages.Barrier c.args.stamp ∷ []) core.outs.items c.push_each.new.outs.items c.in_ok-push_each.ensures at.outs;
       effects = at.effects;
       saved = c.in_ok-save.ensures.ok ∙ ap (λ l. l ++ node.spell (node.spec core.node) (node.state core.node)) c.clear.ensures ∙ ap (node.spell (node.spec core.node)) at.state;
+      fits = subst (node.fits (node.spec core.node)) at.state c.in_ok-save.ensures.fits;
       passed = refl;
     }
