@@ -262,6 +262,13 @@ impl<N: Node> Cell<N> {
         self.parts.core.saved.as_slice()
     }
 
+    /// The stamp of the last barrier that it passed.
+    pub fn passed(&self) -> Stamp
+        ensures { result ≡ self.now.core.passed }
+    {
+        self.parts.core.passed
+    }
+
     /// Whether a call on it failed in the middle.
     pub fn is_spent(&self) -> bool
         ensures { result ≡ self.now.spent }

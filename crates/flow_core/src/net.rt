@@ -460,6 +460,14 @@ impl<N: Node> Net<N> {
         counts_of(alloc, &self.lives)
     }
 
+    /// Its lives, in the order in which they came.
+    pub fn lives(&self) -> &[Numbered<Life<N>>]
+        ensures lives { result.now ≡ self.now.lives }
+        ensures sound { self.now.spent ≡ false → Each IsSound self.now.lives }
+    {
+        self.lives.as_slice()
+    }
+
     /// Whether a call on it failed in the middle.
     pub fn is_spent(&self) -> bool
         ensures { result ≡ self.now.spent }

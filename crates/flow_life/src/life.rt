@@ -393,6 +393,13 @@ impl<N: Node> Life<N> {
         cell.dropped()
     }
 
+    /// Its cells, in the order of their numbers.
+    pub fn all_cells(&self) -> &[Cell<N>]
+        ensures { result.now ≡ self.now.cells }
+    {
+        self.cells.as_slice()
+    }
+
     /// Whether a call on it failed in the middle, or its cells were taken out and aren't settled.
     pub fn is_spent(&self) -> bool
         ensures { result ≡ self.now.spent }
