@@ -1,0 +1,4 @@
+pub mod ReadLaws
+pub mod LifeLaws
+pub mod SavedLaws
+pub mod SteadyLaws

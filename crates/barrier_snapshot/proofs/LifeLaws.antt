@@ -1,0 +1,167 @@
+-- States of the nodes of lives, one behind the other.
+use Rattle.std.proofs.Common.{◌≡◌, ◌≤◌, ℕ, ◌+◌, List, [], ◌∷◌, ◌++◌, length, map, None, Option, Some, Result, Err, refl, sym, ap, subst, ◌∙◌, suc, append-nil, append_assoc, arith}
+use Rattle.std.specs.List.{AllByRecursion as Each, AllZip}
+use Rattle.merge_node.specs.declared.TheConstants.{PARENT_LIMIT}
+use Rattle.flow_core.specs.Making.{HasFewParents}
+use Rattle.node_core.specs.declared.node.Node.{Ghosts}
+use Rattle.state_code.specs.declared.fault.CodeFault.{CodeFault}
+use Rattle.state_code.specs.declared.fault.CodeFault.TheVariants.{At, NoMemory}
+use Rattle.state_code.specs.Places.{Passes, Place, Refuses, TakesExactly}
+use Rattle.state_code.specs.Spelling.{Reading, read_bytes, read_then, value_then}
+use Rattle.task_run.specs.Plans.{AreNodesFrom, IsPlan, PlanValue}
+use Rattle.barrier_snapshot.specs.Captures.{in_lives}
+use Rattle.barrier_snapshot.specs.Loading.{IsSameLife, LoadsLives}
+use Rattle.barrier_snapshot.specs.Reading.{RefusedBy, read_each, read_whole}
+use Rattle.barrier_snapshot.proofs.ReadLaws.{parted, same_value}
+
+-- ---- one node
+
+-- the state that fills a byte string is read
+pub whole_reads : {S : Type 0} (read : Reading S) (bytes piece rest more : List ℕ) (s : S) → read_bytes bytes ≡ value_then piece rest → read piece ≡ value_then s more → more ≡ [] → read_whole read bytes ≡ value_then s rest
+whole_reads read bytes piece rest more s outer inner none = rw (outer, inner, none) refl
+
+-- without a byte string there is none
+pub no_string : {S : Type 0} (read : Reading S) (bytes : List ℕ) → read_bytes bytes ≡ None → read_whole read bytes ≡ None
+no_string read bytes outer = rw outer refl
+
+-- and none where the byte string begins with no state
+pub no_state : {S : Type 0} (read : Reading S) (bytes piece rest : List ℕ) → read_bytes bytes ≡ value_then piece rest → read piece ≡ None → read_whole read bytes ≡ None
+no_state read bytes piece rest outer inner = rw (outer, inner) refl
+
+-- and none where it has more than a state
+pub more_inside : {S : Type 0} (read : Reading S) (bytes piece rest more : List ℕ) (s : S) → read_bytes bytes ≡ value_then piece rest → read piece ≡ value_then s more → (more ≡ [] → ⊥) → read_whole read bytes ≡ None
+more_inside read bytes piece rest [] s outer inner some = absurd (some refl)
+more_inside read bytes piece rest (b ∷ more) s outer inner some = rw (outer, inner) refl
+
+-- ---- some nodes, and others behind them
+
+then_none : {A B C : Type 0} (r : Option (A × List ℕ)) (f : A → List ℕ → Option (B × List ℕ)) (h : A → List ℕ → Option (C × List ℕ)) → ((x : A) (rest : List ℕ) → f x rest ≡ None → h x rest ≡ None) → read_then r f ≡ None → read_then r h ≡ None
+then_none None f h both e = refl
+then_none (Some r) f h both e = both r.0 r.1 e
+
+then_found : {A B : Type 0} (r : Option (A × List ℕ)) (f : A → B) → read_then r (λ x rest. value_then (f x) rest) ≡ None → r ≡ None
+then_found None f e = refl
+then_found (Some r) f e = absurd cc
+
+module _ {P S : Type 0} (read : P → Reading S) where
+  -- states of the first nodes, and of the others behind them
+  pub each_append : (xs ys : List P) (bytes rest behind : List ℕ) (ss ts : List S) → read_each read xs bytes ≡ value_then ss rest → read_each read ys rest ≡ value_then ts behind → read_each read (xs ++ ys) bytes ≡ value_then (ss ++ ts) behind
+  each_append [] ys bytes rest behind ss ts e f =
+      let same = same_value [] ss bytes rest e in
+      ap (read_each read ys) same.1 ∙ f ∙ ap (λ (l : List S). value_then (l ++ ts) behind) same.0
+  each_append (p ∷ xs) ys bytes rest behind ss ts e f =
+      let one = parted (read_whole (read p) bytes) (λ s after. read_then (read_each read xs after) (λ others last. value_then (s ∷ others) last)) (ss, rest) e in
+      let two = parted (read_each read xs one.rest) (λ others last. value_then (one.value ∷ others) last) (ss, rest) one.second in
+      let same = same_value (one.value ∷ two.value) ss two.rest rest two.second in
+      let inner = each_append xs ys one.rest two.rest behind two.value ts two.first (ap (read_each read ys) same.1 ∙ f) in
+      rw (one.first, inner) (ap (λ (l : List S). value_then (l ++ ts) behind) same.0)
+
+  -- where the first nodes have none, all have none
+  pub each_first : (xs ys : List P) (bytes : List ℕ) → read_each read xs bytes ≡ None → read_each read (xs ++ ys) bytes ≡ None
+  each_first [] ys bytes e = absurd cc
+  each_first (p ∷ xs) ys bytes e =
+      then_none (read_whole (read p) bytes) (λ s after. read_then (read_each read xs after) (λ others last. value_then (s ∷ others) last)) (λ s after. read_then (read_each read (xs ++ ys) after) (λ others last. value_then (s ∷ others) last))
+      (λ s after none. rw (each_first xs ys after (then_found (read_each read xs after) (λ (others : List S). s ∷ others) none)) refl) e
+
+  -- and where the others have none
+  pub each_second : (xs ys : List P) (bytes rest : List ℕ) (ss : List S) → read_each read xs bytes ≡ value_then ss rest → read_each read ys rest ≡ None → read_each read (xs ++ ys) bytes ≡ None
+  each_second [] ys bytes rest ss e f = ap (read_each read ys) (same_value [] ss bytes rest e).1 ∙ f
+  each_second (p ∷ xs) ys bytes rest ss e f =
+      let one = parted (read_whole (read p) bytes) (λ s after. read_then (read_each read xs after) (λ others last. value_then (s ∷ others) last)) (ss, rest) e in
+      let two = parted (read_each read xs one.rest) (λ others last. value_then (one.value ∷ others) last) (ss, rest) one.second in
+      let same = same_value (one.value ∷ two.value) ss two.rest rest two.second in
+      let inner = each_second xs ys one.rest two.rest two.value two.first (ap (read_each read ys) same.1 ∙ f) in
+      rw (one.first, inner) refl
+
+-- ---- lives
+
+module _ {N P : Type 0} (spec : N → P) (ports life number : P → ℕ) where
+  same_nodes : (which at : ℕ) (nodes others : List N) (parents : List (List ℕ)) → map spec others ≡ map spec nodes → AreNodesFrom spec ports life number which at nodes parents → AreNodesFrom spec ports life number which at others parents
+  same_nodes which at [] [] parents e are = are
+  same_nodes which at [] (n ∷ others) parents e are = absurd cc
+  same_nodes which at (n ∷ nodes) [] parents e are = absurd cc
+  same_nodes which at (n ∷ nodes) (m ∷ others) [] e are = absurd are
+  same_nodes which at (n ∷ nodes) (m ∷ others) (ps ∷ parents) e are =
+      let head : spec m ≡ spec n = cc in
+      let tail : map spec others ≡ map spec nodes = cc in (
+        record {
+          life_is = ap life head ∙ are.0.life_is;
+          number_is = ap number head ∙ are.0.number_is;
+          earlier = are.0.earlier;
+          some_parent = are.0.some_parent;
+          ports_are = ap ports head ∙ are.0.ports_are;
+        },
+        same_nodes which (at + 1) nodes others parents tail are.1,
+      )
+
+  same_length : (nodes others : List N) → map spec others ≡ map spec nodes → length others ≡ length nodes
+  same_length [] [] e = refl
+  same_length [] (n ∷ others) e = absurd cc
+  same_length (n ∷ nodes) [] e = absurd cc
+  same_length (n ∷ nodes) (m ∷ others) e = ap suc (same_length nodes others cc)
+
+  -- a plan stays one where its nodes are what they were
+  pub same_plan : (which : ℕ) (nodes others : List N) (parents : List (List ℕ)) → map spec others ≡ map spec nodes → IsPlan spec ports life number (record { life = which; nodes = nodes; parents = parents }) → IsPlan spec ports life number (record { life = which; nodes = others; parents = parents })
+  same_plan which nodes others parents e plan =
+      record {
+        some_node = (let same = same_length nodes others e in let some = plan.some_node in omega (arith, same, some));
+        nodes = same_nodes which 0 nodes others parents e plan.nodes;
+      }
+
+module _ {N P S : Type 0} (g : Ghosts N P S) where
+  -- lives whose nodes have few parents
+  pub few_parents : (plans loaded : List (PlanValue N)) → AllZip (IsSameLife g.spec) plans loaded → Each HasFewParents plans → Each HasFewParents loaded
+  few_parents [] [] same few = tt
+  few_parents [] (l ∷ loaded) same few = absurd same
+  few_parents (p ∷ plans) [] same few = absurd same
+  few_parents (p ∷ plans) (l ∷ loaded) same few = (subst (Each (λ (ps : List ℕ). length ps ≤ PARENT_LIMIT)) (sym same.0.parents) few.0, few_parents plans loaded same.1 few.1)
+
+  -- no life
+  pub loads_none : (at : Place) (before : List (PlanValue N)) → LoadsLives g [] at at before before
+  loads_none at before = record {
+    loaded = [];
+    added = sym (append-nil before);
+    same = tt;
+    passes = record { reads = refl; offset = refl };
+  }
+
+  -- a life, and others behind it
+  pub loads_more : (plan life : PlanValue N) (plans : List (PlanValue N)) (old mid new : Place) (before after : List (PlanValue N)) → IsSameLife g.spec plan life → Passes (read_each g.read (map g.spec plan.nodes)) old mid (map g.state life.nodes) → LoadsLives g plans mid new (before ++ life ∷ []) after → LoadsLives g (plan ∷ plans) old new before after
+  loads_more plan life plans old mid new before after same passes others = record {
+    loaded = life ∷ others.loaded;
+    added = others.added ∙ append_assoc before (life ∷ []) others.loaded;
+    same = (same, others.same);
+    passes = record {
+      reads = each_append g.read (map g.spec plan.nodes) (in_lives g.spec plans) old.rest mid.rest new.rest (map g.state life.nodes) (in_lives g.state others.loaded) passes.reads others.passes.reads;
+      offset = (let one = passes.offset in let two = others.passes.offset in omega (arith, one, two));
+    };
+  }
+
+  -- the same, where the lists are said by equations
+  pub loads_then : (all : List (PlanValue N)) (plan life : PlanValue N) (plans : List (PlanValue N)) (old mid new : Place) (before between after : List (PlanValue N)) → all ≡ plan ∷ plans → between ≡ before ++ life ∷ [] → IsSameLife g.spec plan life → Passes (read_each g.read (map g.spec plan.nodes)) old mid (map g.state life.nodes) → LoadsLives g plans mid new between after → LoadsLives g all old new before after
+  loads_then all plan life plans old mid new before between after is more same passes others =
+      let here : LoadsLives g (plan ∷ plans) old new before after = loads_more plan life plans old mid new before after same passes (subst (λ (l : List (PlanValue N)). LoadsLives g plans mid new l after) more others) in
+      subst (λ (l : List (PlanValue N)). LoadsLives g l old new before after) (sym is) here
+
+  -- where the first life is refused, all are
+  pub refused_first : (all : List (PlanValue N)) (plan : PlanValue N) (plans : List (PlanValue N)) (old : Place) (fault : CodeFault) → all ≡ plan ∷ plans → RefusedBy (read_each g.read (map g.spec plan.nodes)) old fault → RefusedBy (read_each g.read (in_lives g.spec all)) old fault
+  refused_first all plan plans old (At offset) is none = ap (λ (l : List (PlanValue N)). read_each g.read (in_lives g.spec l) old.rest) is ∙ each_first g.read (map g.spec plan.nodes) (in_lives g.spec plans) old.rest none
+  refused_first all plan plans old NoMemory is none = tt
+
+  -- and where the others are
+  pub refused_second : (all : List (PlanValue N)) (plan : PlanValue N) (plans : List (PlanValue N)) (old mid : Place) (states : List S) (fault : CodeFault) → all ≡ plan ∷ plans → Passes (read_each g.read (map g.spec plan.nodes)) old mid states → RefusedBy (read_each g.read (in_lives g.spec plans)) mid fault → RefusedBy (read_each g.read (in_lives g.spec all)) old fault
+  refused_second all plan plans old mid states (At offset) is passes none = ap (λ (l : List (PlanValue N)). read_each g.read (in_lives g.spec l) old.rest) is ∙ each_second g.read (map g.spec plan.nodes) (in_lives g.spec plans) old.rest mid.rest states passes.reads none
+  refused_second all plan plans old mid states NoMemory is passes none = tt
+
+-- what is refused at a place isn't there
+pub refused_at : {A : Type 0} (read : Reading A) (from : Place) (fault : CodeFault) (offset : ℕ) → fault ≡ At offset → RefusedBy read from fault → read from.rest ≡ None
+refused_at read from fault offset e none = subst (RefusedBy read from) e none
+
+-- nor is what isn't taken
+pub taken_at : {A : Type 0} (read : Reading A) (old new : Place) (fault : CodeFault) (offset : ℕ) → fault ≡ At offset → TakesExactly read old new (Err fault) → read old.rest ≡ None
+taken_at {A} read old new fault offset e none =
+    let refuses : Refuses read old new offset = subst (λ (f : CodeFault). TakesExactly {A = A} read old new (Err f)) e none in
+    refuses.none
+
+pub same_fault : {A : Type 0} (x y : CodeFault) → ◌≡◌ {A = Result A CodeFault} (Err x) (Err y) → x ≡ y
+same_fault x y e = cc

@@ -1,0 +1,11 @@
+-- bytes that hold states, and what is read of them
+pub mod Captures
+pub mod Reading
+-- lives in the states that bytes hold
+pub mod Loading
+pub mod Restoring
+-- the states at a barrier, and what cells have saved
+pub mod Barriers
+pub mod Capturing
+pub mod Passing
+pub mod Steady

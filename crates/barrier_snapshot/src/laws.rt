@@ -1,0 +1,45 @@
+//! Laws of captures, and no code.
+
+ghost use Rattle.std.specs.Prelude.{◌≡◌, ℕ, Contains, List, map};
+ghost use Rattle.std.specs.List.{AllByRecursion as Each, AllZip};
+ghost use Rattle.kap_base.specs.declared.items.Msg.{Msg};
+ghost use Rattle.kap_base.specs.declared.items.Stamp.{Stamp};
+ghost use Rattle.flow_cells.specs.declared.parts.CellParts.{CellParts};
+ghost use Rattle.flow_core.specs.Making.{AreLivesOf};
+ghost use Rattle.flow_core.specs.Nets.{NetValue, NumberedLife, plans_from, plans_in, specs_in};
+ghost use Rattle.merge_node.specs.Merge.{barriers};
+ghost use Rattle.task_run.specs.Plans.{PlanValue};
+ghost use Rattle.barrier_snapshot.specs.Barriers.{IsCaptureAt, WasAt, cells_in};
+ghost use Rattle.barrier_snapshot.specs.Captures.{IsCapture, in_lives};
+ghost use Rattle.barrier_snapshot.specs.Restoring.{Restores};
+ghost use Rattle.barrier_snapshot.specs.Steady.{HasSteadyStream, HasSteadyStreams};
+
+use node_core::Node;
+
+/// Bytes are a capture of one list of states at most. So a net that is restored from what was
+/// captured of another one, of lives with the same nodes, has each node in the state in which it
+/// was at the barrier, whether the other net was at rest or not.
+pub fn captures_are_restored<N: Node>()
+    ensures one { (specs : List N.Spec) (states others : List N.State) (bytes : List ℕ)
+        → IsCapture N.fits N.spell specs states bytes
+        → IsCapture N.fits N.spell specs others bytes → states ≡ others }
+    ensures same { (upto : Stamp) (cells : List (CellParts N)) (bytes : List ℕ)
+        (plans : List (PlanValue N)) (net : NetValue N)
+        → in_lives N.spec plans ≡ map (λ c. N.spec c.core.node) cells
+        → IsCaptureAt N.Node upto cells bytes → Restores N.Node plans bytes net
+        → AllZip (WasAt N.Node upto) cells (map (λ c. N.state c.core.node) (cells_in net.lives)) }
+{}
+
+/// Streams whose nodes no input changes are steady: in a net of plans that is loaded, for each
+/// barrier of the load, and as long as the nodes and their load stay.
+pub fn streams_are_steady<N: Node>()
+    ensures loaded { (upto : Stamp) (msgs : List Msg) (plans : List (PlanValue N))
+        (lives after : List (NumberedLife N)) → AreLivesOf N.Node plans lives
+        → Each (HasSteadyStream N.Node) plans → Contains (barriers msgs) upto
+        → plans_in N.Node after ≡ plans_from N.Node msgs lives
+        → specs_in N.Node after ≡ specs_in N.Node lives → HasSteadyStreams N.Node upto after }
+    ensures same { (upto : Stamp) (lives after : List (NumberedLife N))
+        → plans_in N.Node after ≡ plans_in N.Node lives
+        → specs_in N.Node after ≡ specs_in N.Node lives
+        → HasSteadyStreams N.Node upto lives → HasSteadyStreams N.Node upto after }
+{}

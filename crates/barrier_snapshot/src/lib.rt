@@ -1,0 +1,16 @@
+//! The states of a net's nodes at a barrier, as bytes: what is captured of a net is restored as one
+//! that goes on from there.
+#![tactic(auto)]
+
+mod capturing;
+mod fault;
+mod laws;
+mod loading;
+mod passing;
+mod restoring;
+
+pub use capturing::capture;
+pub use fault::SnapFault;
+pub use laws::{captures_are_restored, streams_are_steady};
+pub use passing::{has_passed, has_passed_inside};
+pub use restoring::restore;
