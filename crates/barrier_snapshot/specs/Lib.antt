@@ -7,5 +7,7 @@ pub mod Restoring
 -- the states at a barrier, and what cells have saved
 pub mod Barriers
 pub mod Capturing
+-- what is done behind a barrier
+pub mod GoingOn
 pub mod Passing
 pub mod Steady

@@ -5,12 +5,14 @@ ghost use Rattle.std.specs.List.{AllByRecursion as Each, AllZip};
 ghost use Rattle.kap_base.specs.declared.items.Msg.{Msg};
 ghost use Rattle.kap_base.specs.declared.items.Stamp.{Stamp};
 ghost use Rattle.flow_cells.specs.declared.parts.CellParts.{CellParts};
+ghost use Rattle.flow_cells.specs.Kept.{Keeps};
 ghost use Rattle.flow_core.specs.Making.{AreLivesOf};
 ghost use Rattle.flow_core.specs.Nets.{NetValue, NumberedLife, plans_from, plans_in, specs_in};
 ghost use Rattle.merge_node.specs.Merge.{barriers};
 ghost use Rattle.task_run.specs.Plans.{PlanValue};
 ghost use Rattle.barrier_snapshot.specs.Barriers.{IsCaptureAt, WasAt, cells_in};
 ghost use Rattle.barrier_snapshot.specs.Captures.{IsCapture, in_lives};
+ghost use Rattle.barrier_snapshot.specs.GoingOn.{HasGoneOn};
 ghost use Rattle.barrier_snapshot.specs.Restoring.{Restores};
 ghost use Rattle.barrier_snapshot.specs.Steady.{HasSteadyStream, HasSteadyStreams};
 
@@ -42,4 +44,12 @@ pub fn streams_are_steady<N: Node>()
         → plans_in N.Node after ≡ plans_in N.Node lives
         → specs_in N.Node after ≡ specs_in N.Node lives
         → HasSteadyStreams N.Node upto lives → HasSteadyStreams N.Node upto after }
+{}
+
+/// A cell whose node was in a state at a barrier stands where the same node stands that goes on from
+/// this state, over what the cell handled behind the barrier: its state, its effects, and what it gave
+/// out.
+pub fn cells_go_on<N: Node>()
+    ensures { (upto passed : Stamp) (c : CellParts N) (s : N.State) → Keeps N.Node c
+        → (was : WasAt N.Node upto c s) → HasGoneOn N.Node upto passed c s was }
 {}
