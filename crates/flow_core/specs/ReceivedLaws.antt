@@ -12,7 +12,7 @@ use Rattle.flow_life.specs.Loads.{plan_now}
 use Rattle.flow_life.specs.Making.{HasCarriedNothing, IsUntouched}
 use Rattle.flow_life.specs.PlaceLaws.{found-same}
 use Rattle.flow_life.specs.Places.{in_of}
-use Rattle.flow_life.specs.Streams.{AreStreams, CarriesStreams, Plan, befores_of, plans_of, received_before, rings_of}
+use Rattle.flow_life.specs.Streams.{AreStreams, CarriesStreams, befores_of, plans_of, received_before, rings_of}
 use Rattle.flow_core.specs.PortLaws.{head_same}
 use Rattle.flow_core.specs.Ran.{HasReceived}
 

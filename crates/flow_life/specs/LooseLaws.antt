@@ -1,10 +1,10 @@
 -- Cells that moved by themselves are joined by their edges, and settling the edges makes a life of them.
-use Rattle.std.proofs.Common.{◌≡◌, ℕ, zero, suc, ◌+◌, ◌<◌, ◌≤◌, List, [], ◌∷◌, map, length, set, Option, Some, refl, sym, ap, subst, ◌∙◌, ⊎_elim, arith}
+use Rattle.std.proofs.Common.{◌≡◌, ℕ, zero, suc, ◌+◌, ◌<◌, ◌≤◌, List, [], ◌∷◌, map, length, set, Some, refl, sym, ap, subst, ◌∙◌, ⊎_elim, arith}
 use Rattle.std.specs.Prelude.{slice_get}
 use Rattle.std.specs.List.{AllByRecursion as Each, AllZip}
 use Rattle.node_core.specs.declared.node.Node.{Ghosts}
 use Rattle.edge_queue.specs.declared.ends.Head.{Head}
-use Rattle.edge_queue.specs.Edges.{IsSettled, edge_capacity, known}
+use Rattle.edge_queue.specs.Edges.{IsSettled, known}
 use Rattle.edge_queue.specs.Moves.{HeadLooked}
 use Rattle.edge_queue.specs.EdgeLaws.{IsEdge-same, IsSettled-looked, SameHead-trans, SameTail-capacity, TailLooked-trans}
 use Rattle.flow_cells.specs.declared.parts.OutEdge.{OutEdge}
