@@ -54,6 +54,7 @@ impl<N: NumberingNode> NetRun<N> {
     ghost use Rattle.std.specs.List.{AllByRecursion as Each};
     ghost use Rattle.task_run.specs.Lives.{dropped_of, effects_of};
     ghost use Rattle.task_run.specs.Plans.{AreFirstStates, graph_of};
+    ghost use Rattle.flow_core.specs.Carried.{HasCarried};
     ghost use Rattle.flow_core.specs.Gathering.{LivesRise};
     ghost use Rattle.flow_core.specs.Making.{HasFewParents};
 
@@ -121,5 +122,17 @@ impl<N: NumberingNode> NetRun<N> {
             counts ≡ dropped_of N.answer self.now.lives self.now.points) }
     {
         self.net.counts(alloc)
+    }
+
+    /// The net itself. It is at rest, its lives are those of the run, and over all epochs each of its edges has carried, barriers
+    /// aside, what its parent gives out for all points. It takes no memory.
+    pub fn into_net(self) -> Net<N>
+        requires { self.spent ≡ false }
+        ensures { HasCarried N.Node self.lives self.points result }
+    {
+        let NetRun { net, .. } = self;
+        // At rest a net shows what its edges have carried.
+        let _rests = net.at_rest();
+        net
     }
 }
