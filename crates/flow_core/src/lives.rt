@@ -17,7 +17,7 @@ ghost use Rattle.flow_core.specs.Nets.{EnabledIn, GrowsIn, HasCell, HasMovedTwic
 ghost use Rattle.flow_core.specs.Ran.{GathersAll, effects_in, together};
 ghost use Rattle.flow_core.specs.Running.{SameEnabledIn, ends_in, left_in};
 
-use flow_life::{Life, Step};
+use flow_life::{Life, Step, copies_of};
 use kap_base::{Msg, NoMemory};
 use node_core::{Effects, Node};
 use std::alloc::Global;
@@ -163,16 +163,16 @@ pub(crate) fn keep_lives<N: Node>(lives: &[Numbered<Life<N>>])
 fn load_life<N: Node>(
     alloc: Global,
     life: &mut Numbered<Life<N>>,
-    source: &[Msg],
+    source: Vec<Msg>,
     gathered: &mut Effects,
 ) -> Result<(), NoMemory>
     requires sound { IsSound life.old }
     requires rest { IsResting life.old }
-    requires closed { IsClosed source.now }
+    requires closed { IsClosed source.items }
     ensures number { life.new.number ≡ life.old.number }
     ensures sound { OnOk result (IsSound life.new) }
     ensures plans { OnOk result (plans_of N.Node life.new.life.cells
-        ≡ map (plan_now N.Node source.now) life.old.life.cells) }
+        ≡ map (plan_now N.Node source.items) life.old.life.cells) }
     ensures specs { OnOk result
         (specs_of N.Node life.new.life.cells ≡ specs_of N.Node life.old.life.cells) }
     ensures ends { OnOk result (ends_of life.new.life.cells ≡ ends_of life.old.life.cells) }
@@ -185,29 +185,35 @@ fn load_life<N: Node>(
     Ok(())
 }
 
-/// A load begins on lives, and what they give at once is gathered.
+/// A load begins on lives, and what they give at once is gathered. The last one gets the messages themselves, each other one
+/// copies.
 pub(crate) fn load<N: Node>(
     alloc: Global,
     lives: &mut [Numbered<Life<N>>],
-    source: &[Msg],
+    source: Vec<Msg>,
     gathered: &mut Effects,
 ) -> Result<(), NoMemory>
     requires sound { Each IsSound lives.old }
     requires rest { Each IsResting lives.old }
-    requires closed { IsClosed source.now }
+    requires closed { IsClosed source.items }
     ensures numbers { numbers_of lives.new ≡ numbers_of lives.old }
     ensures sound { OnOk result (Each IsSound lives.new) }
-    ensures plans { OnOk result (plans_in N.Node lives.new ≡ plans_from N.Node source.now lives.old) }
+    ensures plans { OnOk result (plans_in N.Node lives.new
+        ≡ plans_from N.Node source.items lives.old) }
     ensures specs { OnOk result (specs_in N.Node lives.new ≡ specs_in N.Node lives.old) }
     ensures ends { OnOk result (ends_in lives.new ≡ ends_in lives.old) }
     ensures count { OnOk result (moves_in lives.new ≡ 0) }
     ensures given { OnOk result (gathered.new ≡ gathered.old ++ effects_in lives.new) }
 {
-    if let Some((first, others)) = lives.split_first_mut() {
-        load_life(alloc, first, source, gathered)?;
-        load(alloc, others, source, gathered)?;
+    let Some((first, others)) = lives.split_first_mut() else {
+        return Ok(());
+    };
+    if others.is_empty() {
+        return load_life(alloc, first, source, gathered);
     }
-    Ok(())
+    let own = copies_of(alloc, &source)?;
+    load_life(alloc, first, own, gathered)?;
+    load(alloc, others, source, gathered)
 }
 
 /// Makes the steps that are enabled, one after the other, and counts them.

@@ -201,7 +201,7 @@ impl<N: Node> Net<N> {
         keep_lives(&self.lives);
         self.spent = true;
         let source = messages(alloc, points, upto, marks)?;
-        load(alloc, &mut self.lives, &source, &mut self.gathered)?;
+        load(alloc, &mut self.lives, source, &mut self.gathered)?;
         self.last = upto;
         self.spent = false;
         Ok(())
@@ -441,7 +441,6 @@ impl<N: Node> Net<N> {
         dropped(&self.lives, cell)
     }
 
-    /// Whether a call on it failed in the middle, or its cells are out.
     /// How many inputs each node of each life dropped and counted, life by life and node by node: at rest of all points, and of
     /// none where nothing was loaded.
     pub fn counts(&self, alloc: Global) -> Result<Counts, NoMemory>
@@ -468,7 +467,7 @@ impl<N: Node> Net<N> {
         self.lives.as_slice()
     }
 
-    /// Whether a call on it failed in the middle.
+    /// Whether a call on it failed in the middle, or its cells are out.
     pub fn is_spent(&self) -> bool
         ensures { result ≡ self.now.spent }
     {

@@ -11,7 +11,7 @@ use Rattle.flow_cells.specs.declared.parts.OutEdge.{OutEdge}
 use Rattle.flow_cells.specs.declared.parts.InEdge.{InEdge}
 use Rattle.flow_cells.specs.declared.parts.CellParts.{CellParts}
 use Rattle.flow_cells.specs.Kept.{Keeps}
-use Rattle.flow_cells.specs.Loads.{InLoads, IsOwn, NothingWaits, OutLoads}
+use Rattle.flow_cells.specs.Loads.{Begins, InLoads, IsOwn, NothingWaits, OutLoads}
 use Rattle.flow_cells.specs.Looks.{IsQuiet}
 use Rattle.flow_life.specs.BeforeLaws.{befores-loaded}
 use Rattle.flow_life.specs.Places.{Both, in_of, out_of}
@@ -21,7 +21,7 @@ use Rattle.flow_life.specs.Wired.{Feeds, IsFed, IsReady, IsUnspent, IsWired, out
 use Rattle.flow_life.specs.Steps.{AreQuiet, HasEmptyBuffers, moves_of, received_count, sent_count}
 use Rattle.flow_life.specs.RestLaws.{buffers_empty, quiet-in, quiet-out}
 use Rattle.flow_life.specs.Graphs.{IsClosedFor, IsLoaded}
-use Rattle.flow_life.specs.Loads.{CanLoad, IsGathered, LoadsFrom, own_of, plan_now}
+use Rattle.flow_life.specs.Loads.{CanLoad, HasInputs, IsGathered, LoadsFrom, SeesSame, own_of, plan_now}
 
 froms-loaded : (ins new : List InEdge) → AllZip InLoads ins new → map (λ (e : InEdge). e.from) new ≡ map (λ (e : InEdge). e.from) ins
 froms-loaded [] [] z = refl
@@ -69,6 +69,39 @@ none-own (e ∷ ins) = refl
 pub all-own : (ins : List InEdge) (source : List Msg) → length ins ≡ 0 → IsOwn ins source
 all-own [] source h = tt
 all-own (e ∷ ins) source h = absurd (omega (arith, h))
+
+own-none : (ins : List InEdge) (source : List Msg) → 0 < length ins → own_of ins source ≡ []
+own-none [] source h = absurd (omega (arith, h))
+own-none (e ∷ ins) source h = refl
+
+own-all : (ins : List InEdge) (source : List Msg) → length ins ≡ 0 → own_of ins source ≡ source
+own-all [] source h = refl
+own-all (e ∷ ins) source h = absurd (omega (arith, h))
+
+-- nothing is for cells with inputs
+pub sees-none : {N : Type 0} (source other : List Msg) (cells : List (CellParts N)) → Each HasInputs cells → Each (SeesSame source other) cells
+sees-none source other [] h = tt
+sees-none source other (c ∷ cells) h = (own-none c.ins.items source h.0 ∙ sym (own-none c.ins.items other h.0), sees-none source other cells h.1)
+
+-- in equal lists each cell sees the same
+pub sees-equal : {N : Type 0} (source other : List Msg) (cells : List (CellParts N)) → other ≡ source → Each (SeesSame source other) cells
+sees-equal source other [] e = tt
+sees-equal source other (c ∷ cells) e = (ap (own_of c.ins.items) (sym e), sees-equal source other cells e)
+
+-- a cell with inputs, which began with nothing, began as any load has it begin
+pub loads-child : {N : Type 0} (source : List Msg) (c d : CellParts N) → HasInputs c → Begins [] c d → LoadsFrom source c d
+loads-child source c d h b = subst (λ (l : List Msg). Begins l c d) (sym (own-none c.ins.items source h)) b
+
+-- and a stream's begins with all
+pub loads-stream : {N : Type 0} (source : List Msg) (c d : CellParts N) → length c.ins.items ≡ 0 → Begins source c d → LoadsFrom source c d
+loads-stream source c d h b = subst (λ (l : List Msg). Begins l c d) (sym (own-all c.ins.items source h)) b
+
+-- a load of what cells see the same is the same load
+pub loads-same : {N : Type 0} (source other : List Msg) (cells cells' : List (CellParts N)) → Each (SeesSame source other) cells → AllZip (LoadsFrom other) cells cells' → AllZip (LoadsFrom source) cells cells'
+loads-same source other [] [] s z = tt
+loads-same source other [] (d ∷ cells') s z = absurd z
+loads-same source other (c ∷ cells) [] s z = absurd z
+loads-same source other (c ∷ cells) (d ∷ cells') s z = (subst (λ (l : List Msg). Begins l c d) (sym s.0) z.0, loads-same source other cells cells' s.1 z.1)
 
 -- both ends of a list of cells, place by place
 module _ {N : Type 0} (source : List Msg) where

@@ -1,5 +1,5 @@
 -- A load begins on the cells of a life.
-use Rattle.std.specs.Prelude.{◌≡◌, false, List, [], ◌∷◌, map}
+use Rattle.std.specs.Prelude.{◌≡◌, ◌<◌, false, List, [], ◌∷◌, length, map}
 use Rattle.std.specs.List.{AllByRecursion as Each}
 use Rattle.kap_base.specs.declared.items.Msg.{Msg}
 use Rattle.node_core.specs.declared.node.Node.{Ghosts}
@@ -13,6 +13,14 @@ use Rattle.flow_life.specs.Streams.{Plan, rings_of}
 abbrev pub own_of : List InEdge → List Msg → List Msg
 own_of [] source = source
 own_of (e ∷ ins) source = []
+
+-- a cell is no stream's
+abbrev pub HasInputs : {N : Type 0} → CellParts N → Type 0
+HasInputs c = 0 < length c.ins.items
+
+-- of two lists of points and barriers a cell sees the same
+abbrev pub SeesSame : {N : Type 0} → List Msg → List Msg → CellParts N → Type 0
+SeesSame source other c = own_of c.ins.items source ≡ own_of c.ins.items other
 
 -- a load began on a cell
 abbrev pub LoadsFrom : {N : Type 0} → List Msg → CellParts N → CellParts N → Type 0

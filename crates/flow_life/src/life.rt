@@ -239,14 +239,15 @@ impl<N: Node> Life<N> {
     /// A load begins, with points and barriers, one behind each point: from now on what is sent, received and done is
     /// counted anew, each node from the state in which it is. Streams handle the points and barriers in this call.
     /// After NoMemory the life is spent.
-    pub fn load(&mut self, alloc: Global, source: &[Msg]) -> Result<(), NoMemory>
+    pub fn load(&mut self, alloc: Global, source: Vec<Msg>) -> Result<(), NoMemory>
         requires unspent { self.old.spent ≡ false }
         requires rest { AreQuiet self.old.cells }
         requires gathered { Each IsGathered self.old.cells }
-        requires closed { IsClosed source.now }
-        ensures loads { OnOk result (AllZip (LoadsFrom source.now) self.old.cells self.new.cells) }
+        requires closed { IsClosed source.items }
+        ensures loads { OnOk result (AllZip (LoadsFrom source.items)
+            self.old.cells self.new.cells) }
         ensures plans { OnOk result (plans_of N.Node self.new.cells
-            ≡ map (plan_now N.Node source.now) self.old.cells) }
+            ≡ map (plan_now N.Node source.items) self.old.cells) }
         ensures specs { OnOk result (specs_of N.Node self.new.cells
             ≡ specs_of N.Node self.old.cells) }
         ensures prefixes { OnOk result (CarriesPrefixes N.Node self.new.cells) }

@@ -35,7 +35,7 @@ fn load_life<N: Node>(alloc: Global, life: &mut Life<N>, points: &[Point]) -> Re
         return Err(NoMemory);
     }
     let source = messages(alloc, points, Stamp(3), &[Stamp(2)])?;
-    life.load(alloc, &source)?;
+    life.load(alloc, source)?;
     Ok(())
 }
 

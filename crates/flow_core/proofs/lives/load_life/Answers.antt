@@ -4,7 +4,7 @@ use Rattle.flow_core.specs.DoneLaws.{load_gathers}
 use Rattle.flow_core.proofs.lives.load_life.Goals as goal
 
 pub returns-clause-given : goal.returns-clause-given
-returns-clause-given g c = load_gathers c.args.source.now _ _ _ _ _ c.in_ok-load.ensures.loads c.in_ok-gather.ensures.gathers c.in_ok-gather.ensures.given
+returns-clause-given g c = load_gathers c.args.source.items _ _ _ _ _ c.in_ok-load.ensures.loads c.in_ok-gather.ensures.gathers c.in_ok-gather.ensures.given
 
 pub returns-clause-ends : goal.returns-clause-ends
 returns-clause-ends g c = ends-gathered _ _ c.in_ok-gather.ensures.gathers ∙ c.in_ok-load.ensures.ends

@@ -11,25 +11,25 @@ pub returns-clause-life : goal.returns-clause-life
 returns-clause-life g c =
     let e = c.in_ok-load_cells.ensures in
     record {
-      ready = ready-loaded g.N.Node c.args.source.now c.args.cells.now c.load_cells.new.cells c.requires.life.ready c.requires.rest e.keeps e.loads;
-      loaded = loaded-closed g.N.Node c.args.source.now c.args.cells.now c.load_cells.new.cells c.requires.closed e.loads;
+      ready = ready-loaded g.N.Node c.args.source.items c.args.cells.now c.load_cells.new.cells c.requires.life.ready c.requires.rest e.keeps e.loads;
+      loaded = loaded-closed g.N.Node c.args.source.items c.args.cells.now c.load_cells.new.cells c.requires.closed e.loads;
     }
 
 pub returns-clause-plans : goal.returns-clause-plans
-returns-clause-plans g c = plans-loaded g.N.Node c.args.source.now c.args.cells.now c.load_cells.new.cells c.in_ok-load_cells.ensures.loads
+returns-clause-plans g c = plans-loaded g.N.Node c.args.source.items c.args.cells.now c.load_cells.new.cells c.in_ok-load_cells.ensures.loads
 
 pub returns-clause-specs : goal.returns-clause-specs
 returns-clause-specs g c =
     let e = c.in_ok-load_cells.ensures in
-    specs-loaded g.N.Node c.args.source.now c.args.cells.now c.load_cells.new.cells e.keeps e.loads
+    specs-loaded g.N.Node c.args.source.items c.args.cells.now c.load_cells.new.cells e.keeps e.loads
 
 pub returns-clause-prefixes : goal.returns-clause-prefixes
 returns-clause-prefixes g c =
     let e = c.in_ok-load_cells.ensures in
-    carries_prefixes g.N.Node c.load_cells.new.cells (ready-loaded g.N.Node c.args.source.now c.args.cells.now c.load_cells.new.cells c.requires.life.ready c.requires.rest e.keeps e.loads)
+    carries_prefixes g.N.Node c.load_cells.new.cells (ready-loaded g.N.Node c.args.source.items c.args.cells.now c.load_cells.new.cells c.requires.life.ready c.requires.rest e.keeps e.loads)
 
 pub returns-clause-count : goal.returns-clause-count
-returns-clause-count g c = moves-loaded c.args.source.now c.args.cells.now c.load_cells.new.cells c.in_ok-load_cells.ensures.loads
+returns-clause-count g c = moves-loaded c.args.source.items c.args.cells.now c.load_cells.new.cells c.in_ok-load_cells.ensures.loads
 
 pub returns-clause-ends : goal.returns-clause-ends
-returns-clause-ends g c = ends-loaded c.args.source.now c.args.cells.now c.load_cells.new.cells c.in_ok-load_cells.ensures.loads
+returns-clause-ends g c = ends-loaded c.args.source.items c.args.cells.now c.load_cells.new.cells c.in_ok-load_cells.ensures.loads

@@ -24,7 +24,7 @@ loads : (g : given.Over) (c : goal.In_ok-load g) → Loads g c
 loads g c =
     let same = c.deref_mut.ensures.value ∙ ap (λ v. v.lives) c.self.view_is in
     record {
-      plans = c.in_ok-load.ensures.plans ∙ ap (λ (l : List Msg). plans_from g.N.Node l c.deref_mut.result.now) (c.deref-2.ensures.value ∙ c.in_ok-source.ensures) ∙ ap (plans_from g.N.Node (load_messages c.args.points.now c.args.upto c.args.marks.now)) same;
+      plans = c.in_ok-load.ensures.plans ∙ ap (λ (l : List Msg). plans_from g.N.Node l c.deref_mut.result.now) c.in_ok-source.ensures ∙ ap (plans_from g.N.Node (load_messages c.args.points.now c.args.upto c.args.marks.now)) same;
       specs = c.in_ok-load.ensures.specs ∙ ap (specs_in g.N.Node) same;
       here = with_items_is c.self.inside.lives c.load.new.lives (search (rules, places));
       given = c.in_ok-load.ensures.given ∙ ap (λ v. v.gathered ++ effects_in c.load.new.lives) c.self.view_is;
@@ -32,7 +32,7 @@ loads g c =
 
 pub load-requires-clause-closed : goal.load-requires-clause-closed
 load-requires-clause-closed g c =
-    subst (λ (l : List Msg). IsClosed l) (sym (c.deref-2.ensures.value ∙ c.in_ok-source.ensures)) (messages_closed c.args.points.now c.args.upto c.args.marks.now)
+    subst (λ (l : List Msg). IsClosed l) (sym c.in_ok-source.ensures) (messages_closed c.args.points.now c.args.upto c.args.marks.now)
 
 pub returns-clause-first : goal.returns-clause-first
 returns-clause-first g c = λ plans is long are.

@@ -1,5 +1,5 @@
 use Rattle.std.proofs.Common.{◌≡◌, take}
-use Rattle.flow_life.proofs.loads.copies.Given as goal
+use Rattle.flow_life.proofs.loads.copies_of.Given as goal
 
 -- what was passed is copied
 abbrev pub invariant-copying : goal.invariant-copying

@@ -1,0 +1,20 @@
+use Rattle.std.proofs.Common.{List, ◌∷◌, subst, sym}
+use Rattle.std.specs.List.{AllByRecursion as Each, AllZip}
+use Rattle.std.proofs.lemmas.Result.{on_ok_weaker}
+use Rattle.kap_base.specs.declared.items.Msg.{Msg}
+use Rattle.flow_cells.specs.declared.parts.CellParts.{CellParts}
+use Rattle.flow_life.specs.Loads.{LoadsFrom, SeesSame}
+use Rattle.flow_life.specs.LoadLaws.{loads-same}
+use Rattle.flow_life.proofs.loads.+load_cells.Goals as goal
+
+pub returns-clause-loads : goal.returns-clause-loads
+returns-clause-loads g t c =
+    let source = c.args.source.items in
+    let first = c.in-Some.first.now in
+    let others = c.in-Some.others.now in
+    let new = c.load_cells-2.new.cells in
+    let rest = c.in_ok-rest.rest.items in
+    let sees : Each (SeesSame source rest) others = subst (λ (l : List Msg). Each (SeesSame l rest) others) c.deref.ensures.value c.in_ok-rest.ensures in
+    on_ok_weaker c.load_cells-2.result (λ z.
+    let both : AllZip (LoadsFrom source) (first ∷ others) (c.load_stream.new.cell ∷ new) = (c.in_ok-load_stream.ensures.loads, loads-same source rest others new sees z) in
+    subst (λ (cells : List (CellParts g.row.N.Denot)). AllZip (LoadsFrom source) cells (c.load_stream.new.cell ∷ new)) (sym c.in-Some.ensures.cases.0) both) c.load_cells-2.ensures.loads
