@@ -1,5 +1,14 @@
 pub mod ReadLaws
+pub mod FaultLaws
 pub mod LifeLaws
 pub mod SavedLaws
 pub mod SteadyLaws
 pub mod GoingOnLaws
+pub mod PlaceLaws
+pub mod CutLaws
+pub mod MergeCutLaws
+pub mod MessageCutLaws
+pub mod StreamCutLaws
+pub mod ReachedLaws
+pub mod ResumeLaws
+pub mod ResumeNetLaws

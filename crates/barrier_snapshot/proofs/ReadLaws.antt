@@ -97,7 +97,8 @@ module _ {P S : Type 0} {fits : P → S → Type 0} {spell : P → S → List �
     pub count : length (spellings fits spell specs states) ≡ length specs
     pub parts : bytes ≡ flat_map spell_bytes (spellings fits spell specs states) ++ rest
 
-  each_only : (specs : List P) (bytes : List ℕ) (states : List S) (rest : List ℕ) → IsBytes bytes → read_each read specs bytes ≡ value_then states rest → StandEach specs bytes states rest
+  -- only such byte strings are read
+  pub each_only : (specs : List P) (bytes : List ℕ) (states : List S) (rest : List ℕ) → IsBytes bytes → read_each read specs bytes ≡ value_then states rest → StandEach specs bytes states rest
   each_only [] bytes states rest all e =
       let same = same_value [] states bytes rest e in
       let here : StandEach [] bytes [] bytes = record { are = tt; short = tt; count = refl; parts = refl } in

@@ -1,19 +1,22 @@
 //! Laws of captures, and no code.
 
-ghost use Rattle.std.specs.Prelude.{◌≡◌, ℕ, Contains, List, map};
+ghost use Rattle.std.specs.Prelude.{◌≡◌, ℕ, ◌+◌, ◌≤◌, ◌∷◌, ◌++◌, Contains, List, length, map};
 ghost use Rattle.std.specs.List.{AllByRecursion as Each, AllZip};
+ghost use Rattle.kap_base.specs.Points.{PointValue};
 ghost use Rattle.kap_base.specs.declared.items.Msg.{Msg};
 ghost use Rattle.kap_base.specs.declared.items.Stamp.{Stamp};
 ghost use Rattle.flow_cells.specs.declared.parts.CellParts.{CellParts};
 ghost use Rattle.flow_cells.specs.Kept.{Keeps};
 ghost use Rattle.flow_core.specs.Making.{AreLivesOf};
-ghost use Rattle.flow_core.specs.Nets.{NetValue, NumberedLife, plans_from, plans_in, specs_in};
+ghost use Rattle.flow_core.specs.Messages.{AreMarksOf, load_messages};
+ghost use Rattle.flow_core.specs.Nets.{IsResting, NetValue, NumberedLife, plans_from, plans_in, specs_in};
 ghost use Rattle.merge_node.specs.Merge.{barriers};
 ghost use Rattle.task_run.specs.Plans.{PlanValue};
 ghost use Rattle.barrier_snapshot.specs.Barriers.{IsCaptureAt, WasAt, cells_in};
 ghost use Rattle.barrier_snapshot.specs.Captures.{IsCapture, in_lives};
 ghost use Rattle.barrier_snapshot.specs.GoingOn.{HasGoneOn};
 ghost use Rattle.barrier_snapshot.specs.Restoring.{Restores};
+ghost use Rattle.barrier_snapshot.specs.Resuming.{AreLoadedWith, DidTheRestOf, IsPlannedAgain, StandsBehind};
 ghost use Rattle.barrier_snapshot.specs.Steady.{HasSteadyStream, HasSteadyStreams};
 
 use node_core::Node;
@@ -52,4 +55,30 @@ pub fn streams_are_steady<N: Node>()
 pub fn cells_go_on<N: Node>()
     ensures { (upto passed : Stamp) (c : CellParts N) (s : N.State) → Keeps N.Node c
         → (was : WasAt N.Node upto c s) → HasGoneOn N.Node upto passed c s was }
+{}
+
+/// A net is loaded with points, and stopped where each cell with parents stands at an inner barrier.
+/// From what is captured of it there another net is restored, of lives with the same nodes, and loaded
+/// with the points behind the barrier. When both are at rest, each node of the other net is in the
+/// state of the first one's, each of its cells has the effects of the first one's with stamps above the
+/// barrier, and each of its edges carried what the first one's carried behind it.
+pub fn nets_go_on<N: Node>()
+    ensures { (stamp : ℕ) (points behind : List PointValue) (upto last : Stamp)
+        (marks later : List Stamp) (plans : List (PlanValue N)) (bytes : List ℕ)
+        (before stopped rested : List (NumberedLife N)) (restored : NetValue N)
+        (resumed : List (NumberedLife N))
+        → stamp + length (points ++ behind) ≤ last.0 → upto.0 + length behind ≡ last.0
+        → AreMarksOf (points ++ behind) last (marks ++ upto ∷ later)
+        → Each (StandsBehind N.Node stamp) before
+        → AreLoadedWith N.Node (load_messages (points ++ behind) last (marks ++ upto ∷ later))
+        before stopped
+        → AreLoadedWith N.Node (load_messages (points ++ behind) last (marks ++ upto ∷ later))
+        before rested
+        → Each IsResting rested
+        → IsCaptureAt N.Node upto (cells_in stopped) bytes
+        → AllZip (IsPlannedAgain N.Node) stopped plans
+        → Restores N.Node plans bytes restored
+        → AreLoadedWith N.Node (load_messages behind last later) restored.lives resumed
+        → Each IsResting resumed
+        → DidTheRestOf N.Node upto rested resumed }
 {}

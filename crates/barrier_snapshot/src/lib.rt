@@ -11,6 +11,6 @@ mod restoring;
 
 pub use capturing::capture;
 pub use fault::SnapFault;
-pub use laws::{captures_are_restored, cells_go_on, streams_are_steady};
+pub use laws::{captures_are_restored, cells_go_on, nets_go_on, streams_are_steady};
 pub use passing::{has_passed, has_passed_inside};
 pub use restoring::restore;
