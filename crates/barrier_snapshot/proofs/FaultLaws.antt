@@ -3,12 +3,18 @@ use Rattle.std.proofs.Common.{◌≡◌, ◌^◌, ℕ, ◌+◌, ◌<◌, ◌≤�
 use Rattle.std.specs.Int.{w32}
 use Rattle.std.specs.List.{flat_map}
 use Rattle.state_code.specs.Laws.{u32_spelled}
-use Rattle.state_code.specs.Places.{Passes, Place}
+use Rattle.state_code.specs.Places.{Passes, Place, start_of}
 use Rattle.state_code.specs.Spelling.{IsBytes, IsSpelling, Reading, read_number, spell_bytes, spell_number, value_then}
 use Rattle.barrier_snapshot.specs.Captures.{spellings}
 use Rattle.barrier_snapshot.specs.Faults.{BeginWithState, FaultsAt, LeaveBehind, bytes_behind, no_number, no_state}
 use Rattle.barrier_snapshot.specs.Reading.{StopsAt, read_each, read_whole}
 use Rattle.barrier_snapshot.proofs.ReadLaws.{each_only, same_value, whole_again}
+
+-- what is passed and what is left is all
+pub from_start : (bytes : List ℕ) (old new : Place) → old ≡ start_of bytes → new.offset + length new.rest ≡ old.offset + length old.rest → new.offset + length new.rest ≡ length bytes
+from_start bytes old new is sum =
+    let all : old.offset + length old.rest ≡ 0 + length bytes = ap (λ (p : Place). p.offset + length p.rest) is in
+    omega (arith, sum, all)
 
 module _ {P S : Type 0} {fits : P → S → Type 0} {spell : P → S → List ℕ} {read : P → Reading S} (spelled : (p : P) → IsSpelling (fits p) (spell p) (read p)) where
   -- ---- the number

@@ -1,4 +1,4 @@
-use Rattle.std.proofs.Common.{◌≡◌, ◌≤◌, ◌^◌, ◌+◌, ◌∙◌, ◌++◌, [], ap, arith, length, subst, sym}
+use Rattle.std.proofs.Common.{◌≡◌, ◌≤◌, ◌^◌, ◌∙◌, ◌++◌, [], ap, arith, length, subst, sym}
 use Rattle.std.proofs.lemmas.Bool.{eq-eqb, eqb-true, false≢true}
 use Rattle.std.proofs.lemmas.List.{nil_from_length}
 use Rattle.std.specs.List.{AllZip}
@@ -8,7 +8,7 @@ use Rattle.state_code.specs.Spelling.{read_number, value_then}
 use Rattle.barrier_snapshot.specs.Captures.{in_lives}
 use Rattle.barrier_snapshot.specs.Loading.{AreInStates, IsSameLife}
 use Rattle.barrier_snapshot.specs.Reading.{StopsBy, read_each}
-use Rattle.barrier_snapshot.proofs.FaultLaws.{other_number, too_many_states, with_more, without_number, without_state}
+use Rattle.barrier_snapshot.proofs.FaultLaws.{from_start, other_number, too_many_states, with_more, without_number, without_state}
 use Rattle.barrier_snapshot.proofs.LifeLaws.{same_fault, same_offset, stops_at, stops_none, taken_at}
 use Rattle.barrier_snapshot.proofs.ReadLaws.{capture_only, more_behind, no_number, no_states, other_count, too_many}
 use Rattle.barrier_snapshot.proofs.loading.load_capture.Goals as goal
@@ -71,7 +71,7 @@ returns-in-Err-load_lives-clause-named g c = λ offset e.
     let specs = in_lives node.spec c.args.plans.items in
     let own = c.in-Some.ensures ∙ ap (λ l. length (in_lives node.spec l)) c.deref.ensures.value in
     let number = ap (λ p. read_number w32 p.rest) (sym c.new-from.ensures) ∙ c.in-Ok.ensures.reads in
-    let from = c.in-Ok.ensures.offset ∙ ap (λ p. p.offset + length p.rest) c.new-from.ensures in
+    let from = from_start c.args.bytes.now c.new-from.result c.u32.new.self c.new-from.ensures c.in-Ok.ensures.offset in
     let stops = subst (λ l. StopsBy node.read (in_lives node.spec l) c.u32.new.self c.in-Err-load_lives.fault) c.into_iter.ensures.rest c.in-Err-load_lives.ensures.err in
     without_state g.met.N.Node.spelled specs c.args.bytes.now c.u32.new.self c.in-Ok.number offset (λ i. omega (arith, c.type_inv.bytes i)) number from (sym c.if-own-number.false ∙ own)
     (stops_at node.read specs c.u32.new.self c.in-Err-load_lives.fault offset (same_fault c.in-Err-load_lives.fault _ e) stops)
@@ -83,7 +83,7 @@ returns-then-not-is_done-clause-named g c = λ offset e.
     let more = c.load_lives.new.from.rest in
     let own = c.in-Some.ensures ∙ ap (λ l. length (in_lives node.spec l)) c.deref.ensures.value in
     let number = ap (λ p. read_number w32 p.rest) (sym c.new-from.ensures) ∙ c.in-Ok.ensures.reads in
-    let from = c.in-Ok.ensures.offset ∙ ap (λ p. p.offset + length p.rest) c.new-from.ensures in
+    let from = from_start c.args.bytes.now c.new-from.result c.u32.new.self c.new-from.ensures c.in-Ok.ensures.offset in
     let passes = subst (λ l. Passes (read_each node.read (in_lives node.spec l)) c.u32.new.self c.load_lives.new.from (in_lives node.state loads.loaded)) c.into_iter.ensures.rest loads.passes in
     with_more g.met.N.Node.spelled (in_lives node.spec c.args.plans.items) c.args.bytes.now c.u32.new.self c.load_lives.new.from (in_lives node.state loads.loaded) c.in-Ok.number offset (λ i. omega (arith, c.type_inv.bytes i)) number from (sym c.if-own-number.false ∙ own) passes
     (sym (same_offset _ offset e) ∙ c.offset.ensures) (λ none. false≢true (c.if-not-is_done.ensures ∙ eq-eqb (length more) 0 (ap (λ l. length l) none)))
