@@ -12,3 +12,6 @@ pub mod StreamCutLaws
 pub mod ReachedLaws
 pub mod ResumeLaws
 pub mod ResumeNetLaws
+pub mod AlikeLaws
+pub mod StandLaws
+pub mod StandNetLaws

@@ -32,7 +32,8 @@ marks-later : (above below : ℕ) (marks later : List Stamp) (u : Stamp) → Are
 marks-later above below [] later u are = are.2
 marks-later above below (m ∷ marks) later u are = marks-later m.0 below marks later u are.2
 
-none-below : (above : ℕ) (marks : List Stamp) (u : Stamp) → AreMarks above u.0 marks → NoneIs u marks
+-- marks below a stamp don't have it
+pub none-below : (above : ℕ) (marks : List Stamp) (u : Stamp) → AreMarks above u.0 marks → NoneIs u marks
 none-below above [] u are = tt
 none-below above (m ∷ marks) u are = ((λ e. let lt : m.0 < u.0 = are.1 in absurd (omega (arith, lt, e))), none-below m.0 marks u are.2)
 

@@ -65,3 +65,16 @@ zip_split R (x ∷ xs) xs' (y ∷ ys) ys' e z = let tail : length xs ≡ length 
 pub map_twice : {A B C : Type 0} (f : B → C) (h : A → B) (xs : List A) → map f (map h xs) ≡ map (λ x. f (h x)) xs
 map_twice f h [] = refl
 map_twice f h (x ∷ xs) = ap (λ l. f (h x) ∷ l) (map_twice f h xs)
+
+-- what stands beside a value of the second list
+pub record Before {A B : Type 0} (R : A → B → Type 0) (xs : List A) (i : ℕ) (y : B) : Type 0 where
+  pub other : A
+  pub at : slice_get xs i ≡ Some other
+  pub fact : R other y
+
+pub before_it : {A B : Type 0} (R : A → B → Type 0) (xs : List A) (ys : List B) (i : ℕ) (y : B) → slice_get ys i ≡ Some y → AllZip R xs ys → Before R xs i y
+before_it R [] [] i y e z = absurd cc
+before_it R [] (w ∷ ys) i y e z = absurd z
+before_it R (x ∷ xs) [] i y e z = absurd z
+before_it R (x ∷ xs) (w ∷ ys) zero y e z = record { other = x; at = refl; fact = subst (R x) (found-same (Some w) w y refl e) z.0 }
+before_it R (x ∷ xs) (w ∷ ys) (suc i) y e z = let r = before_it R xs ys i y e z.1 in record { other = r.other; at = r.at; fact = r.fact }

@@ -40,22 +40,23 @@ use Rattle.barrier_snapshot.proofs.PlaceLaws.{made_of, map_twice, other_at, same
 use Rattle.barrier_snapshot.proofs.ReachedLaws.{IsPlanReached, plan_high, plan_low, plan_on, plan_rises}
 use Rattle.barrier_snapshot.proofs.StreamCutLaws.{NodeCut, Resumes, nodes_cut, streams_cut}
 
-own-source : (ins : List InEdge) (source : List Msg) → map (λ (e : InEdge). e.from) ins ≡ [] → own_of ins source ≡ source
+-- a stream takes the messages of a load
+pub own-source : (ins : List InEdge) (source : List Msg) → map (λ (e : InEdge). e.from) ins ≡ [] → own_of ins source ≡ source
 own-source [] source e = refl
 own-source (i ∷ ins) source e = absurd cc
 
 -- entries that end with the barrier
-record Stood (upto : Stamp) (before : List Entry) : Type 0 where
-  front : List Entry
-  parent : ℕ
-  is : before ≡ front ++ (parent, messages.Barrier upto) ∷ []
+pub record Stood (upto : Stamp) (before : List Entry) : Type 0 where
+  pub front : List Entry
+  pub parent : ℕ
+  pub is : before ≡ front ++ (parent, messages.Barrier upto) ∷ []
 
-stood : (upto passed : Stamp) (before : List Entry) → EndsAt upto passed before → (passed ≡ upto → ⊥) → Stood upto before
+pub stood : (upto passed : Stamp) (before : List Entry) → EndsAt upto passed before → (passed ≡ upto → ⊥) → Stood upto before
 stood upto passed before (before_it e) other = absurd (other e)
 stood upto passed before (with_it front parent) other = record { front = front; parent = parent; is = refl }
 
 -- a list is cut where the barrier stands
-one-cut : (upto : Stamp) (marks cs : List Stamp) (before after more xs ys ms : List Entry) → NoneIs upto marks → NoneIs upto cs → Stood upto before → (before ++ after) ++ more ≡ ms → ms ≡ xs ++ ys
+pub one-cut : (upto : Stamp) (marks cs : List Stamp) (before after more xs ys ms : List Entry) → NoneIs upto marks → NoneIs upto cs → Stood upto before → (before ++ after) ++ more ≡ ms → ms ≡ xs ++ ys
     → entry_barriers xs ≡ marks ++ upto ∷ [] → EntriesClosed xs → entry_barriers ys ≡ cs → before ≡ xs
 one-cut upto marks cs before after more xs ys ms none_before none_behind s first second bars closed rest =
     let e : EndWith upto marks xs = end_with upto marks xs bars closed in
@@ -108,7 +109,7 @@ module _ {N P S : Type 0} (g : Ghosts N P S) where
         let state : w.other ≡ g.state d.core.node = found-same (slice_get (map (λ x. g.state x.core.node) restored) j) w.other (g.state d.core.node) w.at (get-map (λ x. g.state x.core.node) restored j d at') in
         let was : WasAt g upto m.x (g.state d.core.node) = subst (WasAt g upto m.x) state w.fact in
         let keeps : Keeps g m.x = each-get (Keeps g) stopped j m.x m.at stopped_life.ready.keeps in
-        let handled : keeps.handled ≡ was.before ++ was.after = merges-same keeps.merged keeps.stuck was.merged keeps.stuck in
+        let handled : keeps.handled ≡ was.before ++ was.after = merges-same {ns = was.before ++ was.after} keeps.merged keeps.stuck was.merged keeps.stuck in
         let here : AreStreams (plans_of g stopped) ss = subst (λ (ps : List (Plan S)). AreStreams ps ss) (rested_plans ∙ sym stopped_plans) are in
         let prefix : IsPrefix keeps.handled t.merged =
         subst (λ (p : Plan S). (u : IsStream ss p stream) → IsPrefix keeps.handled u.merged) m.is (λ u. handled_prefix g stopped stopped_life.ready ss here j m.x keeps m.at stream u) t in

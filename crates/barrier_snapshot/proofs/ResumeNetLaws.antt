@@ -58,10 +58,11 @@ module _ {N P S : Type 0} (g : Ghosts N P S) where
   -- ---- the cells of lives
 
   -- as many cells in each life
-  abbrev AsMany : NumberedLife N → NumberedLife N → Type 0
+  abbrev pub AsMany : NumberedLife N → NumberedLife N → Type 0
   AsMany l m = length l.life.cells ≡ length m.life.cells
 
-  were-at : (R : CellParts N → S → Type 0) (lives others : List (NumberedLife N)) → AllZip AsMany lives others → AllZip R (cells_in lives) (map (λ c. g.state c.core.node) (cells_in others))
+  -- what relates all cells of lives to states relates those of each life
+  pub were-at : (R : CellParts N → S → Type 0) (lives others : List (NumberedLife N)) → AllZip AsMany lives others → AllZip R (cells_in lives) (map (λ c. g.state c.core.node) (cells_in others))
       → AllZip (λ l m. AllZip R l.life.cells (map (λ c. g.state c.core.node) m.life.cells)) lives others
   were-at R [] [] many z = tt
   were-at R [] (m ∷ others) many z = absurd many
@@ -77,7 +78,7 @@ module _ {N P S : Type 0} (g : Ghosts N P S) where
       count-map [] = refl
       count-map (c ∷ cells) = ap suc (count-map cells)
 
-  planned-specs : (lives : List (NumberedLife N)) (plans : List (PlanValue N)) → AllZip (IsPlannedAgain g) lives plans → in_lives g.spec plans ≡ map (λ c. g.spec c.core.node) (cells_in lives)
+  pub planned-specs : (lives : List (NumberedLife N)) (plans : List (PlanValue N)) → AllZip (IsPlannedAgain g) lives plans → in_lives g.spec plans ≡ map (λ c. g.spec c.core.node) (cells_in lives)
   planned-specs [] [] z = refl
   planned-specs [] (p ∷ plans) z = absurd z
   planned-specs (l ∷ lives) [] z = absurd z
@@ -86,15 +87,15 @@ module _ {N P S : Type 0} (g : Ghosts N P S) where
       ∙ ap (λ (ps : List P). specs_of g l.life.cells ++ ps) (planned-specs lives plans z.1)
       ∙ sym (map-append (λ (c : CellParts N). g.spec c.core.node) l.life.cells (cells_in lives))
 
-  specs-nodes : (cells : List (CellParts N)) → specs_of g cells ≡ map g.spec (nodes_of cells)
+  pub specs-nodes : (cells : List (CellParts N)) → specs_of g cells ≡ map g.spec (nodes_of cells)
   specs-nodes cells = sym (map_twice g.spec (λ c. c.core.node) cells)
 
   -- ---- a life that was made again
 
   -- its nodes are those of the life that was stopped, with the same parents
-  record Again (l m : NumberedLife N) : Type 0 where
-    specs : specs_of g m.life.cells ≡ specs_of g l.life.cells
-    parents : parents_of m.life.cells ≡ parents_of l.life.cells
+  pub record Again (l m : NumberedLife N) : Type 0 where
+    pub specs : specs_of g m.life.cells ≡ specs_of g l.life.cells
+    pub parents : parents_of m.life.cells ≡ parents_of l.life.cells
 
   again : (l : NumberedLife N) (plan loaded : PlanValue N) (m : NumberedLife N) → IsPlannedAgain g l plan → IsSameLife g.spec plan loaded → IsLifeOf g loaded m → Again l m
   again l plan loaded m planned same made = record {
@@ -102,7 +103,8 @@ module _ {N P S : Type 0} (g : Ghosts N P S) where
     parents = made.parents ∙ same.parents ∙ planned.parents;
   }
 
-  all-again : (lives : List (NumberedLife N)) (plans loaded : List (PlanValue N)) (others : List (NumberedLife N)) → AllZip (IsPlannedAgain g) lives plans → AllZip (IsSameLife g.spec) plans loaded → AllZip (IsLifeOf g) loaded others → AllZip Again lives others
+  -- and so of each of them
+  pub all-again : (lives : List (NumberedLife N)) (plans loaded : List (PlanValue N)) (others : List (NumberedLife N)) → AllZip (IsPlannedAgain g) lives plans → AllZip (IsSameLife g.spec) plans loaded → AllZip (IsLifeOf g) loaded others → AllZip Again lives others
   all-again lives plans loaded others planned same made =
       zip_of Again lives others
       (zip_lengths (IsPlannedAgain g) lives plans planned ∙ zip_lengths (IsSameLife g.spec) plans loaded same ∙ zip_lengths (IsLifeOf g) loaded others made)
@@ -112,7 +114,7 @@ module _ {N P S : Type 0} (g : Ghosts N P S) where
       let o = beside (IsLifeOf g) loaded others i q.other q.at made in
       again l p.other q.other m p.fact q.fact (subst (IsLifeOf g q.other) (found-same (slice_get others i) o.other m o.at at') o.fact))
 
-  many-again : (lives others : List (NumberedLife N)) → AllZip Again lives others → AllZip AsMany lives others
+  pub many-again : (lives others : List (NumberedLife N)) → AllZip Again lives others → AllZip AsMany lives others
   many-again [] [] z = tt
   many-again [] (m ∷ others) z = absurd z
   many-again (l ∷ lives) [] z = absurd z
@@ -173,10 +175,12 @@ module _ {N P S : Type 0} (g : Ghosts N P S) where
         let did = cells_did_the_rest g folds stamped upto marks cs msgs back source c.none_before c.none_behind stamp above x y l.life.cells z m.life.cells stand.reached stand.passed s.is life_s (sym b.is) life still
         specs parents was (sym r.is) life_m still_m in
         record {
-          specs = same_at (λ o. specs_of g o.life.cells) (λ o. specs_of g o.life.cells) resumed restored.lives go.specs i m r.x at' r.at ∙ specs
-              ∙ sym (same_at (λ o. specs_of g o.life.cells) (λ o. specs_of g o.life.cells) rested before rest.specs i l b.x at b.at);
-          parents = did.parents;
-          states = did.states;
+          alike = record {
+            specs = same_at (λ o. specs_of g o.life.cells) (λ o. specs_of g o.life.cells) resumed restored.lives go.specs i m r.x at' r.at ∙ specs
+                ∙ sym (same_at (λ o. specs_of g o.life.cells) (λ o. specs_of g o.life.cells) rested before rest.specs i l b.x at b.at);
+            parents = did.parents;
+            states = did.states;
+          };
           effects = did.effects;
           edges = did.edges;
         }) in

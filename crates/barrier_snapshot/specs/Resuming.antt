@@ -54,12 +54,23 @@ module _ {N P S : Type 0} (g : Ghosts N P S) where
     pub specs : map g.spec plan.nodes ≡ specs_of g l.life.cells
     pub parents : plan.parents ≡ parents_of l.life.cells
 
-  -- A life is where another one is, and did what that one did behind a barrier: each node is in the same state, each cell has the
-  -- effects of the other one's with stamps above the barrier, and each edge carried what the other one's carried behind it.
+  -- the nodes of a life are those of another one, with the same parents and in the same states
+  pub record IsAlike (l other : NumberedLife N) : Type 0 where
+    pub specs : specs_of g other.life.cells ≡ specs_of g l.life.cells
+    pub parents : parents_of other.life.cells ≡ parents_of l.life.cells
+    pub states : map (λ c. g.state c.core.node) other.life.cells ≡ map (λ c. g.state c.core.node) l.life.cells
+
+  -- A life did what another one did since the load: it is where that one is, each cell has the effects of the other one's, and each
+  -- edge carried what the other one's carried.
+  pub record DidTheSame (l other : NumberedLife N) : Type 0 where
+    pub alike : IsAlike l other
+    pub effects : effects_since other.life.cells ≡ effects_since l.life.cells
+    pub edges : (j k : ℕ) (e f : InEdge) → in_of l.life.cells j k ≡ Some e → in_of other.life.cells j k ≡ Some f → received f.head ≡ received e.head
+
+  -- A life did what another one did behind a barrier: it is where that one is, each cell has the effects of the other one's with
+  -- stamps above the barrier, and each edge carried what the other one's carried behind it.
   pub record DidTheRest (upto : Stamp) (whole rest : NumberedLife N) : Type 0 where
-    pub specs : specs_of g rest.life.cells ≡ specs_of g whole.life.cells
-    pub parents : parents_of rest.life.cells ≡ parents_of whole.life.cells
-    pub states : map (λ c. g.state c.core.node) rest.life.cells ≡ map (λ c. g.state c.core.node) whole.life.cells
+    pub alike : IsAlike whole rest
     pub effects : effects_since rest.life.cells ≡ map (effects_behind upto) (effects_since whole.life.cells)
     pub edges : (j k : ℕ) (e f : InEdge) → in_of whole.life.cells j k ≡ Some e → in_of rest.life.cells j k ≡ Some f → received f.head ≡ msgs_behind upto (received e.head)
 
