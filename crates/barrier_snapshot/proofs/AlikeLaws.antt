@@ -3,7 +3,6 @@ use Rattle.std.proofs.Common.{◌≡◌, ℕ, suc, List, [], ◌∷◌, ◌++◌
 use Rattle.std.specs.Prelude.{slice_get}
 use Rattle.std.specs.List.{AllByRecursion as Each, AllZip}
 use Rattle.kap_base.specs.declared.items.Msg.{Msg}
-use Rattle.kap_base.specs.declared.items.Stamp.{Stamp}
 use Rattle.node_core.specs.declared.node.Node.{Ghosts}
 use Rattle.node_core.specs.Meaning.{Input, Move}
 use Rattle.merge_node.specs.Buffers.{Merges}

@@ -1,5 +1,5 @@
 -- Lists cut at a barrier.
-use Rattle.std.proofs.Common.{◌≡◌, ℕ, suc, ◌+◌, ◌*◌, ◌<◌, ◌≤◌, Bool, true, false, cond, filter, ltb, List, [], ◌∷◌, ◌++◌, refl, sym, ap, subst, ◌∙◌, ⊎_elim, append-nil, append_assoc, arith}
+use Rattle.std.proofs.Common.{◌≡◌, ℕ, suc, ◌+◌, ◌*◌, ◌<◌, ◌≤◌, Bool, true, false, filter, ltb, List, [], ◌∷◌, ◌++◌, refl, sym, ap, subst, ◌∙◌, ⊎_elim, append_assoc, arith}
 use Rattle.std.specs.Prelude.{⊤}
 use Rattle.std.specs.List.{AllByRecursion as Each}
 use Rattle.std.proofs.lemmas.Bool.{cases_order, le-ltb, lt-ltb}
@@ -206,9 +206,9 @@ behind-all : (k : ℕ) (u : Stamp) (ys : List Entry) → PrecedesAll (k, message
 behind-all k u [] h = tt
 behind-all k u ((p, messages.Item x) ∷ ys) h = (
   ⊎_elim
-  (λ (lt : 2 * u.0 + 1 < 2 * x.stamp.0). omega (arith, lt))
-  (λ (same : (2 * u.0 + 1 ≡ 2 * x.stamp.0) × (k ≤ p)). let e : 2 * u.0 + 1 ≡ 2 * x.stamp.0 = same.0 in omega (arith, e))
-  h.0,
+      (λ (lt : 2 * u.0 + 1 < 2 * x.stamp.0). omega (arith, lt))
+      (λ (same : (2 * u.0 + 1 ≡ 2 * x.stamp.0) × (k ≤ p)). let e : 2 * u.0 + 1 ≡ 2 * x.stamp.0 = same.0 in omega (arith, e))
+      h.0,
   behind-all k u ys h.1,
 )
 behind-all k u ((p, messages.Barrier b) ∷ ys) h = behind-all k u ys h.1

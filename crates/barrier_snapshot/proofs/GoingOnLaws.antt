@@ -1,5 +1,5 @@
 -- A cell has done behind a barrier what its node does from the state there on.
-use Rattle.std.proofs.Common.{◌≡◌, List, ◌++◌, refl, sym, ap, subst, ◌∙◌}
+use Rattle.std.proofs.Common.{◌≡◌, List, ◌++◌, sym, ap, subst, ◌∙◌}
 use Rattle.std.specs.List.{AllByRecursion as Each}
 use Rattle.kap_base.specs.declared.items.Effect.{Effect}
 use Rattle.kap_base.specs.declared.items.Msg.{Msg}

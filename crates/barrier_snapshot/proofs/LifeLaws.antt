@@ -1,5 +1,5 @@
 -- States of the nodes of lives, one behind the other.
-use Rattle.std.proofs.Common.{◌≡◌, ◌≤◌, ℕ, ◌+◌, List, [], ◌∷◌, ◌++◌, length, map, None, Option, Some, Result, Err, refl, sym, ap, subst, ◌∙◌, suc, append-nil, append_assoc, arith}
+use Rattle.std.proofs.Common.{◌≡◌, ◌≤◌, ℕ, ◌+◌, List, [], ◌∷◌, ◌++◌, length, map, None, Result, Err, refl, sym, ap, subst, ◌∙◌, suc, append-nil, append_assoc, arith}
 use Rattle.std.specs.List.{AllByRecursion as Each, AllZip}
 use Rattle.merge_node.specs.declared.TheConstants.{PARENT_LIMIT}
 use Rattle.flow_core.specs.Making.{HasFewParents}

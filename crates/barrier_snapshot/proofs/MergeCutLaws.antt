@@ -1,10 +1,10 @@
 -- Lists that are cut at a barrier are merged up to it, and then behind it.
-use Rattle.std.proofs.Common.{◌≡◌, ℕ, ◌<◌, suc, List, [], ◌∷◌, ◌++◌, length, None, refl, sym, ap, subst, ◌∙◌, arith}
-use Rattle.std.specs.List.{AllByRecursion as Each, AllZip}
+use Rattle.std.proofs.Common.{◌≡◌, ◌<◌, suc, List, [], ◌∷◌, ◌++◌, length, None, refl, sym, ap, subst, ◌∙◌, arith}
+use Rattle.std.specs.List.{AllZip}
 use Rattle.kap_base.specs.declared.items.Msg.{Msg}
 use Rattle.kap_base.specs.declared.items.Msg.TheVariants as messages
 use Rattle.kap_base.specs.declared.items.Stamp.{Stamp}
-use Rattle.merge_node.specs.Merge.{AreClosed, AreMergeable, AreOrdered, Entry, IsClosed, Lists, RisesFrom, barriers, merge}
+use Rattle.merge_node.specs.Merge.{AreClosed, AreMergeable, AreOrdered, Entry, IsClosed, Lists, RisesFrom, barriers}
 use Rattle.merge_node.specs.Buffers.{Merges, next}
 use Rattle.merge_node.specs.BufferLaws.{Ahead, join, merges-ahead, merges-join, merges-length, merges-same}
 use Rattle.merge_node.specs.CallLaws.{AreEmpty, merges-whole}

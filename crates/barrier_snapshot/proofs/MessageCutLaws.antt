@@ -61,8 +61,8 @@ marked-cut above below (p ∷ points) behind [] later u e are =
     let next : above + 1 + length points ≡ u.0 = omega (arith, e) in
     ap (λ (l : List Msg). messages.Item (stamped_point (above + 1) p) ∷ l)
     (elim (u.0 == above + 1) as (λ b. (u.0 == above + 1) ≡ b
-        → cond b (messages.Barrier u ∷ []) [] ++ marked (stamped_from (above + 1 + 1) (points ++ behind)) (cond b later (u ∷ later))
-        ≡ (marked (stamped_from (above + 1 + 1) points) [] ++ messages.Barrier u ∷ []) ++ marked (stamped_from (u.0 + 1) behind) later) [
+    → cond b (messages.Barrier u ∷ []) [] ++ marked (stamped_from (above + 1 + 1) (points ++ behind)) (cond b later (u ∷ later))
+    ≡ (marked (stamped_from (above + 1 + 1) points) [] ++ messages.Barrier u ∷ []) ++ marked (stamped_from (u.0 + 1) behind) later) [
       | true ↦ λ t. let same : u.0 ≡ above + 1 = grind (arith, nat_tests) in here-cut above points behind later u same e
       | false ↦ λ t. let up : above + 1 < u.0 = grind (arith, nat_tests) in marked-cut (above + 1) below points behind [] later u next (up, are.1, are.2)
     ] refl)
@@ -71,8 +71,8 @@ marked-cut above below (p ∷ points) behind (m ∷ marks) later u e are =
     let next : above + 1 + length points ≡ u.0 = omega (arith, e) in
     ap (λ (l : List Msg). messages.Item (stamped_point (above + 1) p) ∷ l)
     (elim (m.0 == above + 1) as (λ b. (m.0 == above + 1) ≡ b
-        → cond b (messages.Barrier m ∷ []) [] ++ marked (stamped_from (above + 1 + 1) (points ++ behind)) (cond b (marks ++ u ∷ later) (m ∷ marks ++ u ∷ later))
-        ≡ ((cond b (messages.Barrier m ∷ []) [] ++ marked (stamped_from (above + 1 + 1) points) (cond b marks (m ∷ marks))) ++ messages.Barrier u ∷ []) ++ marked (stamped_from (u.0 + 1) behind) later) [
+    → cond b (messages.Barrier m ∷ []) [] ++ marked (stamped_from (above + 1 + 1) (points ++ behind)) (cond b (marks ++ u ∷ later) (m ∷ marks ++ u ∷ later))
+    ≡ ((cond b (messages.Barrier m ∷ []) [] ++ marked (stamped_from (above + 1 + 1) points) (cond b marks (m ∷ marks))) ++ messages.Barrier u ∷ []) ++ marked (stamped_from (u.0 + 1) behind) later) [
       | true ↦ λ t.
           let same : m.0 ≡ above + 1 = grind (arith, nat_tests) in
           ap (λ (l : List Msg). messages.Barrier m ∷ l) (marked-cut (above + 1) below points behind marks later u next (subst (λ (s : ℕ). AreMarks s below (marks ++ u ∷ later)) same are.2))

@@ -1,9 +1,8 @@
 -- Behind which barrier lives stand, and that inputs make the states of their nodes.
-use Rattle.std.proofs.Common.{◌≡◌, ℕ, ◌<◌, ◌≤◌, List, [], ◌∷◌, ◌++◌, length, map, Some, refl, sym, ap, subst, ◌∙◌, append-nil, arith}
+use Rattle.std.proofs.Common.{◌≡◌, ℕ, ◌<◌, List, [], ◌∷◌, ◌++◌, map, Some, refl, sym, ap, subst, ◌∙◌, append-nil, arith}
 use Rattle.std.specs.Prelude.{slice_get}
-use Rattle.std.specs.List.{AllByRecursion as Each, AllZip}
+use Rattle.std.specs.List.{AllByRecursion as Each}
 use mathlib.Core.List.{IsPrefix}
-use Rattle.kap_base.specs.Points.{PointValue}
 use Rattle.kap_base.specs.declared.items.Msg.{Msg}
 use Rattle.kap_base.specs.declared.items.Msg.TheVariants as messages
 use Rattle.kap_base.specs.declared.items.Stamp.{Stamp}
@@ -12,7 +11,7 @@ use Rattle.node_core.specs.Cut.{IsStamped}
 use Rattle.node_core.specs.Meaning.{Input, Move, fold, given}
 use Rattle.merge_node.specs.BufferLaws.{merges-same}
 use Rattle.merge_node.specs.ClosingLaws.{EntriesClosed, IsClosedBy, entry_barriers}
-use Rattle.merge_node.specs.Merge.{Entry, RisesFrom, barriers}
+use Rattle.merge_node.specs.Merge.{Entry, RisesFrom}
 use Rattle.flow_cells.specs.declared.parts.CellParts.{CellParts}
 use Rattle.flow_cells.specs.HandledLaws.{run-append}
 use Rattle.flow_cells.specs.Kept.{Keeps}

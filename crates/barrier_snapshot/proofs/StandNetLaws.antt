@@ -1,5 +1,5 @@
 -- Where the lives of nets stand that are made, loaded, captured and restored.
-use Rattle.std.proofs.Common.{◌≡◌, ℕ, ◌-◌, ◌<◌, ◌≤◌, List, [], ◌∷◌, ◌++◌, length, map, Some, refl, sym, ap, subst, ◌∙◌, arith}
+use Rattle.std.proofs.Common.{◌≡◌, ℕ, ◌-◌, ◌<◌, ◌≤◌, List, [], ◌∷◌, ◌++◌, length, map, Some, sym, ap, subst, ◌∙◌}
 use Rattle.std.specs.Prelude.{slice_get}
 use Rattle.std.specs.List.{AllByRecursion as Each, AllZip}
 use Rattle.kap_base.specs.Points.{PointValue}
@@ -141,12 +141,12 @@ module _ {N P S : Type 0} (g : Ghosts N P S) where
           let made = before_it (IsLifeOf g) restores.loaded restored.lives i m at restores.lives in
           record {
             reached = each-of (HasReached g) m.life.cells (λ j d here.
-            let c = other_at (λ x. g.spec x.core.node) (λ x. g.spec x.core.node) m.life.cells s.life.cells h.same.specs j d here in
-            let was = h.was j c.x d c.at here in
-            let r : IsReached g (g.spec c.x.core.node) (g.state d.core.node) =
-            subst (IsReached g (g.spec c.x.core.node)) (sym was.is)
-            (run_reached g msgs b.x.life.cells s.life.cells stand.reached (same_at specs specs stopped before go.specs i s b.x l.at b.at) (sym b.is) j c.x was.before c.at) in
-            subst (λ (p : P). IsReached g p (g.state d.core.node)) c.is r);
+                let c = other_at (λ x. g.spec x.core.node) (λ x. g.spec x.core.node) m.life.cells s.life.cells h.same.specs j d here in
+                let was = h.was j c.x d c.at here in
+                let r : IsReached g (g.spec c.x.core.node) (g.state d.core.node) =
+                subst (IsReached g (g.spec c.x.core.node)) (sym was.is)
+                (run_reached g msgs b.x.life.cells s.life.cells stand.reached (same_at specs specs stopped before go.specs i s b.x l.at b.at) (sym b.is) j c.x was.before c.at) in
+                subst (λ (p : P). IsReached g p (g.state d.core.node)) c.is r);
             passed = made.fact.passed;
           })
         where
