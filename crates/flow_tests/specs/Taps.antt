@@ -5,6 +5,7 @@ use Rattle.kap_base.specs.declared.items.Body.{Body}
 use Rattle.kap_base.specs.declared.items.Body.TheVariants as bodies
 use Rattle.kap_base.specs.declared.items.What.TheVariants.{Line}
 use Rattle.node_core.specs.declared.said.Said.{Said}
+use Rattle.node_core.specs.declared.numbered.Seat.{Seat}
 use Rattle.node_core.specs.Groups.{is_point}
 use Rattle.node_core.specs.Meaning.{silence}
 
@@ -21,3 +22,7 @@ tap_says quiet port (bodies.Batch b) = silence
 pub tap_silent : (quiet : Bool) (port : ℕ) (body : Body) → is_point body ≡ false → tap_says quiet port body ≡ silence
 tap_silent quiet port (bodies.Point p) e = absurd cc
 tap_silent quiet port (bodies.Batch b) e = refl
+
+-- a kind, the life in which it runs, and its number
+abbrev pub seat_of : {K : Type 0} → ℕ → ℕ → K → Seat K
+seat_of life node kind = record { life = life; node = node; kind = kind }

@@ -1,16 +1,19 @@
 //! Nets whose states are captured, and that go on in another net.
 
-ghost use Rattle.std.specs.Prelude.{◌≡◌, ◌≤◌, false, IfOk, OnOk, length};
-ghost use Rattle.std.specs.List.{AllByRecursion as Each};
+ghost use Rattle.std.specs.Prelude.{◌≡◌, ◌+◌, ◌<◌, ◌≤◌, false, IfOk, IfSome, OnOk, length};
+ghost use Rattle.std.specs.List.{AllZip};
+ghost use Rattle.task_run.specs.Plans.{AreFirstNodes};
 ghost use Rattle.flow_core.specs.Making.{HasFewParents};
-ghost use Rattle.flow_core.specs.Nets.{IsResting};
-ghost use Rattle.barrier_snapshot.specs.Steady.{HasSteadyStream, HasSteadyStreams};
+ghost use Rattle.barrier_snapshot.specs.Loading.{IsSameLife};
+ghost use Rattle.barrier_snapshot.specs.Resuming.{DidTheRestOf, DidTheSame};
+ghost use Rattle.barrier_snapshot.specs.Steady.{HasSteadyStream};
 
 use crate::nets::{put, take};
 use crate::points::{check_effects, three_points};
-use crate::taps::plan_of_taps;
+use crate::taps::{TapNode, plan_of_taps};
 use barrier_snapshot::{
-    SnapFault, capture, has_passed, has_passed_inside, restore, streams_are_steady,
+    capture, has_passed, has_passed_inside, keep_lives, lives_are_planned, lives_stand, nets_go_on,
+    restore, streams_are_steady,
 };
 use flow_core::{Net, loads_have_messages};
 use flow_life::Step;
@@ -21,11 +24,11 @@ use std::process::Abort;
 use std::test::Fail;
 use task_run::LifePlan;
 
-/// What the tap that isn't quiet does, in both loads.
+/// What the tap that isn't quiet does with the three points.
 const ALL: &str = "1 3.1.0 10 plain\n1 3.1.1 10 plain\n2 3.1.0 20 plain\n2 3.1.1 20 plain\n\
      3 3.1.0 30 plain\n3 3.1.1 30 plain\n";
 
-/// And behind the inner barrier.
+/// And behind the second one.
 const BEHIND: &str = "3 3.1.0 30 plain\n3 3.1.1 30 plain\n";
 
 /// The steps by which the second cell passes the inner barrier.
@@ -46,43 +49,106 @@ fn steps_to_barrier() -> [Step; 12] {
     ]
 }
 
-/// A net of a plan that is loaded with three points and a barrier behind the second, and makes steps.
-fn stopped<N: Node>(
+/// A net of a plan that is loaded with points and a barrier behind some of them, makes these steps, and
+/// then runs to rest; and one of the same plan that goes on from what was captured of it at the barrier,
+/// and runs to rest too. `None` comes where the steps don't end at the barrier.
+fn goes_on<N: Node>(
     alloc: Global,
     plan: LifePlan<N>,
+    again: LifePlan<N>,
     points: &[Point],
+    cut: usize,
     mark: Stamp,
     last: Stamp,
     steps: &[Step],
-) -> Result<Net<N>, NoMemory>
+) -> Result<Option<(Net<N>, Net<N>)>, NoMemory>
     requires few { HasFewParents plan }
+    requires few_again { HasFewParents again }
+    requires first { AreFirstNodes N.spec N.state N.first plan.nodes }
+    requires same { IsSameLife N.spec plan again }
     requires steady { HasSteadyStream N.Node plan }
-    requires three { length points.now ≡ 3 }
-    requires mark { mark.0 ≡ 2 }
-    requires last { last.0 ≡ 3 }
-    ensures unspent { IfOk result (λ net. net.spent ≡ false) }
-    ensures steady { IfOk result (λ net. HasSteadyStreams N.Node mark net.lives) }
+    requires some { 0 < cut }
+    requires inside { cut < length points.now }
+    requires mark { mark.0 ≡ cut }
+    requires last { last.0 ≡ length points.now }
+    ensures unspent { IfOk result (λ both. IfSome both (λ nets. nets.0.spent ≡ false)) }
+    ensures unspent_too { IfOk result (λ both. IfSome both (λ nets. nets.1.spent ≡ false)) }
+    ensures behind { IfOk result (λ both. IfSome both (λ nets.
+        DidTheRestOf N.Node mark nets.0.lives nets.1.lives)) }
 {
-    streams_are_steady::<N>();
     loads_have_messages();
+    streams_are_steady::<N>();
+    lives_are_planned::<N>();
+    lives_stand::<N>();
+    nets_go_on::<N>();
     let plans = Vec::from_array(alloc, [plan])?;
     let mut net = Net::make(alloc, plans, 1)?;
     net.load(alloc, points, last, &[mark])?;
     net.play(alloc, steps)?;
-    Ok(net)
+    keep_lives(&net);
+    if !has_passed_inside(&net, mark) {
+        return Ok(None);
+    }
+    let bytes = capture(alloc, &net, mark)?;
+    net.run(alloc)?;
+    keep_lives(&net);
+    let plans = Vec::from_array(alloc, [again])?;
+    let Ok(mut other) = restore(alloc, plans, 1, bytes.as_slice()) else {
+        return Ok(None);
+    };
+    let (_, behind) = points.split_at(cut);
+    other.load(alloc, behind, last, &[])?;
+    other.run(alloc)?;
+    keep_lives(&other);
+    Ok(Some((net, other)))
 }
 
-/// What is captured of a net at a barrier that each cell but the stream's has passed.
-fn capture_inside<N: Node>(
-    rt: &(impl AllocGlobal + Abort),
-    net: &Net<N>,
-    upto: Stamp,
-) -> Result<Bytes, Fail>
-    requires unspent { net.now.spent ≡ false }
-    requires steady { HasSteadyStreams N.Node upto net.now.lives }
+/// A net of a plan that runs two loads of points; and one of the same plan that goes on from what was
+/// captured of it between them, and runs the second load.
+fn goes_on_at_rest<N: Node>(
+    alloc: Global,
+    plan: LifePlan<N>,
+    again: LifePlan<N>,
+    points: &[Point],
+    last: Stamp,
+    more: &[Point],
+    end: Stamp,
+) -> Result<Option<(Net<N>, Net<N>)>, NoMemory>
+    requires few { HasFewParents plan }
+    requires few_again { HasFewParents again }
+    requires first { AreFirstNodes N.spec N.state N.first plan.nodes }
+    requires again { IsSameLife N.spec plan again }
+    requires some { 0 < length points.now }
+    requires last { last.0 ≡ length points.now }
+    requires end { last.0 + length more.now ≤ end.0 }
+    ensures unspent { IfOk result (λ both. IfSome both (λ nets. nets.0.spent ≡ false)) }
+    ensures unspent_too { IfOk result (λ both. IfSome both (λ nets. nets.1.spent ≡ false)) }
+    ensures same { IfOk result (λ both. IfSome both (λ nets.
+        AllZip (DidTheSame N.Node) nets.0.lives nets.1.lives)) }
 {
-    assert!(rt; has_passed_inside(net, upto));
-    Ok(capture(rt.alloc(), net, upto)?)
+    lives_are_planned::<N>();
+    lives_stand::<N>();
+    nets_go_on::<N>();
+    let plans = Vec::from_array(alloc, [plan])?;
+    let mut net = Net::make(alloc, plans, 1)?;
+    net.load(alloc, points, last, &[])?;
+    net.run(alloc)?;
+    keep_lives(&net);
+    if !has_passed(&net, last) {
+        return Ok(None);
+    }
+    let bytes = capture(alloc, &net, last)?;
+    net.load(alloc, more, end, &[])?;
+    net.run(alloc)?;
+    keep_lives(&net);
+    let plans = Vec::from_array(alloc, [again])?;
+    let Ok(mut other) = restore(alloc, plans, 1, bytes.as_slice()) else {
+        return Ok(None);
+    };
+    other.load(alloc, more, end, &[])?;
+    other.run(alloc)?;
+    keep_lives(&other);
+    Ok(Some((net, other)))
 }
 
 /// What is captured of a net at a barrier that each cell has passed.
@@ -97,74 +163,23 @@ fn capture_at<N: Node>(
     Ok(capture(rt.alloc(), net, upto)?)
 }
 
-/// A net of a plan in the states that bytes hold.
-fn restored<N: Node>(alloc: Global, plan: LifePlan<N>, bytes: &[u8]) -> Result<Net<N>, Fail>
-    requires { HasFewParents plan }
-    ensures unspent { IfOk result (λ net. net.spent ≡ false) }
-    ensures rest { IfOk result (λ net. Each IsResting net.lives) }
-    ensures last { IfOk result (λ net. net.last.0 ≡ 0) }
-{
-    let plans = Vec::from_array(alloc, [plan])?;
-    match restore(alloc, plans, 1, bytes) {
-        Ok(net) => Ok(net),
-        Err(SnapFault::At(_)) => Err("no capture".into()),
-        Err(SnapFault::NoMemory) => Err(NoMemory.into()),
-    }
-}
-
-/// A net runs to rest, and does this.
-fn run_out<N: Node>(
+/// Two nets have done these, and their nodes are in the same states.
+fn check_both<N: Node>(
     rt: &(impl AllocGlobal + Abort),
-    net: &mut Net<N>,
+    nets: (Net<N>, Net<N>),
     due: &str,
+    due_behind: &str,
 ) -> Result<(), Fail>
-    requires { net.old.spent ≡ false }
-    ensures { OnOk result (net.new.spent ≡ false) }
+    requires unspent { nets.0.spent ≡ false }
+    requires unspent_too { nets.1.spent ≡ false }
 {
-    net.run(rt.alloc())?;
+    let (mut net, mut other) = nets;
     let effects = net.collect(rt.alloc());
-    check_effects(rt, &effects, due)
-}
-
-/// A net of a plan in the states that bytes hold, loaded with points.
-fn resumed<N: Node>(
-    alloc: Global,
-    plan: LifePlan<N>,
-    bytes: &[u8],
-    points: &[Point],
-    last: Stamp,
-) -> Result<Net<N>, Fail>
-    requires few { HasFewParents plan }
-    requires stamps { length points.now ≤ last.0 }
-    ensures { IfOk result (λ net. net.spent ≡ false) }
-{
-    let mut net = restored(alloc, plan, bytes)?;
-    net.load(alloc, points, last, &[])?;
-    Ok(net)
-}
-
-/// A net that is stopped behind an inner barrier, and one that goes on from what was captured of it.
-fn check_inner<N: Node>(
-    rt: &(impl AllocGlobal + Abort),
-    plan: LifePlan<N>,
-    again: LifePlan<N>,
-    points: &[Point],
-) -> Result<(), Fail>
-    requires few { HasFewParents plan }
-    requires few_again { HasFewParents again }
-    requires steady { HasSteadyStream N.Node plan }
-    requires three { length points.now ≡ 3 }
-{
-    let (mark, last) = (Stamp(2), Stamp(3));
-    let steps = steps_to_barrier();
-    let mut net = stopped(rt.alloc(), plan, points, mark, last, &steps)?;
-    let bytes = capture_inside(rt, &net, mark)?;
-    let behind = &points[2..];
-    let mut other = resumed(rt.alloc(), again, bytes.as_slice(), behind, last)?;
-    run_out(rt, &mut net, ALL)?;
-    run_out(rt, &mut other, BEHIND)?;
-    let left = capture_at(rt, &net, last)?;
-    let right = capture_at(rt, &other, last)?;
+    check_effects(rt, &effects, due)?;
+    let effects = other.collect(rt.alloc());
+    check_effects(rt, &effects, due_behind)?;
+    let left = capture_at(rt, &net, Stamp(3))?;
+    let right = capture_at(rt, &other, Stamp(3))?;
     assert_eq!(rt; left.as_slice(), right.as_slice());
     Ok(())
 }
@@ -175,5 +190,24 @@ fn a_net_goes_on_from_an_inner_barrier(rt: HostRuntime) -> Result<(), Fail> {
     assert!(&rt; points.len() == 3);
     let plan = plan_of_taps(rt.alloc())?;
     let again = plan_of_taps(rt.alloc())?;
-    check_inner(&rt, plan, again, &points)
+    let steps = steps_to_barrier();
+    let (mark, last) = (Stamp(2), Stamp(3));
+    let Some(nets) = goes_on(rt.alloc(), plan, again, &points, 2, mark, last, &steps)? else {
+        return Err("no barrier".into());
+    };
+    check_both::<TapNode>(&rt, nets, ALL, BEHIND)
+}
+
+#[test]
+fn a_net_goes_on_from_its_rest(rt: HostRuntime) -> Result<(), Fail> {
+    let points = three_points(&rt)?;
+    assert!(&rt; points.len() == 3);
+    let plan = plan_of_taps(rt.alloc())?;
+    let again = plan_of_taps(rt.alloc())?;
+    let (first, more) = points.split_at(2);
+    let Some(nets) = goes_on_at_rest(rt.alloc(), plan, again, first, Stamp(2), more, Stamp(3))?
+    else {
+        return Err("no rest".into());
+    };
+    check_both::<TapNode>(&rt, nets, ALL, BEHIND)
 }

@@ -1,10 +1,12 @@
 //! A node of the tests that gives points on, and one that logs them.
 
-ghost use Rattle.std.specs.Prelude.{◌≡◌, ◌<◌, IfOk};
+ghost use Rattle.std.specs.Prelude.{◌≡◌, ◌<◌, ◌∷◌, IfOk, [], false, map, true};
 ghost use Rattle.kap_base.specs.declared.items.Body.TheVariants as bodies;
 ghost use Rattle.node_core.specs.Groups.{is_point};
+ghost use Rattle.node_core.specs.Numbering.{running_first};
 ghost use Rattle.flow_core.specs.Making.{HasFewParents};
-ghost use Rattle.flow_tests.specs.Taps.{tap_of, tap_says, tap_silent};
+ghost use Rattle.task_run.specs.Plans.{AreFirstNodes};
+ghost use Rattle.flow_tests.specs.Taps.{seat_of, tap_of, tap_says, tap_silent};
 ghost use Rattle.barrier_snapshot.specs.Steady.{HasSteadyStream};
 
 use kap_base::{Body, Duplicate, ItemList, NoMemory, Point, What};
@@ -63,6 +65,7 @@ fn tap_node(alloc: Global, node: u32, ports: u32, quiet: bool) -> TapNode
     ensures node { result.seat.node ≡ node }
     ensures ports { result.seat.kind.plain.ports ≡ ports }
     ensures quiet { result.seat.kind.plain.quiet ≡ quiet }
+    ensures first { result.running ≡ running_first tt }
 {
     let kind = Alone {
         plain: Tap { ports, quiet },
@@ -81,6 +84,13 @@ fn tap_node(alloc: Global, node: u32, ports: u32, quiet: bool) -> TapNode
 pub fn plan_of_taps(alloc: Global) -> Result<LifePlan<TapNode>, NoMemory>
     ensures few { IfOk result HasFewParents }
     ensures steady { IfOk result (HasSteadyStream ⟦<TapNode as Node>⟧) }
+    ensures first { IfOk result (λ plan. AreFirstNodes ⟦<TapNode as Node>⟧.spec
+        ⟦<TapNode as Node>⟧.state ⟦<TapNode as Node>⟧.first plan.nodes) }
+    ensures life { IfOk result (λ plan. plan.life ≡ 3) }
+    ensures specs { IfOk result (λ plan. map ⟦<TapNode as Node>⟧.spec plan.nodes
+        ≡ seat_of 3 0 (record { plain = record { ports = 1; quiet = true } })
+        ∷ seat_of 3 1 (record { plain = record { ports = 2; quiet = false } }) ∷ []) }
+    ensures parents { IfOk result (λ plan. plan.parents ≡ [] ∷ (0 ∷ 0 ∷ []) ∷ []) }
 {
     let first = tap_node(alloc, 0, 1, true);
     let second = tap_node(alloc, 1, 2, false);
