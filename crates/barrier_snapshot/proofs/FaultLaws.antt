@@ -1,5 +1,5 @@
 -- The place that a fault names is where bytes hold no states.
-use Rattle.std.proofs.Common.{◌≡◌, ◌^◌, ℕ, ◌+◌, ◌<◌, ◌≤◌, List, [], ◌++◌, length, None, sym, ap, ◌∙◌, append_assoc, arith}
+use Rattle.std.proofs.Common.{◌≡◌, ◌^◌, ℕ, ◌+◌, ◌<◌, ◌≤◌, List, [], ◌++◌, length, None, sym, ap, subst, ◌∙◌, append_assoc, arith}
 use Rattle.std.specs.Int.{w32}
 use Rattle.std.specs.List.{flat_map}
 use Rattle.state_code.specs.Laws.{u32_spelled}
@@ -47,6 +47,7 @@ module _ {P S : Type 0} {fits : P → S → Type 0} {spell : P → S → List �
         states = states;
         are = behind.are;
         short = behind.short;
+        below = subst (λ (m : ℕ). m < 2 ^ 32) count first.fits;
         is = first.parts
             ∙ ap (λ (m : ℕ). spell_number w32 m ++ body) count
             ∙ ap (λ (l : List ℕ). spell_number w32 (length specs) ++ l) behind.parts

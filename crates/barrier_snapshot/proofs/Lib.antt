@@ -1,5 +1,6 @@
 pub mod ReadLaws
 pub mod FaultLaws
+pub mod PlaceOfFaultLaws
 pub mod LifeLaws
 pub mod SavedLaws
 pub mod SteadyLaws

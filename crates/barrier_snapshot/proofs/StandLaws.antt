@@ -26,7 +26,7 @@ use Rattle.flow_life.specs.RestLaws.{carries_streams}
 use Rattle.flow_life.specs.Steps.{AreQuiet}
 use Rattle.flow_life.specs.StreamLaws.{beside, get-map, handled_prefix}
 use Rattle.flow_life.specs.Streams.{IsStream, Plan, StandsAt, plan_of, plans_of, run_from}
-use Rattle.flow_core.specs.Making.{AreLivesOf}
+use Rattle.flow_core.specs.Making.{AreLivesOf, IsLifeBehind}
 use Rattle.flow_core.specs.Nets.{NumberedLife}
 use Rattle.task_run.specs.Plans.{AreFirstNodes, AreFirstStates, PlanValue}
 use Rattle.barrier_snapshot.specs.Barriers.{WasAt}
@@ -49,18 +49,19 @@ module _ {N P S : Type 0} (g : Ghosts N P S) where
   first-reached [] first = tt
   first-reached (c ∷ cells) first = (record { inputs = []; is = first.0 }, first-reached cells first.1)
 
+  -- a life of a plan in first states stands behind the stamp with which it began
+  pub begun_stands : (stamp : ℕ) (plan : PlanValue N) (l : NumberedLife N) → IsLifeBehind g stamp plan l → AreFirstNodes g.spec g.state g.first plan.nodes → StandsBehind g stamp l
+  begun_stands stamp plan l is first = record {
+    reached = first-reached l.life.cells (subst (AreFirstNodes g.spec g.state g.first) (sym is.nodes) first);
+    passed = is.passed;
+  }
+
   -- lives of plans in first states stand behind the stamp 0
   pub made_stand : (plans : List (PlanValue N)) (lives : List (NumberedLife N)) → AreLivesOf g plans lives → AreFirstStates g.spec g.state g.first plans → Each (StandsBehind g 0) lives
   made_stand [] [] are first = tt
   made_stand [] (l ∷ lives) are first = absurd are
   made_stand (p ∷ plans) [] are first = absurd are
-  made_stand (p ∷ plans) (l ∷ lives) are first = (
-    record {
-      reached = first-reached l.life.cells (subst (AreFirstNodes g.spec g.state g.first) (sym are.0.nodes) first.0);
-      passed = are.0.passed;
-    },
-    made_stand plans lives are.1 first.1,
-  )
+  made_stand (p ∷ plans) (l ∷ lives) are first = (begun_stands 0 p l are.0 first.0, made_stand plans lives are.1 first.1)
 
   -- ---- the cells of a life that was loaded
 

@@ -18,7 +18,7 @@ use Rattle.flow_life.specs.Nodes.{specs_of}
 use Rattle.flow_life.specs.PlaceLaws.{each-get, each-of, found-same}
 use Rattle.flow_life.specs.StreamLaws.{beside, get-map}
 use Rattle.flow_life.specs.Streams.{plans_of}
-use Rattle.flow_core.specs.Making.{AreLivesOf, IsLifeOf}
+use Rattle.flow_core.specs.Making.{AreLivesOf, IsLifeBehind, IsLifeOf}
 use Rattle.flow_core.specs.MessageLaws.{barriers-append, messages_barriers, messages_closed, messages_rise}
 use Rattle.flow_core.specs.Messages.{AreMarksOf, load_messages, marked, stamped_up_to}
 use Rattle.flow_core.specs.Nets.{IsLifeIn, IsResting, NetValue, NumberedLife}
@@ -37,20 +37,21 @@ use Rattle.barrier_snapshot.proofs.StandLaws.{rested_passed, rested_reached, res
 module _ {N P S : Type 0} (g : Ghosts N P S) where
   -- ---- what is planned again
 
-  -- lives of plans are planned again by plans of the same lives
+  -- a life of a plan is planned again by a plan of the same life
+  pub begun_planned : (stamp : ℕ) (first plan : PlanValue N) (l : NumberedLife N) → IsLifeBehind g stamp first l → IsSameLife g.spec first plan → IsPlannedAgain g l plan
+  begun_planned stamp first plan l is same = record {
+    specs = same.specs ∙ ap (map g.spec) (sym is.nodes) ∙ sym (specs-nodes g l.life.cells);
+    parents = same.parents ∙ sym is.parents;
+  }
+
+  -- and so lives of plans
   pub made_planned : (first plans : List (PlanValue N)) (lives : List (NumberedLife N)) → AreLivesOf g first lives → AllZip (IsSameLife g.spec) first plans → AllZip (IsPlannedAgain g) lives plans
   made_planned [] [] [] are same = tt
   made_planned [] [] (l ∷ lives) are same = absurd are
   made_planned [] (p ∷ plans) lives are same = absurd same
   made_planned (f ∷ first) [] lives are same = absurd same
   made_planned (f ∷ first) (p ∷ plans) [] are same = absurd are
-  made_planned (f ∷ first) (p ∷ plans) (l ∷ lives) are same = (
-    record {
-      specs = same.0.specs ∙ ap (map g.spec) (sym are.0.nodes) ∙ sym (specs-nodes g l.life.cells);
-      parents = same.0.parents ∙ sym are.0.parents;
-    },
-    made_planned first plans lives are.1 same.1,
-  )
+  made_planned (f ∷ first) (p ∷ plans) (l ∷ lives) are same = (begun_planned 0 f p l are.0 same.0, made_planned first plans lives are.1 same.1)
 
   -- and stay so in a load
   pub loaded_planned : (msgs : List Msg) (plans : List (PlanValue N)) (before after : List (NumberedLife N)) → AllZip (IsPlannedAgain g) before plans → AreLoadedWith g msgs before after → AllZip (IsPlannedAgain g) after plans

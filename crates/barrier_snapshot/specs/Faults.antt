@@ -20,6 +20,7 @@ module _ {P S : Type 0} (fits : P → S → Type 0) (spell : P → S → List �
     pub states : List S
     pub are : AreStatesOf fits spell specs states
     pub short : AllFit FitsBytes (spellings fits spell specs states)
+    pub below : number < 2 ^ 32
     pub is : bytes ≡ (spell_number w32 number ++ flat_map spell_bytes (spellings fits spell specs states)) ++ rest
     pub from : offset + length rest ≡ length bytes
 

@@ -19,8 +19,8 @@ fn keep_each<N: Node>(lives: &[Numbered<Life<N>>])
     }
 }
 
-/// What the cells of each life of a net keep, of which no call failed: the laws of this crate ask for
-/// it.
+/// What the cells of each life of a net keep, of which no call failed: the laws of this crate ask
+/// for it.
 pub fn keep_lives<N: Node>(net: &Net<N>)
     requires { net.now.spent ≡ false }
     ensures { Each (IsLifeIn N.Node) net.now.lives }

@@ -7,13 +7,14 @@ ghost use Rattle.kap_base.specs.declared.items.Msg.{Msg};
 ghost use Rattle.kap_base.specs.declared.items.Stamp.{Stamp};
 ghost use Rattle.flow_cells.specs.declared.parts.CellParts.{CellParts};
 ghost use Rattle.flow_cells.specs.Kept.{Keeps};
-ghost use Rattle.flow_core.specs.Making.{AreLivesOf};
+ghost use Rattle.flow_core.specs.Making.{AreLivesOf, IsLifeBehind};
 ghost use Rattle.flow_core.specs.Messages.{AreMarksOf, load_messages};
 ghost use Rattle.flow_core.specs.Nets.{IsResting, NetValue, NumberedLife, plans_from, plans_in, specs_in};
 ghost use Rattle.merge_node.specs.Merge.{barriers};
-ghost use Rattle.task_run.specs.Plans.{AreFirstStates, PlanValue};
+ghost use Rattle.task_run.specs.Plans.{AreFirstNodes, AreFirstStates, PlanValue};
 ghost use Rattle.barrier_snapshot.specs.Barriers.{IsCaptureAt, WasAt, cells_in};
 ghost use Rattle.barrier_snapshot.specs.Captures.{IsCapture, in_lives};
+ghost use Rattle.barrier_snapshot.specs.Faults.{FaultsAt};
 ghost use Rattle.barrier_snapshot.specs.GoingOn.{HasGoneOn};
 ghost use Rattle.barrier_snapshot.specs.Loading.{IsSameLife};
 ghost use Rattle.barrier_snapshot.specs.Restoring.{Restores};
@@ -34,6 +35,15 @@ pub fn captures_are_restored<N: Node>()
         → in_lives N.spec plans ≡ map (λ c. N.spec c.core.node) cells
         → IsCaptureAt N.Node upto cells bytes → Restores N.Node plans bytes net
         → AllZip (WasAt N.Node upto) cells (map (λ c. N.state c.core.node) (cells_in net.lives)) }
+{}
+
+/// Bytes have one place at most that a fault can name, and a capture has none.
+pub fn faults_have_places<N: Node>()
+    ensures one { (specs : List N.Spec) (bytes : List ℕ) (a b : ℕ)
+        → FaultsAt N.fits N.spell specs bytes a → FaultsAt N.fits N.spell specs bytes b → a ≡ b }
+    ensures none { (specs : List N.Spec) (states : List N.State) (bytes : List ℕ) (offset : ℕ)
+        → IsCapture N.fits N.spell specs states bytes
+        → FaultsAt N.fits N.spell specs bytes offset → ⊥ }
 {}
 
 /// Streams whose nodes no input changes are steady: in a net of plans that is loaded, for each
@@ -60,6 +70,9 @@ pub fn cells_go_on<N: Node>()
 
 /// Lives of plans are planned again by plans of the same lives, and stay so in a load.
 pub fn lives_are_planned<N: Node>()
+    ensures begun { (stamp : ℕ) (first plan : PlanValue N) (life : NumberedLife N)
+        → IsLifeBehind N.Node stamp first life → IsSameLife N.spec first plan
+        → IsPlannedAgain N.Node life plan }
     ensures made { (first plans : List (PlanValue N)) (lives : List (NumberedLife N))
         → AreLivesOf N.Node first lives → AllZip (IsSameLife N.spec) first plans
         → AllZip (IsPlannedAgain N.Node) lives plans }
@@ -68,10 +81,13 @@ pub fn lives_are_planned<N: Node>()
         → AreLoadedWith N.Node msgs before after → AllZip (IsPlannedAgain N.Node) after plans }
 {}
 
-/// Lives stand behind a barrier, in states that inputs make: those of plans in first states behind 0,
-/// those at rest behind a load behind its last barrier, and those of a net that is restored from what was
-/// captured of such lives behind 0.
+/// Lives stand behind a barrier, in states that inputs make: those of plans in first states behind
+/// the one with which they began, those at rest behind a load behind its last barrier, and those of
+/// a net that is restored from what was captured of such lives behind 0.
 pub fn lives_stand<N: Node>()
+    ensures begun { (stamp : ℕ) (plan : PlanValue N) (life : NumberedLife N)
+        → IsLifeBehind N.Node stamp plan life
+        → AreFirstNodes N.spec N.state N.first plan.nodes → StandsBehind N.Node stamp life }
     ensures made { (plans : List (PlanValue N)) (lives : List (NumberedLife N))
         → AreLivesOf N.Node plans lives → AreFirstStates N.spec N.state N.first plans
         → Each (StandsBehind N.Node 0) lives }
@@ -91,13 +107,15 @@ pub fn lives_stand<N: Node>()
 
 /// What is captured of a net is restored as one that goes on as the first one goes on.
 ///
-/// `behind`: a net is loaded with points, and stopped where each cell with parents stands at an inner
-/// barrier. From what is captured of it there another net is restored, of lives with the same nodes, and
-/// loaded with the points behind the barrier. When both are at rest, each node of the other net is in the
-/// state of the first one's, each of its cells has the effects of the first one's with stamps above the
-/// barrier, and each of its edges carried what the first one's carried behind it.
+/// `behind`: a net is loaded with points, and stopped where each cell with parents stands at an
+/// inner barrier. From what is captured of it there another net is restored, of lives with the same
+/// nodes, and loaded with the points behind the barrier. When both are at rest, each node of the
+/// other net is in the state of the first one's, each of its cells has the effects of the first
+/// one's with stamps above the barrier, and each of its edges carried what the first one's carried
+/// behind it.
 ///
-/// `rest`: what is restored from a capture of a net at rest, at the last barrier of its load, is alike.
+/// `rest`: what is restored from a capture of a net at rest, at the last barrier of its load, is
+/// alike.
 ///
 /// `same`: lives that are alike do the same in each load, and are alike behind it.
 pub fn nets_go_on<N: Node>()

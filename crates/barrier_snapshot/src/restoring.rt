@@ -20,9 +20,9 @@ use task_run::LifePlan;
 /// A net with a life of each plan, in their order, at rest in the states that the bytes hold, life
 /// by life and node by node. Its last barrier has the stamp 0, each cell's saved state is its
 /// state, and its edges have room for 1 to 65,536 messages. `At` comes exactly where the bytes
-/// aren't a capture of these lives: it names the place of the first byte string that isn't the state
-/// of its node, or that of the bytes behind the last one, or 0 where the number of the states is
-/// another.
+/// aren't a capture of these lives: it names the place of the first byte string that isn't the
+/// state of its node, or that of the bytes behind the last one, or 0 where the number of the states
+/// is another.
 pub fn restore<N: Node>(
     alloc: Global,
     plans: Vec<LifePlan<N>>,

@@ -1,6 +1,9 @@
-use Rattle.barrier_snapshot.proofs.StandLaws.{made_stand}
+use Rattle.barrier_snapshot.proofs.StandLaws.{begun_stands, made_stand}
 use Rattle.barrier_snapshot.proofs.StandNetLaws.{rested_stand, restored_stand}
 use Rattle.barrier_snapshot.proofs.laws.lives_stand.Goals as goal
+
+pub returns-clause-begun : goal.returns-clause-begun
+returns-clause-begun g c = begun_stands g.N.Node
 
 pub returns-clause-made : goal.returns-clause-made
 returns-clause-made g c = made_stand g.N.Node
