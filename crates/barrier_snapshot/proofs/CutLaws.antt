@@ -85,11 +85,10 @@ end_with u (m ∷ marks) ((k, messages.Barrier b) ∷ xs) e c =
     let here : b ≡ m = cc in
     let tail : entry_barriers xs ≡ marks ++ u ∷ [] = cc in
     let r = end_with u marks xs tail c in
-    let whole : (k, messages.Barrier b) ∷ xs ≡ (k, messages.Barrier b) ∷ r.front ++ (r.parent, messages.Barrier u) ∷ [] = ap (λ (l : List Entry). (k, messages.Barrier b) ∷ l) r.is in
     record {
       front = (k, messages.Barrier b) ∷ r.front;
       parent = r.parent;
-      is = whole;
+      is = ap (λ (l : List Entry). (k, messages.Barrier b) ∷ l) {y = r.front ++ (r.parent, messages.Barrier u) ∷ []} r.is;
       barriers = ap (λ (l : List Stamp). b ∷ l) r.barriers ∙ ap (λ (t : Stamp). t ∷ marks) here;
     }
 

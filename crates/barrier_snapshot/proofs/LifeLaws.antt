@@ -1,5 +1,5 @@
 -- States of the nodes of lives, one behind the other.
-use Rattle.std.proofs.Common.{◌≡◌, ◌≤◌, ℕ, ◌+◌, List, [], ◌∷◌, ◌++◌, length, map, None, Result, Err, refl, sym, ap, subst, ◌∙◌, suc, append-nil, append_assoc, arith}
+use Rattle.std.proofs.Common.{◌≡◌, ◌≤◌, ℕ, ◌+◌, List, [], ◌∷◌, ◌++◌, length, map, None, Result, Err, refl, sym, ap, subst, ◌∙◌, suc, append_assoc, arith}
 use Rattle.std.specs.List.{AllByRecursion as Each, AllZip}
 use Rattle.merge_node.specs.declared.TheConstants.{PARENT_LIMIT}
 use Rattle.flow_core.specs.Making.{HasFewParents}
@@ -7,7 +7,7 @@ use Rattle.node_core.specs.declared.node.Node.{Ghosts}
 use Rattle.state_code.specs.declared.fault.CodeFault.{CodeFault}
 use Rattle.state_code.specs.declared.fault.CodeFault.TheVariants.{At, NoMemory}
 use Rattle.state_code.specs.Places.{Passes, Place, Refuses, TakesExactly}
-use Rattle.state_code.specs.Spelling.{Reading, read_bytes, read_then, value_then}
+use Rattle.state_code.specs.Spelling.{Reading, read_then, value_then}
 use Rattle.task_run.specs.Plans.{AreNodesFrom, IsPlan, PlanValue}
 use Rattle.barrier_snapshot.specs.declared.fault.SnapFault.{SnapFault}
 use Rattle.barrier_snapshot.specs.declared.fault.SnapFault.TheVariants.{At as at_place}
@@ -15,25 +15,6 @@ use Rattle.barrier_snapshot.specs.Captures.{in_lives}
 use Rattle.barrier_snapshot.specs.Loading.{IsSameLife, LoadsLives}
 use Rattle.barrier_snapshot.specs.Reading.{RefusedBy, StopsAt, StopsBy, read_each, read_whole}
 use Rattle.barrier_snapshot.proofs.ReadLaws.{parted, same_value}
-
--- ---- one node
-
--- the state that fills a byte string is read
-pub whole_reads : {S : Type 0} (read : Reading S) (bytes piece rest more : List ℕ) (s : S) → read_bytes bytes ≡ value_then piece rest → read piece ≡ value_then s more → more ≡ [] → read_whole read bytes ≡ value_then s rest
-whole_reads read bytes piece rest more s outer inner none = rw (outer, inner, none) refl
-
--- without a byte string there is none
-pub no_string : {S : Type 0} (read : Reading S) (bytes : List ℕ) → read_bytes bytes ≡ None → read_whole read bytes ≡ None
-no_string read bytes outer = rw outer refl
-
--- and none where the byte string begins with no state
-pub no_state : {S : Type 0} (read : Reading S) (bytes piece rest : List ℕ) → read_bytes bytes ≡ value_then piece rest → read piece ≡ None → read_whole read bytes ≡ None
-no_state read bytes piece rest outer inner = rw (outer, inner) refl
-
--- and none where it has more than a state
-pub more_inside : {S : Type 0} (read : Reading S) (bytes piece rest more : List ℕ) (s : S) → read_bytes bytes ≡ value_then piece rest → read piece ≡ value_then s more → (more ≡ [] → ⊥) → read_whole read bytes ≡ None
-more_inside read bytes piece rest [] s outer inner some = absurd (some refl)
-more_inside read bytes piece rest (b ∷ more) s outer inner some = rw (outer, inner) refl
 
 -- ---- some nodes, and others behind them
 
@@ -162,15 +143,6 @@ module _ {N P S : Type 0} (g : Ghosts N P S) where
   few_parents [] (l ∷ loaded) same few = absurd same
   few_parents (p ∷ plans) [] same few = absurd same
   few_parents (p ∷ plans) (l ∷ loaded) same few = (subst (Each (λ (ps : List ℕ). length ps ≤ PARENT_LIMIT)) (sym same.0.parents) few.0, few_parents plans loaded same.1 few.1)
-
-  -- no life
-  pub loads_none : (at : Place) (before : List (PlanValue N)) → LoadsLives g [] at at before before
-  loads_none at before = record {
-    loaded = [];
-    added = sym (append-nil before);
-    same = tt;
-    passes = record { reads = refl; offset = refl };
-  }
 
   -- a life, and others behind it
   pub loads_more : (plan life : PlanValue N) (plans : List (PlanValue N)) (old mid new : Place) (before after : List (PlanValue N)) → IsSameLife g.spec plan life → Passes (read_each g.read (map g.spec plan.nodes)) old mid (map g.state life.nodes) → LoadsLives g plans mid new (before ++ life ∷ []) after → LoadsLives g (plan ∷ plans) old new before after
