@@ -1,5 +1,5 @@
 -- A cell has done behind a barrier what its node does from the state there on.
-use Rattle.std.proofs.Common.{◌≡◌, List, ◌++◌, refl, sym, ap, subst, ◌∙◌}
+use Rattle.std.proofs.Common.{◌≡◌, List, ◌++◌, sym, ap, subst, ◌∙◌}
 use Rattle.std.specs.List.{AllByRecursion as Each}
 use Rattle.kap_base.specs.declared.items.Effect.{Effect}
 use Rattle.kap_base.specs.declared.items.Msg.{Msg}
@@ -19,13 +19,15 @@ use Rattle.barrier_snapshot.specs.GoingOn.{HasGoneOn, run_on}
 
 module _ {S : Type 0} (step : S → Input → Move S) where
   -- a run goes on as one that begins in its state
-  state-on : (r : Run S) (passed : Stamp) (xs : List Entry) → (run step r xs).state ≡ (run step (begun r.state passed) xs).state
+  pub state-on : (r : Run S) (passed : Stamp) (xs : List Entry) → (run step r xs).state ≡ (run step (begun r.state passed) xs).state
   state-on r passed xs = run_state step r xs ∙ sym (run_state step (begun r.state passed) xs)
 
-  effects-on : (r : Run S) (passed : Stamp) (xs : List Entry) → (run step r xs).effects ≡ r.effects ++ (run step (begun r.state passed) xs).effects
+  -- its effects are those before, and those of one that begins there
+  pub effects-on : (r : Run S) (passed : Stamp) (xs : List Entry) → (run step r xs).effects ≡ r.effects ++ (run step (begun r.state passed) xs).effects
   effects-on r passed xs = run_effects step r xs ∙ ap (λ (es : List Effect). r.effects ++ es) (sym (run_effects step (begun r.state passed) xs))
 
-  outs-on : (r : Run S) (passed : Stamp) (xs : List Entry) → (run step r xs).outs ≡ r.outs ++ (run step (begun r.state passed) xs).outs
+  -- and so what it gives out
+  pub outs-on : (r : Run S) (passed : Stamp) (xs : List Entry) → (run step r xs).outs ≡ r.outs ++ (run step (begun r.state passed) xs).outs
   outs-on r passed xs = run_said step r xs ∙ ap (λ (ms : List Msg). r.outs ++ ms) (sym (run_said step (begun r.state passed) xs))
 
 module _ {N P S : Type 0} (g : Ghosts N P S) where

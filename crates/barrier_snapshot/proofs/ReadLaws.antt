@@ -82,7 +82,8 @@ module _ {S : Type 0} {fits : S → Type 0} {spell : S → List ℕ} {read : Rea
 -- ---- states, one behind the other
 
 module _ {P S : Type 0} {fits : P → S → Type 0} {spell : P → S → List ℕ} {read : P → Reading S} (spelled : (p : P) → IsSpelling (fits p) (spell p) (read p)) where
-  each_again : (specs : List P) (states : List S) (rest : List ℕ) → AreStatesOf fits spell specs states → AllFit FitsBytes (spellings fits spell specs states) → read_each read specs (flat_map spell_bytes (spellings fits spell specs states) ++ rest) ≡ value_then states rest
+  -- states that stand there are read
+  pub each_again : (specs : List P) (states : List S) (rest : List ℕ) → AreStatesOf fits spell specs states → AllFit FitsBytes (spellings fits spell specs states) → read_each read specs (flat_map spell_bytes (spellings fits spell specs states) ++ rest) ≡ value_then states rest
   each_again [] [] rest are short = refl
   each_again [] (s ∷ states) rest are short = absurd are
   each_again (p ∷ specs) [] rest are short = absurd are
@@ -97,7 +98,8 @@ module _ {P S : Type 0} {fits : P → S → Type 0} {spell : P → S → List �
     pub count : length (spellings fits spell specs states) ≡ length specs
     pub parts : bytes ≡ flat_map spell_bytes (spellings fits spell specs states) ++ rest
 
-  each_only : (specs : List P) (bytes : List ℕ) (states : List S) (rest : List ℕ) → IsBytes bytes → read_each read specs bytes ≡ value_then states rest → StandEach specs bytes states rest
+  -- only such byte strings are read
+  pub each_only : (specs : List P) (bytes : List ℕ) (states : List S) (rest : List ℕ) → IsBytes bytes → read_each read specs bytes ≡ value_then states rest → StandEach specs bytes states rest
   each_only [] bytes states rest all e =
       let same = same_value [] states bytes rest e in
       let here : StandEach [] bytes [] bytes = record { are = tt; short = tt; count = refl; parts = refl } in
@@ -119,7 +121,8 @@ module _ {P S : Type 0} {fits : P → S → Type 0} {spell : P → S → List �
 
   -- ---- a capture
 
-  pieces_count : (specs : List P) (states : List S) → AreStatesOf fits spell specs states → length (spellings fits spell specs states) ≡ length specs
+  -- there are as many spellings as nodes
+  pub pieces_count : (specs : List P) (states : List S) → AreStatesOf fits spell specs states → length (spellings fits spell specs states) ≡ length specs
   pieces_count [] states are = refl
   pieces_count (p ∷ specs) [] are = absurd are
   pieces_count (p ∷ specs) (s ∷ states) are = ap suc (pieces_count specs states are.1)

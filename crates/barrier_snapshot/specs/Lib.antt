@@ -1,6 +1,7 @@
 -- bytes that hold states, and what is read of them
 pub mod Captures
 pub mod Reading
+pub mod Faults
 -- lives in the states that bytes hold
 pub mod Loading
 pub mod Restoring
@@ -11,3 +12,5 @@ pub mod Capturing
 pub mod GoingOn
 pub mod Passing
 pub mod Steady
+-- lives that were stopped, and lives that go on
+pub mod Resuming

@@ -10,7 +10,7 @@ use std::alloc::AllocError;
 #[derive(Clone, Copy, Debug, PartialEq, Eq)]
 pub enum SnapFault {
     /// The bytes aren't a capture of these lives: the byte string at this place isn't the state of
-    /// its node, or bytes are left behind the last one; 0 where their number is another.
+    /// its node, or more bytes stand here behind the last one; 0 where their number is another.
     At(u64),
     /// Memory ran out.
     NoMemory,

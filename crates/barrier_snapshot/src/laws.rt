@@ -1,19 +1,24 @@
 //! Laws of captures, and no code.
 
-ghost use Rattle.std.specs.Prelude.{◌≡◌, ℕ, Contains, List, map};
+ghost use Rattle.std.specs.Prelude.{◌≡◌, ℕ, ◌+◌, ◌<◌, ◌≤◌, ◌∷◌, ◌++◌, Contains, List, length, map};
 ghost use Rattle.std.specs.List.{AllByRecursion as Each, AllZip};
+ghost use Rattle.kap_base.specs.Points.{PointValue};
 ghost use Rattle.kap_base.specs.declared.items.Msg.{Msg};
 ghost use Rattle.kap_base.specs.declared.items.Stamp.{Stamp};
 ghost use Rattle.flow_cells.specs.declared.parts.CellParts.{CellParts};
 ghost use Rattle.flow_cells.specs.Kept.{Keeps};
-ghost use Rattle.flow_core.specs.Making.{AreLivesOf};
-ghost use Rattle.flow_core.specs.Nets.{NetValue, NumberedLife, plans_from, plans_in, specs_in};
+ghost use Rattle.flow_core.specs.Making.{AreLivesOf, IsLifeBehind};
+ghost use Rattle.flow_core.specs.Messages.{AreMarksOf, load_messages};
+ghost use Rattle.flow_core.specs.Nets.{IsResting, NetValue, NumberedLife, plans_from, plans_in, specs_in};
 ghost use Rattle.merge_node.specs.Merge.{barriers};
-ghost use Rattle.task_run.specs.Plans.{PlanValue};
+ghost use Rattle.task_run.specs.Plans.{AreFirstNodes, AreFirstStates, PlanValue};
 ghost use Rattle.barrier_snapshot.specs.Barriers.{IsCaptureAt, WasAt, cells_in};
 ghost use Rattle.barrier_snapshot.specs.Captures.{IsCapture, in_lives};
+ghost use Rattle.barrier_snapshot.specs.Faults.{FaultsAt};
 ghost use Rattle.barrier_snapshot.specs.GoingOn.{HasGoneOn};
+ghost use Rattle.barrier_snapshot.specs.Loading.{IsSameLife};
 ghost use Rattle.barrier_snapshot.specs.Restoring.{Restores};
+ghost use Rattle.barrier_snapshot.specs.Resuming.{AreLoadedWith, DidTheRestOf, DidTheSame, IsAlike, IsPlannedAgain, StandsBehind};
 ghost use Rattle.barrier_snapshot.specs.Steady.{HasSteadyStream, HasSteadyStreams};
 
 use node_core::Node;
@@ -30,6 +35,15 @@ pub fn captures_are_restored<N: Node>()
         → in_lives N.spec plans ≡ map (λ c. N.spec c.core.node) cells
         → IsCaptureAt N.Node upto cells bytes → Restores N.Node plans bytes net
         → AllZip (WasAt N.Node upto) cells (map (λ c. N.state c.core.node) (cells_in net.lives)) }
+{}
+
+/// Bytes have one place at most that a fault can name, and a capture has none.
+pub fn faults_have_places<N: Node>()
+    ensures one { (specs : List N.Spec) (bytes : List ℕ) (a b : ℕ)
+        → FaultsAt N.fits N.spell specs bytes a → FaultsAt N.fits N.spell specs bytes b → a ≡ b }
+    ensures none { (specs : List N.Spec) (states : List N.State) (bytes : List ℕ) (offset : ℕ)
+        → IsCapture N.fits N.spell specs states bytes
+        → FaultsAt N.fits N.spell specs bytes offset → ⊥ }
 {}
 
 /// Streams whose nodes no input changes are steady: in a net of plans that is loaded, for each
@@ -52,4 +66,89 @@ pub fn streams_are_steady<N: Node>()
 pub fn cells_go_on<N: Node>()
     ensures { (upto passed : Stamp) (c : CellParts N) (s : N.State) → Keeps N.Node c
         → (was : WasAt N.Node upto c s) → HasGoneOn N.Node upto passed c s was }
+{}
+
+/// Lives of plans are planned again by plans of the same lives, and stay so in a load.
+pub fn lives_are_planned<N: Node>()
+    ensures begun { (stamp : ℕ) (first plan : PlanValue N) (life : NumberedLife N)
+        → IsLifeBehind N.Node stamp first life → IsSameLife N.spec first plan
+        → IsPlannedAgain N.Node life plan }
+    ensures made { (first plans : List (PlanValue N)) (lives : List (NumberedLife N))
+        → AreLivesOf N.Node first lives → AllZip (IsSameLife N.spec) first plans
+        → AllZip (IsPlannedAgain N.Node) lives plans }
+    ensures loaded { (msgs : List Msg) (plans : List (PlanValue N))
+        (before after : List (NumberedLife N)) → AllZip (IsPlannedAgain N.Node) before plans
+        → AreLoadedWith N.Node msgs before after → AllZip (IsPlannedAgain N.Node) after plans }
+{}
+
+/// Lives stand behind a barrier, in states that inputs make: those of plans in first states behind
+/// the one with which they began, those at rest behind a load behind its last barrier, and those of
+/// a net that is restored from what was captured of such lives behind 0.
+pub fn lives_stand<N: Node>()
+    ensures begun { (stamp : ℕ) (plan : PlanValue N) (life : NumberedLife N)
+        → IsLifeBehind N.Node stamp plan life
+        → AreFirstNodes N.spec N.state N.first plan.nodes → StandsBehind N.Node stamp life }
+    ensures made { (plans : List (PlanValue N)) (lives : List (NumberedLife N))
+        → AreLivesOf N.Node plans lives → AreFirstStates N.spec N.state N.first plans
+        → Each (StandsBehind N.Node 0) lives }
+    ensures loaded { (stamp : ℕ) (points : List PointValue) (last : Stamp) (marks : List Stamp)
+        (before after : List (NumberedLife N)) → length points ≤ last.0
+        → Each (StandsBehind N.Node stamp) before
+        → AreLoadedWith N.Node (load_messages points last marks) before after
+        → Each IsResting after → Each (StandsBehind N.Node last.0) after }
+    ensures restored { (upto : Stamp) (plans : List (PlanValue N)) (bytes : List ℕ)
+        (stopped : List (NumberedLife N)) (restored : NetValue N)
+        → IsCaptureAt N.Node upto (cells_in stopped) bytes
+        → AllZip (IsPlannedAgain N.Node) stopped plans → Restores N.Node plans bytes restored
+        → (stamp : ℕ) (msgs : List Msg) (before : List (NumberedLife N))
+        → Each (StandsBehind N.Node stamp) before → AreLoadedWith N.Node msgs before stopped
+        → Each (StandsBehind N.Node 0) restored.lives }
+{}
+
+/// What is captured of a net is restored as one that goes on as the first one goes on.
+///
+/// `behind`: a net is loaded with points, and stopped where each cell with parents stands at an
+/// inner barrier. From what is captured of it there another net is restored, of lives with the same
+/// nodes, and loaded with the points behind the barrier. When both are at rest, each node of the
+/// other net is in the state of the first one's, each of its cells has the effects of the first
+/// one's with stamps above the barrier, and each of its edges carried what the first one's carried
+/// behind it.
+///
+/// `rest`: what is restored from a capture of a net at rest, at the last barrier of its load, is
+/// alike.
+///
+/// `same`: lives that are alike do the same in each load, and are alike behind it.
+pub fn nets_go_on<N: Node>()
+    ensures behind { (stamp : ℕ) (points behind : List PointValue) (upto last : Stamp)
+        (marks later : List Stamp) (plans : List (PlanValue N)) (bytes : List ℕ)
+        (before stopped rested : List (NumberedLife N)) (restored : NetValue N)
+        (resumed : List (NumberedLife N))
+        → stamp + length (points ++ behind) ≤ last.0 → upto.0 + length behind ≡ last.0
+        → AreMarksOf (points ++ behind) last (marks ++ upto ∷ later)
+        → Each (StandsBehind N.Node stamp) before
+        → AreLoadedWith N.Node (load_messages (points ++ behind) last (marks ++ upto ∷ later))
+        before stopped
+        → AreLoadedWith N.Node (load_messages (points ++ behind) last (marks ++ upto ∷ later))
+        before rested
+        → Each IsResting rested
+        → IsCaptureAt N.Node upto (cells_in stopped) bytes
+        → AllZip (IsPlannedAgain N.Node) stopped plans
+        → Restores N.Node plans bytes restored
+        → AreLoadedWith N.Node (load_messages behind last later) restored.lives resumed
+        → Each IsResting resumed
+        → DidTheRestOf N.Node upto rested resumed }
+    ensures rest { (upto : Stamp) (plans : List (PlanValue N)) (bytes : List ℕ)
+        (stopped : List (NumberedLife N)) (restored : NetValue N)
+        → IsCaptureAt N.Node upto (cells_in stopped) bytes
+        → AllZip (IsPlannedAgain N.Node) stopped plans → Restores N.Node plans bytes restored
+        → (stamp : ℕ) (points : List PointValue) (marks : List Stamp)
+        (before : List (NumberedLife N)) → stamp < upto.0 → length points ≤ upto.0
+        → AreMarksOf points upto marks → Each (StandsBehind N.Node stamp) before
+        → AreLoadedWith N.Node (load_messages points upto marks) before stopped
+        → Each IsResting stopped → AllZip (IsAlike N.Node) stopped restored.lives }
+    ensures same { (msgs : List Msg) (before other rested resumed : List (NumberedLife N))
+        → AllZip (IsAlike N.Node) before other
+        → AreLoadedWith N.Node msgs before rested → AreLoadedWith N.Node msgs other resumed
+        → Each IsResting rested → Each IsResting resumed
+        → AllZip (DidTheSame N.Node) rested resumed }
 {}

@@ -4,6 +4,7 @@
 
 mod capturing;
 mod fault;
+mod keeping;
 mod laws;
 mod loading;
 mod passing;
@@ -11,6 +12,10 @@ mod restoring;
 
 pub use capturing::capture;
 pub use fault::SnapFault;
-pub use laws::{captures_are_restored, cells_go_on, streams_are_steady};
+pub use keeping::keep_lives;
+pub use laws::{
+    captures_are_restored, cells_go_on, faults_have_places, lives_are_planned, lives_stand,
+    nets_go_on, streams_are_steady,
+};
 pub use passing::{has_passed, has_passed_inside};
 pub use restoring::restore;

@@ -5,7 +5,8 @@ ghost use Rattle.state_code.specs.Places.{Passes};
 ghost use Rattle.state_code.specs.declared.fault.CodeFault.TheVariants.{At as at_place};
 ghost use Rattle.barrier_snapshot.specs.Captures.{IsCapture, in_lives};
 ghost use Rattle.barrier_snapshot.specs.Loading.{AreInStates, IsSameLife, LoadsLives};
-ghost use Rattle.barrier_snapshot.specs.Reading.{LoadsOrNot, RefusedBy, read_each, read_whole};
+ghost use Rattle.barrier_snapshot.specs.Faults.{FaultsAt};
+ghost use Rattle.barrier_snapshot.specs.Reading.{LoadsOrNot, StopsBy, outside, read_each, read_whole};
 
 use kap_base::ItemList;
 use node_core::Node;
@@ -13,6 +14,16 @@ use state_code::{CodeFault, Cursor};
 use std::alloc::Global;
 use std::vec::IntoIter;
 use task_run::LifePlan;
+
+/// A fault inside a byte string, which names the place of the string.
+fn outside(offset: u64, fault: CodeFault) -> CodeFault
+    ensures { result ≡ outside offset fault }
+{
+    match fault {
+        CodeFault::At(_) => CodeFault::At(offset),
+        CodeFault::NoMemory => CodeFault::NoMemory,
+    }
+}
 
 /// Has a node take the state whose spelling is the byte string at the cursor.
 fn load_node<N: Node>(alloc: Global, node: &mut N, from: &mut Cursor) -> Result<(), CodeFault>
@@ -23,7 +34,9 @@ fn load_node<N: Node>(alloc: Global, node: &mut N, from: &mut Cursor) -> Result<
     let offset = from.offset();
     let piece = from.bytes(alloc)?;
     let mut inside = Cursor::new(piece.as_slice());
-    node.load(alloc, &mut inside)?;
+    if let Err(fault) = node.load(alloc, &mut inside) {
+        return Err(outside(offset, fault));
+    }
     if !inside.is_done() {
         return Err(CodeFault::At(offset));
     }
@@ -33,8 +46,9 @@ fn load_node<N: Node>(alloc: Global, node: &mut N, from: &mut Cursor) -> Result<
 /// Has nodes take the states that stand at the cursor, one after the other.
 fn load_nodes<N: Node>(alloc: Global, nodes: &mut [N], from: &mut Cursor) -> Result<(), CodeFault>
     ensures specs { map N.spec nodes.new ≡ map N.spec nodes.old }
-    ensures loads { LoadsOrNot (read_each N.read (map N.spec nodes.old))
-        from.old from.new (map N.state nodes.new) result }
+    ensures ok { OnOk result (Passes (read_each N.read (map N.spec nodes.old))
+        from.old from.new (map N.state nodes.new)) }
+    ensures err { IfErr result (StopsBy N.read (map N.spec nodes.old) from.old) }
 {
     if let Some((first, others)) = nodes.split_first_mut() {
         load_node(alloc, first, from)?;
@@ -46,8 +60,9 @@ fn load_nodes<N: Node>(alloc: Global, nodes: &mut [N], from: &mut Cursor) -> Res
 /// The same of a list of nodes.
 fn load_all<N: Node>(alloc: Global, nodes: &mut Vec<N>, from: &mut Cursor) -> Result<(), CodeFault>
     ensures specs { map N.spec nodes.new.items ≡ map N.spec nodes.old.items }
-    ensures loads { LoadsOrNot (read_each N.read (map N.spec nodes.old.items))
-        from.old from.new (map N.state nodes.new.items) result }
+    ensures ok { OnOk result (Passes (read_each N.read (map N.spec nodes.old.items))
+        from.old from.new (map N.state nodes.new.items)) }
+    ensures err { IfErr result (StopsBy N.read (map N.spec nodes.old.items) from.old) }
 {
     load_nodes(alloc, nodes, from)
 }
@@ -61,7 +76,7 @@ fn load_life<N: Node>(
     ensures same { IfOk result (IsSameLife N.spec plan) }
     ensures ok { IfOk result (λ loaded. Passes (read_each N.read (map N.spec plan.nodes))
         from.old from.new (map N.state loaded.nodes)) }
-    ensures err { IfErr result (RefusedBy (read_each N.read (map N.spec plan.nodes)) from.old) }
+    ensures err { IfErr result (StopsBy N.read (map N.spec plan.nodes) from.old) }
 {
     let life = plan.life;
     let parents = plan.parents;
@@ -84,8 +99,7 @@ fn load_lives<N: Node>(
 ) -> Result<(), CodeFault>
     ensures ok { OnOk result (LoadsLives N.Node rest.rest.items from.old from.new
         loaded.old.items loaded.new.items) }
-    ensures err { IfErr result (RefusedBy
-        (read_each N.read (in_lives N.spec rest.rest.items)) from.old) }
+    ensures err { IfErr result (StopsBy N.read (in_lives N.spec rest.rest.items) from.old) }
 {
     let Some(plan) = rest.next() else {
         return Ok(());
@@ -121,8 +135,8 @@ fn count<N: Node>(plans: &[LifePlan<N>]) -> Option<u32>
 }
 
 /// The same lives, in the states that the bytes hold. `At` comes exactly where the bytes hold no
-/// states of their nodes: at the first byte string that isn't the state of its node, or behind the
-/// last one; at 0 where the number of the states is another.
+/// states of their nodes. It names the place of the first byte string that isn't the state of its
+/// node, or that of the bytes behind the last one, or 0 where the number of the states is another.
 pub(crate) fn load_capture<N: Node>(
     alloc: Global,
     plans: Vec<LifePlan<N>>,
@@ -131,6 +145,8 @@ pub(crate) fn load_capture<N: Node>(
     ensures ok { IfOk result (λ loaded. AreInStates N.Node plans.items bytes.now loaded.items) }
     ensures at { (offset : ℕ) (states : List N.State) → result ≡ Err (at_place offset)
         → IsCapture N.fits N.spell (in_lives N.spec plans.items) states bytes.now → ⊥ }
+    ensures named { (offset : ℕ) → result ≡ Err (at_place offset)
+        → FaultsAt N.fits N.spell (in_lives N.spec plans.items) bytes.now offset }
 {
     let mut from = Cursor::new(bytes);
     let number = match from.u32() {

@@ -4,6 +4,7 @@ ghost use Rattle.std.specs.Prelude.{◌≡◌, ◌<◌, ◌≤◌, ℕ, Err, IfO
 ghost use Rattle.std.specs.List.{AllByRecursion as Each};
 ghost use Rattle.flow_core.specs.Making.{HasFewParents};
 ghost use Rattle.barrier_snapshot.specs.Captures.{IsCapture, in_lives};
+ghost use Rattle.barrier_snapshot.specs.Faults.{FaultsAt};
 ghost use Rattle.barrier_snapshot.specs.Restoring.{Restores};
 ghost use Rattle.barrier_snapshot.specs.declared.fault.SnapFault.TheVariants.{At as at_place};
 
@@ -19,8 +20,9 @@ use task_run::LifePlan;
 /// A net with a life of each plan, in their order, at rest in the states that the bytes hold, life
 /// by life and node by node. Its last barrier has the stamp 0, each cell's saved state is its
 /// state, and its edges have room for 1 to 65,536 messages. `At` comes exactly where the bytes
-/// aren't a capture of these lives: it names the first byte string that isn't the state of its
-/// node, or the place behind the last one, or 0 where the number of the states is another.
+/// aren't a capture of these lives: it names the place of the first byte string that isn't the
+/// state of its node, or that of the bytes behind the last one, or 0 where the number of the states
+/// is another.
 pub fn restore<N: Node>(
     alloc: Global,
     plans: Vec<LifePlan<N>>,
@@ -33,6 +35,8 @@ pub fn restore<N: Node>(
     ensures restores { IfOk result (Restores N.Node plans.items bytes.now) }
     ensures at { (offset : ℕ) (states : List N.State) → result ≡ Err (at_place offset)
         → IsCapture N.fits N.spell (in_lives N.spec plans.items) states bytes.now → ⊥ }
+    ensures named { (offset : ℕ) → result ≡ Err (at_place offset)
+        → FaultsAt N.fits N.spell (in_lives N.spec plans.items) bytes.now offset }
 {
     let loaded = match load_capture(alloc, plans, bytes) {
         Ok(loaded) => loaded,

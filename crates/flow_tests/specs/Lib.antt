@@ -1,2 +1,3 @@
 -- a node of the tests
 pub mod Relays
+pub mod Taps

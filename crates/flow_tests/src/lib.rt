@@ -3,6 +3,8 @@
 #![tactic(auto)]
 
 #[cfg(test)]
+mod captures;
+#[cfg(test)]
 mod changes;
 #[cfg(test)]
 mod diamonds;
@@ -18,5 +20,7 @@ mod relay;
 mod schedules;
 #[cfg(test)]
 mod sides;
+#[cfg(test)]
+mod taps;
 #[cfg(test)]
 mod workers;

@@ -1,0 +1,43 @@
+use Rattle.std.proofs.Common.{◌≡◌, ◌∙◌, [], ◌∷◌, arith, subst, sym}
+use Rattle.flow_core.specs.Making.{AreLivesOf}
+use Rattle.flow_core.specs.Messages.{load_messages}
+use Rattle.barrier_snapshot.specs.Barriers.{IsCaptureAt, cells_in}
+use Rattle.barrier_snapshot.specs.Restoring.{Restores}
+use Rattle.barrier_snapshot.specs.Resuming.{AreLoadedWith}
+use Rattle.flow_tests.proofs.captures.goes_on_at_rest.Goals as goal
+
+pub returns-clause-same : goal.returns-clause-same
+returns-clause-same g c =
+    let node = g.N.Node in
+    let points = c.args.points.now in
+    let last = c.args.last in
+    let some = c.requires.some in
+    let at = c.requires.last in
+    let made = c.in_ok-net.net.lives in
+    let first = c.args.plan ∷ [] in
+    let again = c.args.again ∷ [] in
+    let are = subst (λ plans. AreLivesOf node plans made) c.in_ok-plans.ensures.items c.in_ok-net.ensures.lives in
+    let stands = c.lives_stand.ensures.made first made are (c.requires.first, tt) in
+    let msgs = load_messages points last [] in
+    let stop : AreLoadedWith node msgs made c.run.new.self.lives = record {
+      plans = c.in_ok-run.ensures.plans ∙ c.in_ok-load.ensures.plans;
+      specs = c.in_ok-run.ensures.specs ∙ c.in_ok-load.ensures.specs;
+      lives = c.keep_lives.ensures;
+    } in
+    let more = load_messages c.args.more.now c.args.end [] in
+    let rest : AreLoadedWith node more c.run.new.self.lives c.run-2.new.self.lives = record {
+      plans = c.in_ok-run-2.ensures.plans ∙ c.in_ok-load-2.ensures.plans;
+      specs = c.in_ok-run-2.ensures.specs ∙ c.in_ok-load-2.ensures.specs;
+      lives = c.keep_lives-2.ensures;
+    } in
+    let go : AreLoadedWith node more c.in-Ok.other.lives c.run-3.new.self.lives = record {
+      plans = c.in_ok-run-3.ensures.plans ∙ c.in_ok-load-3.ensures.plans;
+      specs = c.in_ok-run-3.ensures.specs ∙ c.in_ok-load-3.ensures.specs;
+      lives = c.keep_lives-3.ensures;
+    } in
+    let restores = subst (λ plans. Restores node plans c.as_slice.result.now c.in-Ok.other) c.in_ok-plans-2.ensures.items c.in-Ok.ensures.restores in
+    let capture = subst (λ bytes. IsCaptureAt node last (cells_in c.run.new.self.lives) bytes) (sym c.as_slice.ensures) c.in_ok-bytes.ensures in
+    let planned = c.lives_are_planned.ensures.loaded msgs again made c.run.new.self.lives (c.lives_are_planned.ensures.made first again made are (c.requires.again, tt)) stop in
+    let alike = c.nets_go_on.ensures.rest last again c.as_slice.result.now c.run.new.self.lives c.in-Ok.other capture planned restores 0 points [] made
+    (omega (arith, some, at)) (omega (arith, at)) tt stands stop c.in_ok-run.ensures.rest in
+    c.nets_go_on.ensures.same more c.run.new.self.lives c.in-Ok.other.lives c.run-2.new.self.lives c.run-3.new.self.lives alike rest go c.in_ok-run-2.ensures.rest c.in_ok-run-3.ensures.rest
