@@ -16,6 +16,7 @@ ghost use Rattle.window_node.specs.Nodes.{seat_of as window_seat};
 ghost use Rattle.node_set.specs.Nodes.{any_spec, in_alert, in_basic, in_eval, in_gather, in_select, in_state, in_window, node_spec};
 ghost use Rattle.node_set.specs.Seats.{each_sits};
 
+use crate::families::Families;
 use crate::script_node::ScriptNode;
 use alert_node::AlertNode;
 use basic_nodes::{BasicNode, BasicSpec, basic_node};
@@ -23,7 +24,7 @@ use eval_node::EvalNode;
 use join_node::{GatherNode, GatherSpec};
 use kap_base::{NoMemory, Text};
 use lambda_types::Lambda;
-use node_core::{Both, Node};
+use node_core::Node;
 use select_nodes::SelectNode;
 use state_nodes::{StateNode, StateSpec, state_node};
 use std::alloc::Global;
@@ -32,12 +33,14 @@ use task_run::Ids;
 use window_node::WindowNode;
 
 /// A node of any kind that a script can make.
-pub type AnyNode = Both<
+pub type AnyNode = Families<
     StateNode,
-    Both<
-        Both<WindowNode, AlertNode>,
-        Both<Both<BasicNode, EvalNode>, Both<GatherNode, SelectNode>>,
-    >,
+    WindowNode,
+    AlertNode,
+    BasicNode,
+    EvalNode,
+    GatherNode,
+    SelectNode,
 >;
 
 /// The node of one of the basic kinds.
@@ -48,7 +51,7 @@ fn basic(alloc: Global, life: u32, number: u32, spec: BasicSpec) -> Result<AnyNo
         ≡ ⟦<AnyNode as Node>⟧.first (in_basic (basic_seat life number (kind_of spec)))) }
 {
     match basic_node(alloc, life, number, spec) {
-        Ok(node) => Ok(Both::Other(Both::Other(Both::One(Both::One(node))))),
+        Ok(node) => Ok(Families::Basic(node)),
         Err(NoMemory) => Err(NoMemory),
     }
 }
@@ -71,7 +74,7 @@ fn eval(alloc: Global, life: u32, number: u32, spec: EvalSpec<Lambda>) -> AnyNod
         ≡ ⟦<AnyNode as Node>⟧.first (in_eval (eval_seat life number spec)) }
 {
     let node = eval_node::build(alloc, life, number, spec);
-    Both::Other(Both::Other(Both::One(Both::Other(node))))
+    Families::Eval(node)
 }
 
 /// The node of one of the kinds that keep a small state of each group.
@@ -81,7 +84,7 @@ fn state(alloc: Global, life: u32, number: u32, spec: StateSpec) -> AnyNode
         ≡ ⟦<AnyNode as Node>⟧.first (in_state (state_seat life number spec)) }
 {
     let node = state_node(alloc, life, number, spec);
-    Both::One(node)
+    Families::State(node)
 }
 
 /// The node of one of the kinds that gather points of several parents.
@@ -91,7 +94,7 @@ fn gather(alloc: Global, life: u32, number: u32, spec: GatherSpec) -> AnyNode
         ≡ ⟦<AnyNode as Node>⟧.first (in_gather (gather_seat life number spec)) }
 {
     let node = join_node::build(alloc, life, number, spec);
-    Both::Other(Both::Other(Both::Other(Both::One(node))))
+    Families::Gather(node)
 }
 
 /// The node `window`.
@@ -102,7 +105,7 @@ fn window(alloc: Global, life: u32, number: u32, spec: WindowSpec) -> AnyNode
         ≡ ⟦<AnyNode as Node>⟧.first (in_window (window_seat life number (window_of spec))) }
 {
     let node = window_node::build(alloc, life, number, spec);
-    Both::Other(Both::One(Both::One(node)))
+    Families::Window(node)
 }
 
 /// The node of one of the selects.
@@ -112,7 +115,7 @@ fn select(alloc: Global, life: u32, number: u32, spec: SelectSpec) -> AnyNode
         ≡ ⟦<AnyNode as Node>⟧.first (in_select (select_seat life number spec)) }
 {
     let node = select_nodes::build(alloc, life, number, spec);
-    Both::Other(Both::Other(Both::Other(Both::Other(node))))
+    Families::Select(node)
 }
 
 /// The node `alert`, of this name in the task of this id.
@@ -131,7 +134,7 @@ fn alert(
         (in_alert (alert_seat life number (alert_of task.now name.now spec)))) }
 {
     match alert_node::build(alloc, life, task, number, name, spec) {
-        Ok(node) => Ok(Both::Other(Both::One(Both::Other(node)))),
+        Ok(node) => Ok(Families::Alert(node)),
         Err(NoMemory) => Err(NoMemory),
     }
 }

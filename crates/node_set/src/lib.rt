@@ -3,9 +3,13 @@
 
 mod any;
 mod drafts;
+mod families;
 mod script_node;
+mod sends;
 mod tasks;
 
 pub use any::{AnyNode, any_node};
+pub use families::Families;
 pub use script_node::ScriptNode;
+pub use sends::send_any_node;
 pub use tasks::{TaskPlan, plan_task};
