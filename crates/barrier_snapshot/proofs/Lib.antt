@@ -16,3 +16,4 @@ pub mod ResumeNetLaws
 pub mod AlikeLaws
 pub mod StandLaws
 pub mod StandNetLaws
+pub mod CollectLaws

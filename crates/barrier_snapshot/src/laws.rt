@@ -1,8 +1,9 @@
 //! Laws of captures, and no code.
 
-ghost use Rattle.std.specs.Prelude.{◌≡◌, ℕ, ◌+◌, ◌<◌, ◌≤◌, ◌∷◌, ◌++◌, Contains, List, length, map};
+ghost use Rattle.std.specs.Prelude.{◌≡◌, ℕ, ◌+◌, ◌<◌, ◌≤◌, [], ◌∷◌, ◌++◌, Contains, IsPermutation, List, length, map};
 ghost use Rattle.std.specs.List.{AllByRecursion as Each, AllZip};
 ghost use Rattle.kap_base.specs.Points.{PointValue};
+ghost use Rattle.kap_base.specs.declared.items.Effect.{Effect};
 ghost use Rattle.kap_base.specs.declared.items.Msg.{Msg};
 ghost use Rattle.kap_base.specs.declared.items.Stamp.{Stamp};
 ghost use Rattle.flow_cells.specs.declared.parts.CellParts.{CellParts};
@@ -10,6 +11,8 @@ ghost use Rattle.flow_cells.specs.Kept.{Keeps};
 ghost use Rattle.flow_core.specs.Making.{AreLivesOf, IsLifeBehind};
 ghost use Rattle.flow_core.specs.Messages.{AreMarksOf, load_messages};
 ghost use Rattle.flow_core.specs.Nets.{IsResting, NetValue, NumberedLife, plans_from, plans_in, specs_in};
+ghost use Rattle.flow_core.specs.Ran.{HasGathered};
+ghost use Rattle.flow_core.specs.Sorting.{AreRising, AreSorted};
 ghost use Rattle.merge_node.specs.Merge.{barriers};
 ghost use Rattle.task_run.specs.Plans.{AreFirstNodes, AreFirstStates, PlanValue};
 ghost use Rattle.barrier_snapshot.specs.Barriers.{IsCaptureAt, WasAt, cells_in};
@@ -18,7 +21,7 @@ ghost use Rattle.barrier_snapshot.specs.Faults.{FaultsAt};
 ghost use Rattle.barrier_snapshot.specs.GoingOn.{HasGoneOn};
 ghost use Rattle.barrier_snapshot.specs.Loading.{IsSameLife};
 ghost use Rattle.barrier_snapshot.specs.Restoring.{Restores};
-ghost use Rattle.barrier_snapshot.specs.Resuming.{AreLoadedWith, DidTheRestOf, DidTheSame, IsAlike, IsPlannedAgain, StandsBehind};
+ghost use Rattle.barrier_snapshot.specs.Resuming.{AreLoadedWith, DidTheRestOf, DidTheSame, IsAlike, IsPlannedAgain, StandsBehind, effects_behind};
 ghost use Rattle.barrier_snapshot.specs.Steady.{HasSteadyStream, HasSteadyStreams};
 
 use node_core::Node;
@@ -151,4 +154,37 @@ pub fn nets_go_on<N: Node>()
         → AreLoadedWith N.Node msgs before rested → AreLoadedWith N.Node msgs other resumed
         → Each IsResting rested → Each IsResting resumed
         → AllZip (DidTheSame N.Node) rested resumed }
+{}
+
+/// What is collected of a net that was restored is what is collected of the one that went on, behind
+/// the barrier.
+///
+/// `behind`: one net did what another one did behind a barrier, as `nets_go_on` says. Then what was
+/// collected of it since its load, and what wasn't yet, are the effects of the other one with stamps
+/// above the barrier.
+///
+/// `in_order`: once all was collected of both, and of the restored one by one call, its list is that
+/// of the other one without the effects up to the barrier: the same effects in the same order. No two
+/// effects of the other one stand at one place in the order of `collect`; so it is where nodes number
+/// their effects (`rising` of `sorted_effects_are_whole`).
+///
+/// `same`, `same_in_order`: alike of nets that did the same since their load.
+pub fn nets_collect_alike<N: Node>()
+    ensures behind { (upto : Stamp) (whole rest : NetValue N) (all late : List Effect)
+        → DidTheRestOf N.Node upto whole.lives rest.lives
+        → HasGathered all whole → HasGathered late rest
+        → IsPermutation (effects_behind upto (all ++ whole.gathered)) (late ++ rest.gathered) }
+    ensures in_order { (upto : Stamp) (whole rest : NetValue N) (all late : List Effect)
+        → DidTheRestOf N.Node upto whole.lives rest.lives
+        → HasGathered all whole → whole.gathered ≡ [] → AreRising all
+        → HasGathered late rest → rest.gathered ≡ [] → AreSorted late
+        → late ≡ effects_behind upto all }
+    ensures same { (whole rest : NetValue N) (all late : List Effect)
+        → AllZip (DidTheSame N.Node) whole.lives rest.lives
+        → HasGathered all whole → HasGathered late rest
+        → IsPermutation (all ++ whole.gathered) (late ++ rest.gathered) }
+    ensures same_in_order { (whole rest : NetValue N) (all late : List Effect)
+        → AllZip (DidTheSame N.Node) whole.lives rest.lives
+        → HasGathered all whole → whole.gathered ≡ [] → AreRising all
+        → HasGathered late rest → rest.gathered ≡ [] → AreSorted late → late ≡ all }
 {}

@@ -5,12 +5,11 @@ use Rattle.kap_base.specs.declared.items.Effect.{Effect}
 use Rattle.node_core.specs.declared.node.Node.{Ghosts}
 use Rattle.flow_cells.specs.declared.parts.CellParts.{CellParts}
 use Rattle.flow_cells.specs.Gathers.{Gathers}
-use Rattle.flow_cells.specs.Moved.{HasMoved}
 use Rattle.flow_life.specs.Gathers.{effects_of as left_of}
 use Rattle.flow_life.specs.Lives.{IsLife}
 use Rattle.flow_life.specs.Loose.{HasLooked}
 use Rattle.flow_life.specs.LooseLaws.{back_specs, looked_gathered, looked_plans, moved_gathered, moved_loose, moved_plans}
-use Rattle.flow_life.specs.Nodes.{gathered_of, specs_of}
+use Rattle.flow_life.specs.Nodes.{specs_of}
 use Rattle.flow_life.specs.Streams.{Plan, plans_of}
 use Rattle.flow_core.specs.Away.{AreGivenBack, HasMovedLife, IsBack, IsGivenBack, IsLooseLife, with_lives}
 use Rattle.flow_core.specs.DoneLaws.{gathers-behind, gathers-front, gathers_none, gathers_then, step_gathers}

@@ -1,5 +1,5 @@
 -- Counts of cells, one after the other.
-use Rattle.std.proofs.Common.{◌≡◌, ℕ, zero, suc, ◌<◌, List, [], ◌∷◌, ◌++◌, Option, Some, length, map, take, refl, ap, arith}
+use Rattle.std.proofs.Common.{◌≡◌, ℕ, zero, suc, ◌<◌, List, [], ◌∷◌, ◌++◌, Some, length, map, take, refl, ap, arith}
 use Rattle.std.specs.Prelude.{slice_get}
 
 -- the count of one more

@@ -71,6 +71,10 @@ rising-first (x ∷ xs) ys h = (before-first x xs ys h.0, rising-first xs ys h.1
     before-first a [] cs k = tt
     before-first a (b ∷ bs) cs k = (k.0, before-first a bs cs k.1)
 
+rising-last : (xs ys : List Effect) → AreRising (xs ++ ys) → AreRising ys
+rising-last [] ys h = h
+rising-last (x ∷ xs) ys h = rising-last xs ys h.1
+
 -- ---- sorted lists behind others
 
 in-either : (z : Effect) (xs ys : List Effect) → IsIn z (xs ++ ys) → IsIn z xs ⊎ IsIn z ys
@@ -190,3 +194,9 @@ module _ {P : Type 0} (answer : P → Answer) (life number : P → ℕ) (stamped
         IsPermutation-trans _ _ _ (IsPermutation-sym _ _ (by-node (old ++ new) lives))
         (IsPermutation-trans _ _ _ same (IsPermutation-append _ _ _ _ (by-node old lives) one)) in
         r.is ∙ sym (behind-is front r.rest sorted rising (subst (λ (l : List Effect). IsPermutation l (front ++ sorted)) r.is whole) is)
+
+    -- and they rise
+    pub rising_more : (lives : List (List (Placed P))) (old new : List PointValue) (low : ℕ) (more : List Effect) → LivesRise life number low lives
+        → effects_of answer lives (old ++ new) ≡ effects_of answer lives old ++ more → AreRising more
+    rising_more lives old new low more are is =
+        rising-last (effects_of answer lives old) more (subst AreRising is (effects_rise answer life number stamped numbers low (old ++ new) lives are))

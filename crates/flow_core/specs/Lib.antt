@@ -39,6 +39,7 @@ pub mod LifeLaws
 pub mod NetLaws
 pub mod PlanLaws
 pub mod DoneLaws
+pub mod GatheredLaws
 pub mod ReceivedLaws
 pub mod RanLaws
 pub mod CarriedLaws

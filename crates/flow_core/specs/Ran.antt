@@ -37,6 +37,10 @@ pub record GathersAll (done done' gathered gathered' : List Effect) : Type 0 whe
   pub given : gathered' ≡ gathered ++ more
   pub all : IsPermutation done' (done ++ more)
 
+-- all that the cells of a net have done since the load is what was collected since then and what wasn't yet
+abbrev pub HasGathered : {N : Type 0} → List Effect → NetValue N → Type 0
+HasGathered collected net = IsPermutation (effects_in net.lives) (collected ++ net.gathered)
+
 module _ {N P S : Type 0} (g : Ghosts N P S) where
   -- lives of plans, whose nodes are in their first states, from which nothing was gathered
   pub record IsNew (plans : List (PlanValue N)) (net : NetValue N) : Type 0 where

@@ -21,7 +21,9 @@ ghost use Rattle.flow_core.specs.Gathering.{LivesRise, NumbersEffects, effects_b
 ghost use Rattle.flow_core.specs.LifeLoads.{acts_of, effects_since};
 ghost use Rattle.flow_core.specs.Loads.{Loaded};
 ghost use Rattle.flow_core.specs.Messages.{AreMarksOf, load_messages, stamped_up_to};
-ghost use Rattle.flow_core.specs.Sorting.{AreSorted};
+ghost use Rattle.flow_core.specs.Nets.{NetValue};
+ghost use Rattle.flow_core.specs.Ran.{GathersAll, HasGathered, effects_in};
+ghost use Rattle.flow_core.specs.Sorting.{AreRising, AreSorted};
 
 use node_core::Node;
 
@@ -81,7 +83,8 @@ pub fn lives_go_on<N: Node>()
 {}
 
 /// The effects that the nodes of lives gave for all points, or for more points than before, are those that whole lists give, once
-/// they are sorted, where each node numbers the effects of a stamp; and a node does whose effects are numbered as they are said.
+/// they are sorted, where each node numbers the effects of a stamp, and then no two of them stand at one place in this order; and a
+/// node does whose effects are numbered as they are said.
 pub fn sorted_effects_are_whole<N: Node>()
     ensures all { (numbers : (p : N.Spec) → NumbersEffects (N.answer p))
         (lives : List (List (Placed N.Spec))) (points : List PointValue) (first : ℕ)
@@ -95,6 +98,22 @@ pub fn sorted_effects_are_whole<N: Node>()
         (effects_by_node N.answer lives old ++ more)
         → IsPermutation more sorted → AreSorted sorted
         → effects_of N.answer lives (old ++ new) ≡ effects_of N.answer lives old ++ sorted }
+    ensures rising { (numbers : (p : N.Spec) → NumbersEffects (N.answer p))
+        (lives : List (List (Placed N.Spec))) (old new : List PointValue) (first : ℕ)
+        (more : List Effect) → LivesRise N.life N.number first lives
+        → effects_of N.answer lives (old ++ new) ≡ effects_of N.answer lives old ++ more
+        → AreRising more }
     ensures numbers { (life node : ℕ) (saying : Saying)
         → NumbersEffects (stamped life node saying) }
+{}
+
+/// Behind a load of any net of which all was collected before, whatever its nodes had done till then, what it has gathered is what
+/// its cells have done since the load; and behind steps that is what was collected since the load and what wasn't yet.
+pub fn effects_are_gathered<N: Node>()
+    ensures loaded { (before after : NetValue N) → before.gathered ≡ []
+        → after.gathered ≡ before.gathered ++ effects_in after.lives → HasGathered [] after }
+    ensures moved { (collected : List Effect) (before after : NetValue N)
+        → HasGathered collected before
+        → GathersAll (effects_in before.lives) (effects_in after.lives)
+        before.gathered after.gathered → HasGathered collected after }
 {}

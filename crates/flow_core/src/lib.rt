@@ -14,7 +14,9 @@ mod resting;
 
 pub use cells::Cells;
 pub use gathering::sort_effects;
-pub use laws::{lives_go_on, loads_go_on, loads_have_messages, sorted_effects_are_whole};
-pub use lives::Numbered;
+pub use laws::{
+    effects_are_gathered, lives_go_on, loads_go_on, loads_have_messages, sorted_effects_are_whole,
+};
+pub use lives::{Numbered, keep_lives};
 pub use loads::messages;
 pub use net::Net;

@@ -147,8 +147,8 @@ pub(crate) fn at_rest<N: Node>(lives: &[Numbered<Life<N>>]) -> bool
     at_rest(others)
 }
 
-/// What lives keep: among it that each edge has carried a prefix of its stream.
-pub(crate) fn keep_lives<N: Node>(lives: &[Numbered<Life<N>>])
+/// What the cells of lives keep, of which no call failed: among it that each edge has carried a prefix of its stream.
+pub fn keep_lives<N: Node>(lives: &[Numbered<Life<N>>])
     requires { Each IsSound lives.now }
     ensures lives { Each (IsLifeIn N.Node) lives.now }
     ensures prefixes { Each (HasPrefixes N.Node) lives.now }

@@ -72,7 +72,7 @@ impl<N: Node> Net<N> {
     ghost use Rattle.flow_core.specs.Making.{AreLivesOf, Begins, Ends, HasFewParents};
     ghost use Rattle.flow_core.specs.Messages.{AreMarksOf, load_messages};
     ghost use Rattle.flow_core.specs.Nets.{EnabledIn, GrowsIn, HasCell, HasMovedTwice, HasPrefixes, HasStreamsCarried, HaveMovedTwice, IsLifeIn, IsResting, IsSound, NumberedLife, SomeEnabledIn, cell_count, moves_in, numbers_of, plans_from, plans_in, specs_in};
-    ghost use Rattle.flow_core.specs.Ran.{HasRun, IsNew};
+    ghost use Rattle.flow_core.specs.Ran.{GathersAll, HasGathered, HasRun, IsNew, effects_in};
     ghost use Rattle.flow_core.specs.Running.{SameEnabledIn, left_in, steps_of};
     ghost use Rattle.flow_core.specs.Sorting.{AreSorted};
 
@@ -194,6 +194,8 @@ impl<N: Node> Net<N> {
             → HasRun N.Node lives before collected self.old
             → upto.0 ≡ length (before ++ points.now) → AreMarksOf points.now upto marks.now
             → HasRun N.Node lives (before ++ points.now) collected self.new) }
+        ensures gathers { OnOk result (self.new.gathered
+            ≡ self.old.gathered ++ effects_in self.new.lives) }
         ensures last { OnOk result (self.new.last ≡ upto) }
         ensures unspent { OnOk result (self.new.spent ≡ false) }
         ensures spent { OnErr result (self.new.spent ≡ true) }
@@ -230,6 +232,8 @@ impl<N: Node> Net<N> {
             (points : List PointValue) (collected : List Effect)
             → HasRun N.Node lives points collected self.old
             → HasRun N.Node lives points collected self.new) }
+        ensures gathers { OnOk result (GathersAll (effects_in self.old.lives)
+            (effects_in self.new.lives) self.old.gathered self.new.gathered) }
         ensures last { OnOk result (self.new.last ≡ self.old.last) }
         ensures unspent { OnOk result (self.new.spent ≡ false) }
         ensures spent { OnErr result (self.new.spent ≡ true) }
@@ -253,6 +257,8 @@ impl<N: Node> Net<N> {
             (points : List PointValue) (collected : List Effect)
             → HasRun N.Node lives points collected self.old
             → HasRun N.Node lives points collected self.new) }
+        ensures gathers { OnOk result (GathersAll (effects_in self.old.lives)
+            (effects_in self.new.lives) self.old.gathered self.new.gathered) }
         ensures last { OnOk result (self.new.last ≡ self.old.last) }
         ensures unspent { OnOk result (self.new.spent ≡ false) }
         ensures spent { OnErr result (self.new.spent ≡ true) }
@@ -287,6 +293,8 @@ impl<N: Node> Net<N> {
             (points : List PointValue) (collected : List Effect)
             → HasRun N.Node lives points collected self.old
             → HasRun N.Node lives points collected self.new) }
+        ensures gathers { OnOk result (GathersAll (effects_in self.old.lives)
+            (effects_in self.new.lives) self.old.gathered self.new.gathered) }
         ensures last { OnOk result (self.new.last ≡ self.old.last) }
         ensures unspent { OnOk result (self.new.spent ≡ false) }
         ensures spent { OnErr result (self.new.spent ≡ true) }
@@ -310,6 +318,8 @@ impl<N: Node> Net<N> {
             (points : List PointValue) (collected : List Effect)
             → HasRun N.Node lives points collected self.old
             → HasRun N.Node lives points collected self.new) }
+        ensures gathers { OnOk result (GathersAll (effects_in self.old.lives)
+            (effects_in self.new.lives) self.old.gathered self.new.gathered) }
         ensures last { OnOk result (self.new.last ≡ self.old.last) }
         ensures unspent { OnOk result (self.new.spent ≡ false) }
         ensures spent { OnErr result (self.new.spent ≡ true) }
@@ -389,6 +399,10 @@ impl<N: Node> Net<N> {
             → IsBack N.Node before cells.lives.items
             → HasRun N.Node lives points collected (with_lives before self.old)
             → HasRun N.Node lives points collected self.new) }
+        ensures gathers { OnOk result ((before : List (NumberedLife N))
+            → IsBack N.Node before cells.lives.items
+            → GathersAll (effects_in before) (effects_in self.new.lives)
+            self.old.gathered self.new.gathered) }
         ensures last { OnOk result (self.new.last ≡ self.old.last) }
         ensures unspent { OnOk result (self.new.spent ≡ false) }
         ensures spent { OnErr result (self.new.spent ≡ true) }
@@ -416,6 +430,8 @@ impl<N: Node> Net<N> {
         ensures runs { (lives : List (List (Placed N.Spec))) (points : List PointValue)
             (collected : List Effect) → HasRun N.Node lives points collected self.old
             → HasRun N.Node lives points (collected ++ result) self.new }
+        ensures gathers { (collected : List Effect) → HasGathered collected self.old
+            → HasGathered (collected ++ result) self.new }
         ensures whole { (numbers : (p : N.Spec) → NumbersEffects (N.answer p))
             (lives : List (List (Placed N.Spec))) (old new : List PointValue) (lowest : ℕ)
             (collected : List Effect) → LivesRise N.life N.number lowest lives

@@ -1,5 +1,5 @@
 -- Turns, one after the other, and chunks, side by side, leave the same cells.
-use Rattle.std.proofs.Common.{◌≡◌, ℕ, zero, suc, ◌<◌, List, [], ◌∷◌, false, get_or, length, refl, sym, ap, subst, ◌∙◌, arith}
+use Rattle.std.proofs.Common.{◌≡◌, ℕ, zero, suc, ◌<◌, List, [], ◌∷◌, get_or, length, sym, subst, ◌∙◌, arith}
 use Rattle.std.specs.List.{AllByRecursion as Each, AllZip}
 use Rattle.flow_cells.specs.declared.parts.CellParts.{CellParts}
 use Rattle.flow_cells.specs.Moved.{HasMoved}

@@ -6,7 +6,7 @@ ghost use Rattle.kap_base.specs.Points.{PointValue};
 ghost use Rattle.kap_base.specs.declared.items.Effect.{Effect};
 ghost use Rattle.task_run.specs.Graphs.{Placed};
 ghost use Rattle.flow_core.specs.Nets.{HasStreamsCarried, IsResting, numbers_of, plans_in, specs_in};
-ghost use Rattle.flow_core.specs.Ran.{HasRun};
+ghost use Rattle.flow_core.specs.Ran.{GathersAll, HasRun, effects_in};
 ghost use Rattle.node_workers.specs.Workers.{HasStoodLife};
 
 use crate::WORKER_LIMIT;
@@ -55,6 +55,8 @@ pub fn run_epoch<N: Node + Send, G: Gate + Sync, R: Threads + Sync>(
         (points : List PointValue) (collected : List Effect)
         → HasRun N.Node lives points collected net.old
         → HasRun N.Node lives points collected net.new) }
+    ensures gathers { OnOk result (GathersAll (effects_in net.old.lives) (effects_in net.new.lives)
+        net.old.gathered net.new.gathered) }
     ensures last { OnOk result (net.new.last ≡ net.old.last) }
     ensures unspent { OnOk result (net.new.spent ≡ false) }
     ensures spent { OnErr result (net.new.spent ≡ true) }

@@ -1,10 +1,12 @@
-use Rattle.std.proofs.Common.{◌≡◌, ◌≤◌, ◌+◌, ◌∙◌, ◌++◌, [], ◌∷◌, ap, arith, drop, length, refl, subst, sym, take}
+use Rattle.std.proofs.Common.{◌≡◌, ◌+◌, ◌∙◌, ◌++◌, [], ◌∷◌, ap, arith, drop, length, refl, subst, sym, take}
 use Rattle.std.specs.Prelude.{Contains}
 use Rattle.std.proofs.lemmas.List.{take-append-drop}
 use Rattle.merge_node.specs.Merge.{barriers}
 use Rattle.flow_core.specs.Making.{AreLivesOf}
 use Rattle.flow_core.specs.Messages.{load_messages}
 use Rattle.flow_core.specs.Nets.{plans_from}
+use Rattle.flow_core.specs.Ran.{IsNew}
+use Rattle.task_run.specs.Plans.{AreFirstStates, graph_of}
 use Rattle.barrier_snapshot.specs.Barriers.{IsCaptureAt, cells_in}
 use Rattle.barrier_snapshot.specs.Restoring.{Restores}
 use Rattle.barrier_snapshot.specs.Resuming.{AreLoadedWith}
@@ -71,3 +73,28 @@ returns-clause-behind g c =
     c.nets_go_on.ensures.behind 0 front back mark last [] [] again c.as_slice.result.now made c.play.new.self.lives c.run.new.self.lives c.in-Ok.other c.run-2.new.self.lives
     (omega (arith, long, end)) (omega (arith, behind, at, end)) (omega (arith, long, some, at, end), omega (arith, inside, at, end), tt)
     stands stop rest c.in_ok-run.ensures.rest capture planned restores go c.in_ok-run-2.ensures.rest
+
+pub returns-clause-gathered : goal.returns-clause-gathered
+returns-clause-gathered g c =
+    let moved = c.effects_are_gathered.ensures.moved [] in
+    let loaded = c.effects_are_gathered.ensures.loaded c.in_ok-net.net c.load.new.self c.in_ok-net.ensures.gathered c.in_ok-load.ensures.gathers in
+    moved c.play.new.self c.run.new.self (moved c.load.new.self c.play.new.self loaded c.in_ok-play.ensures.gathers) c.in_ok-run.ensures.gathers
+
+pub returns-clause-gathered_too : goal.returns-clause-gathered_too
+returns-clause-gathered_too g c =
+    let loaded = c.effects_are_gathered.ensures.loaded c.in-Ok.other c.load-2.new.self c.in-Ok.ensures.restores.gathered c.in_ok-load-2.ensures.gathers in
+    c.effects_are_gathered.ensures.moved [] c.load-2.new.self c.run-2.new.self loaded c.in_ok-run-2.ensures.gathers
+
+pub returns-clause-runs : goal.returns-clause-runs
+returns-clause-runs g c =
+    let node = g.N.Node in
+    let points = c.args.points.now in
+    let some = c.requires.some in
+    let inside = c.requires.inside in
+    let at = c.requires.mark in
+    let end = c.requires.last in
+    let first = c.args.plan ∷ [] in
+    let graphs = graph_of node.spec c.args.plan ∷ [] in
+    let new = subst (λ plans. AreFirstStates node.spec node.state node.first plans → IsNew node plans c.in_ok-net.net) c.in_ok-plans.ensures.items c.in_ok-net.ensures.new (c.requires.first, tt) in
+    let loaded = c.in_ok-load.ensures.first first new end (omega (arith, some, at, end), omega (arith, inside, at, end), tt) in
+    c.in_ok-run.ensures.runs graphs points [] (c.in_ok-play.ensures.runs graphs points [] loaded)

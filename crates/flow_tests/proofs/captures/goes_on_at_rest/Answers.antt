@@ -1,6 +1,7 @@
-use Rattle.std.proofs.Common.{◌≡◌, ◌∙◌, [], ◌∷◌, arith, subst, sym}
+use Rattle.std.proofs.Common.{◌∙◌, [], ◌∷◌, ap, arith, subst, sym}
 use Rattle.flow_core.specs.Making.{AreLivesOf}
 use Rattle.flow_core.specs.Messages.{load_messages}
+use Rattle.flow_core.specs.Nets.{plans_from, specs_in}
 use Rattle.barrier_snapshot.specs.Barriers.{IsCaptureAt, cells_in}
 use Rattle.barrier_snapshot.specs.Restoring.{Restores}
 use Rattle.barrier_snapshot.specs.Resuming.{AreLoadedWith}
@@ -26,8 +27,8 @@ returns-clause-same g c =
     } in
     let more = load_messages c.args.more.now c.args.end [] in
     let rest : AreLoadedWith node more c.run.new.self.lives c.run-2.new.self.lives = record {
-      plans = c.in_ok-run-2.ensures.plans ∙ c.in_ok-load-2.ensures.plans;
-      specs = c.in_ok-run-2.ensures.specs ∙ c.in_ok-load-2.ensures.specs;
+      plans = c.in_ok-run-2.ensures.plans ∙ c.in_ok-load-2.ensures.plans ∙ ap (plans_from node more) c.collect-before.ensures.lives;
+      specs = c.in_ok-run-2.ensures.specs ∙ c.in_ok-load-2.ensures.specs ∙ ap (specs_in node) c.collect-before.ensures.lives;
       lives = c.keep_lives-2.ensures;
     } in
     let go : AreLoadedWith node more c.in-Ok.other.lives c.run-3.new.self.lives = record {
@@ -41,3 +42,13 @@ returns-clause-same g c =
     let alike = c.nets_go_on.ensures.rest last again c.as_slice.result.now c.run.new.self.lives c.in-Ok.other capture planned restores 0 points [] made
     (omega (arith, some, at)) (omega (arith, at)) tt stands stop c.in_ok-run.ensures.rest in
     c.nets_go_on.ensures.same more c.run.new.self.lives c.in-Ok.other.lives c.run-2.new.self.lives c.run-3.new.self.lives alike rest go c.in_ok-run-2.ensures.rest c.in_ok-run-3.ensures.rest
+
+pub returns-clause-gathered : goal.returns-clause-gathered
+returns-clause-gathered g c =
+    let loaded = c.effects_are_gathered.ensures.loaded c.collect-before.new.self c.load-2.new.self c.collect-before.ensures.none c.in_ok-load-2.ensures.gathers in
+    c.effects_are_gathered.ensures.moved [] c.load-2.new.self c.run-2.new.self loaded c.in_ok-run-2.ensures.gathers
+
+pub returns-clause-gathered_too : goal.returns-clause-gathered_too
+returns-clause-gathered_too g c =
+    let loaded = c.effects_are_gathered.ensures.loaded c.in-Ok.other c.load-3.new.self c.in-Ok.ensures.restores.gathered c.in_ok-load-3.ensures.gathers in
+    c.effects_are_gathered.ensures.moved [] c.load-3.new.self c.run-3.new.self loaded c.in_ok-run-3.ensures.gathers

@@ -1,4 +1,4 @@
-use Rattle.std.proofs.Common.{List, rules, subst, sym}
+use Rattle.std.proofs.Common.{rules, subst, sym}
 use Rattle.std.proofs.lemmas.List.{places, with_items_is}
 use Rattle.std.specs.List.{AllZip}
 use Rattle.node_workers.specs.Workers.{HasStoodLife}

@@ -1,6 +1,8 @@
-use Rattle.std.proofs.Common.{Bool, true, false, ap, refl, ◌∙◌}
+use Rattle.std.proofs.Common.{Bool, true, false, ap, refl, subst, ◌∙◌}
 use Rattle.std.specs.Prelude.{IsFalse, IsTrue}
+use Rattle.flow_core.specs.DoneLaws.{gathers_then}
 use Rattle.flow_core.specs.Nets.{numbers_of, plans_in, specs_in}
+use Rattle.flow_core.specs.Ran.{GathersAll, effects_in}
 use Rattle.node_workers.specs.WorkerLaws.{stood_back}
 use Rattle.node_workers.proofs.epochs.run_epoch.Goals as goal
 
@@ -43,3 +45,14 @@ returns-clause-runs g c = λ lives points collected h.
     let b = stood_back g.N.Node c.take_cells-cells.result.lives.items c.move_cells.new.cells.lives.items e.sound e.lives c.move_cells.ensures (c.are_unspent.ensures.yes c.if-not-are_unspent.false) in
     c.in_ok-run.ensures.runs lives points collected
     (c.in_ok-give_cells.ensures.runs lives points collected c.take_cells-cells.result.lives.items b (e.runs lives points collected h))
+
+pub returns-clause-gathers : goal.returns-clause-gathers
+returns-clause-gathers g c =
+    let e = c.take_cells-cells.ensures in
+    let taken = c.take_cells-cells.result.lives.items in
+    let b = stood_back g.N.Node taken c.move_cells.new.cells.lives.items e.sound e.lives c.move_cells.ensures (c.are_unspent.ensures.yes c.if-not-are_unspent.false) in
+    let here = c.give_cells.new.self in
+    let back : GathersAll (effects_in c.args.net.now.lives) (effects_in here.lives) c.args.net.now.gathered here.gathered =
+    subst (λ ls. GathersAll (effects_in ls) (effects_in here.lives) c.args.net.now.gathered here.gathered) e.cells
+    (subst (λ es. GathersAll (effects_in taken) (effects_in here.lives) es here.gathered) e.gathered (c.in_ok-give_cells.ensures.gathers taken b)) in
+    gathers_then (effects_in c.args.net.now.lives) (effects_in here.lives) _ c.args.net.now.gathered here.gathered _ back c.in_ok-run.ensures.gathers

@@ -1,4 +1,3 @@
-use Rattle.std.proofs.Common.{get_or, length}
 use denote.Exit.{no}
 use denote.Param.{param}
 use denote.Param.Send.{param_send, arg_send}

@@ -5,6 +5,7 @@ use Rattle.std.proofs.lemmas.List.{places, with_items_is}
 use Rattle.flow_core.specs.Away.{AreGivenBack, IsBack, IsLooseLife}
 use Rattle.flow_core.specs.AwayLaws.{back_loose, run_back}
 use Rattle.flow_core.specs.Nets.{NumberedLife, numbers_of, plans_in, specs_in}
+use Rattle.flow_core.specs.Ran.{GathersAll, effects_in}
 use Rattle.flow_core.proofs.net.Net.give_cells.Given as given
 use Rattle.flow_core.proofs.net.Net.give_cells.Goals as goal
 use Rattle.flow_core.proofs.net.Net.give_cells.Goals.{In_ok-give}
@@ -45,3 +46,8 @@ pub returns-clause-runs : goal.returns-clause-runs
 returns-clause-runs g c = λ lives points collected before back h.
     let l = gives g (goal.at.returns-clause-runs g c).In_ok-give before back in
     run_back g.N.Node lives points collected c.args.self.now _ before c.give.new.lives l.given l.here (ap (λ v. v.last) c.self.view_is) h
+
+pub returns-clause-gathers : goal.returns-clause-gathers
+returns-clause-gathers g c = λ before back.
+    let l = gives g (goal.at.returns-clause-gathers g c).In_ok-give before back in
+    subst (λ ls. GathersAll (effects_in before) (effects_in ls) c.args.self.now.gathered c.give.new.gathered) (sym l.here) l.given.gathers
