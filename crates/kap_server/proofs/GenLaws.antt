@@ -54,10 +54,10 @@ module _ {P : Type 0} (answer : P → Answer) (planned : Planned P) (refused : L
 
 -- ---- what the words ask for
 
-same_number : (a b : ℕ) (p q : List Pair) → ◌≡◌ {A = Option Request} (Some (Summarize a p)) (Some (Summarize b q)) → a ≡ b
+pub same_number : (a b : ℕ) (p q : List Pair) → ◌≡◌ {A = Option Request} (Some (Summarize a p)) (Some (Summarize b q)) → a ≡ b
 same_number a b p q e = cc
 
-same_tasks : (a b : ℕ) (p q : List Pair) → ◌≡◌ {A = Option Request} (Some (Summarize a p)) (Some (Summarize b q)) → p ≡ q
+pub same_tasks : (a b : ℕ) (p q : List Pair) → ◌≡◌ {A = Option Request} (Some (Summarize a p)) (Some (Summarize b q)) → p ≡ q
 same_tasks a b p q e = cc
 
 pub summary_not_none : (a : ℕ) (p : List Pair) → ◌≡◌ {A = Option Request} (Some (Summarize a p)) None → ⊥

@@ -8,4 +8,5 @@ pub mod ReadyLaws
 pub mod TellLaws
 pub mod RunLaws
 pub mod ListLaws
-mod GenLaws
+pub mod GenLaws
+pub mod NetLaws

@@ -12,12 +12,16 @@ use Rattle.recording_file.specs.Recording.{Reading, Stop, Ended, Faulty, Undecid
 use Rattle.recording_file.specs.Reading.{ReaderState, ReaderReads, GaveAll, Fails, StopsAt, HasRead}
 use Rattle.recording_file.proofs.ReadLaws.{read_none, read_more, told}
 use Rattle.recording_file.proofs.RecordLaws.{recorded}
+use Rattle.node_core.specs.declared.node.Node.{Ghosts}
+use Rattle.flow_core.specs.Nets.{NetValue}
+use Rattle.task_run.specs.Graphs.{Placed}
 use Rattle.kap_server.specs.declared.status.Status.{Status}
 use Rattle.kap_server.specs.declared.status.Status.TheVariants as statuses
 use Rattle.kap_server.specs.Statuses.{status_of, status_at}
 use Rattle.kap_server.specs.Command.{IsUnlessFailed}
 use Rattle.kap_server.specs.Replaying.{AddsText, Grows, HasWritten, IsWritten, Replayed, TextOf, Writes, WritesPrefix, WritesSome, due_of}
 use Rattle.kap_server.specs.Gathering.{Gathers}
+use Rattle.kap_server.specs.Nets.{HoldsNet, HoldsNetOf}
 use Rattle.kap_server.specs.Runs.{EndsWritten}
 
 -- a prefix of what is due is one of the whole text
@@ -141,6 +145,15 @@ module _ (text rest : TextOf) (none : text [] ≡ []) (grows : Grows text) where
             ∙ ap (λ (l : List ℕ). l ++ rest a.given) on.is
             ∙ append_assoc on.done due (rest a.given) in
             (ap (λ (r : Reading). r.stop) is, subst (Appends w x) (sym due_is) (Appends-trans w v x on.done (due ++ rest a.given) on.written p))
+
+      -- and a net that carried the points that were given carried those of the input
+      pub ends_with_net : {N P S : Type 0} (g : Ghosts N P S) (lives : List (List (Placed P))) (ran : Option (NetValue N)) → GaveAll a b → HoldsNet g lives a.given ran → HoldsNetOf g lives s ran
+      ends_with_net g lives ran gave holds = by s (read_more a b s t u on.read reads) where
+        by : (o : Option (List ℕ)) → HasRead b o u → HoldsNetOf g lives o ran
+        by None read = record { points = a.given; holds = holds }
+        by (Some input) read =
+            let is = stops_so Ended (ended gave) input read in
+            subst (λ (ps : List PointValue). HoldsNet g lives ps ran) (sym (ap (λ (r : Reading). r.points) is ∙ gave.given)) holds
 
       -- a prefix of the rest was written
       pub ends_cut : (x : Option (List ℕ)) → GaveAll a b → AppendsPrefix v x (due ++ rest a.given) → WritesPrefix text rest s w x

@@ -174,7 +174,7 @@ AreSame a b p q = ◌≡◌ {A = Option Request} (Some (Replay a p)) (Some (Repl
 same_options : (a b : ReplayOptions) (p q : List Pair) → AreSame a b p q → a ≡ b
 same_options a b p q e = cc
 
-same_pairs : (a b : ReplayOptions) (p q : List Pair) → AreSame a b p q → p ≡ q
+pub same_pairs : (a b : ReplayOptions) (p q : List Pair) → AreSame a b p q → p ≡ q
 same_pairs a b p q e = cc
 
 pub not_none : (a : ReplayOptions) (p : List Pair) → ◌≡◌ {A = Option Request} (Some (Replay a p)) None → ⊥

@@ -5,7 +5,6 @@ pub mod ReadingIn
 pub mod Checking
 pub mod Replaying
 pub mod Gathering
-pub mod Running
 pub mod Pairs
 pub mod Runs
 pub mod Readying
@@ -13,3 +12,4 @@ pub mod Making
 pub mod Listing
 pub mod Command
 pub mod Generating
+pub mod Nets

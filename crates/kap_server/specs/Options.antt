@@ -3,6 +3,7 @@ use Rattle.std.specs.Prelude.{ℕ, ◌<◌, ◌≤◌, ◌^◌, Bool, true, fals
 use Rattle.std.specs.Str.{bytes_eq}
 use Rattle.std.specs.Str.Parse.{digits_value}
 use Rattle.edge_queue.specs.declared.TheConstants.{CAPACITY_LIMIT}
+use Rattle.node_workers.specs.declared.TheConstants.{WORKER_LIMIT}
 use Rattle.lambda_fns.specs.Numbers.{are_digits}
 use Rattle.kap_server.specs.declared.options.ReplayOptions.{ReplayOptions}
 
@@ -30,16 +31,25 @@ number_within low high word = within low high (number_in word)
 
 -- none is given
 abbrev pub no_options : ReplayOptions
-no_options = record { counts = false; schedule = None; capacity = None }
+no_options = record { counts = false; workers = None; schedule = None; capacity = None }
 
 -- with `--counts`, where it wasn't given before
 abbrev pub with_counts : ReplayOptions → Option ReplayOptions
-with_counts options = if options.counts then None else Some (record { counts = true; schedule = options.schedule; capacity = options.capacity })
+with_counts options = if options.counts then None else Some (record { counts = true; workers = options.workers; schedule = options.schedule; capacity = options.capacity })
 
 -- with this order of a net, if there is one
 abbrev pub set_schedule : ReplayOptions → Option ℕ → Option ReplayOptions
 set_schedule options None = None
-set_schedule options (Some n) = Some (record { counts = options.counts; schedule = Some n; capacity = options.capacity })
+set_schedule options (Some n) = Some (record { counts = options.counts; workers = options.workers; schedule = Some n; capacity = options.capacity })
+
+-- with so many workers, if there is such a number
+abbrev pub set_workers : ReplayOptions → Option ℕ → Option ReplayOptions
+set_workers options None = None
+set_workers options (Some n) = Some (record { counts = options.counts; workers = Some n; schedule = options.schedule; capacity = options.capacity })
+
+-- with `--workers` and this value, which is 1 to 64, where it wasn't given before
+abbrev pub with_workers : ReplayOptions → List ℕ → Option ReplayOptions
+with_workers options value = if is_some options.workers then None else set_workers options (number_within 1 WORKER_LIMIT value)
 
 -- with `--schedule` and this value, where it wasn't given before
 abbrev pub with_schedule : ReplayOptions → List ℕ → Option ReplayOptions
@@ -48,7 +58,7 @@ with_schedule options value = if is_some options.schedule then None else set_sch
 -- with this capacity of the edges of a net, if there is one
 abbrev pub set_capacity : ReplayOptions → Option ℕ → Option ReplayOptions
 set_capacity options None = None
-set_capacity options (Some n) = Some (record { counts = options.counts; schedule = options.schedule; capacity = Some n })
+set_capacity options (Some n) = Some (record { counts = options.counts; workers = options.workers; schedule = options.schedule; capacity = Some n })
 
 -- with `--capacity` and this value, which is 1 to 65,536, where it wasn't given before
 abbrev pub with_capacity : ReplayOptions → List ℕ → Option ReplayOptions
@@ -57,9 +67,10 @@ with_capacity options value = if is_some options.capacity then None else set_cap
 -- with the option of this name and this value, where it is one and wasn't given before
 abbrev pub with_value : ReplayOptions → List ℕ → List ℕ → Option ReplayOptions
 with_value options name value =
+    if bytes_eq name (codes "--workers") then with_workers options value else
     if bytes_eq name (codes "--schedule") then with_schedule options value else
     if bytes_eq name (codes "--capacity") then with_capacity options value else None
 
--- a capacity that is given is one that edges can have
-abbrev pub HasRoom : ReplayOptions → Type 0
-HasRoom options = IfSome options.capacity (λ n. (0 < n) × (n ≤ CAPACITY_LIMIT))
+-- a number of workers that is given is 1 to 64, and a capacity one that edges can have
+abbrev pub AreWithinLimits : ReplayOptions → Type 0
+AreWithinLimits options = IfSome options.workers (λ n. (0 < n) × (n ≤ WORKER_LIMIT)) × IfSome options.capacity (λ n. (0 < n) × (n ≤ CAPACITY_LIMIT))

@@ -7,7 +7,7 @@ use Rattle.sample_points.specs.declared.samples.TheConstants.{SAMPLE_LIMIT}
 use Rattle.kap_server.specs.declared.options.ReplayOptions.{ReplayOptions}
 use Rattle.kap_server.specs.declared.words.Request.{Request as LentRequest}
 use Rattle.kap_server.specs.declared.words.Request.TheVariants as lent
-use Rattle.kap_server.specs.Options.{HasRoom, no_options, number_within, with_counts, with_value}
+use Rattle.kap_server.specs.Options.{AreWithinLimits, no_options, number_within, with_counts, with_value}
 
 -- the id of a task, and its script
 pub record Pair : Type 0 where
@@ -119,10 +119,20 @@ uses_disk (Some (Summarize n pairs)) = false
 uses_disk (Some Init) = true
 uses_disk (Some Tasks) = true
 
--- a capacity that a request gives is one that edges can have, and a number of points one that a sample recording can have
+-- a command that has points go through a net
+abbrev pub runs_net : Option Request → Bool
+runs_net None = false
+runs_net (Some Check) = false
+runs_net (Some (Replay options pairs)) = true
+runs_net (Some (Generate n)) = false
+runs_net (Some (Summarize n pairs)) = true
+runs_net (Some Init) = false
+runs_net (Some Tasks) = false
+
+-- the options that a request gives are within their limits, and a number of points is one that a sample recording can have
 abbrev pub IsWithinLimits : LentRequest → Type 0
 IsWithinLimits lent.Check = ⊤
-IsWithinLimits (lent.Replay options words) = HasRoom options
+IsWithinLimits (lent.Replay options words) = AreWithinLimits options
 IsWithinLimits (lent.Generate count) = count ≤ SAMPLE_LIMIT
 IsWithinLimits (lent.Summarize count words) = count ≤ SAMPLE_LIMIT
 IsWithinLimits lent.Init = ⊤

@@ -1,13 +1,12 @@
 //! The commands by their words.
 
-ghost use Rattle.std.specs.Prelude.{◌≡◌, ◌⊎◌, ◌≤◌, [], false, true, ℕ, IsTrue, List, None, Some, length, map, string_bytes};
+ghost use Rattle.std.specs.Prelude.{◌≡◌, ◌≢◌, ◌⊎◌, ◌≤◌, [], false, true, ℕ, IsTrue, List, None, Some, length, map, string_bytes};
 ghost use Rattle.std.specs.Io.KnownBytes.{Keeps};
 ghost use Rattle.kap_base.specs.Points.{is_time};
 ghost use Rattle.kap_base.specs.Words.{HasRisen};
 ghost use Rattle.gate_log.specs.Head.{HasNoHead};
 ghost use Rattle.kap_io.specs.Moments.{Quiet};
 ghost use Rattle.kap_io.specs.declared.disk.Part.{Part};
-ghost use Rattle.node_set.specs.Nodes.{node_spec};
 ghost use Rattle.recording_file.specs.Reading.{HasEnded};
 ghost use Rattle.recording_file.specs.Recording.{reading_of};
 ghost use Rattle.sample_points.specs.Samples.{sample_text};
@@ -18,12 +17,13 @@ ghost use Rattle.kap_server.specs.Command.{ExactlyWhere, IsUnlessDiskFailed, IsU
 ghost use Rattle.kap_server.specs.Generating.{Summed, WritesText};
 ghost use Rattle.kap_server.specs.Listing.{Listed, ListsTasks};
 ghost use Rattle.kap_server.specs.Making.{HasHead, Made};
-ghost use Rattle.kap_server.specs.Options.{HasRoom};
+ghost use Rattle.kap_server.specs.Nets.{HoldsNetOfSamples, HoldsNetOfTasks};
+ghost use Rattle.kap_server.specs.Options.{AreWithinLimits};
 ghost use Rattle.kap_server.specs.Pairs.{AreNoTasks, AreTasks};
 ghost use Rattle.kap_server.specs.Readying.{is_pattern_refused};
 ghost use Rattle.kap_server.specs.Runs.{Ran, refusal_of};
 ghost use Rattle.kap_server.specs.Statuses.{status_at};
-ghost use Rattle.kap_server.specs.Words.{Pair, pairs_of, reads_input, request_in, uses_disk, writes_output};
+ghost use Rattle.kap_server.specs.Words.{Pair, pairs_of, reads_input, request_in, runs_net, uses_disk, writes_output};
 ghost use Rattle.kap_server.specs.declared.options.ReplayOptions.{ReplayOptions};
 ghost use Rattle.kap_server.specs.declared.status.Status.{Status};
 ghost use Rattle.store_records.specs.declared.rec.Rec.{Rec};
@@ -33,33 +33,49 @@ use crate::checking::check;
 use crate::generating::{write_recording, write_summary};
 use crate::listing::list_tasks;
 use crate::making::init;
+use crate::moving::way_of;
 use crate::options::ReplayOptions;
 use crate::readying::{Ready, add_tasks, are_too_many};
 use crate::replaying::replay;
 use crate::status::Status;
 use crate::words::{Request, request_in};
+use flow_core::Net;
 use kap_base::TASK_LIMIT;
-use kap_io::{Disk, Sink, Source};
+use kap_io::{Disk, Gate, Sink, Source};
 use lambda_types::Patterns;
 use net_run::NumberingNode;
-use node_core::Node;
-use node_set::{AnyNode, ScriptNode};
+use node_set::ScriptNode;
+use sample_points::SAMPLE_LIMIT;
 use std::alloc::Global;
+use std::thread::Threads;
 
 /// Replays the recording that the input gives, for the tasks of these words.
-fn replay_pairs<S: Source, K: Sink, P: Patterns, N: ScriptNode + NumberingNode>(
+fn replay_pairs<
+    S: Source,
+    K: Sink,
+    P: Patterns,
+    N: ScriptNode + NumberingNode + Send,
+    G: Gate + Sync,
+    R: Threads + Sync,
+>(
+    rt: &R,
     alloc: Global,
     options: ReplayOptions,
     words: &[String],
     input: &mut S,
     out: &mut K,
     pats: &mut P,
+    gate: &G,
+    ran: &mut Option<Net<N>>,
 ) -> Status
     requires few { length (pairs_of (map string_bytes words.now)) ≤ TASK_LIMIT }
-    requires room { HasRoom options }
+    requires limits { AreWithinLimits options }
     ensures ran { Ran N.answer N.planned (P.refused pats.new) options.counts
         (pairs_of (map string_bytes words.now)) result
         (S.left input.old) (S.left input.new) (K.written out.old) (K.written out.new) }
+    ensures net { result ≡ Status.Ok → HoldsNetOfTasks N.Node N.planned
+        (pairs_of (map string_bytes words.now)) (S.left input.old) ran.new }
+    ensures none { result ≢ Status.Ok → ran.new ≡ ran.old }
     ensures read { result ≡ Status.Ok → HasEnded (S.left input.old) (S.left input.new) }
     ensures read_fault { result ≡ Status.ReadFault
         → HasRisen (S.faults input.old) (S.faults input.new) }
@@ -75,7 +91,8 @@ fn replay_pairs<S: Source, K: Sink, P: Patterns, N: ScriptNode + NumberingNode>(
     match add_tasks(alloc, 1, words, &mut ready, pats) {
         Ok(()) => {
             let Ready { names, plans } = ready;
-            replay(alloc, options, &names, plans, input, out)
+            let way = way_of(rt, gate, options);
+            replay(alloc, options, &names, plans, &way, input, out, ran)
         }
         Err(status) => status,
     }
@@ -85,22 +102,35 @@ fn replay_pairs<S: Source, K: Sink, P: Patterns, N: ScriptNode + NumberingNode>(
 ///
 /// - `check`: it reads a script from the input, and writes its canonical form, where it is a task's. A script has at most 65,536
 ///   bytes.
-/// - `replay [--capacity C] [--schedule N] [--counts] ID SCRIPT [ID SCRIPT]..`, where each ID names a task (1 to 64 ASCII letters,
+/// - `replay [--workers W] [--capacity C] [--schedule N] [--counts] ID SCRIPT [ID SCRIPT]..`, where each ID names a task (1 to 64 ASCII letters,
 ///   digits, `_`, `-` and `.`; the first doesn't begin with `--`), and SCRIPT is the task's script: it reads a recording from the
 ///   input, and writes the lines of the points that the tasks log and of the changes of level of their alerts, in order of the
 ///   points that caused them, then of the tasks, then of their nodes; behind them, with `--counts`, how many points each node
-///   dropped. There are at most 64 tasks. With `--schedule` the points go through a net, in the order that N gives, from 0 to
-///   4,294,967,295, whose edges have room for C messages, from 1 to 65,536; `--capacity` alone does nothing. The options stand in
-///   any order, each at most once.
+///   dropped. There are at most 64 tasks. The points go through a net of the nodes, whose edges have room for C messages, from 1 to
+///   65,536, or 64; W workers in threads move it, from 1 to 64, or 4, or with `--schedule` one thread does, in the order that N
+///   gives, from 0 to 4,294,967,295. What is written is the same for each W, C and N. The options stand in any order, each at most
+///   once.
 /// - `gen N`: it writes the sample recording of N points, from 1 to 1,000,000: a point a second, of one of eight hosts in turn.
 /// - `gen N ID SCRIPT [ID SCRIPT]..`: it writes a summary of a replay of this recording: the numbers of points, of lines of logged
-///   points and of lines of changes of level, and how many bytes these lines have.
-/// - `init`: it makes an empty store on the disk, where no head of one stands there.
+///   points and of lines of changes of level, and how many bytes these lines have. Four workers move the net.
+/// - `init`: it makes an empty store on the disk, where no head of one stands there. After DiskFault and NoMemory nothing is known
+///   of the files, unless a head stood there: then they are as they were.
 /// - `tasks`: it writes a line `ID enabled` or `ID disabled` for each task of the store on the disk, in byte order of their ids, and
 ///   changes nothing.
 ///
-/// `now` is the time of now, in nanoseconds from 1970-01-01T00:00:00Z on; no command uses it yet.
-pub fn command<S: Source, K: Sink, D: Disk, P: Patterns>(
+/// `now` is the time of now, in nanoseconds from 1970-01-01T00:00:00Z on; no command uses it yet. `rt` makes the threads of workers,
+/// and each of them passes `gate` before each of its turns. `ran` is None; at Ok of a replay, and of a `gen` for tasks, it is the net
+/// through which the points went.
+pub fn command<
+    S: Source,
+    K: Sink,
+    D: Disk,
+    P: Patterns,
+    G: Gate + Sync,
+    R: Threads + Sync,
+    N: ScriptNode + NumberingNode + Send,
+>(
+    rt: &R,
     alloc: Global,
     words: &[String],
     now: i64,
@@ -108,8 +138,11 @@ pub fn command<S: Source, K: Sink, D: Disk, P: Patterns>(
     out: &mut K,
     disk: &mut D,
     pats: &mut P,
+    gate: &G,
+    ran: &mut Option<Net<N>>,
 ) -> Status
     requires now { IsTrue (is_time now) }
+    requires none { ran.old ≡ None }
     // Usage exactly where the words aren't those of a command.
     ensures usage { ExactlyWhere result Status.Usage
         (request_in (map string_bytes words.now) ≡ None) }
@@ -129,11 +162,12 @@ pub fn command<S: Source, K: Sink, D: Disk, P: Patterns>(
         → AsksToCheck (map string_bytes words.now) → S.left input.old ≡ Some text
         → ChecksTo (refusal_of result (P.refused pats.new)) text status
         → IsUnlessFailed result status }
-    // Of a replay the text of what the nodes give for the points is written, as the status says, whatever the order and
-    // the capacity of a net; or the first pair that is no task is refused, before anything is read or written.
+    // Of a replay the text of what the nodes give for the points is written, as the status says, however many workers, or in
+    // whatever order, move the net, and whatever its capacity; or the first pair that is no task is refused, before
+    // anything is read or written.
     ensures ran { (options : ReplayOptions) (pairs : List Pair)
         → AsksToReplay (map string_bytes words.now) options pairs
-        → Ran ⟦<AnyNode as Node>⟧.answer node_spec (P.refused pats.new) options.counts pairs result
+        → Ran N.answer N.planned (P.refused pats.new) options.counts pairs result
         (S.left input.old) (S.left input.new) (K.written out.old) (K.written out.new) }
     // Of tasks its status is Ok where the input is a recording, and else that of its first fault, unless memory ran out, a
     // device failed, or a pattern was refused.
@@ -147,13 +181,25 @@ pub fn command<S: Source, K: Sink, D: Disk, P: Patterns>(
     ensures refused { (options : ReplayOptions) (pairs : List Pair) (status : Status)
         → AsksToReplay (map string_bytes words.now) options pairs → AreNoTasks None [] pairs status
         → is_pattern_refused result ≡ false → (result ≡ status) ⊎ (result ≡ Status.NoMemory) }
+    // At Ok there is a net at rest, whose lives are those of the tasks, and each of its edges has carried what its parent gives
+    // out for the points of the recording.
+    ensures net { (options : ReplayOptions) (pairs : List Pair)
+        → AsksToReplay (map string_bytes words.now) options pairs → result ≡ Status.Ok
+        → HoldsNetOfTasks N.Node N.planned pairs (S.left input.old) ran.new }
     // Of `gen` alone the sample recording is written, as the status says.
     ensures generated { (n : ℕ) → AsksToGenerate (map string_bytes words.now) n
         → WritesText (sample_text n) result (K.written out.old) (K.written out.new) }
     // Of `gen` for tasks the summary of its replay is; or the first pair that is no task is refused, before anything is written.
     ensures summed { (n : ℕ) (pairs : List Pair) → AsksToSummarize (map string_bytes words.now) n pairs
-        → Summed ⟦<AnyNode as Node>⟧.answer node_spec (P.refused pats.new) n pairs result
+        → Summed N.answer N.planned (P.refused pats.new) n pairs result
         (K.written out.old) (K.written out.new) }
+    // At Ok there is such a net for the points of the sample recording.
+    ensures sample_net { (n : ℕ) (pairs : List Pair)
+        → AsksToSummarize (map string_bytes words.now) n pairs → result ≡ Status.Ok
+        → HoldsNetOfSamples N.Node N.planned pairs n ran.new }
+    // In every other case there is none.
+    ensures no_net { (result ≡ Status.Ok
+        → runs_net (request_in (map string_bytes words.now)) ≡ false) → ran.new ≡ None }
     // Of `init` a store of no records was made, where no head stood there, and then each image stands for it.
     ensures made { AsksToInit (map string_bytes words.now)
         → Made (IsTrue D.tells) result (D.seen disk.old) (D.seen disk.new) (D.may_leave disk.new) }
@@ -208,14 +254,14 @@ pub fn command<S: Source, K: Sink, D: Disk, P: Patterns>(
             if are_too_many(words) {
                 return Status::TooManyTasks;
             }
-            replay_pairs::<S, K, P, AnyNode>(alloc, options, words, input, out, pats)
+            replay_pairs(rt, alloc, options, words, input, out, pats, gate, ran)
         }
         Some(Request::Generate { count }) => write_recording(alloc, u64::from(count), out),
         Some(Request::Summarize { count, words }) => {
             if are_too_many(words) {
                 return Status::TooManyTasks;
             }
-            write_summary::<K, P, AnyNode>(alloc, u64::from(count), words, out, pats)
+            write_summary(rt, alloc, u64::from(count), words, out, pats, gate, ran)
         }
         Some(Request::Init) => init(alloc, disk),
         Some(Request::Tasks) => list_tasks(alloc, out, disk),

@@ -2,18 +2,25 @@
 
 ghost use Rattle.std.specs.Prelude.{◌≡◌, ◌==◌, ◌<◌, ◌≤◌, IfSome, slice_index, string_bytes};
 ghost use Rattle.edge_queue.specs.declared.TheConstants.{CAPACITY_LIMIT};
-ghost use Rattle.kap_server.specs.Options.{HasRoom, has_leading_zero, no_options, number_in, number_within, with_capacity, with_counts, with_schedule, with_value};
+ghost use Rattle.node_workers.specs.declared.TheConstants.{WORKER_LIMIT};
+ghost use Rattle.kap_server.specs.Options.{AreWithinLimits, has_leading_zero, no_options, number_in, number_within, with_capacity, with_counts, with_schedule, with_value, with_workers};
 
 use edge_queue::CAPACITY_LIMIT;
+use node_workers::WORKER_LIMIT;
 
 /// For how many messages each edge of a net has room, where no option says it.
 const CAPACITY: u32 = 64;
+
+/// How many workers there are, where no option says it.
+const WORKERS: u32 = 4;
 
 /// How a replay is to run, and what it is to tell.
 #[derive(Clone, Copy)]
 pub(crate) struct ReplayOptions {
     /// Whether it tells how many points each node dropped.
     pub counts: bool,
+    /// How many workers move the net, where that is given.
+    pub workers: Option<u32>,
     /// The number of the order in which a net is to run, where one is given.
     pub schedule: Option<u32>,
     /// For how many messages each edge of a net is to have room, where that is given.
@@ -23,10 +30,11 @@ pub(crate) struct ReplayOptions {
 /// No options.
 pub(crate) fn no_options() -> ReplayOptions
     ensures options { result ≡ no_options }
-    ensures room { HasRoom result }
+    ensures limits { AreWithinLimits result }
 {
     ReplayOptions {
         counts: false,
+        workers: None,
         schedule: None,
         capacity: None,
     }
@@ -34,13 +42,25 @@ pub(crate) fn no_options() -> ReplayOptions
 
 /// For how many messages each edge of a net has room.
 pub(crate) fn capacity_of(options: ReplayOptions) -> u32
-    requires { HasRoom options }
+    requires { AreWithinLimits options }
     ensures some { 0 < result }
     ensures limit { result ≤ CAPACITY_LIMIT }
 {
     match options.capacity {
         Some(capacity) => capacity,
         None => CAPACITY,
+    }
+}
+
+/// How many workers move a net.
+pub(crate) fn workers_of(options: ReplayOptions) -> u32
+    requires { AreWithinLimits options }
+    ensures some { 0 < result }
+    ensures limit { result ≤ WORKER_LIMIT }
+{
+    match options.workers {
+        Some(workers) => workers,
+        None => WORKERS,
     }
 }
 
@@ -82,13 +102,31 @@ pub(crate) fn number_within(low: u32, high: u32, word: &str) -> Option<u32>
 /// With `--counts`, where it wasn't given before.
 pub(crate) fn with_counts(options: ReplayOptions) -> Option<ReplayOptions>
     ensures options { result ≡ with_counts options }
-    ensures room { HasRoom options → IfSome result HasRoom }
+    ensures limits { AreWithinLimits options → IfSome result AreWithinLimits }
 {
     if options.counts {
         return None;
     }
     Some(ReplayOptions {
         counts: true,
+        workers: options.workers,
+        schedule: options.schedule,
+        capacity: options.capacity,
+    })
+}
+
+/// With `--workers` and this value, where it wasn't given before.
+fn with_workers(options: ReplayOptions, value: &str) -> Option<ReplayOptions>
+    ensures options { result ≡ with_workers options value.now }
+    ensures limits { AreWithinLimits options → IfSome result AreWithinLimits }
+{
+    if options.workers.is_some() {
+        return None;
+    }
+    let number = number_within(1, WORKER_LIMIT, value)?;
+    Some(ReplayOptions {
+        counts: options.counts,
+        workers: Some(number),
         schedule: options.schedule,
         capacity: options.capacity,
     })
@@ -97,7 +135,7 @@ pub(crate) fn with_counts(options: ReplayOptions) -> Option<ReplayOptions>
 /// With `--schedule` and this value, where it wasn't given before.
 fn with_schedule(options: ReplayOptions, value: &str) -> Option<ReplayOptions>
     ensures options { result ≡ with_schedule options value.now }
-    ensures room { HasRoom options → IfSome result HasRoom }
+    ensures limits { AreWithinLimits options → IfSome result AreWithinLimits }
 {
     if options.schedule.is_some() {
         return None;
@@ -105,6 +143,7 @@ fn with_schedule(options: ReplayOptions, value: &str) -> Option<ReplayOptions>
     let number = number_in(value)?;
     Some(ReplayOptions {
         counts: options.counts,
+        workers: options.workers,
         schedule: Some(number),
         capacity: options.capacity,
     })
@@ -113,7 +152,7 @@ fn with_schedule(options: ReplayOptions, value: &str) -> Option<ReplayOptions>
 /// With `--capacity` and this value, where it wasn't given before.
 fn with_capacity(options: ReplayOptions, value: &str) -> Option<ReplayOptions>
     ensures options { result ≡ with_capacity options value.now }
-    ensures room { IfSome result HasRoom }
+    ensures limits { AreWithinLimits options → IfSome result AreWithinLimits }
 {
     if options.capacity.is_some() {
         return None;
@@ -121,6 +160,7 @@ fn with_capacity(options: ReplayOptions, value: &str) -> Option<ReplayOptions>
     let number = number_within(1, CAPACITY_LIMIT, value)?;
     Some(ReplayOptions {
         counts: options.counts,
+        workers: options.workers,
         schedule: options.schedule,
         capacity: Some(number),
     })
@@ -129,9 +169,11 @@ fn with_capacity(options: ReplayOptions, value: &str) -> Option<ReplayOptions>
 /// With the option of this name and this value, where it is one and wasn't given before.
 pub(crate) fn with_value(options: ReplayOptions, name: &str, value: &str) -> Option<ReplayOptions>
     ensures options { result ≡ with_value options name.now value.now }
-    ensures room { HasRoom options → IfSome result HasRoom }
+    ensures limits { AreWithinLimits options → IfSome result AreWithinLimits }
 {
-    if name == "--schedule" {
+    if name == "--workers" {
+        with_workers(options, value)
+    } else if name == "--schedule" {
         with_schedule(options, value)
     } else if name == "--capacity" {
         with_capacity(options, value)

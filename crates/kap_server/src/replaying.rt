@@ -1,6 +1,6 @@
 //! The replay of tasks that are ready to run.
 
-ghost use Rattle.std.specs.Prelude.{◌≡◌, ◌≤◌, false, map, OnOk, OnErr};
+ghost use Rattle.std.specs.Prelude.{◌≡◌, ◌≢◌, ◌≤◌, false, map, OnOk, OnErr};
 ghost use Rattle.std.specs.List.{AllByRecursion as Each};
 ghost use Rattle.kap_base.specs.Words.{HasRisen};
 ghost use Rattle.kap_io.specs.Causes.{HasCause};
@@ -9,22 +9,23 @@ ghost use Rattle.recording_file.specs.Reading.{HasEnded};
 ghost use Rattle.flow_core.specs.Gathering.{LivesRise};
 ghost use Rattle.flow_core.specs.Making.{HasFewParents};
 ghost use Rattle.task_run.specs.Plans.{AreFirstStates, graph_of};
-ghost use Rattle.kap_server.specs.Options.{HasRoom};
+ghost use Rattle.kap_server.specs.Nets.{HoldsNet, HoldsNetOf};
+ghost use Rattle.kap_server.specs.Options.{AreWithinLimits};
 ghost use Rattle.kap_server.specs.Replaying.{IsWritten, WritesSome, Replayed};
-ghost use Rattle.kap_server.specs.Running.{value_of};
 ghost use Rattle.kap_server.specs.Runs.{EndsWritten, run_rest, run_text};
 
 use crate::gathering::{Epoch, Pause, gather};
-use crate::options::ReplayOptions;
-use crate::running::epoch_of;
+use crate::options::{ReplayOptions, capacity_of};
 use crate::status::Status;
 use crate::telling::Telling;
 use effect_text::TaskNames;
+use flow_core::Net;
 use kap_base::{Bytes, NoMemory};
-use kap_io::{Failed, Sink, Source, write_all};
-use net_run::NumberingNode;
+use kap_io::{Failed, Gate, Sink, Source, write_all};
+use net_run::{EPOCH_LIMIT, NumberingNode, Way};
 use recording_file::Reader;
 use std::alloc::Global;
+use std::thread::Threads;
 use task_run::LifePlan;
 
 /// From how many bytes on the text that is due is written.
@@ -68,7 +69,7 @@ fn write_rest<K: Sink>(out: &mut K, text: &Bytes, status: Status) -> Status
 }
 
 /// Writes the rest of the text of a whole recording, and the lines of what was dropped, where they are wanted.
-fn write_end<K: Sink, N: NumberingNode>(
+fn write_end<K: Sink, N: NumberingNode + Send>(
     alloc: Global,
     counts: bool,
     names: &[TaskNames],
@@ -76,10 +77,10 @@ fn write_end<K: Sink, N: NumberingNode>(
     mut text: Bytes,
     out: &mut K,
 ) -> Status
-    requires { (value_of telling.now.run).spent ≡ false }
+    requires { telling.now.run.spent ≡ false }
     ensures written { EndsWritten result (K.written out.old) (K.written out.new) text
         (run_rest N.answer counts names.now
-        (value_of telling.now.run).lives (value_of telling.now.run).points)
+        telling.now.run.lives telling.now.run.points)
         (K.faults out.old) (K.faults out.new) }
     ensures later { K.faults out.old ≤ K.faults out.new }
 {
@@ -89,35 +90,75 @@ fn write_end<K: Sink, N: NumberingNode>(
     }
 }
 
-/// Replays the recording that the input gives: the text of what the nodes do, epoch by epoch, and behind it of what they dropped,
-/// where that is wanted. What is due is written before each read of the input that may wait.
-pub(crate) fn replay<S: Source, K: Sink, N: NumberingNode>(
+/// Writes the rest of the text of a whole recording, and the lines of what was dropped, where they are wanted. Where all was
+/// written it hands out the net.
+fn finish<K: Sink, N: NumberingNode + Send>(
+    alloc: Global,
+    counts: bool,
+    names: &[TaskNames],
+    telling: Telling<N>,
+    text: Bytes,
+    out: &mut K,
+    ran: &mut Option<Net<N>>,
+) -> Status
+    requires { telling.run.spent ≡ false }
+    ensures written { EndsWritten result (K.written out.old) (K.written out.new) text
+        (run_rest N.answer counts names.now telling.run.lives telling.run.points)
+        (K.faults out.old) (K.faults out.new) }
+    ensures later { K.faults out.old ≤ K.faults out.new }
+    ensures net { result ≡ Status.Ok
+        → HoldsNet N.Node telling.run.lives telling.run.points ran.new }
+    ensures none { result ≢ Status.Ok → ran.new ≡ ran.old }
+{
+    match write_end(alloc, counts, names, &telling, text, out) {
+        Status::Ok => {
+            let Telling { run, .. } = telling;
+            *ran = Some(run.into_net());
+            Status::Ok
+        }
+        status => status,
+    }
+}
+
+/// Replays the recording that the input gives, in this way: the text of what the nodes do, epoch by epoch, and behind it of what they dropped,
+/// where that is wanted. What is due is written before each read of the input that may wait. At Ok it hands out the net.
+pub(crate) fn replay<
+    S: Source,
+    K: Sink,
+    N: NumberingNode + Send,
+    G: Gate + Sync,
+    R: Threads + Sync,
+>(
     alloc: Global,
     options: ReplayOptions,
     names: &[TaskNames],
     plans: Vec<LifePlan<N>>,
+    way: &Way<'_, R, G>,
     input: &mut S,
     out: &mut K,
+    ran: &mut Option<Net<N>>,
 ) -> Status
     requires first { AreFirstStates N.spec N.state N.first plans.items }
     requires rise { LivesRise N.life N.number 1 (map (graph_of N.spec) plans.items) }
     requires few { Each HasFewParents plans.items }
-    requires room { HasRoom options }
+    requires limits { AreWithinLimits options }
     ensures replayed { Replayed
         (run_text N.answer names.now (map (graph_of N.spec) plans.items))
         (run_rest N.answer options.counts names.now (map (graph_of N.spec) plans.items)) result
         (S.left input.old) (S.left input.new) (K.written out.old) (K.written out.new) }
+    ensures net { result ≡ Status.Ok → HoldsNetOf N.Node
+        (map (graph_of N.spec) plans.items) (S.left input.old) ran.new }
+    ensures none { result ≢ Status.Ok → ran.new ≡ ran.old }
     ensures read { result ≡ Status.Ok → HasEnded (S.left input.old) (S.left input.new) }
     ensures read_fault { result ≡ Status.ReadFault
         → HasRisen (S.faults input.old) (S.faults input.new) }
     ensures write_fault { result ≡ Status.WriteFault
         → HasRisen (K.faults out.old) (K.faults out.new) }
 {
-    let mut telling = match Telling::new(alloc, options, plans) {
+    let mut telling = match Telling::new(alloc, capacity_of(options), plans) {
         Ok(telling) => telling,
         Err(NoMemory) => return Status::NoMemory,
     };
-    let limit = epoch_of(&telling.run);
     let mut reader = Reader::new(alloc);
     let mut text = Bytes::new(alloc);
     'replaying: loop {
@@ -125,17 +166,19 @@ pub(crate) fn replay<S: Source, K: Sink, N: NumberingNode>(
             Ok(()) => {}
             Err(_) => return Status::WriteFault,
         }
-        let Epoch { points, pause } = match gather(alloc, &mut reader, limit, input) {
+        let Epoch { points, pause } = match gather(alloc, &mut reader, EPOCH_LIMIT, input) {
             Ok(epoch) => epoch,
             Err(NoMemory) => return Status::NoMemory,
         };
-        match telling.tell(alloc, names, points, &mut text) {
+        match telling.tell(alloc, names, points, way, &mut text) {
             Ok(()) => {}
             Err(NoMemory) => return Status::NoMemory,
         }
         match pause {
             Pause::More => {}
-            Pause::End => return write_end(alloc, options.counts, names, &telling, text, out),
+            Pause::End => {
+                return finish(alloc, options.counts, names, telling, text, out, ran);
+            }
             Pause::Fault(fault) => return write_rest(out, &text, Status::from(fault)),
         }
     }

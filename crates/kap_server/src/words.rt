@@ -2,7 +2,7 @@
 
 ghost use Rattle.std.specs.Prelude.{◌≡◌, IfSome, map, string_bytes};
 ghost use Rattle.std.specs.Option.{option_map};
-ghost use Rattle.kap_server.specs.Options.{HasRoom};
+ghost use Rattle.kap_server.specs.Options.{AreWithinLimits};
 ghost use Rattle.kap_server.specs.Words.{IsWithinLimits, are_pairs, gen_request, is_option, replay_request, request_alone, request_in, request_of, request_of_pairs};
 
 use crate::options::{ReplayOptions, no_options, number_within, with_counts, with_value};
@@ -67,7 +67,7 @@ fn are_pairs(words: &[String]) -> bool
 fn request_of_pairs(options: ReplayOptions, words: &[String]) -> Option<Request<'_>>
     ensures request { option_map request_of result
         ≡ request_of_pairs options (map string_bytes words.now) }
-    ensures room { HasRoom options → IfSome result IsWithinLimits }
+    ensures limits { AreWithinLimits options → IfSome result IsWithinLimits }
 {
     if !are_pairs(words) {
         return None;
@@ -79,7 +79,7 @@ fn request_of_pairs(options: ReplayOptions, words: &[String]) -> Option<Request<
 fn replay_request(options: ReplayOptions, words: &[String]) -> Option<Request<'_>>
     ensures request { option_map request_of result
         ≡ replay_request options (map string_bytes words.now) }
-    ensures room { HasRoom options → IfSome result IsWithinLimits }
+    ensures limits { AreWithinLimits options → IfSome result IsWithinLimits }
 {
     let (word, rest) = words.split_first()?;
     if !is_option(word.as_bytes()) {
@@ -112,7 +112,7 @@ fn gen_request(words: &[String]) -> Option<Request<'_>>
 fn request_alone<'a>(request: Request<'a>, words: &[String]) -> Option<Request<'a>>
     ensures request { option_map request_of result
         ≡ request_alone (request_of request.entry) (map string_bytes words.now) }
-    ensures room { IsWithinLimits request.entry → IfSome result IsWithinLimits }
+    ensures limits { IsWithinLimits request.entry → IfSome result IsWithinLimits }
 {
     if words.is_empty() {
         Some(request)
@@ -124,7 +124,7 @@ fn request_alone<'a>(request: Request<'a>, words: &[String]) -> Option<Request<'
 /// What the words of the command line ask for.
 pub(crate) fn request_in(words: &[String]) -> Option<Request<'_>>
     ensures request { option_map request_of result ≡ request_in (map string_bytes words.now) }
-    ensures room { IfSome result IsWithinLimits }
+    ensures limits { IfSome result IsWithinLimits }
 {
     let (command, rest) = words.split_first()?;
     if command.as_str() == "check" {

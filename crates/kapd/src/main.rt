@@ -5,15 +5,19 @@
 
 mod places;
 
-use kap_io::{Clock, DirDisk, Disk, MemDisk, ReadSource, RealClock, WriteSink};
+use flow_core::Net;
+use kap_io::{Clock, DirDisk, Disk, MemDisk, NoGate, ReadSource, RealClock, WriteSink};
 use kap_server::{Status, command, status_text};
 use lambda_types::RegexPatterns;
+use net_run::NumberingNode;
+use node_set::{AnyNode, ScriptNode};
 use places::{Place, place_in};
 use std::env::Env;
 use std::fs::Files;
 use std::os::unix::fs::FileExt;
 use std::path::PathBuf;
 use std::process::ExitCode;
+use std::thread::Threads;
 use std::{env, io, time};
 
 /// What `kapd --help` prints.
@@ -25,7 +29,7 @@ Commands:
   check                       reads a script from standard input, looks at its tokens, grammar, names, nodes with
                               their arguments and properties, lambdas with their patterns, and graph, and writes
                               its canonical form
-  replay [--capacity C] [--schedule N] [--counts] ID SCRIPT [ID SCRIPT]..
+  replay [--workers W] [--capacity C] [--schedule N] [--counts] ID SCRIPT [ID SCRIPT]..
                               reads a recording from standard input, and writes what the tasks do at its points
   gen N                       writes a sample recording of N points (1 to 1000000): a point a second, of one of eight
                               hosts in turn
@@ -36,10 +40,10 @@ Commands:
   tasks                       writes a line `ID enabled` or `ID disabled` for each task of the store in the folder
 
   --counts      tells behind that how many points each node dropped
-  --schedule N  sends the points through a net of the nodes, in the order that N (0 to 4294967295) gives: the output
-                is the same for each N
-  --capacity C  gives each edge of that net room for C messages (1 to 65536; else 64): the output is the same for
-                each C; without --schedule it does nothing
+  --workers W   has the nodes run by W workers in threads (1 to 64; else 4)
+  --capacity C  gives each edge between two nodes room for C messages (1 to 65536; else 64)
+  --schedule N  runs the nodes in one thread and no workers, in the order that N (0 to 4294967295) gives
+                The output is the same for each W, C and N.
   ID            a task's name: 1 to 64 ASCII letters, digits, `_`, `-` and `.`; the first doesn't begin with `--`
   SCRIPT        the task's script, a TICKscript of at most 65,536 bytes
 
@@ -103,17 +107,19 @@ fn words_of<R: Env + AllocGlobal>(rt: &R) -> Result<Vec<String>, Status> {
     Ok(words)
 }
 
-/// Does what the words behind the place ask for, with the store on this disk.
-fn run_on<R: time::Clock + Input + Print + AllocGlobal, D: Disk>(
-    rt: &R,
-    words: &[String],
-    disk: &mut D,
-) -> Status {
+/// Does what the words behind the place ask for, by nodes of this type, with the store on this disk.
+fn run_on<
+    R: time::Clock + Threads + Sync + Input + Print + AllocGlobal,
+    D: Disk,
+    N: ScriptNode + NumberingNode + Send,
+>(rt: &R, words: &[String], disk: &mut D) -> Status {
     let now = RealClock::new(rt).now();
     let mut input = ReadSource::new(rt.reader());
     let mut out = WriteSink::new(io::writer(rt));
     let mut pats = RegexPatterns::new(rt.alloc(), Vec::new(rt.alloc()));
+    let mut ran: Option<Net<N>> = None;
     command(
+        rt,
         rt.alloc(),
         words,
         now,
@@ -121,23 +127,31 @@ fn run_on<R: time::Clock + Input + Print + AllocGlobal, D: Disk>(
         &mut out,
         disk,
         &mut pats,
+        &NoGate,
+        &mut ran,
     )
 }
 
 /// Does what the words behind the place ask for.
-fn run<R: Files + time::Clock + Input + Print + AllocGlobal>(
-    rt: &R,
-    place: Place<'_>,
-    words: &[String],
-) -> Status
+fn run<
+    R: Files + time::Clock + Threads + Sync + Input + Print + AllocGlobal,
+    N: ScriptNode + NumberingNode + Send,
+>(rt: &R, place: Place<'_>, words: &[String]) -> Status
 where
     R::File: FileExt,
 {
     let alloc = rt.alloc();
     match place {
-        Place::Memory => run_on(rt, words, &mut MemDisk::new(alloc, Vec::new(alloc))),
+        Place::Memory => run_on::<R, MemDisk, N>(
+            rt,
+            words,
+            &mut MemDisk::new(alloc, Vec::new(alloc)),
+        ),
         Place::Folder(path) => match PathBuf::from_str(alloc, path) {
-            Ok(folder) => run_on(rt, words, &mut DirDisk::new(alloc, rt, folder)),
+            Ok(folder) => {
+                let mut disk = DirDisk::new(alloc, rt, folder);
+                run_on::<R, _, N>(rt, words, &mut disk)
+            }
             Err(_) => Status::NoMemory,
         },
     }
@@ -151,7 +165,10 @@ fn show<R: Print>(rt: &R, text: &str) -> Status {
     }
 }
 
-fn answer<R: Env + Files + time::Clock + Input + Print + AllocGlobal>(rt: &R) -> Status
+fn answer<
+    R: Env + Files + time::Clock + Threads + Sync + Input + Print + AllocGlobal,
+    N: ScriptNode + NumberingNode + Send,
+>(rt: &R) -> Status
 where
     R::File: FileExt,
 {
@@ -163,7 +180,7 @@ where
         [word] if word.as_str() == "--help" => show(rt, HELP),
         [word] if word.as_str() == "--version" => show(rt, VERSION),
         _ => match place_in(&words) {
-            Some((place, rest)) => run(rt, place, rest),
+            Some((place, rest)) => run::<R, N>(rt, place, rest),
             None => Status::Usage,
         },
     }
@@ -181,7 +198,7 @@ fn tell<R: Eprint + AllocGlobal>(rt: &R, status: &Status) -> io::Result<()> {
 }
 
 fn main(rt: HostRuntime) -> ExitCode {
-    let status = answer(&rt);
+    let status = answer::<HostRuntime, AnyNode>(&rt);
     if status != Status::Ok {
         let _ = tell(&rt, &status);
     }

@@ -1,16 +1,11 @@
--- A node of one kind or of another numbers its effects where all kinds do.
-use Rattle.node_core.specs.declared.both.Both.{Both}
-use Rattle.node_core.specs.declared.both.Both.TheVariants.{One, Other}
-use Rattle.node_core.specs.Both.{either}
+-- A node of any kind numbers its effects.
+use Rattle.std.proofs.Common.{subst, sym}
 use Rattle.node_core.specs.Meaning.{Answer}
 use Rattle.flow_core.specs.Gathering.{NumbersEffects}
-use Rattle.node_set.specs.Families.{Seven, any_of}
+use Rattle.flow_core.specs.NumberLaws.{stamped_numbers}
+use Rattle.node_set.specs.Kinds.{any}
+use Rattle.node_set.specs.Nodes.{AnySpec}
 
-pub both_number : {P Q : Type 0} (one : P → Answer) (other : Q → Answer) → ((p : P) → NumbersEffects (one p)) → ((q : Q) → NumbersEffects (other q))
-    → (spec : Both P Q) → NumbersEffects (either one other spec)
-both_number one other h k (One p) = h p
-both_number one other h k (Other q) = k q
-
-pub families_number : {PA PB PC PD PE PF PG : Type 0} (nA : PA → Answer) (nB : PB → Answer) (nC : PC → Answer) (nD : PD → Answer) (nE : PE → Answer) (nF : PF → Answer) (nG : PG → Answer) → ((p : PA) → NumbersEffects (nA p)) → ((p : PB) → NumbersEffects (nB p)) → ((p : PC) → NumbersEffects (nC p)) → ((p : PD) → NumbersEffects (nD p)) → ((p : PE) → NumbersEffects (nE p)) → ((p : PF) → NumbersEffects (nF p)) → ((p : PG) → NumbersEffects (nG p))
-    → (spec : Seven PA PB PC PD PE PF PG) → NumbersEffects (any_of nA nB nC nD nE nF nG spec)
-families_number nA nB nC nD nE nF nG hA hB hC hD hE hF hG = both_number nA (either (either nB nC) (either (either nD nE) (either nF nG))) hA (both_number (either nB nC) (either (either nD nE) (either nF nG)) (both_number nB nC hB hC) (both_number (either nD nE) (either nF nG) (both_number nD nE hD hE) (both_number nF nG hF hG)))
+-- its effects with one stamp rise, whatever its kind
+pub any_numbers : (spec : AnySpec) → NumbersEffects (any.answer spec)
+any_numbers spec = subst (λ (answer : Answer). NumbersEffects answer) (sym (any.answers spec)) (stamped_numbers (any.life spec) (any.number spec) (any.saying spec))

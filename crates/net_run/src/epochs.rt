@@ -8,20 +8,22 @@ ghost use Rattle.task_run.specs.Plans.{PlanValue, graph_of};
 ghost use Rattle.flow_core.specs.Nets.{IsResting};
 ghost use Rattle.net_run.specs.Epochs.{Stands};
 
-use crate::moving::Mover;
+use crate::moving::{Way, move_to_rest};
 use crate::numbering::NumberingNode;
 use flow_core::Net;
 use kap_base::{NoMemory, Point, Stamp};
+use kap_io::Gate;
 use node_core::Effects;
 use std::alloc::Global;
+use std::thread::Threads;
 
 /// Loads an epoch of points, with stamps that end at `upto`, and answers its effects at rest. After NoMemory the net can't go on.
-pub(crate) fn run_epoch<N: NumberingNode, M: Mover<N>>(
+pub(crate) fn run_epoch<N: NumberingNode + Send, R: Threads + Sync, G: Gate + Sync>(
     alloc: Global,
     net: &mut Net<N>,
     points: &[Point],
     upto: Stamp,
-    mover: &mut M,
+    way: &Way<'_, R, G>,
 ) -> Result<Effects, NoMemory>
     requires unspent { net.old.spent ≡ false }
     requires rest { Each IsResting net.old.lives }
@@ -36,7 +38,7 @@ pub(crate) fn run_epoch<N: NumberingNode, M: Mover<N>>(
         ≡ effects_of N.answer (map (graph_of N.spec) plans) before ++ effects) }
 {
     net.load(alloc, points, upto, &[])?;
-    mover.move_to_rest(alloc, net)?;
+    move_to_rest(alloc, net, points.len(), way)?;
     // At rest the net has gathered all that its nodes give for the points so far.
     let _rests = net.at_rest();
     Ok(net.collect(alloc))

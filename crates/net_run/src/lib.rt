@@ -8,7 +8,7 @@ mod numbering;
 mod runs;
 mod trail;
 
-pub use moving::{BySchedule, Mover};
+pub use moving::{Way, Workers};
 pub use numbering::NumberingNode;
 pub use runs::NetRun;
 

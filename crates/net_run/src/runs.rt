@@ -1,16 +1,18 @@
 //! Lives that run through a net.
 
 use crate::epochs::run_epoch;
-use crate::moving::Mover;
+use crate::moving::Way;
 use crate::numbering::NumberingNode;
 use crate::trail::Trail;
 use edge_queue::CAPACITY_LIMIT;
 use flow_core::Net;
 use kap_base::{NoMemory, Point, Stamp};
+use kap_io::Gate;
 use node_core::{Effects, Node};
 use std::alloc::Global;
 use std::marker::Model;
 use std::snapshot::Snapshot;
+use std::thread::Threads;
 use task_run::{Counts, LifePlan};
 
 /// Lives that run through a net, one epoch of points after the other. Contracts see the nodes of each life, the points of all
@@ -49,7 +51,7 @@ impl<N: Node> Model for NetRun<N> {
         → (r.given ≡ r.net.last.0) × Stands N.Node r.plans.value.items (points_of r.trail) r.net };
 }
 
-impl<N: NumberingNode> NetRun<N> {
+impl<N: NumberingNode + Send> NetRun<N> {
     ghost use Rattle.std.specs.Prelude.{◌≡◌, ◌++◌, ◌<◌, ◌≤◌, false, [], IfOk, OnOk, is_err, map};
     ghost use Rattle.std.specs.List.{AllByRecursion as Each};
     ghost use Rattle.task_run.specs.Lives.{dropped_of, effects_of};
@@ -86,14 +88,14 @@ impl<N: NumberingNode> NetRun<N> {
         self.spent
     }
 
-    /// Loads an epoch of points into the net, lets it come to rest, and answers what the nodes do for them. A point's stamp is its
+    /// Loads an epoch of points into the net, has it come to rest in this way, and answers what the nodes do for them. A point's stamp is its
     /// place among all points so far, from 1 on. The effects of all points, in their order, go on by these. After NoMemory the run
     /// is spent.
-    pub fn run<M: Mover<N>>(
+    pub fn run<R: Threads + Sync, G: Gate + Sync>(
         &mut self,
         alloc: Global,
         points: Vec<Point>,
-        mover: &mut M,
+        way: &Way<'_, R, G>,
     ) -> Result<Effects, NoMemory>
         requires { self.old.spent ≡ false }
         ensures lives { OnOk result (self.new.lives ≡ self.old.lives) }
@@ -108,7 +110,7 @@ impl<N: NumberingNode> NetRun<N> {
             return Err(NoMemory);
         };
         let trail = Trail::More(Snapshot::of(&self.trail), Snapshot::of(&points));
-        let effects = run_epoch(alloc, &mut self.net, &points, Stamp(upto), mover)?;
+        let effects = run_epoch(alloc, &mut self.net, &points, Stamp(upto), way)?;
         self.trail = trail;
         self.given = upto;
         self.spent = false;

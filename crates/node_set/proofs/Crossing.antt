@@ -2,7 +2,8 @@
 use denote.RattleType.{RattleType}
 use denote.Builtin as plain
 use denote.Struct.Tuple.{Tuple}
-use denote.Param.Send.{IsSend, sendable}
+use denote.Param.Send.{IsSend, enum_send, recorded_send, sendable}
+use denote.Enum.Declared as Declared
 use mathlib.Core.List.{[], ◌∷◌}
 use Rattle.std.proofs.Crossing.{crosses}
 use Rattle.std.specs.contracts.option.Option as Option
@@ -10,11 +11,9 @@ use Rattle.kap_base.specs.contracts.item_list.ItemList as ItemList
 use Rattle.kap_base.specs.contracts.value.Value as Value
 use Rattle.lambda_types.proofs.Crossing.{Lambda_send}
 use Rattle.node_core.specs.contracts.alone.Alone as Alone
-use Rattle.node_core.specs.contracts.both.Both as Both
 use Rattle.node_core.specs.contracts.grouped.Grouped as Grouped
 use Rattle.node_core.specs.contracts.numbered.Numbered as Numbered
 use Rattle.node_core.specs.contracts.table.Table as Table
-use Rattle.node_core.proofs.both.Both.TheSendSync as Both_
 use Rattle.alert_node.specs.contracts.alert.Alert as Alert
 use Rattle.alert_node.specs.contracts.watch.Watch as Watch
 use Rattle.basic_nodes.specs.contracts.group_kind.GroupKind as GroupKind
@@ -37,18 +36,17 @@ use Rattle.window_node.specs.contracts.edges.EdgeWindow as EdgeWindow
 use Rattle.window_node.specs.contracts.sliding.SlidingCell as SlidingCell
 use Rattle.window_node.specs.contracts.sliding.SlidingWindow as SlidingWindow
 use Rattle.join_node.proofs.groups.JoinCell.TheSendSync as JoinCell_
-use Rattle.node_set.specs.contracts.families.Families as Families
-use Rattle.node_set.proofs.families.Families.TheSendSync as Families_
+use Rattle.node_set.specs.contracts.kinds.AnyNode as AnyNode
 use Rattle.window_node.proofs.counted.CountedGroup.TheSendSync as CountedGroup_
 use Rattle.window_node.proofs.edges.EdgeCell.TheSendSync as EdgeCell_
 use Rattle.window_node.proofs.sliding.SlidingCell.TheSendSync as SlidingCell_
 
--- a node that keeps something of each group, and one that keeps nothing
+-- a node that keeps something of each group, and one that keeps nothing, as a part of another value
 abbrev grouped : RattleType → RattleType → RattleType
-grouped kind cell = Numbered.the_row (Grouped.the_row kind) (Table.the_row cell)
+grouped kind cell = (Numbered.the_field (Grouped.the_row kind) (Table.the_row cell)).row
 
 abbrev alone : RattleType → RattleType
-alone kind = Numbered.the_row (Alone.the_row kind) plain.unit
+alone kind = (Numbered.the_field (Alone.the_row kind) plain.unit).row
 
 -- ---- of each family of kinds
 
@@ -99,27 +97,5 @@ select_send = search (crosses, sendable) depth 100 fits 100000
 
 -- ---- of any kind
 
--- two that may make one that may
-both_send : (A B : RattleType) → IsSend A → IsSend B → IsSend (Both.the_row A B)
-both_send A B a b = Both_.the_send A B a b
-
-pub any_send : IsSend (Families.the_row
-    (Both.the_row (grouped StateCount.the_row (Tuple (plain.u64 ∷ plain.u64 ∷ [])))
-    (Both.the_row (grouped ChangeDetect.the_row (Option.the_row (ItemList.the_row (Option.the_row Value.the_row))))
-    (Both.the_row (grouped Difference.the_row (Option.the_row plain.i64))
-    (Both.the_row (grouped CumulativeSum.the_row plain.i64) (grouped Elapsed.the_row (Option.the_row plain.i64))))))
-    (Both.the_row (grouped EdgeWindow.the_row EdgeCell.the_row) (Both.the_row (grouped SlidingWindow.the_row SlidingCell.the_row) (grouped CountedWindow.the_row CountedGroup.the_row)))
-    (grouped Alert.the_row Watch.the_row)
-    (Both.the_row (alone PointKind.the_row) (grouped GroupKind.the_row plain.u64))
-    (grouped Eval.the_row Counts.the_row)
-    (Both.the_row (alone Union.the_row) (grouped Join.the_row JoinCell.the_row))
-    (alone Selection.the_row))
-any_send =
-    Families_.the_send _ _ _ _ _ _ _
-    (both_send _ _ count_send (both_send _ _ change_send (both_send _ _ difference_send (both_send _ _ sum_send elapsed_send))))
-    (both_send _ _ edge_send (both_send _ _ sliding_send counted_send))
-    alert_send
-    (both_send _ _ point_send group_send)
-    eval_send
-    (both_send _ _ union_send join_send)
-    select_send
+pub AnyNode_send : IsSend AnyNode.the_row
+AnyNode_send = recorded_send AnyNode.the_field.row _ _ AnyNode.the_type.to_one (enum_send (Declared.shape AnyNode.the_type) ((count_send, tt), ((change_send, tt), ((difference_send, tt), ((sum_send, tt), ((elapsed_send, tt), ((edge_send, tt), ((sliding_send, tt), ((counted_send, tt), ((alert_send, tt), ((point_send, tt), ((group_send, tt), ((eval_send, tt), ((union_send, tt), ((join_send, tt), ((select_send, tt), tt))))))))))))))))

@@ -1,5 +1,6 @@
 pub mod Nodes
 pub mod Tasks
-pub mod Families
+pub mod Behaviours
+pub mod Kinds
 pub mod Seats
 pub mod Drafts

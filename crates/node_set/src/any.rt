@@ -16,32 +16,18 @@ ghost use Rattle.window_node.specs.Nodes.{seat_of as window_seat};
 ghost use Rattle.node_set.specs.Nodes.{any_spec, in_alert, in_basic, in_eval, in_gather, in_select, in_state, in_window, node_spec};
 ghost use Rattle.node_set.specs.Seats.{each_sits};
 
-use crate::families::Families;
+use crate::kinds::AnyNode;
 use crate::script_node::ScriptNode;
-use alert_node::AlertNode;
-use basic_nodes::{BasicNode, BasicSpec, basic_node};
-use eval_node::EvalNode;
-use join_node::{GatherNode, GatherSpec};
+use crate::sorts::{of_basic, of_gather, of_state, of_window};
+use basic_nodes::{BasicSpec, basic_node};
+use join_node::GatherSpec;
 use kap_base::{NoMemory, Text};
 use lambda_types::Lambda;
 use node_core::Node;
-use select_nodes::SelectNode;
-use state_nodes::{StateNode, StateSpec, state_node};
+use state_nodes::{StateSpec, state_node};
 use std::alloc::Global;
 use task_graph::{AlertSpec, EvalSpec, Measurement, SelectSpec, Spec, WindowSpec};
 use task_run::Ids;
-use window_node::WindowNode;
-
-/// A node of any kind that a script can make.
-pub type AnyNode = Families<
-    StateNode,
-    WindowNode,
-    AlertNode,
-    BasicNode,
-    EvalNode,
-    GatherNode,
-    SelectNode,
->;
 
 /// The node of one of the basic kinds.
 fn basic(alloc: Global, life: u32, number: u32, spec: BasicSpec) -> Result<AnyNode, NoMemory>
@@ -51,7 +37,7 @@ fn basic(alloc: Global, life: u32, number: u32, spec: BasicSpec) -> Result<AnyNo
         ≡ ⟦<AnyNode as Node>⟧.first (in_basic (basic_seat life number (kind_of spec)))) }
 {
     match basic_node(alloc, life, number, spec) {
-        Ok(node) => Ok(Families::Basic(node)),
+        Ok(node) => Ok(of_basic(node)),
         Err(NoMemory) => Err(NoMemory),
     }
 }
@@ -74,7 +60,7 @@ fn eval(alloc: Global, life: u32, number: u32, spec: EvalSpec<Lambda>) -> AnyNod
         ≡ ⟦<AnyNode as Node>⟧.first (in_eval (eval_seat life number spec)) }
 {
     let node = eval_node::build(alloc, life, number, spec);
-    Families::Eval(node)
+    AnyNode::Eval(node)
 }
 
 /// The node of one of the kinds that keep a small state of each group.
@@ -84,7 +70,7 @@ fn state(alloc: Global, life: u32, number: u32, spec: StateSpec) -> AnyNode
         ≡ ⟦<AnyNode as Node>⟧.first (in_state (state_seat life number spec)) }
 {
     let node = state_node(alloc, life, number, spec);
-    Families::State(node)
+    of_state(node)
 }
 
 /// The node of one of the kinds that gather points of several parents.
@@ -94,7 +80,7 @@ fn gather(alloc: Global, life: u32, number: u32, spec: GatherSpec) -> AnyNode
         ≡ ⟦<AnyNode as Node>⟧.first (in_gather (gather_seat life number spec)) }
 {
     let node = join_node::build(alloc, life, number, spec);
-    Families::Gather(node)
+    of_gather(node)
 }
 
 /// The node `window`.
@@ -105,7 +91,7 @@ fn window(alloc: Global, life: u32, number: u32, spec: WindowSpec) -> AnyNode
         ≡ ⟦<AnyNode as Node>⟧.first (in_window (window_seat life number (window_of spec))) }
 {
     let node = window_node::build(alloc, life, number, spec);
-    Families::Window(node)
+    of_window(node)
 }
 
 /// The node of one of the selects.
@@ -115,7 +101,7 @@ fn select(alloc: Global, life: u32, number: u32, spec: SelectSpec) -> AnyNode
         ≡ ⟦<AnyNode as Node>⟧.first (in_select (select_seat life number spec)) }
 {
     let node = select_nodes::build(alloc, life, number, spec);
-    Families::Select(node)
+    AnyNode::Select(node)
 }
 
 /// The node `alert`, of this name in the task of this id.
@@ -134,7 +120,7 @@ fn alert(
         (in_alert (alert_seat life number (alert_of task.now name.now spec)))) }
 {
     match alert_node::build(alloc, life, task, number, name, spec) {
-        Ok(node) => Ok(Families::Alert(node)),
+        Ok(node) => Ok(AnyNode::Alert(node)),
         Err(NoMemory) => Err(NoMemory),
     }
 }

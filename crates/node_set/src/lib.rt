@@ -3,13 +3,14 @@
 
 mod any;
 mod drafts;
-mod families;
+mod kinds;
 mod script_node;
 mod sends;
+mod sorts;
 mod tasks;
 
-pub use any::{AnyNode, any_node};
-pub use families::Families;
+pub use any::any_node;
+pub use kinds::AnyNode;
 pub use script_node::ScriptNode;
 pub use sends::send_any_node;
 pub use tasks::{TaskPlan, plan_task};

@@ -2,7 +2,7 @@
 
 ghost use Rattle.std.specs.Prelude.{◌≡◌};
 
-use crate::any::AnyNode;
+use crate::kinds::AnyNode;
 use kap_base::hand_on;
 
 /// A node of any kind may go to another thread.

@@ -1,5 +1,5 @@
 -- Nodes of a plan, and inputs that all come at port 0.
-use Rattle.std.proofs.Common.{◌≡◌, ℕ, suc, ◌+◌, ◌<◌, List, [], ◌∷◌, length, map, max, arith}
+use Rattle.std.proofs.Common.{◌≡◌, ℕ, ◌+◌, ◌<◌, List, [], ◌∷◌, length, map, max, arith}
 use Rattle.kap_base.specs.declared.items.Item.{Item}
 use Rattle.node_core.specs.Cut.{AllAtPorts}
 use Rattle.task_run.specs.Plans.{AreFirstNodes, AreNodesFrom, IsPlan, PlanValue}

@@ -8,4 +8,4 @@ mod summaries;
 
 pub use fault::SampleFault;
 pub use records::write_samples;
-pub use summaries::summarize;
+pub use summaries::{Summary, summarize};

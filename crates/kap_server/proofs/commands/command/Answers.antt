@@ -3,6 +3,7 @@ use Rattle.std.specs.Prelude.{IsTrue}
 use Rattle.kap_server.proofs.CheckLaws.{check_answers}
 use Rattle.kap_server.proofs.GenLaws.{few_to_replay, few_to_summarize, summary_not_none, summed_as_asked, summed_not, summed_tells}
 use Rattle.kap_server.proofs.ListLaws.{lists_tasks, tells_place}
+use Rattle.kap_server.proofs.NetLaws.{net_as_asked, samples_as_asked}
 use Rattle.kap_server.proofs.RunLaws.{not_none, ran_as_asked, ran_not_disk, ran_not_many, ran_not_usage, ran_refused, ran_status}
 use Rattle.kap_server.proofs.commands.command.Goals as goal
 
@@ -83,3 +84,13 @@ returns-in-Some-Tasks-clause-tasks g c = λ rs asks tells stands.
 pub returns-in-Some-Tasks-clause-no_store : goal.returns-in-Some-Tasks-clause-no_store
 returns-in-Some-Tasks-clause-no_store g c = λ part offset asks tells none.
     tells_place (IsTrue g.D.Disk.tells) (g.D.Disk.seen c.args.disk.now) (g.K.Sink.written c.args.out.now) (g.K.Sink.written c.list_tasks.new.out) part offset c.list_tasks.result tells none c.list_tasks.ensures.listed
+
+pub returns-else-are_too_many-clause-net : goal.returns-else-are_too_many-clause-net
+returns-else-are_too_many-clause-net g c =
+    let asked = rw (c.in-Some-Replay.is, c.in-Some-Replay.field-0-is) at c.request_in.ensures.request in
+    λ options pairs asks ok. net_as_asked _ _ _ _ options _ pairs _ (asked ∙ asks.asks) (c.replay_pairs.ensures.net ok)
+
+pub returns-else-are_too_many-2-clause-sample_net : goal.returns-else-are_too_many-2-clause-sample_net
+returns-else-are_too_many-2-clause-sample_net g c =
+    let asked = rw (c.in-Some-Summarize.is, c.in-Some-Summarize.field-0-is) at c.request_in.ensures.request in
+    λ n pairs asks ok. samples_as_asked _ _ _ _ _ n _ pairs c.from-in-Some-Summarize.ensures (asked ∙ asks.asks) (c.write_summary.ensures.net ok)

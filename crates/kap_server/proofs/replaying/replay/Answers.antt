@@ -5,9 +5,9 @@ use Rattle.task_run.specs.Graphs.{Placed}
 use Rattle.task_run.specs.PointLaws.{effects_more}
 use Rattle.task_run.specs.Plans.{graph_of}
 use Rattle.kap_server.specs.Gathering.{GoesOn, StopsBehind}
-use Rattle.kap_server.specs.Running.{value_of}
+use Rattle.kap_server.specs.Nets.{HoldsNet}
 use Rattle.kap_server.specs.Runs.{EndsWritten, run_rest, run_text}
-use Rattle.kap_server.proofs.ReplayLaws.{cut_off, ended_so, ends_badly, ends_cut, ends_well, finished, nothing_more, written_none, written_points, written_some}
+use Rattle.kap_server.proofs.ReplayLaws.{cut_off, ended_so, ends_badly, ends_cut, ends_well, ends_with_net, finished, nothing_more, written_none, written_points, written_some}
 use Rattle.kap_server.proofs.TellLaws.{grows, text_none}
 use Rattle.kap_server.proofs.replaying.replay.Goals as goal
 
@@ -16,8 +16,9 @@ replaying-init g c =
     let node = g.N.Node in
     let names = c.args.names.now in
     let lives = map (graph_of node.spec) c.args.plans.items in
-    let more = grows node.answer names lives (effects_more node.answer node.life node.number g.met.N.Node.stamped lives) in
+    let more = grows node.answer names lives (effects_more node.answer node.life node.number (g.met.N.Node g.world.𝓛 g.world.𝓜 g.world.𝓡 (λ s x. x, λ x. x, λ x. x, λ x. x)).stamped lives) in
     rw (c.in-Ok.ensures.run, c.new-reader.ensures, c.new-text.ensures) (record {
+      kept = refl;
       not_spent = refl;
       alive = refl;
       lives = refl;
@@ -34,7 +35,7 @@ replaying-preserved g c =
     let names = c.args.names.now in
     let lives = map (graph_of node.spec) c.args.plans.items in
     let none = text_none node.answer names lives in
-    let more = grows node.answer names lives (effects_more node.answer node.life node.number g.met.N.Node.stamped lives) in
+    let more = grows node.answer names lives (effects_more node.answer node.life node.number (g.met.N.Node g.world.𝓛 g.world.𝓜 g.world.𝓡 (λ s x. x, λ x. x, λ x. x, λ x. x)).stamped lives) in
     let text = run_text node.answer names lives in
     let rest = run_rest node.answer c.args.options.counts names lives in
     let before = c.replaying.invariant in
@@ -43,6 +44,7 @@ replaying-preserved g c =
     let on = written_some text rest none more _ _ _ _ c.replaying.text c.replaying.reader before.written due _ c.in-Ok-write_piece.ensures.ok in
     let goes : GoesOn c.replaying.reader c.gather.new.reader _ _ new = rw c.in-More.is at c.in-Ok-gather.ensures.pauses in
     record {
+      kept = before.kept;
       not_spent = goes.unspent;
       alive = c.in-Ok-tell.ensures.spent;
       lives = c.in-Ok-tell.ensures.lives ∙ before.lives;
@@ -58,7 +60,7 @@ returns-in-Err-write_piece-clause-replayed g c =
     let node = g.N.Node in
     let names = c.args.names.now in
     let lives = map (graph_of node.spec) c.args.plans.items in
-    let more = grows node.answer names lives (effects_more node.answer node.life node.number g.met.N.Node.stamped lives) in
+    let more = grows node.answer names lives (effects_more node.answer node.life node.number (g.met.N.Node g.world.𝓛 g.world.𝓜 g.world.𝓡 (λ s x. x, λ x. x, λ x. x, λ x. x)).stamped lives) in
     cut_off (run_text node.answer names lives) (run_rest node.answer c.args.options.counts names lives) (text_none node.answer names lives) more _ _ _ _
     c.replaying.text c.replaying.reader c.replaying.invariant.written _ c.in-Err-write_piece.ensures.err
 
@@ -68,7 +70,7 @@ returns-in-Err-gather-clause-replayed g c =
     let names = c.args.names.now in
     let lives = map (graph_of node.spec) c.args.plans.items in
     let none = text_none node.answer names lives in
-    let more = grows node.answer names lives (effects_more node.answer node.life node.number g.met.N.Node.stamped lives) in
+    let more = grows node.answer names lives (effects_more node.answer node.life node.number (g.met.N.Node g.world.𝓛 g.world.𝓜 g.world.𝓡 (λ s x. x, λ x. x, λ x. x, λ x. x)).stamped lives) in
     let text = run_text node.answer names lives in
     let rest = run_rest node.answer c.args.options.counts names lives in
     let due = c.write_piece.new.text in
@@ -81,7 +83,7 @@ returns-in-Err-tell-clause-replayed g c =
     let names = c.args.names.now in
     let lives = map (graph_of node.spec) c.args.plans.items in
     let none = text_none node.answer names lives in
-    let more = grows node.answer names lives (effects_more node.answer node.life node.number g.met.N.Node.stamped lives) in
+    let more = grows node.answer names lives (effects_more node.answer node.life node.number (g.met.N.Node g.world.𝓛 g.world.𝓜 g.world.𝓡 (λ s x. x, λ x. x, λ x. x, λ x. x)).stamped lives) in
     let text = run_text node.answer names lives in
     let rest = run_rest node.answer c.args.options.counts names lives in
     let due = c.write_piece.new.text in
@@ -94,7 +96,7 @@ returns-in-End-clause-replayed g c =
     let names = c.args.names.now in
     let lives = map (graph_of node.spec) c.args.plans.items in
     let none = text_none node.answer names lives in
-    let more = grows node.answer names lives (effects_more node.answer node.life node.number g.met.N.Node.stamped lives) in
+    let more = grows node.answer names lives (effects_more node.answer node.life node.number (g.met.N.Node g.world.𝓛 g.world.𝓜 g.world.𝓡 (λ s x. x, λ x. x, λ x. x, λ x. x)).stamped lives) in
     let text = run_text node.answer names lives in
     let rest = run_rest node.answer c.args.options.counts names lives in
     let before = c.replaying.invariant in
@@ -106,15 +108,39 @@ returns-in-End-clause-replayed g c =
     let told = c.tell.new.text in
     let now = written_points text rest none more _ _ _ _ due c.replaying.reader on last stops.left new told stops.gathers (rw (before.lives, before.fed) at c.in-Ok-tell.ensures.text) in
     let sink = g.K.Sink in
-    let run = value_of c.tell.new.self.run in
+    let run = c.tell.new.self.run in
     let lives_are : run.lives ≡ lives = c.in-Ok-tell.ensures.lives ∙ before.lives in
     let fed : run.points ≡ last.given = c.in-Ok-tell.ensures.points ∙ ap (λ (l : List PointValue). l ++ new) before.fed ∙ sym stops.gathers.given in
     let rest_is : run_rest node.answer c.args.options.counts names run.lives run.points ≡ rest last.given =
     ap (λ (ls : List (List (Placed g.row.N-Spec.Denot))). run_rest node.answer c.args.options.counts names ls run.points) lives_are ∙ ap rest fed in
-    ended_so text rest none more c.write_end.result _ _ _ _ _ told (rest last.given) _ _
-    (subst (λ (r : List ℕ). EndsWritten c.write_end.result (sink.written c.write_piece.new.out) (sink.written c.write_end.new.out) told r (sink.faults c.write_piece.new.out) (sink.faults c.write_end.new.out)) rest_is c.write_end.ensures.written)
+    ended_so text rest none more c.finish.result _ _ _ _ _ told (rest last.given) _ _
+    (subst (λ (r : List ℕ). EndsWritten c.finish.result (sink.written c.write_piece.new.out) (sink.written c.finish.new.out) told r (sink.faults c.write_piece.new.out) (sink.faults c.finish.new.out)) rest_is c.finish.ensures.written)
     (λ q. ends_well text rest none more _ _ _ _ told last now c.gather.new.reader _ stops.reads _ stops.stops q)
     (λ q. ends_cut text rest none more _ _ _ _ told last now c.gather.new.reader _ stops.reads _ stops.stops q)
+
+pub returns-in-End-clause-net : goal.returns-in-End-clause-net
+returns-in-End-clause-net g c = λ ok.
+    let node = g.N.Node in
+    let names = c.args.names.now in
+    let lives = map (graph_of node.spec) c.args.plans.items in
+    let none = text_none node.answer names lives in
+    let more = grows node.answer names lives (effects_more node.answer node.life node.number (g.met.N.Node g.world.𝓛 g.world.𝓜 g.world.𝓡 (λ s x. x, λ x. x, λ x. x, λ x. x)).stamped lives) in
+    let text = run_text node.answer names lives in
+    let rest = run_rest node.answer c.args.options.counts names lives in
+    let before = c.replaying.invariant in
+    let due = c.write_piece.new.text in
+    let new = c.in-Ok-gather.epoch.points.items in
+    let on = written_some text rest none more _ _ _ _ c.replaying.text c.replaying.reader before.written due _ c.in-Ok-write_piece.ensures.ok in
+    let stops : StopsBehind c.replaying.reader c.gather.new.reader _ _ new GaveAll = rw c.in-End.is at c.in-Ok-gather.ensures.pauses in
+    let last = stops.last in
+    let told = c.tell.new.text in
+    let now = written_points text rest none more _ _ _ _ due c.replaying.reader on last stops.left new told stops.gathers (rw (before.lives, before.fed) at c.in-Ok-tell.ensures.text) in
+    let run = c.tell.new.self.run in
+    let lives_are : run.lives ≡ lives = c.in-Ok-tell.ensures.lives ∙ before.lives in
+    let fed : run.points ≡ last.given = c.in-Ok-tell.ensures.points ∙ ap (λ (l : List PointValue). l ++ new) before.fed ∙ sym stops.gathers.given in
+    ends_with_net text rest none more _ _ _ _ told last now c.gather.new.reader _ stops.reads node lives c.finish.new.ran stops.stops
+    (subst (λ (ls : List (List (Placed g.row.N-Spec.Denot))). HoldsNet node ls last.given c.finish.new.ran) lives_are
+    (subst (λ (ps : List PointValue). HoldsNet node run.lives ps c.finish.new.ran) fed (c.finish.ensures.net ok)))
 
 pub returns-in-Fault-clause-replayed : goal.returns-in-Fault-clause-replayed
 returns-in-Fault-clause-replayed g c =
@@ -122,7 +148,7 @@ returns-in-Fault-clause-replayed g c =
     let names = c.args.names.now in
     let lives = map (graph_of node.spec) c.args.plans.items in
     let none = text_none node.answer names lives in
-    let more = grows node.answer names lives (effects_more node.answer node.life node.number g.met.N.Node.stamped lives) in
+    let more = grows node.answer names lives (effects_more node.answer node.life node.number (g.met.N.Node g.world.𝓛 g.world.𝓜 g.world.𝓡 (λ s x. x, λ x. x, λ x. x, λ x. x)).stamped lives) in
     let text = run_text node.answer names lives in
     let rest = run_rest node.answer c.args.options.counts names lives in
     let before = c.replaying.invariant in
@@ -136,3 +162,18 @@ returns-in-Fault-clause-replayed g c =
     finished text rest none more c.from.result c.write_rest.result _ _ _ _ _ told _ _ c.write_rest.ensures.written
     (λ q. rw c.from.ensures (ends_badly text rest none more _ _ _ _ told last now c.gather.new.reader _ stops.reads c.in-Fault.fault _ stops.stops q))
     (λ q. cut_off text rest none more _ _ _ _ told last now _ q)
+
+pub returns-in-Err-write_piece-clause-none : goal.returns-in-Err-write_piece-clause-none
+returns-in-Err-write_piece-clause-none g c = λ no. c.replaying.invariant.kept
+
+pub returns-in-Err-gather-clause-none : goal.returns-in-Err-gather-clause-none
+returns-in-Err-gather-clause-none g c = λ no. c.replaying.invariant.kept
+
+pub returns-in-Err-tell-clause-none : goal.returns-in-Err-tell-clause-none
+returns-in-Err-tell-clause-none g c = λ no. c.replaying.invariant.kept
+
+pub returns-in-End-clause-none : goal.returns-in-End-clause-none
+returns-in-End-clause-none g c = λ no. c.finish.ensures.none no ∙ c.replaying.invariant.kept
+
+pub returns-in-Fault-clause-none : goal.returns-in-Fault-clause-none
+returns-in-Fault-clause-none g c = λ no. c.replaying.invariant.kept

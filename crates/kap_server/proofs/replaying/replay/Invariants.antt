@@ -4,7 +4,6 @@ use Rattle.task_run.specs.Lives.{effects_of}
 use Rattle.task_run.specs.Plans.{graph_of}
 use Rattle.topic_core.specs.Topics.{StandsFor}
 use Rattle.kap_server.specs.Replaying.{HasWritten}
-use Rattle.kap_server.specs.Running.{value_of}
 use Rattle.kap_server.specs.Runs.{run_text}
 use Rattle.kap_server.proofs.replaying.replay.Given as goal
 
@@ -14,8 +13,9 @@ invariant-replaying g l =
     let source = g.S.Source in
     let sink = g.K.Sink in
     let node = g.N.Node in
-    let run = value_of l.telling.run in
+    let run = l.telling.run in
     record {
+      kept : l.ran ≡ l.initial.ran;
       not_spent : l.reader.spent ≡ false;
       alive : run.spent ≡ false;
       lives : run.lives ≡ map (graph_of node.spec) l.fn.plans.items;

@@ -16,7 +16,7 @@ returns-clause-effects g c = λ plans before s.
     let first = loaded node plans before new c.args.upto c.args.net.now c.load.new.self s.come s.last c.requires.upto (c.in_ok-load.ensures.first plans) (c.in_ok-load.ensures.again nodes before old) in
     let then = c.in_ok-move_to_rest.ensures.runs nodes (before ++ new) old first in
     let rests = is_so c.at_rest-rests.result (λ no. c.at_rest-rests.ensures.busy no c.in_ok-move_to_rest.ensures.rest) in
-    c.collect.ensures.whole g.met.N.NumberingNode.numbers nodes before new 1 old s.rise s.all (c.at_rest-rests.ensures.all rests nodes (before ++ new) old then)
+    c.collect.ensures.whole (g.met.N.NumberingNode g.world.𝓛 g.world.𝓜 g.world.𝓡 (λ s x. x, λ x. x, λ x. x, λ x. x)).numbers nodes before new 1 old s.rise s.all (c.at_rest-rests.ensures.all rests nodes (before ++ new) old then)
 
 pub returns-clause-stands : goal.returns-clause-stands
 returns-clause-stands g c = λ plans before s.

@@ -1,6 +1,4 @@
 use Rattle.std.proofs.Common.{arith}
-use Rattle.std.proofs.KnownBytes.{Appends-nil}
-use Rattle.sample_points.specs.Samples.{samples}
 use Rattle.sample_replay.proofs.RecordLaws.{at_err, none_written, prefix_of_all, prefix_so_far}
 use Rattle.sample_replay.proofs.records.write_samples.Goals as goal
 

@@ -1,4 +1,4 @@
-use Rattle.std.proofs.Common.{◌≡◌, ◌≤◌, false, map}
+use Rattle.std.proofs.Common.{◌≡◌, ◌≤◌, ◌-◌, false, map}
 use Rattle.task_run.specs.Lives.{effects_of}
 use Rattle.task_run.specs.Plans.{graph_of}
 use Rattle.sample_points.specs.Samples.{samples}
@@ -10,9 +10,12 @@ abbrev pub invariant-running : goal.invariant-running
 invariant-running g l =
     let node = g.N.Node in
     record {
-      within : l.number ≤ l.count;
+      within : l.done ≤ l.count;
       spent : l.run.spent ≡ false;
       lives : l.run.lives ≡ map (graph_of node.spec) l.fn.plans.items;
-      points : l.run.points ≡ samples l.number;
+      points : l.run.points ≡ samples l.done;
       counted : HasCounted l.names (effects_of node.answer l.run.lives l.run.points) l.counts.points l.counts.bytes l.counts.topics;
     }
+
+abbrev pub decreases-running : goal.decreases-running
+decreases-running g l = l.count - l.done
