@@ -1,5 +1,5 @@
 -- Tasks that are made ready to run.
-use Rattle.std.specs.Prelude.{◌≡◌, ℕ, ◌+◌, ◌++◌, Bool, false, List, [], ◌∷◌, map}
+use Rattle.std.specs.Prelude.{◌≡◌, ℕ, ◌++◌, Bool, false, List, [], ◌∷◌, map}
 use Rattle.std.specs.List.{AllByRecursion as Each}
 use Rattle.flow_core.specs.Making.{HasFewParents}
 use Rattle.tick_compile.specs.Tasks.{is_refusal}
