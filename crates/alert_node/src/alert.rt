@@ -6,7 +6,7 @@ ghost use Rattle.alert_node.specs.Watches.{watch_in};
 use crate::events::say;
 use crate::levels::watched;
 use crate::watch::{Counts, Watch};
-use kap_base::{Level, NoMemory, Point, Text};
+use kap_base::{Level, NoMemory, Point, Shared, Text};
 use lambda_types::Lambda;
 use msg_template::Template;
 use node_core::{Rule, Said};
@@ -67,11 +67,11 @@ impl Rule for Alert {
         alloc: Global,
         cell: &mut Watch,
         port: u32,
-        point: Point,
+        point: Shared<Point>,
     ) -> Result<Said, NoMemory> {
         let _ = port;
         let before = *cell;
-        let now = watched(alloc, self, before, &point)?;
+        let now = watched(alloc, self, before, point.value())?;
         *cell = now;
         say(alloc, self, before.level, now.level, point)
     }

@@ -5,7 +5,7 @@ ghost use Rattle.alert_node.specs.Alerts.{said_at};
 ghost use Rattle.alert_node.specs.Events.{event_of, facts_of, is_fine, tells, text_of};
 
 use crate::alert::Alert;
-use kap_base::{Duplicate, Event, Level, NoMemory, Point, Text, What, group_of};
+use kap_base::{Duplicate, Event, Level, NoMemory, Point, Shared, Text, What, group_of};
 use msg_template::{Facts, Template};
 use node_core::{Few, Said};
 use std::alloc::Global;
@@ -85,17 +85,17 @@ pub(crate) fn say(
     alert: &Alert,
     before: Level,
     now: Level,
-    point: Point,
+    point: Shared<Point>,
 ) -> Result<Said, NoMemory>
     ensures { IfOk result (λ said. said ≡ said_at alert.now before now point) }
 {
     if !tells(alert, before, now) {
         return Ok(Said::nothing(alloc));
     }
-    let event = event_of(alloc, alert, now, point)?;
+    let event = event_of(alloc, alert, now, point.into_value(alloc)?)?;
     Ok(Said {
         bodies: Few::new(alloc),
-        deeds: Few::one(alloc, What::Event(event)),
+        deeds: Few::one(alloc, What::Event(Shared::new(alloc, event)?)),
         drops: 0,
     })
 }

@@ -1,6 +1,6 @@
 -- The keys of a map can be the dimensions of a point.
 use Rattle.std.proofs.Common.{◌≡◌, ℕ, ◌+◌, ◌<◌, Bool, true, false, cond, ◌||◌, T, List, [], ◌∷◌, ◌++◌, map, length, take, get_or, refl, sym, ap, ◌∙◌, IsUtf8}
-use Rattle.std.specs.Prelude.{◌&&◌, IsTrue, Option, Some, None, bytes_eq, is_some}
+use Rattle.std.specs.Prelude.{◌&&◌, nat_eq, IsTrue, Option, Some, None, bytes_eq, is_some}
 use Rattle.std.specs.List.{list_all, list_any}
 use Rattle.std.specs.Str.{is_utf8}
 use Rattle.std.specs.Ordering.{eq_by_cmp, is_eq, is_lt}
@@ -13,9 +13,13 @@ use Rattle.std.proofs.lemmas.List.Folds.{list_all-append}
 use Rattle.std.proofs.lemmas.Str.{is_utf8-from_IsUtf8}
 use Rattle.std.proofs.lemmas.Cmp.{nat_list_cmp_total}
 use Rattle.std.proofs.lemmas.Map.Text.{is_eq-slice_cmp}
+use Rattle.std.specs.Cmp.Lexicographic.{pointwise, same_text}
 use Rattle.kap_base.specs.Maps.{KeyMap, byte_order, with_entries}
-use Rattle.kap_base.specs.Points.{are_dimensions, rises}
-use Rattle.basic_nodes.specs.Dimensions.{in_order, map_of}
+use Rattle.kap_base.specs.Points.{PointValue, are_dimensions, rises}
+use Rattle.kap_base.proofs.TestLaws.{first_of, second_of}
+use Rattle.basic_nodes.specs.declared.dimensions.Grouping.{Grouping}
+use Rattle.basic_nodes.specs.declared.dimensions.Grouping.TheVariants.{By}
+use Rattle.basic_nodes.specs.Dimensions.{grouped, in_order, map_of}
 
 both : (a b : Bool) → IsTrue a → IsTrue b → IsTrue (a && b)
 both true b p q = q
@@ -122,3 +126,15 @@ key_stays m k in_m = same_map nat_list_cmp_total (slice_cmp-IsAntisymmetric nat_
     at : (q : List ℕ) (b : Bool) → eq_by_cmp byte_order q k ≡ b → cond b (Some tt) (get m q) ≡ get m q
     at q true e = there (get m k) in_m ∙ get_tied nat_list_cmp_total m q k (is_equal (byte_order q k) e)
     at q false e = refl
+
+-- lists of names that test equal are equal
+pub same_names : (names others : List (List ℕ)) → pointwise (pointwise nat_eq) names others ≡ true → names ≡ others
+same_names [] [] e = refl
+same_names [] (other ∷ others) e = absurd cc
+same_names (name ∷ names) [] e = absurd cc
+same_names (name ∷ names) (other ∷ others) e =
+    rw (same_text name other (sym (first_of (pointwise nat_eq name other) (pointwise (pointwise nat_eq) names others) e)), same_names names others (second_of (pointwise nat_eq name other) (pointwise (pointwise nat_eq) names others) e)) refl
+
+-- a point that has these dimensions and is grouped by name or not, grouped so
+pub grouped_still : (grouping : Grouping) (dims : List (List ℕ)) (by_name : Bool) (p : PointValue) → grouping ≡ By dims → dims ≡ p.dims → by_name ≡ p.by_name → grouped grouping by_name p ≡ p
+grouped_still grouping dims by_name p is same also = rw (is, same, also) refl

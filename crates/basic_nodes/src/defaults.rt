@@ -6,8 +6,8 @@ ghost use Rattle.kap_base.specs.Points.{is_value};
 ghost use Rattle.kap_base.specs.Texts.{is_name};
 ghost use Rattle.basic_nodes.specs.Defaults.{default_says, value_of, with_default, with_defaults};
 
-use kap_base::{Duplicate, NoMemory, Point, Text, Value};
-use node_core::{Said, pass};
+use kap_base::{Duplicate, NoMemory, Point, Shared, Text, Value};
+use node_core::{Said, pass_new};
 use std::alloc::Global;
 use task_graph::{DefaultSetting, DefaultValue, Name};
 
@@ -89,10 +89,10 @@ fn set_all(alloc: Global, settings: &[DefaultSetting], mut point: Point) -> Resu
 pub(crate) fn feed_default(
     alloc: Global,
     settings: &[DefaultSetting],
-    point: Point,
+    point: Shared<Point>,
 ) -> Result<Said, NoMemory>
     ensures { IfOk result (λ said. said ≡ default_says settings.now point) }
 {
-    let point = set_all(alloc, settings, point)?;
-    Ok(pass(alloc, point))
+    let point = set_all(alloc, settings, point.into_value(alloc)?)?;
+    pass_new(alloc, point)
 }

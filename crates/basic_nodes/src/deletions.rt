@@ -6,7 +6,7 @@ ghost use Rattle.std.specs.FinMap.{retain_keys};
 ghost use Rattle.basic_nodes.specs.Deletions.{delete_says, is_left, without};
 
 use kap_base::{Duplicate, KeyMap, Names, NoMemory, Point, SharedText, Text};
-use node_core::{Said, pass};
+use node_core::{Said, pass_new};
 use std::alloc::Global;
 use task_graph::SharedNames;
 
@@ -123,5 +123,5 @@ pub(crate) fn feed_delete(
         by_name,
         time,
     };
-    Ok(pass(alloc, point))
+    pass_new(alloc, point)
 }

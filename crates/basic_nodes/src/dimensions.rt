@@ -7,7 +7,7 @@ ghost use Rattle.std.specs.Str.{is_utf8};
 ghost use Rattle.kap_base.specs.Points.{are_dimensions};
 ghost use Rattle.basic_nodes.specs.Dimensions.{dims_of, group_by_says, grouped, in_order, map_of};
 
-use kap_base::{Duplicate, KeyMap, Names, NoMemory, Point, SharedText, Text};
+use kap_base::{Duplicate, KeyMap, Names, NoMemory, Point, Shared, SharedText, Text};
 use node_core::{Said, pass};
 use std::alloc::Global;
 use std::marker::Model;
@@ -132,28 +132,51 @@ fn with_dims(mut point: Point, dims: Names, by_name: bool) -> Point
     point
 }
 
+/// Whether the point has these dimensions.
+#[tactic(auto, using(crate::proofs::DimensionLaws::same_names))]
+fn has_dims(dims: &Dimensions, point: &Point) -> bool
+    ensures { IsTrue result → dims.now ≡ point.now.dims }
+{
+    dims.names == point.dims
+}
+
+/// Whether the point is known to be grouped so.
+#[tactic(auto, using(crate::proofs::DimensionLaws::grouped_still))]
+fn is_grouped(grouping: &Grouping, by_name: bool, point: &Point) -> bool
+    ensures { IsTrue result → grouped grouping.now by_name point.now ≡ point.now }
+{
+    match grouping {
+        Grouping::By(dims) => by_name == point.by_name && has_dims(dims, point),
+        Grouping::ByAll => false,
+    }
+}
+
 /// The point, grouped anew.
 pub(crate) fn group(
     alloc: Global,
     grouping: &Grouping,
     by_name: bool,
-    point: Point,
-) -> Result<Point, NoMemory>
+    point: Shared<Point>,
+) -> Result<Shared<Point>, NoMemory>
     ensures { IfOk result (λ p. p ≡ grouped grouping.now by_name point) }
 {
-    let dims = dims_of(alloc, grouping, &point)?;
-    Ok(with_dims(point, dims, by_name))
+    if is_grouped(grouping, by_name, point.value()) {
+        return Ok(point);
+    }
+    let dims = dims_of(alloc, grouping, point.value())?;
+    let point = with_dims(point.into_value(alloc)?, dims, by_name);
+    Shared::new(alloc, point)
 }
 
 /// What `groupBy` says of a point.
 pub(crate) fn feed_group_by(
     alloc: Global,
     regrouping: &Regrouping,
-    point: Point,
+    point: Shared<Point>,
 ) -> Result<Said, NoMemory>
     ensures { IfOk result (λ said. said ≡ group_by_says regrouping.now point) }
 {
-    let by_name = point.by_name || regrouping.by_measurement;
+    let by_name = point.value().by_name || regrouping.by_measurement;
     let point = group(alloc, &regrouping.grouping, by_name, point)?;
     Ok(pass(alloc, point))
 }

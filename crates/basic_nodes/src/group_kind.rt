@@ -3,7 +3,7 @@ ghost use Rattle.basic_nodes.specs.GroupKinds.{count_in, group_goes_on, group_sa
 
 use crate::selection::{Selection, feed_from, feed_where};
 use crate::shift::feed_sample;
-use kap_base::{NoMemory, Point};
+use kap_base::{NoMemory, Point, Shared};
 use lambda_types::Lambda;
 use node_core::{Rule, Said};
 use std::alloc::Global;
@@ -43,7 +43,7 @@ impl Rule for GroupKind {
         alloc: Global,
         cell: &mut u64,
         port: u32,
-        point: Point,
+        point: Shared<Point>,
     ) -> Result<Said, NoMemory> {
         let _ = port;
         match self {

@@ -8,7 +8,7 @@ use crate::dimensions::{Regrouping, feed_group_by};
 use crate::log::feed_log;
 use crate::shift::feed_shift;
 use crate::stream::feed_stream;
-use kap_base::{Body, Dbrps, ItemList, NoMemory, Point};
+use kap_base::{Body, Dbrps, ItemList, NoMemory, Point, Shared};
 use node_core::{Plain, Said};
 use std::alloc::Global;
 use task_graph::DefaultSetting;
@@ -32,7 +32,7 @@ pub enum PointKind {
 
 impl PointKind {
     /// What is said of a point.
-    fn feed_point(&self, alloc: Global, point: Point) -> Result<Said, NoMemory>
+    fn feed_point(&self, alloc: Global, point: Shared<Point>) -> Result<Said, NoMemory>
         ensures { IfOk result (λ said. said ≡ says_of self.now point) }
     {
         match self {
@@ -40,8 +40,8 @@ impl PointKind {
             PointKind::GroupBy(regrouping) => feed_group_by(alloc, regrouping, point),
             PointKind::Log => feed_log(alloc, point),
             PointKind::Default(settings) => feed_default(alloc, settings.as_slice(), point),
-            PointKind::Delete(deletion) => feed_delete(alloc, deletion, point),
-            PointKind::Shift(by) => Ok(feed_shift(alloc, *by, point)),
+            PointKind::Delete(deletion) => feed_delete(alloc, deletion, point.into_value(alloc)?),
+            PointKind::Shift(by) => feed_shift(alloc, *by, point),
         }
     }
 }

@@ -8,7 +8,7 @@ ghost use Rattle.basic_nodes.specs.GroupKinds.{counted_by};
 
 use crate::dimensions::{Grouping, group};
 use crate::words::pass_where;
-use kap_base::{NoMemory, Point, Text, Value};
+use kap_base::{NoMemory, Point, Shared, Text, Value};
 use lambda_count::{next_count, outcome, outcome_of_all};
 use lambda_types::Lambda;
 use node_core::{Said, pass};
@@ -98,12 +98,12 @@ fn feed_chosen(
     alloc: Global,
     selection: &mut Selection,
     k: u64,
-    point: Point,
+    point: Shared<Point>,
 ) -> Result<Said, NoMemory>
     ensures kept { selection.new ≡ selection.old }
     ensures said { IfOk result (λ said. said ≡ chosen_says selection.old k point) }
 {
-    match selection.conditions.outcome(alloc, k, &point)? {
+    match selection.conditions.outcome(alloc, k, point.value())? {
         Some(Value::Bool(true)) => {
             let by_name = selection.by_measurement;
             let point = group(alloc, &selection.grouping, by_name, point)?;
@@ -121,13 +121,13 @@ pub(crate) fn feed_from(
     alloc: Global,
     selection: &mut Selection,
     count: &mut u64,
-    point: Point,
+    point: Shared<Point>,
 ) -> Result<Said, NoMemory>
     ensures kept { selection.new ≡ selection.old }
     ensures count { OnOk result (count.new ≡ counted_by (agrees selection.old point) count.old) }
     ensures said { IfOk result (λ said. said ≡ from_says selection.old count.old point) }
 {
-    if !selection.agrees(&point) {
+    if !selection.agrees(point.value()) {
         return Ok(Said::nothing(alloc));
     }
     let k = *count;
@@ -140,7 +140,7 @@ pub(crate) fn feed_where(
     alloc: Global,
     condition: &mut Lambda,
     count: &mut u64,
-    point: Point,
+    point: Shared<Point>,
 ) -> Result<Said, NoMemory>
     ensures kept { condition.new ≡ condition.old }
     ensures count { OnOk result (count.new ≡ counted_by true count.old) }
@@ -148,6 +148,6 @@ pub(crate) fn feed_where(
 {
     let k = *count;
     *count = next_count(k)?;
-    let value = outcome(alloc, condition, k, &point)?;
+    let value = outcome(alloc, condition, k, point.value())?;
     Ok(pass_where(alloc, value, point))
 }

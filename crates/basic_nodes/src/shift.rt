@@ -5,9 +5,9 @@ ghost use Rattle.kap_base.specs.Points.{is_time};
 ghost use Rattle.basic_nodes.specs.GroupKinds.{counted_by};
 ghost use Rattle.basic_nodes.specs.Shifts.{later, sample_says, shift_says};
 
-use kap_base::{NoMemory, Point, is_time};
+use kap_base::{NoMemory, Point, Shared, is_time};
 use lambda_count::next_count;
-use node_core::{Said, pass, pass_if};
+use node_core::{Said, pass_if, pass_new};
 use std::alloc::Global;
 use task_graph::Count;
 
@@ -31,12 +31,12 @@ fn later(by: i64, time: i64) -> Option<i64>
 }
 
 /// What `shift` says of a point.
-pub(crate) fn feed_shift(alloc: Global, by: i64, point: Point) -> Said
-    ensures { result ≡ shift_says by point }
+pub(crate) fn feed_shift(alloc: Global, by: i64, point: Shared<Point>) -> Result<Said, NoMemory>
+    ensures { IfOk result (λ said. said ≡ shift_says by point) }
 {
-    match later(by, point.time) {
-        Some(time) => pass(alloc, with_time(point, time)),
-        None => Said::dropped(alloc),
+    match later(by, point.value().time) {
+        Some(time) => pass_new(alloc, with_time(point.into_value(alloc)?, time)),
+        None => Ok(Said::dropped(alloc)),
     }
 }
 
@@ -45,7 +45,7 @@ pub(crate) fn feed_sample(
     alloc: Global,
     n: &Count,
     count: &mut u64,
-    point: Point,
+    point: Shared<Point>,
 ) -> Result<Said, NoMemory>
     ensures count { OnOk result (count.new ≡ counted_by true count.old) }
     ensures said { IfOk result (λ said. said ≡ sample_says n.now count.old point) }

@@ -4,7 +4,7 @@ ghost use Rattle.std.specs.Prelude.{◌≡◌};
 ghost use Rattle.std.specs.List.{list_any};
 ghost use Rattle.basic_nodes.specs.Streams.{is_of, sees, stream_says};
 
-use kap_base::{Dbrp, Dbrps, Point};
+use kap_base::{Dbrp, Dbrps, Point, Shared};
 use node_core::{Said, pass_if};
 use std::alloc::Global;
 
@@ -31,8 +31,8 @@ fn sees(dbrps: &Dbrps, point: &Point) -> bool
 }
 
 /// What the stream says of a point.
-pub(crate) fn feed_stream(alloc: Global, dbrps: &Dbrps, point: Point) -> Said
+pub(crate) fn feed_stream(alloc: Global, dbrps: &Dbrps, point: Shared<Point>) -> Said
     ensures { result ≡ stream_says dbrps.now point }
 {
-    pass_if(alloc, sees(dbrps, &point), point)
+    pass_if(alloc, sees(dbrps, point.value()), point)
 }

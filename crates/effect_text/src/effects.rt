@@ -94,9 +94,14 @@ fn put_effect(
     match &effect.what {
         What::Line(point) => {
             let id = id_of(tasks, effect.life);
-            put_out_line(id, node_of(tasks, effect.life, effect.node), point, text)
+            put_out_line(
+                id,
+                node_of(tasks, effect.life, effect.node),
+                point.value(),
+                text,
+            )
         }
-        What::Event(event) => put_event(alloc, topics, event, text),
+        What::Event(event) => put_event(alloc, topics, event.value(), text),
     }
 }
 

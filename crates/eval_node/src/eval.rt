@@ -5,9 +5,9 @@ ghost use Rattle.eval_node.specs.EvalLaws.{eval_goes_on};
 use crate::counts::Counts;
 use crate::evaluations::evaluate;
 use crate::fields::kept_fields;
-use kap_base::{Body, NoMemory, Point};
+use kap_base::{NoMemory, Point, Shared};
 use lambda_types::Lambda;
-use node_core::{Grouped, Node, Numbered, Rule, Said, Seat};
+use node_core::{Grouped, Node, Numbered, Rule, Said, Seat, pass_new};
 use std::alloc::Global;
 use std::marker::Model;
 use task_graph::{EvalResult, EvalSpec, Keep};
@@ -68,7 +68,7 @@ fn say_kept(
         by_name,
         time,
     };
-    Ok(Said::of_body(alloc, Body::Point(kept)))
+    pass_new(alloc, kept)
 }
 
 /// What is said where this came of the lambdas.
@@ -121,9 +121,10 @@ impl Rule for Eval {
         alloc: Global,
         cell: &mut Counts,
         port: u32,
-        point: Point,
+        point: Shared<Point>,
     ) -> Result<Said, NoMemory> {
         let _ = port;
+        let point = point.into_value(alloc)?;
         let seen = evaluate(alloc, self.results.as_mut_slice(), &mut cell.numbers, point)?;
         say_seen(alloc, &self.keep, &self.results, seen)
     }

@@ -5,7 +5,6 @@ use denote.Struct.Declared as Declared
 use Rattle.std.proofs.Crossing.{crosses}
 use Rattle.edge_queue.proofs.Crossing.{Tail_field, Head_field, snapshot_send}
 use Rattle.kap_base.proofs.items.Effect.TheSendSync as Effect_
-use Rattle.kap_base.proofs.items.Msg.TheSendSync as Msg_
 use Rattle.kap_base.proofs.items.Stamp.TheSendSync as Stamp_
 use Rattle.kap_base.proofs.item_list.ItemList.TheSendSync as ItemList_
 use Rattle.merge_node.proofs.queue.Queue.TheSendSync as Queue_

@@ -1,5 +1,5 @@
 -- What a cell has to do, as its own ends know.
-use Rattle.std.specs.Prelude.{◌≡◌, ℕ, ◌<◌, Bool, false, true, nat_lt, if◌then◌else◌, List, Option, None, Some, length, slice_get}
+use Rattle.std.specs.Prelude.{◌≡◌, ℕ, Bool, false, true, nat_lt, List, Some, length, slice_get}
 use Rattle.std.specs.List.{list_any}
 use Rattle.edge_queue.specs.Edges.{known}
 use Rattle.flow_cells.specs.declared.parts.InEdge.{InEdge}

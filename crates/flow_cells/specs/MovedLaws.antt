@@ -1,5 +1,5 @@
 -- Each move of a cell is one that leaves the same cell, and so are moves one after the other.
-use Rattle.std.proofs.Common.{◌≡◌, ℕ, List, ◌∷◌, [], ◌++◌, Bool, true, false, Result, Ok, get_or, set, length, ◌<◌, Some, refl, sym, ap, subst, ◌∙◌, append-nil, append_assoc, arith}
+use Rattle.std.proofs.Common.{◌≡◌, ℕ, List, ◌∷◌, [], ◌++◌, Bool, true, false, Result, Ok, set, Some, refl, sym, ap, subst, ◌∙◌, append-nil, append_assoc}
 use Rattle.std.specs.Prelude.{IsFalse, IsTrue, slice_get}
 use Rattle.std.specs.List.{AllZip}
 use mathlib.Core.List.{IsPrefix}

@@ -1,11 +1,14 @@
 //! The outs of a cell.
 
-ghost use Rattle.std.specs.Prelude.{◌≡◌, List, [], ◌∷◌, map, IsFalse, IsTrue, OnOk};
+ghost use Rattle.std.specs.Prelude.{◌≡◌, ◌<◌, List, [], ◌∷◌, map, IsFalse, IsTrue, OnOk};
 ghost use Rattle.kap_base.specs.declared.items.Msg.{Msg};
+ghost use Rattle.edge_queue.specs.Edges.{free};
+ghost use Rattle.edge_queue.specs.Moves.{Puts};
 ghost use Rattle.flow_cells.specs.Kept.{IsGiven};
 ghost use Rattle.flow_cells.specs.Outs.{LooksOn, SendsOn, has_unsent, item_msgs, with_unsent};
 
 use crate::parts::OutEdge;
+use edge_queue::Tail;
 use kap_base::{Duplicate, Msg, NoMemory};
 use node_core::Items;
 use std::alloc::Global;
@@ -70,6 +73,14 @@ pub(crate) fn has_unsent(outs: &[OutEdge]) -> bool
     false
 }
 
+/// Puts a message on an edge that has a free place.
+fn put(tail: &mut Tail, msg: Msg)
+    requires { 0 < free tail.old }
+    ensures { Puts msg tail.old tail.new }
+{
+    let _put = tail.put(msg);
+}
+
 impl OutEdge {
     /// Puts the first message that waits on the edge. `false` comes where none waits, or the ring was full as this call
     /// looked.
@@ -84,6 +95,7 @@ impl OutEdge {
         let Some(msg) = self.unsent.pop() else {
             return false;
         };
-        self.tail.put(msg).is_ok()
+        put(&mut self.tail, msg);
+        true
     }
 }

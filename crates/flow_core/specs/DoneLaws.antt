@@ -139,3 +139,11 @@ module _ {N : Type 0} where
   lives_behind lives l others others' g g' is p =
       subst (λ (ls : List (NumberedLife N)). GathersAll (effects_in ls) (effects_in (l ∷ others')) g g') (sym is)
       (gathers-behind (together (effects_since l.life.cells)) (effects_in others) (effects_in others') g g' p)
+
+  -- the same of lives and effects that are these
+  pub gathers_stepped : (lives lives' before now : List (NumberedLife N)) (g took g' : List Effect) → before ≡ lives → took ≡ g → lives' ≡ now
+      → GathersAll (effects_in before) (effects_in now) took g' → GathersAll (effects_in lives) (effects_in lives') g g'
+  gathers_stepped lives lives' before now g took g' same also here p =
+      subst (λ (ls : List (NumberedLife N)). GathersAll (effects_in lives) (effects_in ls) g g') (sym here)
+      (subst (λ (es : List Effect). GathersAll (effects_in lives) (effects_in now) es g') also
+      (subst (λ (ls : List (NumberedLife N)). GathersAll (effects_in ls) (effects_in now) took g') same p))

@@ -22,6 +22,8 @@ pub mod Away
 pub mod Drops
 -- all steps, made until none can be made
 pub mod Running
+-- steps, one after the other
+pub mod Playing
 -- proofs, no definitions
 pub mod MessageLaws
 pub mod PortLaws

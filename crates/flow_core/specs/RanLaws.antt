@@ -28,7 +28,7 @@ use Rattle.task_run.specs.Active.{AreFirst, placed}
 use Rattle.task_run.specs.Graphs.{Placed, gives_behind, graph_gives, node_gives, stamped_from}
 use Rattle.task_run.specs.Lives.{dropped_of, effects_of}
 use Rattle.task_run.specs.Plans.{AreFirstNodes, AreFirstStates, PlanValue, graph_of}
-use Rattle.flow_core.specs.DoneLaws.{paired}
+use Rattle.flow_core.specs.DoneLaws.{gathers_stepped, paired}
 use Rattle.flow_core.specs.Drops.{drops_in, drops_of}
 use Rattle.flow_core.specs.GatherLaws.{sorted_more}
 use Rattle.flow_core.specs.Gathering.{LivesRise, NumbersEffects, effects_by_node}
@@ -215,6 +215,14 @@ module _ {N P S : Type 0} (g : Ghosts N P S) where
             (subst (λ (es : List Effect). IsPermutation (old ++ done') (collected ++ es)) (sym p.given)
             (IsPermutation-trans (old ++ done') ((old ++ done) ++ p.more) (collected ++ (net.gathered ++ p.more)) grown kept));
       }
+
+  -- the same where the steps were made of lives that are those of the net
+  pub run_stepped : (lives : List (List (Placed P))) (points : List PointValue) (collected : List Effect) (net net' : NetValue N) (before now : List (NumberedLife N)) (took : List Effect)
+      → before ≡ net.lives → took ≡ net.gathered → net'.lives ≡ now → net'.last ≡ net.last
+      → plans_in g now ≡ plans_in g before → specs_in g now ≡ specs_in g before → GathersAll (effects_in before) (effects_in now) took net'.gathered
+      → HasRun g lives points collected net → HasRun g lives points collected net'
+  run_stepped lives points collected net net' before now took same also here last plans specs p h =
+      run_moved lives points collected net net' now h (plans ∙ ap (plans_in g) same) (specs ∙ ap (specs_in g) same) here last (gathers_stepped net.lives now before now net.gathered took net'.gathered same also refl p)
 
   -- and what is collected was gathered
   pub run_collected : (lives : List (List (Placed P))) (points : List PointValue) (collected result : List Effect) (net net' : NetValue N) → HasRun g lives points collected net

@@ -14,11 +14,12 @@ ghost use Rattle.flow_cells.specs.declared.parts.CellParts.{CellParts};
 ghost use Rattle.merge_node.specs.Merge.{IsClosed};
 ghost use Rattle.flow_core.specs.LifeLoads.{effects_since};
 ghost use Rattle.flow_core.specs.Nets.{EnabledIn, GrowsIn, HasCell, HasMovedTwice, HasPrefixes, HasStreamsCarried, IsLifeIn, IsResting, IsSound, SomeEnabledIn, cell_count, cell_of, moves_in, numbers_of, plans_from, plans_in, specs_in, step_behind};
+ghost use Rattle.flow_core.specs.Playing.{PlaysIn};
 ghost use Rattle.flow_core.specs.Ran.{GathersAll, effects_in, together};
 ghost use Rattle.flow_core.specs.Running.{SameEnabledIn, ends_in, left_in};
 
-use flow_life::{Life, Step, copies_of};
-use kap_base::{Msg, NoMemory};
+use flow_life::{Life, Step};
+use kap_base::{Msg, NoMemory, copies};
 use node_core::{Effects, Node};
 use std::alloc::Global;
 
@@ -211,13 +212,12 @@ pub(crate) fn load<N: Node>(
     if others.is_empty() {
         return load_life(alloc, first, source, gathered);
     }
-    let own = copies_of(alloc, &source)?;
+    let own = copies(alloc, &source)?;
     load_life(alloc, first, own, gathered)?;
     load(alloc, others, source, gathered)
 }
 
-/// Makes the steps that are enabled, one after the other, and counts them.
-#[tactic(auto, using(crate::specs::DoneLaws::gathers_none, crate::specs::DoneLaws::gathers_then))]
+/// Tries steps in their order: makes each one that is enabled at its turn, and counts those.
 pub(crate) fn play<N: Node>(
     alloc: Global,
     lives: &mut [Numbered<Life<N>>],
@@ -230,6 +230,7 @@ pub(crate) fn play<N: Node>(
     ensures plans { OnOk result (plans_in N.Node lives.new ≡ plans_in N.Node lives.old) }
     ensures specs { OnOk result (specs_in N.Node lives.new ≡ specs_in N.Node lives.old) }
     ensures ends { OnOk result (ends_in lives.new ≡ ends_in lives.old) }
+    ensures plays { IfOk result (λ made. PlaysIn steps.now lives.old made lives.new) }
     ensures count { IfOk result (λ made. moves_in lives.new ≡ moves_in lives.old + made) }
     ensures gathers { OnOk result (GathersAll (effects_in lives.old) (effects_in lives.new)
         gathered.old gathered.new) }

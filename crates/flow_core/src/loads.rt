@@ -5,7 +5,7 @@ ghost use Rattle.kap_base.specs.declared.items.Msg.TheVariants as messages;
 ghost use Rattle.task_run.specs.PointLaws.{stamped_point};
 ghost use Rattle.flow_core.specs.Messages.{barrier_at, load_messages, marks_behind};
 
-use kap_base::{Body, Duplicate, Item, Msg, NoMemory, Point, Stamp};
+use kap_base::{Body, Duplicate, Item, Msg, NoMemory, Point, Shared, Stamp};
 use std::alloc::Global;
 
 /// Adds a barrier, where the first mark is this stamp.
@@ -25,7 +25,7 @@ fn push_mark(msgs: &mut Vec<Msg>, stamp: u64, marks: &[Stamp]) -> Result<(), NoM
 fn push_point(
     alloc: Global,
     msgs: &mut Vec<Msg>,
-    point: &Point,
+    point: &Shared<Point>,
     stamp: u64,
     marks: &[Stamp],
 ) -> Result<(), NoMemory>
@@ -53,7 +53,7 @@ fn pass_mark(marks: &[Stamp], stamp: u64) -> &[Stamp]
 /// one behind the last point.
 pub fn messages(
     alloc: Global,
-    points: &[Point],
+    points: &[Shared<Point>],
     upto: Stamp,
     marks: &[Stamp],
 ) -> Result<Vec<Msg>, NoMemory>

@@ -10,7 +10,7 @@ use crate::making::{life_of, lives_of};
 use crate::resting::{play_by, run};
 use edge_queue::CAPACITY_LIMIT;
 use flow_life::{Life, Step};
-use kap_base::{NoMemory, Point, Stamp};
+use kap_base::{NoMemory, Point, Shared, Stamp};
 use node_core::{Effects, Node};
 use std::alloc::Global;
 use std::marker::Model;
@@ -72,6 +72,7 @@ impl<N: Node> Net<N> {
     ghost use Rattle.flow_core.specs.Making.{AreLivesOf, Begins, Ends, HasFewParents};
     ghost use Rattle.flow_core.specs.Messages.{AreMarksOf, load_messages};
     ghost use Rattle.flow_core.specs.Nets.{EnabledIn, GrowsIn, HasCell, HasMovedTwice, HasPrefixes, HasStreamsCarried, HaveMovedTwice, IsLifeIn, IsResting, IsSound, NumberedLife, SomeEnabledIn, cell_count, moves_in, numbers_of, plans_from, plans_in, specs_in};
+    ghost use Rattle.flow_core.specs.Playing.{PlaysIn};
     ghost use Rattle.flow_core.specs.Ran.{GathersAll, HasGathered, HasRun, IsNew, effects_in};
     ghost use Rattle.flow_core.specs.Running.{SameEnabledIn, left_in, steps_of};
     ghost use Rattle.flow_core.specs.Sorting.{AreSorted};
@@ -173,7 +174,7 @@ impl<N: Node> Net<N> {
     pub fn load(
         &mut self,
         alloc: Global,
-        points: &[Point],
+        points: &[Shared<Point>],
         upto: Stamp,
         marks: &[Stamp],
     ) -> Result<(), NoMemory>
@@ -244,13 +245,14 @@ impl<N: Node> Net<N> {
         Ok(made)
     }
 
-    /// Makes the steps that are enabled, one after the other, and counts them. After NoMemory the net is spent.
+    /// Tries steps in their order: makes each one that is enabled at its turn, and counts those. After NoMemory the net is spent.
     pub fn play(&mut self, alloc: Global, steps: &[Step]) -> Result<u64, NoMemory>
         requires { self.old.spent ≡ false }
         ensures numbers { OnOk result (numbers_of self.new.lives ≡ numbers_of self.old.lives) }
         ensures plans { OnOk result (plans_in N.Node self.new.lives ≡ plans_in N.Node self.old.lives) }
         ensures specs { OnOk result (specs_in N.Node self.new.lives ≡ specs_in N.Node self.old.lives) }
         ensures steps { OnOk result (steps_of self.new.lives ≡ steps_of self.old.lives) }
+        ensures plays { IfOk result (λ made. PlaysIn steps.now self.old.lives made self.new.lives) }
         ensures count { IfOk result (λ made. moves_in self.new.lives
             ≡ moves_in self.old.lives + made) }
         ensures runs { OnOk result ((lives : List (List (Placed N.Spec)))

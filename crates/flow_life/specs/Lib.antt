@@ -22,6 +22,8 @@ pub mod Listing
 pub mod Left
 -- what a step leaves of what can be made and gathered
 pub mod Trying
+-- steps, one after the other
+pub mod Playing
 -- a cell is added
 pub mod Making
 -- what a life keeps
@@ -49,4 +51,5 @@ pub mod LooseLaws
 pub mod TryLaws
 pub mod OneLaws
 pub mod LeftLaws
+pub mod PlayLaws
 pub mod ListingLaws

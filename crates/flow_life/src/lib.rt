@@ -15,6 +15,5 @@ mod steps;
 
 pub use laws::{graphs_have_streams, plans_are_graphs};
 pub use life::Life;
-pub use loads::copies_of;
 pub use sends::send_life;
 pub use steps::Step;

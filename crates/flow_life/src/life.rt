@@ -58,6 +58,7 @@ impl<N: Node> Life<N> {
     ghost use Rattle.flow_life.specs.Loose.{HasLooked, IsLoose};
     ghost use Rattle.flow_life.specs.Making.{HasCarriedNothing, IsSaved, nodes_of, passed_of};
     ghost use Rattle.flow_life.specs.Nodes.{gathered_of, specs_of};
+    ghost use Rattle.flow_life.specs.Playing.{Plays};
     ghost use Rattle.flow_life.specs.Settling.{Grows};
     ghost use Rattle.flow_life.specs.Steps.{AreQuiet, HasEmptyBuffers, IsEnabled, SomeEnabled, moves_of, one_if};
     ghost use Rattle.flow_life.specs.Streams.{AreStreams, CarriesPrefixes, CarriesStreams, plans_of, stream_length};
@@ -194,7 +195,8 @@ impl<N: Node> Life<N> {
         }
     }
 
-    /// Makes the steps that are enabled, one after the other, and counts them. After NoMemory the life is spent.
+    /// Tries steps in their order: makes each one that is enabled at its turn, and counts those. After NoMemory the life is
+    /// spent.
     pub fn play(&mut self, alloc: Global, steps: &[Step]) -> Result<u64, NoMemory>
         requires { self.old.spent ≡ false }
         ensures prefixes { OnOk result (CarriesPrefixes N.Node self.new.cells) }
@@ -203,6 +205,7 @@ impl<N: Node> Life<N> {
         ensures specs { OnOk result (specs_of N.Node self.new.cells
             ≡ specs_of N.Node self.old.cells) }
         ensures gathered { OnOk result (gathered_of self.new.cells ≡ gathered_of self.old.cells) }
+        ensures plays { IfOk result (λ made. Plays steps.now self.old.cells made self.new.cells) }
         ensures count { IfOk result (λ made. moves_of self.new.cells
             ≡ moves_of self.old.cells + made) }
         ensures unspent { OnOk result (self.new.spent ≡ false) }

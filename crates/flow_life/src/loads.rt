@@ -13,20 +13,9 @@ ghost use Rattle.flow_life.specs.Steps.{AreQuiet, moves_of};
 ghost use Rattle.flow_life.specs.Streams.{CarriesPrefixes, plans_of};
 
 use flow_cells::Cell;
-use kap_base::{Duplicate, Msg, NoMemory};
+use kap_base::{Msg, NoMemory, copies};
 use node_core::Node;
 use std::alloc::Global;
-
-/// Equal messages, in order.
-pub fn copies_of(alloc: Global, msgs: &[Msg]) -> Result<Vec<Msg>, NoMemory>
-    ensures { IfOk result (λ copies. copies.items ≡ msgs.now) }
-{
-    let mut copies = Vec::new(alloc);
-    'copying: for msg in msgs {
-        copies.push(msg.copy(alloc)?)?;
-    }
-    Ok(copies)
-}
 
 /// Whether some cell has no inputs: the points and barriers of a load are for it.
 fn has_stream<N: Node>(cells: &[Cell<N>]) -> bool
@@ -53,7 +42,7 @@ fn source_for<N: Node>(
     if !has_stream(cells) {
         return Ok(Vec::new(alloc));
     }
-    copies_of(alloc, source)
+    copies(alloc, source)
 }
 
 /// A load begins on a cell with inputs, which has no points and barriers of its own.

@@ -8,6 +8,7 @@ ghost use Rattle.flow_life.specs.Listing.{ends_of};
 ghost use Rattle.flow_life.specs.Lives.{IsLife};
 ghost use Rattle.flow_life.specs.Loads.{IsGathered};
 ghost use Rattle.flow_life.specs.Nodes.{gathered_of, specs_of};
+ghost use Rattle.flow_life.specs.Playing.{Plays};
 ghost use Rattle.flow_life.specs.Settling.{Grows};
 ghost use Rattle.flow_life.specs.Steps.{AreQuiet, HasEmptyBuffers, IsEnabled, SomeEnabled, moves_of, one_if};
 ghost use Rattle.flow_life.specs.Streams.{AreStreams, CarriesPrefixes, CarriesStreams, plans_of, stream_length};
@@ -52,7 +53,7 @@ pub(crate) fn step<N: Node>(
     }
 }
 
-/// Makes the steps that are enabled, one after the other, and counts them.
+/// Tries steps in their order: makes each one that is enabled at its turn, and counts those.
 pub(crate) fn play<N: Node>(
     alloc: Global,
     cells: &mut [Cell<N>],
@@ -64,6 +65,7 @@ pub(crate) fn play<N: Node>(
     ensures plans { OnOk result (plans_of N.Node cells.new ≡ plans_of N.Node cells.old) }
     ensures specs { OnOk result (specs_of N.Node cells.new ≡ specs_of N.Node cells.old) }
     ensures gathered { OnOk result (gathered_of cells.new ≡ gathered_of cells.old) }
+    ensures plays { IfOk result (λ made. Plays steps.now cells.old made cells.new) }
     ensures count { IfOk result (λ made. moves_of cells.new ≡ moves_of cells.old + made) }
 {
     let mut made = 0;

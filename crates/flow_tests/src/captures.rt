@@ -23,7 +23,7 @@ use barrier_snapshot::{
 };
 use flow_core::{Net, effects_are_gathered, loads_have_messages, sorted_effects_are_whole};
 use flow_life::Step;
-use kap_base::{Bytes, NoMemory, Point, Stamp};
+use kap_base::{Bytes, NoMemory, Point, Shared, Stamp};
 use node_core::{Effects, Node};
 use std::alloc::Global;
 use std::process::Abort;
@@ -65,7 +65,7 @@ fn goes_on<N: Node>(
     alloc: Global,
     plan: LifePlan<N>,
     again: LifePlan<N>,
-    points: &[Point],
+    points: &[Shared<Point>],
     cut: usize,
     mark: Stamp,
     last: Stamp,
@@ -124,9 +124,9 @@ fn goes_on_at_rest<N: Node>(
     alloc: Global,
     plan: LifePlan<N>,
     again: LifePlan<N>,
-    points: &[Point],
+    points: &[Shared<Point>],
     last: Stamp,
-    more: &[Point],
+    more: &[Shared<Point>],
     end: Stamp,
 ) -> Result<Option<(Net<N>, Net<N>, Effects)>, NoMemory>
     requires few { HasFewParents plan }
@@ -207,7 +207,7 @@ fn goes_on_and_collects<N: Node>(
     alloc: Global,
     plan: LifePlan<N>,
     again: LifePlan<N>,
-    points: &[Point],
+    points: &[Shared<Point>],
     cut: usize,
     mark: Stamp,
     last: Stamp,

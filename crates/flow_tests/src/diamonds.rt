@@ -13,7 +13,7 @@ use crate::relay::{RelayNode, diamond};
 use edge_queue::CAPACITY_LIMIT;
 use flow_core::Net;
 use flow_life::Step;
-use kap_base::{NoMemory, Point, Stamp};
+use kap_base::{NoMemory, Point, Shared, Stamp};
 use node_core::Node;
 use std::alloc::Global;
 use std::process::Abort;
@@ -82,7 +82,7 @@ pub fn diamond_net(alloc: Global, capacity: u32) -> Result<Net<RelayNode>, NoMem
 fn check_loads<N: Node>(
     rt: &(impl AllocGlobal + Abort),
     net: &mut Net<N>,
-    points: &[Point],
+    points: &[Shared<Point>],
     steps: (&[Step], &[Step]),
     made: (u64, u64),
 ) -> Result<(), Fail>

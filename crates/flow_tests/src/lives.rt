@@ -11,7 +11,7 @@ use crate::points::{check_effects, three_points};
 use crate::relay::diamond;
 use flow_core::{messages, sort_effects};
 use flow_life::{Life, Step, send_life};
-use kap_base::{NoMemory, Point, Stamp};
+use kap_base::{NoMemory, Point, Shared, Stamp};
 use node_core::{Effects, Node};
 use std::alloc::Global;
 use std::process::Abort;
@@ -25,7 +25,11 @@ const BY_CELL: &str = "1 1.0.0 10 plain\n2 1.0.0 20 plain\n3 1.0.0 30 plain\n\
      3 1.3.0 30 marked\n3 1.3.1 30 plain\n";
 
 /// Loads three points on a life, with a barrier behind the second.
-fn load_life<N: Node>(alloc: Global, life: &mut Life<N>, points: &[Point]) -> Result<(), NoMemory>
+fn load_life<N: Node>(
+    alloc: Global,
+    life: &mut Life<N>,
+    points: &[Shared<Point>],
+) -> Result<(), NoMemory>
     requires unspent { life.old.spent ≡ false }
     requires rest { AreQuiet life.old.cells }
     requires gathered { Each IsGathered life.old.cells }

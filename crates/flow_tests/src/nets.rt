@@ -12,7 +12,7 @@ use crate::points::check_effects;
 use edge_queue::CAPACITY_LIMIT;
 use flow_core::Net;
 use flow_life::{Life, Step};
-use kap_base::{NoMemory, Point, Stamp};
+use kap_base::{NoMemory, Point, Shared, Stamp};
 use merge_node::PARENT_LIMIT;
 use node_core::Node;
 use std::alloc::Global;
@@ -125,7 +125,7 @@ pub fn net_of<N: Node>(alloc: Global, number: u32, life: Life<N>) -> Result<Net<
 pub fn load<N: Node>(
     alloc: Global,
     net: &mut Net<N>,
-    points: &[Point],
+    points: &[Shared<Point>],
     upto: u64,
     marks: &[Stamp],
 ) -> Result<(), NoMemory>

@@ -3,7 +3,7 @@
 ghost use Rattle.std.specs.Prelude.{◌≡◌};
 ghost use Rattle.kap_base.specs.Texts.{has_line_feed};
 
-use kap_base::{Bytes, Effect, NoMemory, Point, Text, What};
+use kap_base::{Bytes, Effect, NoMemory, Point, Shared, Text, What};
 use line_points::read_stored;
 use node_core::Effects;
 use std::alloc::Global;
@@ -24,20 +24,20 @@ fn point(rt: &(impl AllocGlobal + Abort), line: &str) -> Result<Point, Fail> {
 }
 
 /// Three points, at the times 10, 20 and 30.
-pub fn three_points(rt: &(impl AllocGlobal + Abort)) -> Result<Vec<Point>, Fail> {
+pub fn three_points(rt: &(impl AllocGlobal + Abort)) -> Result<Vec<Shared<Point>>, Fail> {
     let mut points = Vec::new(rt.alloc());
     for line in ["m x=1i 10", "m x=1i 20", "m x=1i 30"] {
-        points.push(point(rt, line)?)?;
+        points.push(Shared::new(rt.alloc(), point(rt, line)?)?)?;
     }
     Ok(points)
 }
 
 /// A hundred points, at the times 1 to 100.
-pub fn hundred_points(rt: &(impl AllocGlobal + Abort)) -> Result<Vec<Point>, Fail> {
+pub fn hundred_points(rt: &(impl AllocGlobal + Abort)) -> Result<Vec<Shared<Point>>, Fail> {
     let mut points = Vec::new(rt.alloc());
     for time in 1u32..101 {
         let line = format!(in rt.alloc(); "m x=1i {time}")?;
-        points.push(point(rt, &line)?)?;
+        points.push(Shared::new(rt.alloc(), point(rt, &line)?)?)?;
     }
     Ok(points)
 }
@@ -45,8 +45,8 @@ pub fn hundred_points(rt: &(impl AllocGlobal + Abort)) -> Result<Vec<Point>, Fai
 /// The time of the point that is logged, and whether it is marked; nothing of an event.
 fn logged(what: &What) -> (i64, &'static str) {
     match what {
-        What::Line(point) if point.by_name => (point.time, "marked"),
-        What::Line(point) => (point.time, "plain"),
+        What::Line(point) if point.value().by_name => (point.value().time, "marked"),
+        What::Line(point) => (point.value().time, "plain"),
         What::Event(_) => (0, "event"),
     }
 }

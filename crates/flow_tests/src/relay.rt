@@ -12,7 +12,7 @@ ghost use Rattle.flow_tests.specs.Relays.{relay_says, relay_silent};
 use crate::nets::add_node;
 use edge_queue::CAPACITY_LIMIT;
 use flow_life::Life;
-use kap_base::{Body, Duplicate, NoMemory, Point, What};
+use kap_base::{Body, Duplicate, NoMemory, Point, Shared, What};
 use node_core::{Alone, Few, Numbered, Plain, Said, Seat};
 use std::alloc::Global;
 
@@ -29,12 +29,13 @@ pub struct Relay {
 pub type RelayNode = Numbered<Alone<Relay>>;
 
 /// What a relay says of a point.
-fn feed_relay(alloc: Global, mark: bool, port: u32, point: Point) -> Result<Said, NoMemory>
+fn feed_relay(alloc: Global, mark: bool, port: u32, point: Shared<Point>) -> Result<Said, NoMemory>
     ensures { IfOk result (λ said. said ≡ relay_says mark port (bodies.Point point)) }
 {
     let logged = point.copy(alloc)?;
-    let mut marked = point;
+    let mut marked = point.into_value(alloc)?;
     marked.by_name = mark;
+    let marked = Shared::new(alloc, marked)?;
     Ok(Said {
         bodies: Few::one(alloc, Body::Point(marked)),
         deeds: Few::one(alloc, What::Line(logged)),

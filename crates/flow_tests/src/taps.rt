@@ -9,7 +9,7 @@ ghost use Rattle.task_run.specs.Plans.{AreFirstNodes};
 ghost use Rattle.flow_tests.specs.Taps.{seat_of, tap_of, tap_says, tap_silent};
 ghost use Rattle.barrier_snapshot.specs.Steady.{HasSteadyStream};
 
-use kap_base::{Body, Duplicate, ItemList, NoMemory, Point, What};
+use kap_base::{Body, Duplicate, ItemList, NoMemory, Point, Shared, What};
 use node_core::{Alone, Few, Node, Numbered, Plain, Said, Seat, pass};
 use std::alloc::Global;
 use task_run::{Ids, LifePlan};
@@ -28,7 +28,7 @@ pub struct Tap {
 pub type TapNode = Numbered<Alone<Tap>>;
 
 /// What a tap says of a point.
-fn feed_tap(alloc: Global, quiet: bool, port: u32, point: Point) -> Result<Said, NoMemory>
+fn feed_tap(alloc: Global, quiet: bool, port: u32, point: Shared<Point>) -> Result<Said, NoMemory>
     ensures { IfOk result (λ said. said ≡ tap_of quiet port point) }
 {
     if quiet {

@@ -11,7 +11,7 @@ ghost use Rattle.join_node.specs.Sets.{sets};
 use crate::groups::{JoinCell, JoinGroup};
 use crate::queues::{Queue, Set, empty, have_points, no_queues, place, take_set};
 use crate::results::add_result;
-use kap_base::{Body, NoMemory, Point, is_time, round};
+use kap_base::{Body, NoMemory, Point, Shared, is_time, round};
 use node_core::{Few, Rule, Said};
 use std::alloc::Global;
 use task_graph::{Fill, JoinSpec, Span};
@@ -229,11 +229,12 @@ impl Rule for Join {
         alloc: Global,
         cell: &mut JoinCell,
         port: u32,
-        point: Point,
+        point: Shared<Point>,
     ) -> Result<Said, NoMemory> {
-        let Some(time) = heard(&self.spec, port, &point) else {
+        let Some(time) = heard(&self.spec, port, point.value()) else {
             return Ok(Said::dropped(alloc));
         };
+        let point = point.into_value(alloc)?;
         let group = cell.group.take();
         let (group, said) = moved(alloc, &self.spec, group, time, port as usize, point)?;
         cell.group = Some(group);

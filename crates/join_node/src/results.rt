@@ -9,7 +9,7 @@ ghost use Rattle.kap_base.specs.Texts.{is_line, is_measurement, is_name};
 ghost use Rattle.join_node.specs.Results.{are_entries, delimiter_of, field_name, first_in, joined, name_or, named_fields, parent_fields, result_of, set_fields, value_or};
 
 use crate::queues::Set;
-use kap_base::{Body, Duplicate, Fields, NoMemory, Point, Text, Value};
+use kap_base::{Body, Duplicate, Fields, NoMemory, Point, Shared, Text, Value};
 use node_core::Few;
 use std::alloc::Global;
 use std::vec::IntoIter;
@@ -296,5 +296,5 @@ pub(crate) fn add_result(
         return Ok(());
     };
     let point = joined(alloc, join, time, first, fields)?;
-    to.push(Body::Point(point))
+    to.push(Body::Point(Shared::new(alloc, point)?))
 }

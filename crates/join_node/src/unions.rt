@@ -5,7 +5,7 @@ ghost use Rattle.kap_base.specs.Texts.{is_measurement};
 ghost use Rattle.node_core.specs.Groups.{is_point};
 ghost use Rattle.join_node.specs.Unions.{renamed, union_says, union_silent, with_name};
 
-use kap_base::{Body, Duplicate, NoMemory, Point, Text};
+use kap_base::{Body, Duplicate, NoMemory, Point, Shared, Text};
 use node_core::{Plain, Said};
 use std::alloc::Global;
 use task_graph::Measurement;
@@ -30,13 +30,18 @@ fn with_name(mut point: Point, name: Text) -> Point
 }
 
 /// The point, with another measurement where one is given.
-fn renamed(alloc: Global, rename: &Option<Measurement>, point: Point) -> Result<Point, NoMemory>
+fn renamed(
+    alloc: Global,
+    rename: &Option<Measurement>,
+    point: Shared<Point>,
+) -> Result<Shared<Point>, NoMemory>
     ensures { IfOk result (λ p. p ≡ renamed rename.now point) }
 {
     match rename {
         Some(name) => {
             let name = name.text().copy(alloc)?;
-            Ok(with_name(point, name))
+            let point = with_name(point.into_value(alloc)?, name);
+            Shared::new(alloc, point)
         }
         None => Ok(point),
     }

@@ -18,7 +18,7 @@ impl Duplicate for u8 {
 }
 
 /// Equal values, in order.
-pub(crate) fn copies<T: Duplicate + Drop>(alloc: Global, items: &[T]) -> Result<Vec<T>, NoMemory>
+pub fn copies<T: Duplicate + Drop>(alloc: Global, items: &[T]) -> Result<Vec<T>, NoMemory>
     ensures { IfOk result (λ copies. copies.items ≡ items.now) }
 {
     let mut copies = Vec::new(alloc);

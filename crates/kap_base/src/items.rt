@@ -4,6 +4,7 @@ use crate::duplicate::Duplicate;
 use crate::groups::Batch;
 use crate::memory::NoMemory;
 use crate::point::Point;
+use crate::shared::Shared;
 use crate::text::Text;
 use std::alloc::Global;
 use std::fmt;
@@ -16,9 +17,9 @@ pub struct Stamp(pub u64);
 #[derive(Debug, PartialEq, Eq, Drop)]
 pub enum Body {
     /// A point of a stream.
-    Point(Point),
+    Point(Shared<Point>),
     /// The points of a window.
-    Batch(Batch),
+    Batch(Shared<Batch>),
 }
 
 impl Duplicate for Body {
@@ -135,9 +136,9 @@ pub struct Event {
 #[derive(Debug, PartialEq, Eq, Drop)]
 pub enum What {
     /// It logs a point.
-    Line(Point),
+    Line(Shared<Point>),
     /// It tells a topic of an event.
-    Event(Event),
+    Event(Shared<Event>),
 }
 
 /// What a node does: when, in which life, which node, and which of its effects with the same stamp.

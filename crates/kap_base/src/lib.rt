@@ -21,7 +21,7 @@ mod utf8;
 mod value;
 
 pub use dbrp::{Dbrp, Dbrps};
-pub use duplicate::Duplicate;
+pub use duplicate::{Duplicate, copies};
 pub use expr::{Expr, Exprs, Lit, Op};
 pub use fun::{Fun, TimePart};
 pub use groups::{Batch, Group, group_of};
@@ -33,7 +33,7 @@ pub use memory::NoMemory;
 pub use point::Point;
 pub use rules::{are_dimensions, is_task_id};
 pub use sends::hand_on;
-pub use shared::{SharedExpr, SharedText};
+pub use shared::{Shared, SharedExpr, SharedText};
 pub use text::{Text, TextFault};
 pub use times::{is_time, round, trunc};
 pub use utf8::{bytes_break_in_one_place, utf8_text};

@@ -1,4 +1,5 @@
-//! Texts and expressions with many owners: what a name of a script stands for is used many times and kept once.
+//! Values with many owners. A point is handed on by many nodes and kept once; what a name of a script stands for is used many
+//! times and kept once.
 
 ghost use Rattle.std.specs.Prelude.{◌≡◌, IfOk, nat_eq};
 ghost use Rattle.std.specs.Cmp.{partial_equiv_from_equiv};
@@ -12,6 +13,71 @@ use crate::text::Text;
 use std::alloc::Global;
 use std::marker::Model;
 use std::sync::Arc;
+
+/// A value that many owners share, which contracts see as the value. A copy is one owner more, and takes no room.
+#[derive(Debug, Drop)]
+pub struct Shared<T> {
+    value: Arc<T, Global>,
+}
+
+impl<T> Model for Shared<T> {
+    ghost Value = { T };
+
+    ghost view = { λ s. s.value.value };
+}
+
+impl<T: Drop> Shared<T> {
+    /// The value, with one owner.
+    pub fn new(alloc: Global, value: T) -> Result<Shared<T>, NoMemory>
+        ensures { IfOk result (λ shared. shared ≡ value) }
+    {
+        Ok(Shared {
+            value: Arc::new(alloc, value)?,
+        })
+    }
+
+    /// The value.
+    pub fn value(&self) -> &T
+        ensures { result.now ≡ self.now }
+    {
+        &self.value
+    }
+}
+
+impl<T: Duplicate + Drop> Shared<T> {
+    /// The value for one owner: itself, where no other shares it, else a copy.
+    pub fn into_value(self, alloc: Global) -> Result<T, NoMemory>
+        ensures { IfOk result (λ value. value ≡ self) }
+    {
+        match Arc::try_unwrap(self.value) {
+            Ok(value) => Ok(value),
+            Err(shared) => (*shared).copy(alloc),
+        }
+    }
+}
+
+impl<T: PartialEq> PartialEq for Shared<T> {
+    ghost eq = { λ x y. T.eq x y };
+
+    ghost laws = { T.laws };
+
+    fn eq(&self, other: &Shared<T>) -> bool {
+        *self.value == *other.value
+    }
+}
+
+impl<T: Eq> Eq for Shared<T> {
+    ghost laws = { T.Eq.laws };
+}
+
+impl<T: Drop> Duplicate for Shared<T> {
+    fn copy(&self, alloc: Global) -> Result<Shared<T>, NoMemory> {
+        let _ = alloc;
+        Ok(Shared {
+            value: Arc::try_clone(&self.value)?,
+        })
+    }
+}
 
 /// A text that many owners share, which contracts see as its bytes. A copy is one owner more, and takes no room.
 #[derive(Debug, Drop)]

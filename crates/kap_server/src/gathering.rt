@@ -5,7 +5,7 @@ ghost use Rattle.kap_base.specs.Words.{HasRisen};
 ghost use Rattle.recording_file.specs.declared.fault.RecFault.{RecFault};
 ghost use Rattle.kap_server.specs.Gathering.{Pauses};
 
-use kap_base::{NoMemory, Point};
+use kap_base::{NoMemory, Point, Shared};
 use kap_io::Source;
 use recording_file::{Reader, RecFault};
 use std::alloc::Global;
@@ -24,7 +24,7 @@ pub(crate) enum Pause {
 /// The points of an epoch, and why it ends.
 #[derive(Drop)]
 pub(crate) struct Epoch {
-    pub(crate) points: Vec<Point>,
+    pub(crate) points: Vec<Shared<Point>>,
     pub(crate) pause: Pause,
 }
 
@@ -59,6 +59,7 @@ pub(crate) fn gather<S: Source>(
                 });
             }
         };
+        let point = Shared::new(alloc, point)?;
         points.push(point)?;
         if limit <= points.len() || !reader.holds_point() {
             return Ok(Epoch {

@@ -14,7 +14,7 @@ ghost use Rattle.kap_server.specs.Runs.{run_rest, run_text};
 
 use edge_queue::CAPACITY_LIMIT;
 use effect_text::{TaskNames, put_dropped, put_effects};
-use kap_base::{Bytes, NoMemory, Point};
+use kap_base::{Bytes, NoMemory, Point, Shared};
 use kap_io::Gate;
 use net_run::{NetRun, NumberingNode, Way};
 use node_core::Node;
@@ -57,7 +57,7 @@ impl<N: NumberingNode + Send> Telling<N> {
         &mut self,
         alloc: Global,
         names: &[TaskNames],
-        points: Vec<Point>,
+        points: Vec<Shared<Point>>,
         way: &Way<'_, R, G>,
         text: &mut Bytes,
     ) -> Result<(), NoMemory>

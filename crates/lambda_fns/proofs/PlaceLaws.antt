@@ -1,6 +1,6 @@
 -- The first place of a text in another is what std's search finds, and a text may be cut where a character begins.
 use Rattle.std.proofs.Common.{◌≡◌, ◌≢◌, ℕ, zero, suc, ◌+◌, ◌<◌, ◌≤◌, Bool, true, false, List, [], ◌∷◌, ◌++◌, length, drop, Option, None, Some, refl, sym, ap, arith}
-use Rattle.std.specs.Prelude.{nat_eq, nat_le, ◌&&◌, MatchOption, IfSome}
+use Rattle.std.specs.Prelude.{nat_eq, nat_le, MatchOption, IfSome}
 use Rattle.std.specs.List.{starts_with}
 use Rattle.std.specs.Str.{IsUtf8, is_utf8, IsCharBoundary}
 use Rattle.std.specs.Str.Pattern.{LacksTextAt, FindsText}

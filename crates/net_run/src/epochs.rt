@@ -11,7 +11,7 @@ ghost use Rattle.net_run.specs.Epochs.{Stands};
 use crate::moving::{Way, move_to_rest};
 use crate::numbering::NumberingNode;
 use flow_core::Net;
-use kap_base::{NoMemory, Point, Stamp};
+use kap_base::{NoMemory, Point, Shared, Stamp};
 use kap_io::Gate;
 use node_core::Effects;
 use std::alloc::Global;
@@ -21,24 +21,27 @@ use std::thread::Threads;
 pub(crate) fn run_epoch<N: NumberingNode + Send, R: Threads + Sync, G: Gate + Sync>(
     alloc: Global,
     net: &mut Net<N>,
-    points: &[Point],
+    points: Vec<Shared<Point>>,
     upto: Stamp,
     way: &Way<'_, R, G>,
 ) -> Result<Effects, NoMemory>
     requires unspent { net.old.spent ≡ false }
     requires rest { Each IsResting net.old.lives }
-    requires upto { upto.0 ≡ net.old.last.0 + length points.now }
+    requires upto { upto.0 ≡ net.old.last.0 + length points.items }
     ensures last { OnOk result (net.new.last ≡ upto) }
     ensures stands { OnOk result ((plans : List (PlanValue N)) (before : List PointValue)
         → Stands N.Node plans before net.old
-        → Stands N.Node plans (before ++ points.now) net.new) }
+        → Stands N.Node plans (before ++ points.items) net.new) }
     ensures effects { IfOk result (λ effects. (plans : List (PlanValue N))
         (before : List PointValue) → Stands N.Node plans before net.old
-        → effects_of N.answer (map (graph_of N.spec) plans) (before ++ points.now)
+        → effects_of N.answer (map (graph_of N.spec) plans) (before ++ points.items)
         ≡ effects_of N.answer (map (graph_of N.spec) plans) before ++ effects) }
 {
-    net.load(alloc, points, upto, &[])?;
-    move_to_rest(alloc, net, points.len(), way)?;
+    let count = points.len();
+    net.load(alloc, &points, upto, &[])?;
+    // From here on the net alone has the points.
+    drop(points);
+    move_to_rest(alloc, net, count, way)?;
     // At rest the net has gathered all that its nodes give for the points so far.
     let _rests = net.at_rest();
     Ok(net.collect(alloc))

@@ -6,7 +6,7 @@ use crate::numbering::NumberingNode;
 use crate::trail::Trail;
 use edge_queue::CAPACITY_LIMIT;
 use flow_core::Net;
-use kap_base::{NoMemory, Point, Stamp};
+use kap_base::{NoMemory, Point, Shared, Stamp};
 use kap_io::Gate;
 use node_core::{Effects, Node};
 use std::alloc::Global;
@@ -94,7 +94,7 @@ impl<N: NumberingNode + Send> NetRun<N> {
     pub fn run<R: Threads + Sync, G: Gate + Sync>(
         &mut self,
         alloc: Global,
-        points: Vec<Point>,
+        points: Vec<Shared<Point>>,
         way: &Way<'_, R, G>,
     ) -> Result<Effects, NoMemory>
         requires { self.old.spent ≡ false }
@@ -110,7 +110,7 @@ impl<N: NumberingNode + Send> NetRun<N> {
             return Err(NoMemory);
         };
         let trail = Trail::More(Snapshot::of(&self.trail), Snapshot::of(&points));
-        let effects = run_epoch(alloc, &mut self.net, &points, Stamp(upto), way)?;
+        let effects = run_epoch(alloc, &mut self.net, points, Stamp(upto), way)?;
         self.trail = trail;
         self.given = upto;
         self.spent = false;

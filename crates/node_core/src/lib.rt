@@ -30,7 +30,7 @@ pub use numbered::{Numbered, Seat};
 pub use rule::Rule;
 pub use running::{Running, Tally};
 pub use runs::run;
-pub use said::{Said, pass, pass_if};
+pub use said::{Said, pass, pass_if, pass_new};
 pub use table::Table;
 
 /// A list of items.

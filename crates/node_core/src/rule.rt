@@ -4,7 +4,7 @@ ghost use Rattle.node_core.specs.Groups.{Came, GroupAnswer};
 ghost use Rattle.node_core.specs.Meaning.{Turn};
 
 use crate::said::Said;
-use kap_base::{NoMemory, Point};
+use kap_base::{NoMemory, Point, Shared};
 use state_code::Spelled;
 use std::alloc::Global;
 
@@ -36,7 +36,7 @@ pub trait Rule {
         alloc: Global,
         cell: &mut Self::Cell,
         port: u32,
-        point: Point,
+        point: Shared<Point>,
     ) -> Result<Said, NoMemory>
         requires { port < ports self.old }
         ensures rule { self.new ≡ self.old }

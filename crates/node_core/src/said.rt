@@ -1,8 +1,8 @@
-ghost use Rattle.std.specs.Prelude.{◌≡◌, [], ◌∷◌};
+ghost use Rattle.std.specs.Prelude.{◌≡◌, [], ◌∷◌, IfOk};
 ghost use Rattle.node_core.specs.Meaning.{silence, a_drop, passed, passed_if};
 
 use crate::few::Few;
-use kap_base::{Body, Point, What};
+use kap_base::{Body, NoMemory, Point, Shared, What};
 use std::alloc::Global;
 
 /// What a node says of one arrival: what it gives out, what it does, and how many inputs it drops and counts.
@@ -59,14 +59,21 @@ impl Said {
 }
 
 /// The point is given out.
-pub fn pass(alloc: Global, point: Point) -> Said
+pub fn pass(alloc: Global, point: Shared<Point>) -> Said
     ensures { result ≡ passed point }
 {
     Said::of_body(alloc, Body::Point(point))
 }
 
+/// A point that no other owner has is given out.
+pub fn pass_new(alloc: Global, point: Point) -> Result<Said, NoMemory>
+    ensures { IfOk result (λ said. said ≡ passed point) }
+{
+    Ok(pass(alloc, Shared::new(alloc, point)?))
+}
+
 /// The point is given out where this is true; else nothing is said of it.
-pub fn pass_if(alloc: Global, holds: bool, point: Point) -> Said
+pub fn pass_if(alloc: Global, holds: bool, point: Shared<Point>) -> Said
     ensures { result ≡ passed_if holds point }
 {
     if holds {

@@ -13,7 +13,7 @@ use crate::key::Key;
 use crate::rule::Rule;
 use crate::said::Said;
 use indexmap::IndexMap;
-use kap_base::{Bytes, Duplicate, ItemList, NoMemory, Point};
+use kap_base::{Bytes, Duplicate, ItemList, NoMemory, Point, Shared};
 use state_code::{CodeFault, Cursor, Spelled, put_u32};
 use std::alloc::Global;
 use std::hash::{BuildHasherDefault, DefaultHasher};
@@ -183,7 +183,7 @@ pub(crate) fn feed_cell<R: Rule>(
     alloc: Global,
     table: &mut Table<R::Cell>,
     port: u32,
-    point: Point,
+    point: Shared<Point>,
 ) -> Result<Said, NoMemory>
     requires { port < R.ports rule.old }
     ensures rule { rule.new ≡ rule.old }
@@ -192,7 +192,7 @@ pub(crate) fn feed_cell<R: Rule>(
     ensures said { IfOk result (λ said. said
         ≡ (turn_of (R.kept rule.old []) (R.step rule.old) table.old port point).said) }
 {
-    table.looked_up.become_key_of(&point)?;
+    table.looked_up.become_key_of(point.value())?;
     let at = cell_at(rule, alloc, &mut table.cells, &table.looked_up)?;
     let cell = &mut table.cells[at];
     rule.feed(alloc, cell, port, point)

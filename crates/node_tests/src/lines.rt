@@ -3,7 +3,7 @@
 ghost use Rattle.std.specs.Prelude.{◌≡◌};
 ghost use Rattle.kap_base.specs.Texts.{has_line_feed};
 
-use kap_base::{Batch, Body, Bytes, Effect, Item, ItemList, Point, Stamp, Text, What};
+use kap_base::{Batch, Body, Bytes, Effect, Item, ItemList, Point, Shared, Stamp, Text, What};
 use line_points::{put_line, read_stored};
 use node_core::{Effects, Items};
 use std::alloc::Global;
@@ -32,7 +32,7 @@ pub fn items(rt: &impl Abort, alloc: Global, before: u64, lines: &str) -> Result
     let mut stamp = before;
     for line in lines.lines() {
         stamp = stamp.wrapping_add(1);
-        let body = Body::Point(point(rt, alloc, line)?);
+        let body = Body::Point(Shared::new(alloc, point(rt, alloc, line)?)?);
         items.push(Item {
             stamp: Stamp(stamp),
             body,
@@ -74,8 +74,8 @@ pub fn put_items(items: &Items, text: &mut Bytes, alloc: Global) -> Result<(), F
         let stamp = format!(in alloc; "{} ", item.stamp.0)?;
         text.append(stamp.as_bytes())?;
         match &item.body {
-            Body::Point(point) => put_point(point, text)?,
-            Body::Batch(batch) => put_batch(batch, text, alloc)?,
+            Body::Point(point) => put_point(point.value(), text)?,
+            Body::Batch(batch) => put_batch(batch.value(), text, alloc)?,
         }
         text.append(b"\n")?;
     }
@@ -87,8 +87,9 @@ fn put_effect(effect: &Effect, text: &mut Bytes, alloc: Global) -> Result<(), Fa
     let front = format!(in alloc; "{} {}.{}.{} ", effect.stamp.0, life, node, seq)?;
     text.append(front.as_bytes())?;
     match &effect.what {
-        What::Line(point) => put_line(point, text)?,
+        What::Line(point) => put_line(point.value(), text)?,
         What::Event(event) => {
+            let event = event.value();
             text.append(event.topic.bytes())?;
             text.append(b" ")?;
             text.append(event.id.bytes())?;

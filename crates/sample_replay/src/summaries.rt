@@ -17,7 +17,7 @@ use edge_queue::CAPACITY_LIMIT;
 use effect_text::TaskNames;
 use flow_core::Net;
 use itoa::Buffer;
-use kap_base::{Bytes, NoMemory, Point};
+use kap_base::{Bytes, NoMemory, Point, Shared};
 use kap_io::Gate;
 use net_run::{EPOCH_LIMIT, NetRun, NumberingNode, Way};
 use node_core::Node;
@@ -60,14 +60,15 @@ fn lines(alloc: Global, points: u64, out: u64, alerts: u64, bytes: u64) -> Resul
 }
 
 /// The points of the numbers behind `from`, up to `to`.
-fn samples_behind(alloc: Global, from: u64, to: u64) -> Result<Vec<Point>, NoMemory>
+fn samples_behind(alloc: Global, from: u64, to: u64) -> Result<Vec<Shared<Point>>, NoMemory>
     requires order { from ≤ to }
     requires limit { to ≤ SAMPLE_LIMIT }
     ensures { IfOk result (λ points. samples to ≡ samples from ++ points.items) }
 {
     let mut points = Vec::new(alloc);
     'sampling: for number in from..to {
-        points.push(sample_point(alloc, number + 1)?)?;
+        let point = Shared::new(alloc, sample_point(alloc, number + 1)?)?;
+        points.push(point)?;
     }
     Ok(points)
 }

@@ -13,8 +13,10 @@ ghost use Rattle.select_nodes.specs.Steps.{choice_items};
 
 use crate::choices::{Choice, choose};
 use crate::picks::Pick;
-use kap_base::{Batch, Body, Duplicate, Fields, Group, Names, NoMemory, Point, Tags, Text, Value};
-use node_core::{Few, Said};
+use kap_base::{
+    Batch, Body, Duplicate, Fields, Group, Names, NoMemory, Point, Shared, Tags, Text, Value,
+};
+use node_core::{Few, Said, pass_new};
 use std::alloc::Global;
 use task_graph::{Select, SelectSpec};
 
@@ -140,7 +142,7 @@ fn result_points(
         let group = group.copy(alloc)?;
         let field = field.copy(alloc)?;
         let point = result_point(alloc, name, group, field, pick)?;
-        bodies.push(Body::Point(point))?;
+        bodies.push(Body::Point(Shared::new(alloc, point)?))?;
     }
     Ok(bodies)
 }
@@ -177,18 +179,27 @@ fn say(
         Choice::One(None) => Ok(Said::nothing(alloc)),
         Choice::One(Some(pick)) => {
             let point = result_point(alloc, name, group, field, pick)?;
-            Ok(Said::of_body(alloc, Body::Point(point)))
+            pass_new(alloc, point)
         }
         Choice::Many(picks) => say_many(alloc, &name, &group, &field, picks),
     }
 }
 
 /// What a select says of a batch.
-pub(crate) fn say_of_batch(alloc: Global, spec: &SelectSpec, batch: Batch) -> Result<Said, NoMemory>
+pub(crate) fn say_of_batch(
+    alloc: Global,
+    spec: &SelectSpec,
+    batch: Shared<Batch>,
+) -> Result<Said, NoMemory>
     ensures { IfOk result (λ said. said ≡ batch_says spec.now batch) }
 {
-    let choice = choose(alloc, spec, batch.tmax, batch.points.as_slice())?;
+    let choice = choose(
+        alloc,
+        spec,
+        batch.value().tmax,
+        batch.value().points.as_slice(),
+    )?;
     let field = field_name(alloc, spec)?;
-    let Batch { name, group, .. } = batch;
+    let Batch { name, group, .. } = batch.into_value(alloc)?;
     say(alloc, name, group, field, choice)
 }

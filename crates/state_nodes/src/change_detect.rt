@@ -3,7 +3,7 @@ ghost use Rattle.std.specs.FinMap.{get};
 ghost use Rattle.state_nodes.specs.ChangeDetects.{are_still, change_detect_goes_on, change_detect_says, change_detect_step, is_change_from, is_same, last_values, values_at};
 ghost use Rattle.node_core.specs.Meaning.{passed_if};
 
-use kap_base::{Duplicate, Fields, ItemList, NoMemory, Point, SharedText, Text, Value};
+use kap_base::{Duplicate, Fields, ItemList, NoMemory, Point, Shared, SharedText, Text, Value};
 use node_core::{Rule, Said, pass};
 use std::alloc::Global;
 use task_graph::SharedNames;
@@ -91,16 +91,16 @@ fn feed_change_detect(
     alloc: Global,
     names: &[SharedText],
     kept: &mut LastValues,
-    point: Point,
+    point: Shared<Point>,
 ) -> Result<Said, NoMemory>
     ensures kept { OnOk result (kept.new ≡ Some (values_at names.now point)) }
     ensures said { IfOk result (λ said. said
         ≡ passed_if (is_change_from names.now kept.old point) point) }
 {
-    if !is_change(names, kept, &point) {
+    if !is_change(names, kept, point.value()) {
         return Ok(Said::nothing(alloc));
     }
-    *kept = Some(values_at(alloc, names, &point)?);
+    *kept = Some(values_at(alloc, names, point.value())?);
     Ok(pass(alloc, point))
 }
 
@@ -127,7 +127,7 @@ impl Rule for ChangeDetect {
         alloc: Global,
         cell: &mut LastValues,
         port: u32,
-        point: Point,
+        point: Shared<Point>,
     ) -> Result<Said, NoMemory> {
         let _ = port;
         feed_change_detect(alloc, self.names.as_slice(), cell, point)

@@ -4,8 +4,8 @@ ghost use Rattle.state_nodes.specs.CumulativeSums.{cumulative_sum_goes_on, cumul
 ghost use Rattle.state_nodes.specs.Words.{int_at};
 
 use crate::words::{int_at, with_result};
-use kap_base::{NoMemory, Point};
-use node_core::{Rule, Said, pass};
+use kap_base::{NoMemory, Point, Shared};
+use node_core::{Rule, Said, pass_new};
 use std::alloc::Global;
 use task_graph::FieldSpec;
 
@@ -42,7 +42,7 @@ fn feed_cumulative_sum(
     let next = plus(*sum, number);
     *sum = next;
     let point = with_result(alloc, point, "cumulativeSum", &spec.name, next)?;
-    Ok(pass(alloc, point))
+    pass_new(alloc, point)
 }
 
 impl Rule for CumulativeSum {
@@ -69,9 +69,10 @@ impl Rule for CumulativeSum {
         alloc: Global,
         cell: &mut i64,
         port: u32,
-        point: Point,
+        point: Shared<Point>,
     ) -> Result<Said, NoMemory> {
         let _ = port;
+        let point = point.into_value(alloc)?;
         feed_cumulative_sum(alloc, &self.spec, cell, point)
     }
 }

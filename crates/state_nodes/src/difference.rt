@@ -4,8 +4,8 @@ ghost use Rattle.state_nodes.specs.Differences.{difference_from, difference_goes
 ghost use Rattle.state_nodes.specs.Words.{int_at, latest};
 
 use crate::words::{int_at, with_result};
-use kap_base::{NoMemory, Point};
-use node_core::{Rule, Said, pass};
+use kap_base::{NoMemory, Point, Shared};
+use node_core::{Rule, Said, pass_new};
 use std::alloc::Global;
 use task_graph::FieldSpec;
 
@@ -46,7 +46,7 @@ fn feed_difference(
     };
     let change = less(number, before);
     let point = with_result(alloc, point, "difference", &spec.name, change)?;
-    Ok(pass(alloc, point))
+    pass_new(alloc, point)
 }
 
 impl Rule for Difference {
@@ -72,9 +72,10 @@ impl Rule for Difference {
         alloc: Global,
         cell: &mut Option<i64>,
         port: u32,
-        point: Point,
+        point: Shared<Point>,
     ) -> Result<Said, NoMemory> {
         let _ = port;
+        let point = point.into_value(alloc)?;
         feed_difference(alloc, &self.spec, cell, point)
     }
 }

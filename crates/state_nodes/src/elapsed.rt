@@ -3,7 +3,7 @@ ghost use Rattle.state_nodes.specs.ElapsedTimes.{elapsed_from, elapsed_goes_on, 
 ghost use Rattle.state_nodes.specs.Words.{latest};
 
 use crate::words::with_result;
-use kap_base::{NoMemory, Point, Text};
+use kap_base::{NoMemory, Point, Shared, Text};
 use node_core::{Rule, Said, pass};
 use std::alloc::Global;
 use task_graph::{ElapsedSpec, ElapsedUnit};
@@ -67,7 +67,7 @@ fn feed_elapsed(
     };
     let units = units_in(nanos_between(since, time), &spec.unit);
     let point = with_result(alloc, point, "elapsed", &spec.name, units)?;
-    Ok(pass(alloc, point))
+    Ok(pass(alloc, Shared::new(alloc, point)?))
 }
 
 impl Rule for Elapsed {
@@ -93,9 +93,10 @@ impl Rule for Elapsed {
         alloc: Global,
         cell: &mut Option<i64>,
         port: u32,
-        point: Point,
+        point: Shared<Point>,
     ) -> Result<Said, NoMemory> {
         let _ = port;
+        let point = point.into_value(alloc)?;
         feed_elapsed(alloc, &self.spec, cell, point)
     }
 }

@@ -2,10 +2,10 @@ ghost use Rattle.std.specs.Prelude.{◌≡◌, IfOk, OnOk};
 ghost use Rattle.state_nodes.specs.StateCounts.{counts_in, number_behind, numbered_behind, run_behind, state_count_goes_on, state_count_says, state_count_step, truth_at, truth_of};
 
 use crate::words::{result_name, with_number};
-use kap_base::{NoMemory, Point, Value};
+use kap_base::{NoMemory, Point, Shared, Value};
 use lambda_count::{next_count, outcome};
 use lambda_types::Lambda;
-use node_core::{Rule, Said, pass};
+use node_core::{Rule, Said, pass_new};
 use std::alloc::Global;
 use task_graph::{Name, StateCountSpec};
 
@@ -86,7 +86,7 @@ fn say_number(
     };
     let name = result_name(alloc, "state_count", name)?;
     let number = number_behind(run, holds)?;
-    Ok(pass(alloc, with_number(point, name, number)?))
+    pass_new(alloc, with_number(point, name, number)?)
 }
 
 /// What `stateCount` says of a point.
@@ -133,8 +133,9 @@ impl Rule for StateCount {
         alloc: Global,
         cell: &mut Counts,
         port: u32,
-        point: Point,
+        point: Shared<Point>,
     ) -> Result<Said, NoMemory> {
+        let point = point.into_value(alloc)?;
         feed_state_count(alloc, &mut self.spec, cell, port, point)
     }
 }

@@ -9,7 +9,7 @@ ghost use Rattle.task_run.specs.Plans.{AreBelow};
 
 use crate::feeding::run_node;
 use crate::lives::{Cell, Life, Shelf};
-use kap_base::{Body, Duplicate, Effect, Item, ItemList, NoMemory, Point, Stamp};
+use kap_base::{Body, Duplicate, Effect, Item, ItemList, NoMemory, Point, Shared, Stamp};
 use node_core::{Items, Node};
 use std::alloc::Global;
 use std::mem;
@@ -114,7 +114,7 @@ fn run_copies<N: Node>(
     alloc: Global,
     lives: &mut [Life<N>],
     stamp: Stamp,
-    point: &Point,
+    point: &Shared<Point>,
     effects: &mut ItemList<Effect>,
 ) -> Result<(), NoMemory>
     requires { AreLives N.spec N.ports lives.old }
@@ -133,7 +133,7 @@ pub(crate) fn run_lives<N: Node>(
     alloc: Global,
     lives: &mut [Life<N>],
     stamp: Stamp,
-    point: Point,
+    point: Shared<Point>,
     effects: &mut ItemList<Effect>,
 ) -> Result<(), NoMemory>
     requires { AreLives N.spec N.ports lives.old }

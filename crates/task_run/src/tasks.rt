@@ -10,7 +10,7 @@ use crate::making::lives_of;
 use crate::plans::LifePlan;
 use crate::running::run_lives;
 use crate::trail::Trail;
-use kap_base::{Effect, ItemList, NoMemory, Point, Stamp};
+use kap_base::{Effect, ItemList, NoMemory, Point, Shared, Stamp};
 use node_core::Node;
 use std::alloc::Global;
 use std::marker::Model;
@@ -95,6 +95,7 @@ impl<N: Node> TaskRun<N> {
             return Err(NoMemory);
         };
         let trail = Trail::More(Snapshot::of(&self.trail), Snapshot::of(&point));
+        let point = Shared::new(alloc, point)?;
         run_lives(alloc, &mut self.lives, Stamp(stamp), point, effects)?;
         self.trail = trail;
         self.given = stamp;

@@ -5,7 +5,7 @@ ghost use Rattle.std.specs.Str.Parse.{AllDigits};
 ghost use Rattle.tick_lexer.specs.Bytes.{starts};
 ghost use Rattle.tick_lexer.specs.Front.{before_three, duration, front, integer, mark, measured, number, numeral, scan, sign, string, tripled, unit_at, word, word_kind};
 ghost use Rattle.tick_lexer.specs.Runs.{IsFound, IsScanned};
-ghost use Rattle.tick_lexer.specs.Spelling.{is_equals, is_tilde};
+ghost use Rattle.tick_lexer.specs.Spelling.{has_leading_zero, is_dot, is_equals, is_tilde};
 
 use crate::bytes::{digits_length, is_digit, is_letter, is_word, number_of, word_length};
 use crate::limits::DURATION_LIMIT;
@@ -154,15 +154,29 @@ fn measured(at: u32, digits: &[u8], tail: &[u8]) -> Result<Front, LexFault>
     duration(at, digits, unit)
 }
 
+/// Whether the text begins with a dot.
+fn starts_with_dot(text: &[u8]) -> bool
+    ensures { result ≡ starts is_dot text.now }
+{
+    matches!(text, [b'.', ..])
+}
+
+/// Whether a zero stands before another digit.
+fn has_leading_zero(digits: &[u8]) -> bool
+    ensures { result ≡ has_leading_zero digits.now }
+{
+    matches!(digits, [b'0', _, ..])
+}
+
 /// The number whose digits are given, and what follows them.
 fn numeral(at: u32, digits: &[u8], tail: &[u8]) -> Result<Front, LexFault>
     requires { AllDigits 10 digits.now }
     ensures { IsFound result (numeral at digits.now tail.now) }
 {
-    if matches!(digits, [b'0', _, ..]) {
+    if has_leading_zero(digits) {
         return Err(LexFault::OctalLiteral(at));
     }
-    if matches!(tail, [b'.', ..]) {
+    if starts_with_dot(tail) {
         return Err(LexFault::FloatLiteral(at));
     }
     measured(at, digits, tail)

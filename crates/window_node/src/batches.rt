@@ -6,7 +6,7 @@ ghost use Rattle.kap_base.specs.Points.{is_time};
 ghost use Rattle.kap_base.specs.Texts.{is_measurement};
 ghost use Rattle.window_node.specs.Batches.{batch_of, last};
 
-use kap_base::{Batch, Body, Duplicate, Group, NoMemory, Point, Points, Text, group_of};
+use kap_base::{Batch, Body, Duplicate, Group, NoMemory, Point, Points, Shared, Text, group_of};
 use node_core::Said;
 use std::alloc::Global;
 
@@ -22,10 +22,15 @@ pub(crate) fn frame_of(alloc: Global, point: &Point) -> Result<(Text, Group), No
 }
 
 /// What is said where these points are given together, under a measurement and a group.
-pub(crate) fn said_of(alloc: Global, frame: (Text, Group), tmax: i64, points: Points) -> Said
+pub(crate) fn said_of(
+    alloc: Global,
+    frame: (Text, Group),
+    tmax: i64,
+    points: Points,
+) -> Result<Said, NoMemory>
     requires measurement { IsTrue (is_measurement frame.0) }
     requires tmax { IsTrue (is_time tmax) }
-    ensures { result ≡ batch_of frame.0 frame.1 tmax points }
+    ensures { IfOk result (λ said. said ≡ batch_of frame.0 frame.1 tmax points) }
 {
     let (name, group) = frame;
     let batch = Batch {
@@ -34,7 +39,8 @@ pub(crate) fn said_of(alloc: Global, frame: (Text, Group), tmax: i64, points: Po
         tmax,
         points,
     };
-    Said::of_body(alloc, Body::Batch(batch))
+    let batch = Shared::new(alloc, batch)?;
+    Ok(Said::of_body(alloc, Body::Batch(batch)))
 }
 
 /// By how many points a list is longer.

@@ -7,7 +7,7 @@ ghost use Rattle.window_node.specs.CountedLaws.{counted_goes_on};
 ghost use Rattle.window_node.specs.States.{FitsCounted, counted_spelled, read_counted, spell_counted};
 
 use crate::batches::{frame_of, last_copies, last_points, said_of};
-use kap_base::{Bytes, NoMemory, Point, Points};
+use kap_base::{Bytes, NoMemory, Point, Points, Shared};
 use node_core::{Rule, Said};
 use state_code::{CodeFault, Cursor, Spelled};
 use std::alloc::Global;
@@ -117,7 +117,7 @@ fn give(
     points.push(point)?;
     let live = last_copies(alloc, points.as_slice(), window.kept_count(number))?;
     let batch = last_points(points, window.period_count.number());
-    Ok((live, said_of(alloc, frame, time, batch)))
+    Ok((live, said_of(alloc, frame, time, batch)?))
 }
 
 /// Takes a point of a group.
@@ -187,9 +187,10 @@ impl Rule for CountedWindow {
         alloc: Global,
         cell: &mut CountedGroup,
         port: u32,
-        point: Point,
+        point: Shared<Point>,
     ) -> Result<Said, NoMemory> {
         let _ = port;
+        let point = point.into_value(alloc)?;
         let group = mem::replace(cell, CountedGroup::new(alloc));
         let (group, said) = go_on(alloc, self, group, point)?;
         *cell = group;

@@ -12,7 +12,7 @@ ghost use Rattle.window_node.specs.States.{FitsEdge, edge_spelled, is_edge, read
 
 use crate::batches::{frame_of, said_of};
 use crate::spans::{nanos_of, time_behind};
-use kap_base::{Bytes, Duplicate, NoMemory, Point, Points, trunc};
+use kap_base::{Bytes, Duplicate, NoMemory, Point, Points, Shared, trunc};
 use node_core::{Rule, Said};
 use state_code::{CodeFault, Cursor, Spelled};
 use std::alloc::Global;
@@ -254,7 +254,7 @@ fn pass_edge(
     let next = window.following(point.time);
     let (batch, mut live) = part(alloc, window, edge, next, live)?;
     let frame = frame_of(alloc, &point)?;
-    let said = said_of(alloc, frame, tmax, batch);
+    let said = said_of(alloc, frame, tmax, batch)?;
     keep(window, next, &mut live, point)?;
     let group = EdgeGroup {
         first,
@@ -358,9 +358,10 @@ impl Rule for EdgeWindow {
         alloc: Global,
         cell: &mut EdgeCell,
         port: u32,
-        point: Point,
+        point: Shared<Point>,
     ) -> Result<Said, NoMemory> {
         let _ = port;
+        let point = point.into_value(alloc)?;
         match cell.group.take() {
             None => {
                 cell.group = Some(opened(alloc, self, point)?);

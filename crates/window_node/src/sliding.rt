@@ -12,7 +12,7 @@ ghost use Rattle.window_node.specs.States.{FitsSliding, read_sliding, sliding_sp
 
 use crate::batches::{frame_of, said_of};
 use crate::spans::time_behind;
-use kap_base::{Bytes, Duplicate, NoMemory, Point, Points, is_time};
+use kap_base::{Bytes, Duplicate, NoMemory, Point, Points, Shared, is_time};
 use node_core::{Rule, Said};
 use state_code::{CodeFault, Cursor, Spelled};
 use std::alloc::Global;
@@ -156,7 +156,7 @@ fn give(
     points.push(point)?;
     let live = near_points(window, high, points);
     let batch = live.copy(alloc)?;
-    Ok((live, said_of(alloc, frame, high, batch)))
+    Ok((live, said_of(alloc, frame, high, batch)?))
 }
 
 /// Takes a point of a group.
@@ -266,9 +266,10 @@ impl Rule for SlidingWindow {
         alloc: Global,
         cell: &mut SlidingCell,
         port: u32,
-        point: Point,
+        point: Shared<Point>,
     ) -> Result<Said, NoMemory> {
         let _ = port;
+        let point = point.into_value(alloc)?;
         let group = match cell.group.take() {
             None => started(alloc, point.time),
             Some(group) => group,

@@ -1,4 +1,4 @@
-use Rattle.std.proofs.Common.{◌≡◌, ◌∙◌, ◌++◌, [], List, refl, ap, append-nil}
+use Rattle.std.proofs.Common.{◌∙◌, ◌++◌, List, refl, ap, append-nil}
 use Rattle.kap_base.specs.declared.items.Effect.{Effect}
 use Rattle.flow_cells.specs.Kept.{gathered, received_of}
 use Rattle.flow_cells.specs.SettleLaws.{kept-gathered}

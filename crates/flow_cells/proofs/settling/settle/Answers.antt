@@ -1,10 +1,10 @@
-use Rattle.std.proofs.Common.{◌≡◌, ◌∙◌, ◌<◌, List, length, get_or, set, Some, refl, sym, ap, subst}
+use Rattle.std.proofs.Common.{◌≡◌, ◌∙◌, ◌<◌, length, get_or, Some, refl, sym, ap, subst}
 use Rattle.std.specs.Prelude.{slice_get}
 use Rattle.edge_queue.specs.Edges.{IsPaired, received}
 use Rattle.merge_node.specs.Merge.{Lists}
 use Rattle.flow_cells.specs.declared.parts.InEdge.{InEdge}
 use Rattle.flow_cells.specs.declared.parts.OutEdge.{OutEdge}
-use Rattle.flow_cells.specs.Kept.{KeptBy, received_of}
+use Rattle.flow_cells.specs.Kept.{KeptBy}
 use Rattle.flow_cells.specs.Moves.{Eases}
 use Rattle.flow_cells.specs.OutLaws.{get-within}
 use Rattle.flow_cells.specs.MoveLaws.{kept-outs, received_of-same}

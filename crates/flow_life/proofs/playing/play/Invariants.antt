@@ -1,11 +1,12 @@
-use Rattle.std.proofs.Common.{◌≡◌, ◌+◌, ◌≤◌}
+use Rattle.std.proofs.Common.{◌≡◌, ◌+◌, ◌≤◌, take}
 use Rattle.flow_life.specs.Nodes.{gathered_of, specs_of}
+use Rattle.flow_life.specs.Playing.{Plays}
 use Rattle.flow_life.specs.Steps.{moves_of}
 use Rattle.flow_life.specs.Streams.{plans_of}
 use Rattle.flow_life.specs.Lives.{IsLife}
 use Rattle.flow_life.proofs.playing.play.Given as goal
 
--- as many lists grew by one message as steps were made
+-- the steps so far were tried, and as many lists grew by one message as were made
 abbrev pub invariant-playing : goal.invariant-playing
 invariant-playing g l = record {
   made : l.made ≤ l.next-index;
@@ -13,5 +14,6 @@ invariant-playing g l = record {
   plans : plans_of g.N.Node l.cells ≡ plans_of g.N.Node l.fn.cells;
   specs : specs_of g.N.Node l.cells ≡ specs_of g.N.Node l.fn.cells;
   gathered : gathered_of l.cells ≡ gathered_of l.fn.cells;
+  plays : Plays (take l.next-index l.steps) l.fn.cells l.made l.cells;
   count : moves_of l.cells ≡ moves_of l.fn.cells + l.made;
 }

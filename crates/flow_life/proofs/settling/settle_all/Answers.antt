@@ -1,4 +1,3 @@
-use Rattle.std.proofs.Common.{refl}
 use Rattle.flow_life.specs.LooseLaws.{looked_gathered, looked_plans, looked_specs, looked_unspent, wired_life}
 use Rattle.flow_life.proofs.settling.settle_all.Goals as goal
 

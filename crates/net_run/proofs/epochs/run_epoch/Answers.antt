@@ -10,10 +10,10 @@ use Rattle.net_run.proofs.epochs.run_epoch.Goals as goal
 pub returns-clause-effects : goal.returns-clause-effects
 returns-clause-effects g c = λ plans before s.
     let node = g.N.Node in
-    let new = c.args.points.now in
+    let new = c.args.points.items in
     let nodes = nodes_in node plans in
     let old = whole_of node plans before in
-    let first = loaded node plans before new c.args.upto c.args.net.now c.load.new.self s.come s.last c.requires.upto (c.in_ok-load.ensures.first plans) (c.in_ok-load.ensures.again nodes before old) in
+    let first = loaded node plans before new c.args.upto c.args.net.now c.load.new.self s.come s.last c.requires.upto (rw c.deref.ensures.value at (c.in_ok-load.ensures.first plans)) (rw c.deref.ensures.value at (c.in_ok-load.ensures.again nodes before old)) in
     let then = c.in_ok-move_to_rest.ensures.runs nodes (before ++ new) old first in
     let rests = is_so c.at_rest-rests.result (λ no. c.at_rest-rests.ensures.busy no c.in_ok-move_to_rest.ensures.rest) in
     c.collect.ensures.whole (g.met.N.NumberingNode g.world.𝓛 g.world.𝓜 g.world.𝓡 (λ s x. x, λ x. x, λ x. x, λ x. x)).numbers nodes before new 1 old s.rise s.all (c.at_rest-rests.ensures.all rests nodes (before ++ new) old then)
@@ -21,11 +21,11 @@ returns-clause-effects g c = λ plans before s.
 pub returns-clause-stands : goal.returns-clause-stands
 returns-clause-stands g c = λ plans before s.
     let node = g.N.Node in
-    let new = c.args.points.now in
+    let new = c.args.points.items in
     let nodes = nodes_in node plans in
     let old = whole_of node plans before in
     let whole = whole_of node plans (before ++ new) in
-    let first = loaded node plans before new c.args.upto c.args.net.now c.load.new.self s.come s.last c.requires.upto (c.in_ok-load.ensures.first plans) (c.in_ok-load.ensures.again nodes before old) in
+    let first = loaded node plans before new c.args.upto c.args.net.now c.load.new.self s.come s.last c.requires.upto (rw c.deref.ensures.value at (c.in_ok-load.ensures.first plans)) (rw c.deref.ensures.value at (c.in_ok-load.ensures.again nodes before old)) in
     let then = c.in_ok-move_to_rest.ensures.runs nodes (before ++ new) old first in
     let rests = is_so c.at_rest-rests.result (λ no. c.at_rest-rests.ensures.busy no c.in_ok-move_to_rest.ensures.rest) in
     let all = c.at_rest-rests.ensures.all rests nodes (before ++ new) old then in

@@ -12,5 +12,5 @@ sampling-preserved c =
       after = let low = before.after in omega arith;
       within = let more = c.sampling-test.true in omega arith;
       points = samples_next n ∙ ap (λ l. l ++ point_is ∷ []) before.points ∙ append_assoc (samples c.args.from) c.sampling.points.items (point_is ∷ [])
-          ∙ ap (λ l. samples c.args.from ++ l) (sym (rw c.in_ok-sample_point.ensures at c.in_ok-push.ensures.items));
+          ∙ ap (λ l. samples c.args.from ++ l) (sym (rw (c.in_ok-point.ensures, c.in_ok-sample_point.ensures) at c.in_ok-push.ensures.items));
     }

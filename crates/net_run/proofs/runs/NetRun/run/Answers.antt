@@ -13,7 +13,7 @@ invariant_of-self-2 g c = λ e.
     let before = points_of c.self.inside.trail in
     let fresh : c.self.inside.spent ≡ false = ap (λ (r : RunValue g.row.N-Spec.Denot). r.spent) c.self.view_is ∙ c.requires in
     let stood = (c.self.invariant fresh).1 in
-    let all : points_of c.of.result.value ++ c.of-2.result.value.items ≡ before ++ c.deref.result.now = rw (c.of.ensures, c.of-2.ensures, c.deref.ensures.value) refl in (
+    let all : points_of c.of.result.value ++ c.of-2.result.value.items ≡ before ++ c.args.points.items = rw (c.of.ensures, c.of-2.ensures) refl in (
       ap (λ (t : Stamp). t.0) (sym c.in_ok-effects.ensures.last),
       subst (λ (ps : List PointValue). Stands node plans ps c.run_epoch.new.net) (sym all) (c.in_ok-effects.ensures.stands plans before stood),
     )

@@ -16,7 +16,8 @@ invariant_of-self-2 g c = λ e.
     let p = c.args.point in
     let fresh : c.self.inside.spent ≡ false = ap (λ (r : RunValue g.row.N-Spec.Denot). r.spent) c.self.view_is ∙ c.requires in
     let running = c.self.invariant fresh in
-    let ran = subst (λ (ls : List (Life g.row.N.Denot)). LivesRan node.spec node.state node.ports node.step (item_of (record { 0 = c.in-Some.stamp }) p) ls lives c.args.effects.now c.run_lives.new.effects) c.deref_mut.ensures.value c.in_ok-run_lives.ensures in
+    let ran = subst (λ (ls : List (Life g.row.N.Denot)). LivesRan node.spec node.state node.ports node.step (item_of (record { 0 = c.in-Some.stamp }) p) ls lives c.args.effects.now c.run_lives.new.effects) c.deref_mut.ensures.value
+    (subst (λ (q : PointValue). LivesRan node.spec node.state node.ports node.step (item_of (record { 0 = c.in-Some.stamp }) q) c.deref_mut.result.now c.run_lives.new.lives c.args.effects.now c.run_lives.new.effects) c.in_ok-point.ensures c.in_ok-run_lives.ensures) in
     let goes = run_goes_on node.spec node.state node.answer node.life node.number g.met.N.Node.stamped node.first node.step g.met.N.Node.folds node.ports points p lives0 lives c.self.inside.given c.in-Some.stamp c.args.effects.now c.run_lives.new.effects running c.in-Some.ensures.1 ran in
     let value = ap length c.deref_mut.ensures.value in
     let long : length lives ≡ length lives0 = c.run_lives.auto.lives ∙ value in
@@ -34,6 +35,7 @@ returns-clause-effects g c =
     let p = c.args.point in
     let fresh : c.self.inside.spent ≡ false = ap (λ (r : RunValue g.row.N-Spec.Denot). r.spent) c.self.view_is ∙ c.requires in
     let running = c.self.invariant fresh in
-    let ran = subst (λ (ls : List (Life g.row.N.Denot)). LivesRan node.spec node.state node.ports node.step (item_of (record { 0 = c.in-Some.stamp }) p) ls c.run_lives.new.lives c.args.effects.now c.run_lives.new.effects) c.deref_mut.ensures.value c.in_ok-run_lives.ensures in
+    let ran = subst (λ (ls : List (Life g.row.N.Denot)). LivesRan node.spec node.state node.ports node.step (item_of (record { 0 = c.in-Some.stamp }) p) ls c.run_lives.new.lives c.args.effects.now c.run_lives.new.effects) c.deref_mut.ensures.value
+    (subst (λ (q : PointValue). LivesRan node.spec node.state node.ports node.step (item_of (record { 0 = c.in-Some.stamp }) q) c.deref_mut.result.now c.run_lives.new.lives c.args.effects.now c.run_lives.new.effects) c.in_ok-point.ensures c.in_ok-run_lives.ensures) in
     run_gives node.spec node.state node.answer node.life node.number g.met.N.Node.stamped node.first node.step g.met.N.Node.folds node.ports points p lives0 c.run_lives.new.lives c.self.inside.given c.in-Some.stamp c.args.effects.now c.run_lives.new.effects running c.in-Some.ensures.1 ran
     ∙ ap (λ (r : RunValue g.row.N-Spec.Denot). c.args.effects.now ++ life_effects_with node.answer (suc (length r.points)) r.lives (r.points ++ p ∷ [])) c.self.view_is
