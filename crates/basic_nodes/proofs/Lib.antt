@@ -1,3 +1,4 @@
+pub mod Crossing
 pub mod DimensionLaws
 pub mod DeletionLaws
 pub mod TagLaws

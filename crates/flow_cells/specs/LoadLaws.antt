@@ -1,10 +1,10 @@
 -- A load that begins leaves a cell that keeps what a cell keeps.
-use Rattle.std.proofs.Common.{◌≡◌, suc, ◌<◌, ◌≤◌, List, [], ◌∷◌, ◌++◌, length, map, None, refl, sym, ap, subst, ◌∙◌, append-nil, arith}
+use Rattle.std.proofs.Common.{◌≡◌, suc, ◌<◌, ◌≤◌, List, [], ◌∷◌, ◌++◌, length, map, None, refl, sym, ap, subst, ◌∙◌, append-nil, append_assoc, arith}
 use Rattle.std.specs.List.{AllByRecursion as Each, AllZip}
 use Rattle.kap_base.specs.declared.items.Msg.{Msg}
 use Rattle.node_core.specs.declared.node.Node.{Ghosts}
 use Rattle.merge_node.specs.Merge.{Lists}
-use Rattle.merge_node.specs.Buffers.{Merges, next}
+use Rattle.merge_node.specs.Buffers.{Merges, next, put}
 use Rattle.merge_node.specs.BufferLaws.{merges-length}
 use Rattle.edge_queue.specs.Edges.{received}
 use Rattle.edge_queue.specs.Moves.{TailLoads}
@@ -14,6 +14,7 @@ use Rattle.flow_cells.specs.declared.parts.Core.{Core}
 use Rattle.flow_cells.specs.Runs.{begun}
 use Rattle.flow_cells.specs.Kept.{IsAt, KeptBy, received_of}
 use Rattle.flow_cells.specs.Handled.{Handles, Waits}
+use Rattle.flow_cells.specs.HandledLaws.{Handles-none, Handles-put}
 use Rattle.flow_cells.specs.Made.{IsFresh, IsNothing}
 use Rattle.flow_cells.specs.Loads.{InLoads, IsOwn, OutLoads, with_source}
 
@@ -60,6 +61,11 @@ pub with_source-length : (source : List Msg) (ls : Lists) → length (with_sourc
 with_source-length source [] = refl
 with_source-length source (l ∷ ls) = refl
 
+-- one point or barrier more of a load is one message more of the first parent
+with_source-more : (source : List Msg) (m : Msg) (ls : Lists) → with_source (source ++ m ∷ []) ls ≡ put 0 m (with_source source ls)
+with_source-more source m [] = refl
+with_source-more source m (l ∷ ls) = ap (λ (x : List Msg). x ∷ ls) (sym (append_assoc l source (m ∷ [])))
+
 loads_waits : (a b c : OutEdge) → OutLoads a b → Waits b c → OutLoads a c
 loads_waits a b c l w = record { tail = subst (TailLoads a.tail) (sym w.tail) l.tail; child = w.child ∙ l.child; input = w.input ∙ l.input }
 
@@ -84,3 +90,25 @@ module _ {N P S : Type 0} (g : Ghosts N P S) where
         at = h.at (begun (g.state first.node) first.passed) at;
         ports = omega (arith, long, ports);
       })
+
+  -- points and barriers of a load that were handled, and the rest of them
+  pub record Loading (source rest : List Msg) (c : Core N) (b : Lists) (d : Core N) (e : Lists) : Type 0 where
+    pub before : List Msg
+    pub whole : before ++ rest ≡ source
+    pub handles : Handles g c (with_source before b) d e
+
+  -- none of them was handled yet
+  pub Loading-none : (source : List Msg) (c : Core N) (b : Lists) → Loading source source c b c b
+  Loading-none source c b = record {
+    before = [];
+    whole = refl;
+    handles = subst (λ (ls : Lists). Handles g c ls c b) (sym (with_source-none b)) (Handles-none g c b);
+  }
+
+  -- one more was handled
+  pub Loading-more : (source rest : List Msg) (m : Msg) (c : Core N) (b : Lists) (d : Core N) (e : Lists) (d' : Core N) (e' : Lists) → Loading source (m ∷ rest) c b d e → Handles g d (put 0 m e) d' e' → Loading source rest c b d' e'
+  Loading-more source rest m c b d e d' e' l h = record {
+    before = l.before ++ m ∷ [];
+    whole = append_assoc l.before (m ∷ []) rest ∙ l.whole;
+    handles = subst (λ (ls : Lists). Handles g c ls d' e') (sym (with_source-more l.before m b)) (Handles-put g c d (with_source l.before b) e 0 m d' e' l.handles h);
+  }

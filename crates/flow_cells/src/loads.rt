@@ -1,13 +1,15 @@
 //! A load begins on a cell.
 
-ghost use Rattle.std.specs.Prelude.{◌≡◌, ◌<◌, [], length, OnOk};
+ghost use Rattle.std.specs.Prelude.{◌≡◌, ◌<◌, ◌≤◌, None, [], length, OnOk};
 ghost use Rattle.std.specs.List.{AllByRecursion as Each, AllZip};
+ghost use Rattle.merge_node.specs.Buffers.{next};
+ghost use Rattle.flow_cells.specs.Handled.{Handles, Waits};
 ghost use Rattle.flow_cells.specs.Kept.{IsGiven, Keeps};
 ghost use Rattle.flow_cells.specs.Loads.{Begins, InLoads, IsOwn, NothingWaits, OutLoads, with_source};
 ghost use Rattle.flow_cells.specs.Made.{IsFresh, IsNothing};
 
-use crate::parts::{CellParts, Gathered, InEdge, OutEdge};
-use crate::reacting::handle_all;
+use crate::parts::{CellParts, Core, Gathered, InEdge, OutEdge};
+use crate::reacting::handle;
 use kap_base::{Msg, NoMemory};
 use merge_node::MergeBuf;
 use node_core::Node;
@@ -54,15 +56,26 @@ fn load_outs(outs: &mut Vec<OutEdge>)
     begin_outs(outs);
 }
 
-/// Puts the points and barriers of a load into the buffer of the first parent.
-fn put_source(buffer: &mut MergeBuf, source: Vec<Msg>) -> Result<(), NoMemory>
-    requires { 0 < length buffer.old }
-    ensures { OnOk result (buffer.new ≡ with_source source.items buffer.old) }
+/// Handles the points and barriers of a load one by one, as messages of the first parent.
+fn handle_source<N: Node>(
+    alloc: Global,
+    core: &mut Core<N>,
+    buffer: &mut MergeBuf,
+    source: Vec<Msg>,
+) -> Result<(), NoMemory>
+    requires some { 0 < length buffer.old }
+    requires stuck { next buffer.old ≡ None }
+    requires ports { length buffer.old ≤ N.ports (N.spec core.old.node) }
+    ensures outs { OnOk result (AllZip Waits core.old.outs.items core.new.outs.items) }
+    ensures gathered { OnOk result (core.new.gathered ≡ core.old.gathered) }
+    ensures stuck { OnOk result (next buffer.new ≡ None) }
+    ensures handles { OnOk result
+        (Handles N.Node core.old (with_source source.items buffer.old) core.new buffer.new) }
 {
     let mut rest = source;
     rest.reverse();
-    'putting: while let Some(msg) = rest.pop() {
-        buffer.put(0, msg)?;
+    'handling: while let Some(msg) = rest.pop() {
+        handle(alloc, core, buffer, 0, msg)?;
     }
     Ok(())
 }
@@ -88,7 +101,6 @@ pub(crate) fn load<N: Node>(
     cell.core.node.save(&mut cell.core.saved)?;
     cell.base = Snapshot::of(&cell.core);
     cell.source = Snapshot::of(&source);
-    put_source(&mut cell.buffer, source)?;
-    handle_all(alloc, &mut cell.core, &mut cell.buffer)?;
+    handle_source(alloc, &mut cell.core, &mut cell.buffer, source)?;
     Ok(())
 }

@@ -9,7 +9,7 @@ ghost use Rattle.flow_cells.specs.Moves.{KeepsOthers};
 use crate::parts::{CellParts, Core, Gathered, InEdge, OutEdge};
 use kap_base::{Bytes, Msg, NoMemory, Stamp};
 use merge_node::{MergeBuf, PARENT_LIMIT};
-use node_core::{Effects, Node};
+use node_core::{Effects, Items, Node};
 use std::alloc::Global;
 use std::snapshot::Snapshot;
 
@@ -30,6 +30,7 @@ fn make_core<N: Node>(alloc: Global, node: N, passed: Stamp) -> Result<Core<N>, 
     Ok(Core {
         node,
         outs: Vec::new(alloc),
+        given: Items::new(alloc),
         gathered: Gathered::Start,
         effects: Effects::new(alloc),
         saved,

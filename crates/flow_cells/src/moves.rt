@@ -6,7 +6,7 @@ ghost use Rattle.flow_cells.specs.Moves.{PutsNone, PutsOne, TakesNone, TakesOne}
 
 use crate::outs::has_unsent;
 use crate::parts::CellParts;
-use crate::reacting::handle_all;
+use crate::reacting::handle;
 use kap_base::NoMemory;
 use node_core::Node;
 use std::alloc::Global;
@@ -32,8 +32,7 @@ pub(crate) fn take<N: Node>(
     let Some(msg) = edge.head.take() else {
         return Ok(false);
     };
-    cell.buffer.put(input, msg)?;
-    handle_all(alloc, &mut cell.core, &mut cell.buffer)?;
+    handle(alloc, &mut cell.core, &mut cell.buffer, input, msg)?;
     Ok(true)
 }
 

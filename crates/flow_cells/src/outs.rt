@@ -43,12 +43,12 @@ pub(crate) fn push_each(alloc: Global, outs: &mut Vec<OutEdge>, msg: Msg) -> Res
     Ok(())
 }
 
-/// Has items wait at each out, in order.
+/// Has items wait at each out, in order, and gives their list back, whose room can be used again.
 pub(crate) fn push_items(
     alloc: Global,
     outs: &mut Vec<OutEdge>,
     items: Items,
-) -> Result<(), NoMemory>
+) -> Result<Items, NoMemory>
     ensures { OnOk result (outs.new.items ≡ map (with_unsent (item_msgs items)) outs.old.items) }
 {
     let mut rest = items.into_items();
@@ -56,7 +56,7 @@ pub(crate) fn push_items(
     'pushing: while let Some(item) = rest.pop() {
         push_each(alloc, outs, Msg::Item(item))?;
     }
-    Ok(())
+    Ok(Items::from_items(rest))
 }
 
 /// Whether a message waits at an out.

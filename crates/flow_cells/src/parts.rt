@@ -3,7 +3,7 @@
 use edge_queue::{Head, Tail};
 use kap_base::{Bytes, Msg, Stamp};
 use merge_node::{MergeBuf, Queue};
-use node_core::Effects;
+use node_core::{Effects, Items};
 use std::snapshot::Snapshot;
 
 /// An out of a cell: an edge to a child, and what waits for it.
@@ -47,6 +47,8 @@ pub struct Core<N> {
     pub node: N,
     /// Its edges to children.
     pub outs: Vec<OutEdge>,
+    /// Room for what the node gives for a message, before that waits at the outs. What it holds counts for nothing.
+    pub given: Items,
     /// The effects since the load that were gathered.
     pub gathered: Gathered,
     /// Those that weren't gathered yet.

@@ -3,7 +3,7 @@
 ghost use Rattle.std.specs.Prelude.{◌≡◌, ℕ, ◌<◌, ◌≤◌, None, OnOk, length};
 ghost use Rattle.std.specs.List.{AllZip};
 ghost use Rattle.kap_base.specs.declared.items.Msg.TheVariants as messages;
-ghost use Rattle.merge_node.specs.Buffers.{next};
+ghost use Rattle.merge_node.specs.Buffers.{next, put};
 ghost use Rattle.flow_cells.specs.Handled.{Handles, Reacts, Waits};
 
 use crate::outs::{push_each, push_items};
@@ -12,6 +12,7 @@ use kap_base::{Item, Msg, NoMemory, Stamp};
 use merge_node::MergeBuf;
 use node_core::{Items, Node};
 use std::alloc::Global;
+use std::mem;
 
 impl<N: Node> Core<N> {
     /// Feeds the node an item, and has what it gives wait at each out.
@@ -22,10 +23,11 @@ impl<N: Node> Core<N> {
         ensures outs { OnOk result (AllZip Waits self.old.outs.items self.new.outs.items) }
         ensures reacts { OnOk result (Reacts N.Node self.old parent (messages.Item item) self.new) }
     {
-        let mut given = Items::new(alloc);
+        let mut given = mem::replace(&mut self.given, Items::new(alloc));
+        given.clear();
         self.node
             .feed(alloc, parent, item, &mut given, &mut self.effects)?;
-        push_items(alloc, &mut self.outs, given)?;
+        self.given = push_items(alloc, &mut self.outs, given)?;
         Ok(())
     }
 
@@ -61,7 +63,7 @@ impl<N: Node> Core<N> {
 }
 
 /// Handles all that is determined.
-pub(crate) fn handle_all<N: Node>(
+fn handle_all<N: Node>(
     alloc: Global,
     core: &mut Core<N>,
     buffer: &mut MergeBuf,
@@ -76,4 +78,28 @@ pub(crate) fn handle_all<N: Node>(
         core.react(alloc, parent, msg)?;
     }
     Ok(())
+}
+
+/// Handles a message that came at an input, and all that is then determined.
+pub(crate) fn handle<N: Node>(
+    alloc: Global,
+    core: &mut Core<N>,
+    buffer: &mut MergeBuf,
+    input: u32,
+    msg: Msg,
+) -> Result<(), NoMemory>
+    requires within { input < length buffer.old }
+    requires ports { length buffer.old ≤ N.ports (N.spec core.old.node) }
+    ensures outs { OnOk result (AllZip Waits core.old.outs.items core.new.outs.items) }
+    ensures gathered { OnOk result (core.new.gathered ≡ core.old.gathered) }
+    ensures stuck { OnOk result (next buffer.new ≡ None) }
+    ensures handles { OnOk result
+        (Handles N.Node core.old (put input msg buffer.old) core.new buffer.new) }
+{
+    if buffer.is_clear() {
+        // The message is next at once: it need not be buffered.
+        return core.react(alloc, input, msg);
+    }
+    buffer.put(input, msg)?;
+    handle_all(alloc, core, buffer)
 }

@@ -1,5 +1,5 @@
 -- What is known of each text and of each number.
-use Rattle.std.proofs.Common.{◌≡◌, ℕ, ◌<◌, ◌^◌, Bool, true, false, not, ◌&&◌, List, Result, Ok, Err, IfOk, IsTrue, arith, ℤ, pos, negsuc, subst, sym}
+use Rattle.std.proofs.Common.{◌≡◌, ℕ, ◌<◌, ◌^◌, Bool, true, false, not, ◌&&◌, List, ◌++◌, length, take, take_at, Result, Ok, Err, IfOk, IsTrue, arith, ℤ, pos, negsuc, refl, subst, sym}
 use Rattle.std.specs.Prelude.{IsUtf8}
 use Rattle.std.specs.Int.{w64}
 use mir.Val.{SFits}
@@ -32,3 +32,7 @@ plain_is_name text plain utf8 =
 pub own_is_name : (own : List ℕ) (r : Result (List ℕ) NoMemory) → IsTrue (is_plain own) → IfOk r (λ t. t ≡ own) → IfOk r (λ t. IsUtf8 t) → IfOk r (λ t. IsTrue (is_name t))
 own_is_name own (Err e) plain same utf8 = tt
 own_is_name own (Ok t) plain same utf8 = plain_is_name t (subst (λ (l : List ℕ). IsTrue (is_plain l)) (sym same) plain) utf8
+
+-- what begins with a text has that text as its front
+pub front_is_text : (text bytes rest whole : List ℕ) → bytes ≡ text → whole ≡ bytes ++ rest → IsUtf8 text → IsTrue (is_utf8 (take (length text) whole))
+front_is_text text bytes rest whole same is utf8 = rw (is, same) (rw (take_at text rest (length text) refl) (is_utf8-from_IsUtf8 text utf8))

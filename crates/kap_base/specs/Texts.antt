@@ -34,6 +34,11 @@ abbrev pub is_empty : List ℕ → Bool
 is_empty [] = true
 is_empty (b ∷ bytes) = false
 
+-- these bytes, and the other ones where there are none
+abbrev pub or_else : List ℕ → List ℕ → List ℕ
+or_else [] others = others
+or_else (b ∷ bytes) others = b ∷ bytes
+
 -- the first byte is this one
 abbrev pub begins_with : ℕ → List ℕ → Bool
 begins_with b [] = false

@@ -21,7 +21,7 @@ impl Duplicate for u8 {
 pub fn copies<T: Duplicate + Drop>(alloc: Global, items: &[T]) -> Result<Vec<T>, NoMemory>
     ensures { IfOk result (λ copies. copies.items ≡ items.now) }
 {
-    let mut copies = Vec::new(alloc);
+    let mut copies = Vec::with_capacity(alloc, items.len())?;
     'copying: for item in items {
         copies.push(item.copy(alloc)?)?;
     }

@@ -89,7 +89,7 @@ fn tag_value(alloc: Global, tags: &Tags, dim: &Text) -> Result<Text, NoMemory>
 fn tag_values(alloc: Global, tags: &Tags, dims: &[Text]) -> Result<Names, NoMemory>
     ensures { IfOk result (λ values. values ≡ map (tag_value tags.now) dims.now) }
 {
-    let mut values = Vec::new(alloc);
+    let mut values = Vec::with_capacity(alloc, dims.len())?;
     'finding: for dim in dims {
         values.push(tag_value(alloc, tags, dim)?)?;
     }

@@ -77,7 +77,7 @@ fn last_of_each<V: Drop>(alloc: Global, entries: Vec<(Text, V)>) -> Result<Vec<(
     ensures same { IfOk result (λ kept. map.from_sorted kept.items
         ≡ with_entries map.empty entries.items) }
 {
-    let mut kept = Vec::new(alloc);
+    let mut kept = Vec::with_capacity(alloc, entries.len())?;
     'putting: for (key, value) in entries {
         put_behind(&mut kept, key, value)?;
     }
@@ -162,8 +162,12 @@ impl<V: Drop> KeyMap<V> {
         if rises(&entries) {
             return Ok(KeyMap { entries });
         }
+        let sorted = sort_entries(entries)?;
+        if rises(&sorted) {
+            return Ok(KeyMap { entries: sorted });
+        }
         Ok(KeyMap {
-            entries: last_of_each(alloc, sort_entries(entries)?)?,
+            entries: last_of_each(alloc, sorted)?,
         })
     }
 
@@ -230,7 +234,7 @@ fn copies_of<V: Duplicate + Drop>(
 ) -> Result<Vec<(Text, V)>, NoMemory>
     ensures { IfOk result (λ copies. copies.items ≡ entries.now) }
 {
-    let mut copies = Vec::new(alloc);
+    let mut copies = Vec::with_capacity(alloc, entries.len())?;
     'copying: for entry in entries {
         let key = entry.0.copy(alloc)?;
         let value = entry.1.copy(alloc)?;

@@ -1,6 +1,7 @@
 //! The values that every other crate speaks of: texts, maps, points and what they are made of, and expressions.
 #![tactic(auto)]
 
+mod bytes;
 mod dbrp;
 mod duplicate;
 mod expr;
@@ -11,15 +12,18 @@ mod items;
 mod key_map;
 mod limits;
 mod memory;
+mod packed;
 mod point;
 mod rules;
 mod sends;
 mod shared;
+mod short_text;
 mod text;
 mod times;
 mod utf8;
 mod value;
 
+pub use bytes::are_same;
 pub use dbrp::{Dbrp, Dbrps};
 pub use duplicate::{Duplicate, copies};
 pub use expr::{Expr, Exprs, Lit, Op};

@@ -5,25 +5,27 @@ ghost use Rattle.std.specs.Ordering.{nat_cmp};
 ghost use Rattle.kap_base.specs.Texts.{is_empty};
 ghost use Rattle.kap_base.specs.declared.text.TextFault.TheVariants.{NoMemory as no_memory};
 
+use crate::bytes::{are_same, order};
 use crate::duplicate::Duplicate;
 use crate::memory::NoMemory;
+use crate::packed::Packed;
 use std::alloc::{AllocError, Global};
 use std::cmp::Ordering;
 use std::fmt;
 use std::marker::Model;
 
-/// A list of bytes that is UTF-8, which contracts see as those bytes.
-#[derive(Debug, Drop)]
+/// A list of bytes that is UTF-8, which contracts see as those bytes. One of up to 15 bytes takes no allocation.
+#[derive(Drop)]
 pub struct Text {
-    string: String,
+    packed: Packed,
 }
 
 impl Model for Text {
-    ghost use Rattle.std.specs.Prelude.{List, ℕ, string_bytes};
+    ghost use Rattle.std.specs.Prelude.{List, ℕ};
 
     ghost Value = { List ℕ };
 
-    ghost view = { λ t. string_bytes t.string };
+    ghost view = { λ t. t.packed };
 }
 
 /// Why bytes are no text.
@@ -52,7 +54,7 @@ impl Text {
     {
         match str::from_utf8(bytes) {
             Ok(text) => Ok(Text {
-                string: String::from_str(alloc, text)?,
+                packed: Packed::from_str(alloc, text)?,
             }),
             Err(_) => Err(TextFault::NotUtf8),
         }
@@ -64,7 +66,7 @@ impl Text {
         ensures { result ≡ bytes.items }
     {
         match String::from_utf8(bytes) {
-            Ok(string) => Text { string },
+            Ok(string) => Text::from_string(string),
             Err(_) => unreachable!(),
         }
     }
@@ -75,7 +77,7 @@ impl Text {
         ensures utf8 { IfOk result (λ t. IsUtf8 t) }
     {
         Ok(Text {
-            string: String::from_str(alloc, text)?,
+            packed: Packed::from_str(alloc, text)?,
         })
     }
 
@@ -84,7 +86,9 @@ impl Text {
         ensures text { result ≡ string_bytes string }
         ensures utf8 { IsUtf8 result }
     {
-        Text { string }
+        Text {
+            packed: Packed::from_string(string),
+        }
     }
 
     /// Its bytes.
@@ -92,22 +96,21 @@ impl Text {
         ensures bytes { result.now ≡ self.now }
         ensures utf8 { IsUtf8 self.now }
     {
-        let text = self.string.as_str();
-        text.as_bytes()
+        self.as_str().as_bytes()
     }
 
     /// Its bytes, as text.
     pub fn as_str(&self) -> &str
         ensures { result.now ≡ self.now }
     {
-        self.string.as_str()
+        self.packed.as_str()
     }
 
     /// Whether it has no bytes.
     pub fn is_empty(&self) -> bool
         ensures { result ≡ is_empty self.now }
     {
-        self.string.is_empty()
+        self.as_str().is_empty()
     }
 
     /// Whether the two texts have the same bytes.
@@ -124,7 +127,7 @@ impl PartialEq for Text {
     ghost laws = { partial_equiv_from_equiv nat_list_eq_equiv };
 
     fn eq(&self, other: &Text) -> bool {
-        self.string.as_str() == other.string.as_str()
+        are_same(self.bytes(), other.bytes())
     }
 }
 
@@ -153,13 +156,19 @@ impl Ord for Text {
     ghost matches_eq = { λ x y. texts_ties x y };
 
     fn cmp(&self, other: &Text) -> Ordering {
-        self.string.as_str().cmp(other.string.as_str())
+        order(self.bytes(), other.bytes())
+    }
+}
+
+impl fmt::Debug for Text {
+    fn fmt<W: fmt::Write>(&self, f: &mut fmt::Formatter<W>) -> fmt::Result {
+        fmt::Debug::fmt(self.as_str(), f)
     }
 }
 
 impl fmt::Display for Text {
     fn fmt<W: fmt::Write>(&self, f: &mut fmt::Formatter<W>) -> fmt::Result {
-        f.write_str(self.string.as_str())
+        f.write_str(self.as_str())
     }
 }
 
@@ -168,6 +177,8 @@ impl Duplicate for Text {
         ensures copy { IfOk result (λ copy. copy ≡ self.now) }
         ensures utf8 { IfOk result (λ copy. IsUtf8 copy) }
     {
-        Text::from_str(alloc, self.string.as_str())
+        Ok(Text {
+            packed: self.packed.copy(alloc)?,
+        })
     }
 }

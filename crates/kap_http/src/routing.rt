@@ -1,8 +1,9 @@
 //! What requests ask.
 
-ghost use Rattle.std.specs.Prelude.{◌≡◌, ◌≤◌, IfOk, IfSome, IsUtf8, false, length, option_map};
+ghost use Rattle.std.specs.Prelude.{◌≡◌, ◌≤◌, ◌&&◌, IfOk, IfSome, IsTrue, IsUtf8, false, length, not, option_map};
 ghost use Rattle.std.specs.Str.{is_utf8};
 ghost use Rattle.form_urlencoded.specs.Form.{raw_pairs};
+ghost use Rattle.kap_base.specs.Texts.{is_empty, is_line};
 ghost use Rattle.kap_base.specs.Words.{Answers};
 ghost use Rattle.kap_http.specs.Refusals.{as_reply};
 ghost use Rattle.kap_http.specs.Replies.{out_of_memory};
@@ -57,7 +58,9 @@ fn is_utf8(bytes: &[u8]) -> bool
 /// The name of a database or a policy.
 #[tactic(auto, using(crate::proofs::NameLaws::passed_utf8, crate::proofs::NameLaws::no_line))]
 fn line_of(name: Vec<u8>) -> Result<Text, Refusal>
-    ensures { result ≡ line_of name.items }
+    ensures name { result ≡ line_of name.items }
+    ensures line { IfOk result (λ text. IsTrue (is_line text)) }
+    ensures len { IfOk result (λ text. length text ≤ length name.items) }
 {
     if !is_utf8(name.as_slice()) {
         return Err(Refusal::BadName);
@@ -72,7 +75,9 @@ fn line_of(name: Vec<u8>) -> Result<Text, Refusal>
 
 /// The name of a database.
 fn database_of(name: Vec<u8>) -> Result<Text, Refusal>
-    ensures { result ≡ database_of name.items }
+    ensures name { result ≡ database_of name.items }
+    ensures line { IfOk result (λ text. IsTrue (is_line text && not (is_empty text))) }
+    ensures len { IfOk result (λ text. length text ≤ length name.items) }
 {
     if name.is_empty() {
         return Err(Refusal::DbMissing);

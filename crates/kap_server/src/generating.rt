@@ -88,7 +88,7 @@ pub(crate) fn write_summary<
         Ok(()) => {
             let Ready { names, plans } = ready;
             let options = no_options();
-            let way = way_of(rt, gate, options);
+            let way = way_of(rt, gate, options, plans.len());
             match summarize(alloc, count, &names, plans, capacity_of(options), &way) {
                 Ok(Summary { text, net }) => match write_text(out, text.as_slice()) {
                     Status::Ok => {

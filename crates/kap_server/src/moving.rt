@@ -6,10 +6,15 @@ use crate::options::{ReplayOptions, workers_of};
 use net_run::{Way, Workers};
 
 /// How many points of an epoch are worth the making of threads, where no option says how many workers there are.
-const FEW_POINTS: usize = 64;
+const FEW_POINTS: usize = 2_048;
 
-/// The way that the options say: by workers, unless they give an order.
-pub(crate) fn way_of<'a, R, G>(rt: &'a R, gate: &'a G, options: ReplayOptions) -> Way<'a, R, G>
+/// The way that the options say for so many tasks: by workers, unless they give an order.
+pub(crate) fn way_of<'a, R, G>(
+    rt: &'a R,
+    gate: &'a G,
+    options: ReplayOptions,
+    tasks: usize,
+) -> Way<'a, R, G>
     requires { AreWithinLimits options }
 {
     if let Some(number) = options.schedule {
@@ -20,5 +25,5 @@ pub(crate) fn way_of<'a, R, G>(rt: &'a R, gate: &'a G, options: ReplayOptions) -
     } else {
         FEW_POINTS
     };
-    Way::Workers(Workers::new(rt, workers_of(options), gate, least))
+    Way::Workers(Workers::new(rt, workers_of(options, tasks), gate, least))
 }

@@ -11,8 +11,8 @@ use node_workers::WORKER_LIMIT;
 /// For how many messages each edge of a net has room, where no option says it.
 const CAPACITY: u32 = 64;
 
-/// How many workers there are, where no option says it.
-const WORKERS: u32 = 4;
+/// How many workers there are at most, where no option says it.
+const WORKERS: usize = 4;
 
 /// How a replay is to run, and what it is to tell.
 #[derive(Clone, Copy)]
@@ -52,15 +52,24 @@ pub(crate) fn capacity_of(options: ReplayOptions) -> u32
     }
 }
 
-/// How many workers move a net.
-pub(crate) fn workers_of(options: ReplayOptions) -> u32
+/// How many workers move a net of so many tasks, where no option says it: one for each of the first four. More of them would share
+/// the nodes of a task, and to hand each point from thread to thread costs more than it saves.
+fn workers_for(tasks: usize) -> u32
+    ensures some { 0 < result }
+    ensures limit { result ≤ WORKER_LIMIT }
+{
+    tasks.min(WORKERS).max(1) as u32
+}
+
+/// How many workers move a net of so many tasks.
+pub(crate) fn workers_of(options: ReplayOptions, tasks: usize) -> u32
     requires { AreWithinLimits options }
     ensures some { 0 < result }
     ensures limit { result ≤ WORKER_LIMIT }
 {
     match options.workers {
         Some(workers) => workers,
-        None => WORKERS,
+        None => workers_for(tasks),
     }
 }
 

@@ -40,7 +40,7 @@ Commands:
   tasks                       writes a line `ID enabled` or `ID disabled` for each task of the store in the folder
 
   --counts      tells behind that how many points each node dropped
-  --workers W   has the nodes run by W workers in threads (1 to 64; else 4)
+  --workers W   has the nodes run by W workers in threads (1 to 64; else one a task, and at most 4)
   --capacity C  gives each edge between two nodes room for C messages (1 to 65536; else 64)
   --schedule N  runs the nodes in one thread and no workers, in the order that N (0 to 4294967295) gives
                 The output is the same for each W, C and N.

@@ -1,5 +1,6 @@
 pub mod PlaceLaws
 pub mod PartLaws
+pub mod AsciiLaws
 pub mod Utf8Laws
 pub mod NumberLaws
 pub mod WordLaws

@@ -1,6 +1,7 @@
 ghost use Rattle.std.specs.Prelude.{◌≡◌, ◌==◌, ◌||◌, ◌≤◌, ◌<◌, length, drop, take, position, is_ok, IfOk, IfErr};
+ghost use Rattle.std.specs.Char.{is_ascii};
 ghost use Rattle.std.specs.Str.{is_utf8};
-ghost use Rattle.std.specs.List.{before_first, position_or_len};
+ghost use Rattle.std.specs.List.{before_first, list_all, position_or_len};
 ghost use Rattle.kap_base.specs.Texts.{begins_with};
 ghost use Rattle.line_points.specs.Parts.{is_separator, is_space, without_spaces};
 ghost use Rattle.line_points.specs.Line.{is_blank};
@@ -38,12 +39,26 @@ pub fn is_blank(line: &[u8]) -> bool
     }
 }
 
+/// Whether all bytes are ASCII. It looks at each of them, so that it can look at many at once.
+fn is_ascii(bytes: &[u8]) -> bool
+    ensures { result ≡ list_all is_ascii bytes.now }
+{
+    let mut ascii = true;
+    'looking: for byte in bytes {
+        ascii &= *byte < 128;
+    }
+    ascii
+}
+
 /// The line as text.
 pub fn text(line: &[u8]) -> Result<&str, LineFault>
     ensures text { IfOk result (λ s. s.now ≡ line.now) }
     ensures fault { IfErr result (λ e. e ≡ LineFault.NotUtf8) }
     ensures valid { is_ok result ≡ is_utf8 line.now }
 {
+    if is_ascii(line) {
+        return Ok(unsafe { str::from_utf8_unchecked(line) });
+    }
     match str::from_utf8(line) {
         Ok(text) => Ok(text),
         Err(_) => Err(LineFault::NotUtf8),
@@ -72,4 +87,16 @@ pub fn word_len(bytes: &[u8]) -> usize
         Some(at) => at,
         None => bytes.len(),
     }
+}
+
+/// A guess at how many parts follow, by which room is taken: the commas, at most 16. Commas of later parts count, and those that are
+/// escaped or quoted. It looks at each byte, so that it can look at many at once.
+pub fn comma_count(bytes: &[u8]) -> usize
+    ensures { result ≤ 16 }
+{
+    let mut count = 0u8;
+    'counting: for byte in bytes {
+        count = count.wrapping_add(u8::from(*byte == b','));
+    }
+    usize::from(count).min(16)
 }

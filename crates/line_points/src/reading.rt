@@ -6,6 +6,7 @@ ghost use Rattle.line_points.specs.Parts.{without_spaces};
 ghost use Rattle.line_points.specs.Line.{differ, measurement_at, tag_at, tags_from, tags_at, quoted_at, word_at, value_at, field_at, fields_from, fields_at, time_of};
 ghost use Rattle.line_points.specs.Reading.{Gives};
 
+use crate::bytes::comma_count;
 use crate::fault::LineFault;
 use crate::mode::Mode;
 use crate::part::Part;
@@ -49,7 +50,8 @@ fn all_tags(alloc: Global, scanner: &mut Scanner) -> Result<ItemList<(Text, Text
     ensures { Gives result scanner.new.rest.now
         (tags_from (length scanner.old.rest.now) scanner.old.rest.now) }
 {
-    let mut tags = ItemList::new(alloc);
+    let room = comma_count(scanner.rest());
+    let mut tags = ItemList::from_items(Vec::with_capacity(alloc, room)?);
     'tags: while scanner.take(b',') {
         let tag = tag(alloc, scanner)?;
         tags.push(tag)?;
@@ -126,7 +128,8 @@ fn all_fields(alloc: Global, scanner: &mut Scanner) -> Result<ItemList<(Text, Va
     ensures { Gives result scanner.new.rest.now
         (fields_from (length scanner.old.rest.now) scanner.old.rest.now) }
 {
-    let mut fields = ItemList::new(alloc);
+    let room = comma_count(scanner.rest()) + 1;
+    let mut fields = ItemList::from_items(Vec::with_capacity(alloc, room)?);
     'fields: loop {
         let field = field(alloc, scanner)?;
         fields.push(field)?;

@@ -1,6 +1,7 @@
 -- What comes later changes no message that is next: what is given of buffers goes on, whatever is put when.
 use Rattle.std.proofs.Common.{◌≡◌, ℕ, zero, suc, ◌+◌, ◌<◌, ◌≤◌, Bool, true, false, cond, List, [], ◌∷◌, ◌++◌, length, drop, replicate, Option, Some, None, refl, sym, ap, subst, ◌∙◌, append-nil, arith}
 use Rattle.kap_base.specs.declared.items.Msg.{Msg}
+use Rattle.kap_base.specs.declared.items.Msg.TheVariants as messages
 use Rattle.merge_node.specs.Merge.{Lists, Entry}
 use Rattle.merge_node.specs.declared.fronts.Front.{Front}
 use Rattle.merge_node.specs.Buffers.{has_empty, item_front, lower, least, front, without_front, without_fronts, Taken, taken, next_by, next, said, left_of, put, Merges, done, more, Calls, start, putting, taking}
@@ -43,6 +44,12 @@ next-by ls t e = by-of (has_empty ls) (next_by (least 0 ls) ls) t e
 pub next-from : (ls : Lists) (t : Taken) → has_empty ls ≡ false → next_by (least 0 ls) ls ≡ Some t → next ls ≡ Some t
 unfolding next
 next-from ls t h e = from-of (has_empty ls) (next_by (least 0 ls) ls) t h e
+
+-- the only message of one parent alone is next, and leaves nothing
+pub next-alone : (m : Msg) → next ((m ∷ []) ∷ []) ≡ Some (record { parent = 0; msg = m; rest = [] ∷ [] })
+unfolding next
+next-alone (messages.Item x) = refl
+next-alone (messages.Barrier b) = refl
 
 -- ---- more behind each list
 

@@ -1,7 +1,8 @@
 //! A buffer for each parent, and the message that is next.
 
-ghost use Rattle.std.specs.Prelude.{◌≡◌, ◌↔◌, ◌<◌, ◌≤◌, false, [], length, replicate, IfOk, IsNone, IsTrue, OnErr, OnOk};
+ghost use Rattle.std.specs.Prelude.{◌≡◌, ◌↔◌, ◌<◌, ◌≤◌, false, [], ◌∷◌, length, replicate, IfOk, IsNone, IsTrue, OnErr, OnOk};
 ghost use Rattle.merge_node.specs.Buffers.{has_empty, left_of, next, next_by, put, said, taken};
+ghost use Rattle.merge_node.specs.Looking.{are_clear};
 
 use crate::PARENT_LIMIT;
 use crate::fronts::{Front, least_front, pop_all, pop_at};
@@ -85,6 +86,16 @@ fn take_next(buffers: &mut [Queue]) -> Option<(u32, Msg)>
     take_found(buffers, best)
 }
 
+/// Whether there is one queue alone, and no message in it.
+fn are_clear(buffers: &[Queue]) -> bool
+    ensures { result ≡ are_clear buffers.now }
+{
+    match buffers.split_first() {
+        Some((first, others)) => first.first().is_none() && others.is_empty(),
+        None => false,
+    }
+}
+
 impl MergeBuf {
     /// Nothing buffered, for 1 to 64 parents. `NoMemory` comes where an allocation fails.
     pub fn new(alloc: Global, parents: u32) -> Result<MergeBuf, NoMemory>
@@ -95,6 +106,13 @@ impl MergeBuf {
         Ok(MergeBuf {
             buffers: empty_buffers(alloc, parents)?,
         })
+    }
+
+    /// Whether it is for one parent, of which nothing is buffered: then a message that comes is next at once.
+    pub fn is_clear(&self) -> bool
+        ensures { IsTrue result ↔ (self.now ≡ [] ∷ []) }
+    {
+        are_clear(&self.buffers)
     }
 
     /// Puts a message behind the others of its parent, which are numbered from 0. `NoMemory` comes where an allocation

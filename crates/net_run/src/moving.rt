@@ -29,7 +29,7 @@ pub struct Workers<'a, R, G> {
 }
 
 impl<'a, R, G> Workers<'a, R, G> {
-    /// So many workers, 1 to 64. An epoch of fewer points than `least` isn't worth the making of threads, and one thread moves it.
+    /// So many workers, 1 to 64. An epoch of fewer points than `least` isn't worth the making of threads, and one worker moves it.
     pub fn new(rt: &'a R, count: u32, gate: &'a G, least: usize) -> Workers<'a, R, G>
         requires some { 0 < count }
         requires limit { count ≤ WORKER_LIMIT }
@@ -40,6 +40,14 @@ impl<'a, R, G> Workers<'a, R, G> {
             gate,
             least,
         }
+    }
+
+    /// How many of them move an epoch of so many points.
+    fn count_for(&self, points: usize) -> u32
+        ensures some { 0 < result }
+        ensures limit { result ≤ WORKER_LIMIT }
+    {
+        if points < self.least { 1 } else { self.count }
     }
 }
 
@@ -75,11 +83,12 @@ pub(crate) fn move_to_rest<N: Node + Send, R: Threads + Sync, G: Gate + Sync>(
 {
     match way {
         Way::Schedule(number) => net.play_by(alloc, *number),
-        Way::Workers(workers) => {
-            if points < workers.least {
-                return net.run(alloc);
-            }
-            run_epoch(workers.rt, alloc, net, workers.count, workers.gate)
-        }
+        Way::Workers(workers) => run_epoch(
+            workers.rt,
+            alloc,
+            net,
+            workers.count_for(points),
+            workers.gate,
+        ),
     }
 }

@@ -20,6 +20,15 @@ stands_on ps a b s t on h =
     let same = on.passed in
     record { ahead = ahead_on read ps a b s t on h.ahead; few = omega arith; line = on.line ∙ h.line }
 
+-- after a point was given
+pub stands_more : (ps : List PointValue) (p : PointValue) (a b : ReadPlace) → StandsAt ps a → GivesPoint read a b p → CountRises a b → b.line ≡ a.line + 3 → StandsAt (ps ++ p ∷ []) b
+stands_more ps p a b stands gives rises on =
+    let few = stands.few in
+    let line = stands.line in
+    let more_passed = rises.more in
+    let size : length (ps ++ p ∷ []) ≡ length ps + 1 = length-append ps (p ∷ []) in
+    record { ahead = gives ps stands.ahead; few = omega arith; line = omega arith }
+
 -- a point was given
 pub gives_state : (old new : ReaderState) (ps : List PointValue) (p : PointValue) (a b : ReadPlace) → StandsAt ps a → GivesPoint read a b p → CountRises a b
     → old.given ≡ ps → new.given ≡ ps ++ p ∷ [] → new.got ≡ b.got → new.ended ≡ b.ended → Gives old new p

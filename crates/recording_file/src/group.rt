@@ -9,7 +9,7 @@ ghost use Rattle.recording_file.specs.Steps.{read_policy, read_database, GivesPo
 
 use crate::fault::RecFault;
 use crate::lines::Lines;
-use kap_base::{Point, Text, TextFault};
+use kap_base::{Point, Text, TextFault, are_same};
 use kap_io::Source;
 use line_points::{LINE_LIMIT, LineFault, Mode, read_line};
 use std::alloc::Global;
@@ -19,7 +19,7 @@ fn is_text(text: &Text, bytes: &[u8]) -> bool
     ensures same { OnTrue result (text.now ≡ bytes.now) }
     ensures utf8 { IsUtf8 text.now }
 {
-    text.bytes() == bytes
+    are_same(text.bytes(), bytes)
 }
 
 /// Sets the database or the policy to the one that a line gives, where it isn't that already.

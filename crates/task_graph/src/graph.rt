@@ -80,19 +80,26 @@ fn ends_chain(nodes: &[NodeSpec], parent: u32) -> bool
     }
 }
 
-/// Whether this spec can't stand under this parent.
-fn is_misplaced(nodes: &[NodeSpec], spec: &Spec<Lambda>, parent: u32) -> bool
-    ensures { result ≡ option_map_or (cannot_stand spec.now) (spec_at nodes.now parent) false }
+/// Whether a node of this spec can't stand under one of that.
+fn cannot_stand(child: &Spec<Lambda>, parent: &Spec<Lambda>) -> bool
+    ensures { result ≡ cannot_stand child.now parent.now }
 {
-    let Some(node) = nodes.get(parent as usize) else {
-        return false;
-    };
-    match (spec, &node.spec) {
+    match (child, parent) {
         (Spec::Stream(_), _) => true,
         (Spec::From(_), Spec::Stream(_) | Spec::From(_)) => false,
         (Spec::From(_), _) => true,
         (_, Spec::Stream(_)) => true,
         _ => false,
+    }
+}
+
+/// Whether this spec can't stand under this parent.
+fn is_misplaced(nodes: &[NodeSpec], spec: &Spec<Lambda>, parent: u32) -> bool
+    ensures { result ≡ option_map_or (cannot_stand spec.now) (spec_at nodes.now parent) false }
+{
+    match nodes.get(parent as usize) {
+        Some(node) => cannot_stand(spec, &node.spec),
+        None => false,
     }
 }
 

@@ -1,11 +1,9 @@
-use Rattle.std.proofs.Common.{◌≡◌, ◌∙◌, ◌<◌, ◌≤◌, ◌++◌, [], ◌∷◌, length, get_or, Some, refl, sym, ap, subst, inl, inr, arith}
+use Rattle.std.proofs.Common.{◌≡◌, ◌∙◌, ◌<◌, ◌++◌, [], ◌∷◌, length, get_or, Some, refl, sym, ap, subst, inl, inr, arith}
 use Rattle.merge_node.specs.Merge.{Lists}
-use Rattle.merge_node.specs.BufferLaws.{put-length}
 use Rattle.edge_queue.specs.Edges.{known, received}
 use Rattle.flow_cells.specs.declared.parts.InEdge.{InEdge}
 use Rattle.flow_cells.specs.Outs.{has_unsent}
 use Rattle.flow_cells.specs.Kept.{KeptBy, received_of}
-use Rattle.flow_cells.specs.Handled.{Handles}
 use Rattle.flow_cells.specs.Moves.{Still}
 use Rattle.flow_cells.specs.OutLaws.{zip-refl, zip-set, get-here}
 use Rattle.flow_cells.specs.MoveLaws.{received_of-took, received_of-same, input-within, ports-of, kept-take, Still-refl, at-set}
@@ -64,18 +62,16 @@ returns-in_default-clause-keeps g c =
     let same : received new.head ≡ received (get_or ins i edge).head = c.in_default.ensures.kept.received ∙ ap (λ (e : InEdge). received e.head) (sym here) in
     subst (λ (ls : Lists). KeptBy g.N.Node cell.base.value ls cell.buffer cell.core) (sym (received_of-same ins cell.source.value.items i new edge h same)) c.requires
 
-pub put-requires : goal.put-requires
-put-requires g c =
+pub handle-requires-clause-within : goal.handle-requires-clause-within
+handle-requires-clause-within g c =
     let cell = c.args.cell.now in
     let h : c.args.input < length cell.ins.items = omega arith in
     input-within g.N.Node cell.base.value cell.ins.items cell.source.value.items cell.buffer cell.core c.args.input c.requires h
 
-pub handle_all-requires : goal.handle_all-requires
-handle_all-requires g c =
+pub handle-requires-clause-ports : goal.handle-requires-clause-ports
+handle-requires-clause-ports g c =
     let cell = c.args.cell.now in
-    let ports : length cell.buffer ≤ g.N.Node.ports (g.N.Node.spec cell.core.node) = ports-of g.N.Node cell.base.value _ cell.buffer cell.core c.requires in
-    let long : length c.put.new.self ≡ length cell.buffer = ap length c.in_ok-put.ensures.ok ∙ put-length c.args.input c.in-Some.msg cell.buffer in
-    omega (arith, ports, long)
+    ports-of g.N.Node cell.base.value _ cell.buffer cell.core c.requires
 
 pub returns-clause-keeps : goal.returns-clause-keeps
 returns-clause-keeps g c =
@@ -90,9 +86,8 @@ returns-clause-keeps g c =
     let msg = c.in-Some.msg in
     let took : received new.head ≡ received (get_or ins i edge).head ++ msg ∷ [] =
     c.in-Some.ensures.taken.received ∙ ap (λ (e : InEdge). received e.head ++ msg ∷ []) (sym here) in
-    let handled = subst (λ (b : Lists). Handles g.N.Node cell.core b c.handle_all.new.core c.handle_all.new.buffer) c.in_ok-put.ensures.ok c.in_ok-handle_all.ensures.handles in
-    let kept = kept-take g.N.Node cell.base.value (received_of ins source) cell.buffer c.handle_all.new.buffer cell.core c.handle_all.new.core i msg c.requires handled c.in_ok-handle_all.ensures.stuck in
-    subst (λ (ls : Lists). KeptBy g.N.Node cell.base.value ls c.handle_all.new.buffer c.handle_all.new.core) (sym (received_of-took ins source i new edge msg h took)) kept
+    let kept = kept-take g.N.Node cell.base.value (received_of ins source) cell.buffer c.handle.new.buffer cell.core c.handle.new.core i msg c.requires c.in_ok-handle.ensures.handles c.in_ok-handle.ensures.stuck in
+    subst (λ (ls : Lists). KeptBy g.N.Node cell.base.value ls c.handle.new.buffer c.handle.new.core) (sym (received_of-took ins source i new edge msg h took)) kept
 
 pub returns-clause-took : goal.returns-clause-took
 returns-clause-took g c = λ _.
@@ -108,8 +103,8 @@ returns-clause-took g c = λ _.
       at = get-here ins i edge h ∙ ap (λ (e : InEdge). Some e) here;
       takes = record { head = c.in-Some.ensures.taken; from = refl; out = refl };
       ins = refl;
-      outs = c.in_ok-handle_all.ensures.outs;
-      gathered = c.in_ok-handle_all.ensures.gathered;
+      outs = c.in_ok-handle.ensures.outs;
+      gathered = c.in_ok-handle.ensures.gathered;
       base = refl;
       source = refl;
       spent = refl;

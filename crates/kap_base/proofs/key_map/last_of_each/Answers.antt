@@ -3,7 +3,7 @@ use Rattle.kap_base.proofs.KeyMapLaws.{empty-from_sorted}
 use Rattle.kap_base.proofs.key_map.last_of_each.Goals as goal
 
 pub putting-init : goal.putting-init
-putting-init g c = record { rising = rw c.new-kept.ensures.items; same = empty-from_sorted _ c.new-kept.ensures.items }
+putting-init g c = record { rising = rw c.in_ok-kept.ensures.items; same = empty-from_sorted _ c.in_ok-kept.ensures.items }
 
 pub putting-preserved : goal.putting-preserved
 putting-preserved g c =

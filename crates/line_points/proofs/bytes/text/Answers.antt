@@ -1,8 +1,15 @@
-use Rattle.std.proofs.Common.{◌≡◌, ℕ, Bool, true, false, List, refl, sym}
+use Rattle.std.proofs.Common.{◌≡◌, ℕ, Bool, true, false, List, refl, sym, ◌∙◌}
 use Rattle.std.specs.Prelude.{IsUtf8}
 use Rattle.std.specs.Str.{is_utf8}
 use Rattle.std.proofs.lemmas.Str.{is_utf8-from_IsUtf8, IsUtf8-from_is_utf8}
+use Rattle.line_points.proofs.AsciiLaws.{ascii_is_text, ascii_is_valid}
 use Rattle.line_points.proofs.bytes.text.Goals as goal
+
+pub from_utf8_unchecked-requires : goal.from_utf8_unchecked-requires
+from_utf8_unchecked-requires c = ascii_is_text c.args.line.now (sym c.is_ascii.ensures ∙ c.if-is_ascii.true)
+
+pub returns-then-is_ascii-clause-valid : goal.returns-then-is_ascii-clause-valid
+returns-then-is_ascii-clause-valid c = ascii_is_valid c.args.line.now (sym c.is_ascii.ensures ∙ c.if-is_ascii.true)
 
 pub returns-in-Ok-clause-valid : goal.returns-in-Ok-clause-valid
 returns-in-Ok-clause-valid c = sym (is_utf8-from_IsUtf8 c.args.line.now c.in-Ok.ensures.cases.1)

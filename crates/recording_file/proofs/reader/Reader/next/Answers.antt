@@ -1,13 +1,24 @@
-use Rattle.std.proofs.Common.{◌≡◌, false, [], ◌∷◌, ◌++◌, sym, ap, ◌∙◌, refl}
+use Rattle.std.proofs.Common.{◌≡◌, ◌+◌, List, subst, false, [], ◌∷◌, ◌++◌, sym, ap, ◌∙◌, refl}
 use Rattle.kap_base.specs.Points.{PointValue}
 use Rattle.recording_file.specs.declared.got.GivenPoints.{GivenPoints}
 use Rattle.recording_file.specs.Got.{points_of}
 use Rattle.recording_file.specs.Recording.{read}
 use Rattle.recording_file.specs.Reading.{ReaderState}
 use Rattle.recording_file.specs.Finding.{FindsEnd, CountRises}
-use Rattle.recording_file.specs.Steps.{GivesPoint}
-use Rattle.recording_file.proofs.StandLaws.{stands_on, gives_state, ends_state}
+use Rattle.recording_file.specs.Steps.{GivesPoint, StandsAt}
+use Rattle.recording_file.proofs.StandLaws.{stands_on, stands_more, gives_state, ends_state}
 use Rattle.recording_file.proofs.reader.Reader.next.Goals as goal
+
+pub invariant_of-self : goal.invariant_of-self
+invariant_of-self g c = λ fresh.
+    let ps = points_of c.self.inside.given in
+    let point = c.in-Ok-Some.point in
+    let gives : GivesPoint read c.self.inside.lines c.next_point-next.new.lines point = rw c.in-Ok-Some.field-0-is at c.in-Ok-Some.ensures.point in
+    let rises : CountRises c.self.inside.lines c.next_point-next.new.lines = rw c.in-Ok-Some.field-0-is at c.in-Ok-Some.ensures.count_rises in
+    let line : c.next_point-next.new.lines.line ≡ c.self.inside.lines.line + 3 = rw c.in-Ok-Some.field-0-is at c.in-Ok-Some.ensures.line in
+    let all : points_of c.of-before.result.value ++ c.of.result.value ∷ [] ≡ ps ++ point ∷ [] =
+    ap (λ (b : GivenPoints). points_of b ++ c.of.result.value ∷ []) c.of-before.ensures ∙ ap (λ (q : PointValue). ps ++ q ∷ []) c.of.ensures in
+    subst (λ (qs : List PointValue). StandsAt qs c.next_point-next.new.lines) (sym all) (stands_more ps point _ _ (c.self.invariant fresh) gives rises line)
 
 pub invariant_of-self-in-Ok-None : goal.invariant_of-self-in-Ok-None
 invariant_of-self-in-Ok-None g c =

@@ -1,0 +1,94 @@
+ghost use Rattle.std.specs.Prelude.{◌≡◌, ◌≤◌, length, IfOk, IsOk, IsUtf8, string_bytes};
+ghost use Rattle.kap_base.specs.declared.short_text.TheConstants.{SHORT_LIMIT};
+
+use crate::short_text::{SHORT_LIMIT, ShortText};
+use std::alloc::{AllocError, Global};
+use std::marker::Model;
+
+/// A list of bytes that is UTF-8. One of up to `SHORT_LIMIT` bytes takes no allocation: the string is empty then, and the short
+/// text counts.
+///
+/// It is no enum, since a value with an enum inside is moved part by part, and one without is moved as a whole.
+#[derive(Drop)]
+pub(crate) struct Packed {
+    string: String,
+    short: ShortText,
+}
+
+impl Model for Packed {
+    ghost use Rattle.std.specs.Prelude.{List, ℕ, string_bytes};
+    ghost use Rattle.kap_base.specs.Texts.{or_else};
+
+    ghost Value = { List ℕ };
+
+    ghost view = { λ t. or_else (string_bytes t.string) t.short };
+}
+
+/// The text of this `&str`, which is short.
+fn short_text(alloc: Global, text: &str) -> Packed
+    requires { length text.now ≤ SHORT_LIMIT }
+    ensures { result ≡ text.now }
+{
+    Packed {
+        string: String::new(alloc),
+        short: ShortText::from_str(text),
+    }
+}
+
+/// The text of this string.
+fn long_text(string: String) -> Packed
+    ensures { result ≡ string_bytes string }
+{
+    Packed {
+        string,
+        short: ShortText::empty(),
+    }
+}
+
+impl Packed {
+    /// The text of this `&str`: it allocates only where it is long.
+    pub(crate) fn from_str(alloc: Global, text: &str) -> Result<Packed, AllocError>
+        ensures text { IfOk result (λ t. t ≡ text.now) }
+        ensures utf8 { IfOk result (λ t. IsUtf8 t) }
+    {
+        if text.len() <= SHORT_LIMIT {
+            return Ok(short_text(alloc, text));
+        }
+        Ok(long_text(String::from_str(alloc, text)?))
+    }
+
+    /// The text of this string.
+    pub(crate) fn from_string(string: String) -> Packed
+        ensures text { result ≡ string_bytes string }
+        ensures utf8 { IsUtf8 result }
+    {
+        if string.len() <= SHORT_LIMIT {
+            return short_text(*string.allocator(), string.as_str());
+        }
+        long_text(string)
+    }
+
+    /// Its bytes, as text.
+    pub(crate) fn as_str(&self) -> &str
+        ensures { result.now ≡ self.now }
+    {
+        if self.string.is_empty() {
+            return self.short.as_str();
+        }
+        self.string.as_str()
+    }
+
+    /// An equal text.
+    pub(crate) fn copy(&self, alloc: Global) -> Result<Packed, AllocError>
+        ensures copy { IfOk result (λ t. t ≡ self.now) }
+        ensures utf8 { IfOk result (λ t. IsUtf8 t) }
+    {
+        if self.string.is_empty() {
+            return Ok(Packed {
+                string: String::new(alloc),
+                short: self.short.copy(),
+            });
+        }
+        Ok(long_text(String::from_str(alloc, self.string.as_str())?))
+    }
+}
