@@ -122,16 +122,6 @@ fn dims_of(alloc: Global, grouping: &Grouping, point: &Point) -> Result<Names, N
     }
 }
 
-/// The point with these dimensions, and grouped by name or not.
-fn with_dims(mut point: Point, dims: Names, by_name: bool) -> Point
-    requires { IsTrue (are_dimensions dims) }
-    ensures { result ≡ record point { dims = dims; by_name = by_name } }
-{
-    point.dims = dims;
-    point.by_name = by_name;
-    point
-}
-
 /// Whether the point has these dimensions.
 #[tactic(auto, using(crate::proofs::DimensionLaws::same_names))]
 fn has_dims(dims: &Dimensions, point: &Point) -> bool
@@ -164,8 +154,7 @@ pub(crate) fn group(
         return Ok(point);
     }
     let dims = dims_of(alloc, grouping, point.value())?;
-    let point = with_dims(point.into_value(alloc)?, dims, by_name);
-    Shared::new(alloc, point)
+    point.regrouped(alloc, dims, by_name)
 }
 
 /// What `groupBy` says of a point.

@@ -36,6 +36,7 @@ fn push_all(alloc: Global, outs: &mut [OutEdge], msg: Msg) -> Result<(), NoMemor
 }
 
 /// Has a message wait at each out.
+#[inline(always)]
 pub(crate) fn push_each(alloc: Global, outs: &mut Vec<OutEdge>, msg: Msg) -> Result<(), NoMemory>
     ensures { OnOk result (outs.new.items ≡ map (with_unsent (msg ∷ [])) outs.old.items) }
 {

@@ -81,6 +81,7 @@ fn handle_all<N: Node>(
 }
 
 /// Handles a message that came at an input, and all that is then determined.
+#[inline(always)]
 pub(crate) fn handle<N: Node>(
     alloc: Global,
     core: &mut Core<N>,

@@ -137,7 +137,7 @@ fn arrived(
     before: Few<Body>,
     mut queues: Vec<Queue>,
     parent: usize,
-    point: Point,
+    point: Shared<Point>,
 ) -> Result<(JoinGroup, Said), NoMemory>
     requires { IsTrue (is_time time) }
     ensures group { IfOk result (λ r. Some r.0
@@ -159,7 +159,7 @@ fn risen(
     queues: Vec<Queue>,
     time: i64,
     parent: usize,
-    point: Point,
+    point: Shared<Point>,
 ) -> Result<(JoinGroup, Said), NoMemory>
     requires greatest { IsTrue (is_time greatest) }
     requires time { IsTrue (is_time time) }
@@ -179,7 +179,7 @@ fn moved(
     group: Option<JoinGroup>,
     time: i64,
     parent: usize,
-    point: Point,
+    point: Shared<Point>,
 ) -> Result<(JoinGroup, Said), NoMemory>
     requires { IsTrue (is_time time) }
     ensures group { IfOk result (λ r. Some r.0 ≡ (moved join.now group time parent point).state) }
@@ -234,7 +234,6 @@ impl Rule for Join {
         let Some(time) = heard(&self.spec, port, point.value()) else {
             return Ok(Said::dropped(alloc));
         };
-        let point = point.into_value(alloc)?;
         let group = cell.group.take();
         let (group, said) = moved(alloc, &self.spec, group, time, port as usize, point)?;
         cell.group = Some(group);

@@ -7,19 +7,19 @@ ghost use Rattle.state_code.specs.Spelling.{AllFit, FitsList, read_list, spell_l
 ghost use Rattle.join_node.specs.Queues.{emptied, has_points, is_ready, place, push, rests};
 ghost use Rattle.join_node.specs.Sets.{set_at};
 
-use kap_base::{Bytes, ItemList, NoMemory, Point, Points};
+use kap_base::{Bytes, ItemList, NoMemory, Point, Points, Shared};
 use state_code::{CodeFault, Cursor, Spelled, put_u32};
 use std::alloc::Global;
 use std::collections::VecDeque;
 use std::marker::Model;
 
 /// Of each parent a point, if it is there.
-pub(crate) type Set = ItemList<Option<Point>>;
+pub(crate) type Set = ItemList<Option<Shared<Point>>>;
 
 /// The points of a parent that wait, in order.
 #[derive(Drop)]
 pub struct Queue {
-    points: VecDeque<Point>,
+    points: VecDeque<Shared<Point>>,
 }
 
 impl Model for Queue {
@@ -53,7 +53,7 @@ impl Queue {
     }
 
     /// Adds a point at the end.
-    fn push(&mut self, point: Point) -> Result<(), NoMemory>
+    fn push(&mut self, point: Shared<Point>) -> Result<(), NoMemory>
         ensures { OnOk result (self.new ≡ self.old ++ point ∷ []) }
     {
         self.points.push_back(point)?;
@@ -61,7 +61,7 @@ impl Queue {
     }
 
     /// Takes the first point, if there is one.
-    fn pop(&mut self) -> Option<Point>
+    fn pop(&mut self) -> Option<Shared<Point>>
         ensures first { result ≡ slice_get self.old 0 }
         ensures rest { self.new ≡ drop 1 self.old }
     {
@@ -77,15 +77,26 @@ impl Queue {
 }
 
 /// Appends points, one after the other.
-fn put_points(points: &[Point], to: &mut Bytes) -> Result<(), NoMemory>
+fn put_points(points: &[Shared<Point>], to: &mut Bytes) -> Result<(), NoMemory>
     ensures bytes { OnOk result (to.new ≡ to.old ++ flat_map spell_point points.now) }
     ensures fits { OnOk result (AllFit FitsPoint points.now) }
     ensures before { take (length to.old) to.new ≡ to.old }
 {
     'putting: for point in points {
-        point.append_spelling(to)?;
+        point.value().append_spelling(to)?;
     }
     Ok(())
+}
+
+/// The points, each with one owner.
+fn shared(alloc: Global, points: Vec<Point>) -> Result<Vec<Shared<Point>>, NoMemory>
+    ensures { IfOk result (λ shared. shared.items ≡ points.items) }
+{
+    let mut shared = Vec::with_capacity(alloc, points.len())?;
+    'sharing: for point in points {
+        shared.push(Shared::new(alloc, point)?)?;
+    }
+    Ok(shared)
 }
 
 /// The number of points, and the points.
@@ -111,7 +122,7 @@ impl Spelled for Queue {
     fn read_spelling(alloc: Global, from: &mut Cursor) -> Result<Queue, CodeFault> {
         let points = <Points as Spelled>::read_spelling(alloc, from)?.into_items();
         Ok(Queue {
-            points: VecDeque::from_vec(points),
+            points: VecDeque::from_vec(shared(alloc, points)?),
         })
     }
 }
@@ -177,7 +188,7 @@ pub(crate) fn take_set(alloc: Global, queues: &mut [Queue]) -> Result<Set, NoMem
 }
 
 /// Puts a point behind those of its parent.
-fn push(queues: &mut [Queue], parent: usize, point: Point) -> Result<(), NoMemory>
+fn push(queues: &mut [Queue], parent: usize, point: Shared<Point>) -> Result<(), NoMemory>
     ensures { OnOk result (queues.new ≡ push parent point queues.old) }
 {
     if parent >= queues.len() {
@@ -191,7 +202,7 @@ pub(crate) fn place(
     alloc: Global,
     queues: &mut [Queue],
     parent: usize,
-    point: Point,
+    point: Shared<Point>,
 ) -> Result<Option<Set>, NoMemory>
     ensures queues { OnOk result (queues.new ≡ (place parent point queues.old).queues) }
     ensures filled { IfOk result (λ filled. filled ≡ (place parent point queues.old).filled) }

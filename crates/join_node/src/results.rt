@@ -12,7 +12,6 @@ use crate::queues::Set;
 use kap_base::{Body, Duplicate, Fields, NoMemory, Point, Shared, Text, Value};
 use node_core::Few;
 use std::alloc::Global;
-use std::vec::IntoIter;
 use task_graph::{Fill, JoinSpec, Line, Measurement, Name};
 
 /// The names and values of fields.
@@ -34,13 +33,10 @@ fn delimiter_of(delimiter: &Option<Line>) -> &str
 fn field_name(alloc: Global, delimiter: &str, prefix: &Text, name: &Text) -> Result<Text, NoMemory>
     ensures { IfOk result (λ t. t ≡ field_name delimiter.now prefix.now name.now) }
 {
-    let (prefix, name) = (prefix.as_str(), name.as_str());
-    let room = prefix.len().saturating_add(delimiter.len());
-    let mut string = String::with_capacity(alloc, room.saturating_add(name.len()))?;
-    string.push_str(prefix)?;
-    string.push_str(delimiter)?;
-    string.push_str(name)?;
-    Ok(Text::from_string(string))
+    let mut whole = prefix.copy(alloc)?;
+    whole.append(delimiter)?;
+    whole.append(name.as_str())?;
+    Ok(whole)
 }
 
 /// A number in the place of a value, where there is one.
@@ -122,7 +118,7 @@ fn add_parent(
     join: &JoinSpec,
     prefix: &Name,
     first: &Point,
-    place: &Option<Point>,
+    place: &Option<Shared<Point>>,
     to: &mut Entries,
 ) -> Result<(), NoMemory>
     requires { IsTrue (are_entries to.old.items) }
@@ -131,7 +127,7 @@ fn add_parent(
     ensures fits { OnOk result (IsTrue (are_entries to.new.items)) }
 {
     match place {
-        Some(point) => add_present(alloc, join, prefix, point, to),
+        Some(point) => add_present(alloc, join, prefix, point.value(), to),
         None => match join.fill {
             Fill::Number(number) => add_filled(alloc, join, prefix, number, first, to),
             Fill::Null => Ok(()),
@@ -145,7 +141,7 @@ fn all_fields(
     alloc: Global,
     join: &JoinSpec,
     first: &Point,
-    set: &[Option<Point>],
+    set: &[Option<Shared<Point>>],
 ) -> Result<Entries, NoMemory>
     ensures all { IfOk result (λ all. all.items
         ≡ set_fields join.now (entries first.now.fields) join.now.prefixes set.now) }
@@ -170,7 +166,7 @@ fn fields_of(
     alloc: Global,
     join: &JoinSpec,
     first: &Point,
-    set: &[Option<Point>],
+    set: &[Option<Shared<Point>>],
 ) -> Result<Fields, NoMemory>
     requires first { first_in join.now.prefixes set.now ≡ Some first.now }
     ensures all { IfOk result (λ fields. fields ≡ with_entries no_fields
@@ -205,7 +201,7 @@ fn no_text(alloc: Global) -> Text
 }
 
 /// The first present parent's point.
-fn first_in<'a>(prefixes: &[Name], set: &'a [Option<Point>]) -> Option<&'a Point>
+fn first_in<'a>(prefixes: &[Name], set: &'a [Option<Shared<Point>>]) -> Option<&'a Point>
     ensures { option_copied result ≡ first_in prefixes.now set.now }
 {
     let mut left = prefixes;
@@ -215,7 +211,7 @@ fn first_in<'a>(prefixes: &[Name], set: &'a [Option<Point>]) -> Option<&'a Point
             return None;
         };
         if let Some(point) = place {
-            return Some(point);
+            return Some(point.value());
         }
         left = others;
         places = other_places;
@@ -224,17 +220,19 @@ fn first_in<'a>(prefixes: &[Name], set: &'a [Option<Point>]) -> Option<&'a Point
 }
 
 /// The first present parent's point, moved out.
-fn take_first(prefixes: &[Name], mut places: IntoIter<Option<Point>>) -> Option<Point>
-    ensures { result ≡ first_in prefixes.now places.rest.items }
+fn take_first(prefixes: &[Name], set: Set) -> Option<Shared<Point>>
+    ensures { result ≡ first_in prefixes.now set }
 {
-    let Some((_, others)) = prefixes.split_first() else {
-        return None;
-    };
-    match places.next() {
-        Some(Some(point)) => Some(point),
-        Some(None) => take_first(others, places),
-        None => None,
+    let mut left = prefixes;
+    let mut places = set.into_items().into_iter();
+    'passing: while let Some((_, others)) = left.split_first() {
+        match places.next() {
+            Some(Some(point)) => return Some(point),
+            Some(None) => left = others,
+            None => return None,
+        }
     }
+    None
 }
 
 /// The point that the join makes of a set with these fields, by the first present parent's point.
@@ -292,9 +290,9 @@ pub(crate) fn add_result(
         return Ok(());
     };
     let fields = fields_of(alloc, join, first, set.as_slice())?;
-    let Some(first) = take_first(prefixes, set.into_items().into_iter()) else {
+    let Some(first) = take_first(prefixes, set) else {
         return Ok(());
     };
-    let point = joined(alloc, join, time, first, fields)?;
+    let point = joined(alloc, join, time, first.into_value(alloc)?, fields)?;
     to.push(Body::Point(Shared::new(alloc, point)?))
 }

@@ -1,10 +1,12 @@
 -- What a search by halves finds among entries in byte order.
-use Rattle.std.proofs.Common.{◌≡◌, ℕ, zero, suc, ◌<◌, ◌≤◌, true, ⊎_elim, List, [], ◌∷◌, length, get_or, Result, Ok, Err, IfOk, IfErr, refl, sym, ap, ◌∙◌, arith, true≢false}
+use Rattle.std.proofs.Common.{◌≡◌, ℕ, zero, suc, ◌<◌, ◌≤◌, Bool, true, false, cond, Some, ⊎_elim, List, [], ◌∷◌, length, get_or, Result, Ok, Err, IfOk, IfErr, refl, sym, ap, ◌∙◌, arith, true≢false}
 use Rattle.std.specs.declared.cmp.Ordering.{Ordering}
 use Rattle.std.specs.declared.cmp.Ordering.TheVariants.{Less, Equal, Greater}
-use Rattle.std.specs.FinMap.{is_sorted}
+use Rattle.std.specs.Cmp.Lexicographic.{texts_ties}
+use Rattle.std.specs.FinMap.{find, is_sorted}
 use Rattle.std.specs.FinMap.Entries.{below_all}
 use Rattle.std.specs.Ordering.{is_lt, ordering_index, ordering_reverse}
+use Rattle.std.specs.Str.{bytes_eq}
 use Rattle.std.specs.List.Sorted.{IsSearchInRange, IsBinarySearchResult, IsNonDecreasingBy}
 use Rattle.std.proofs.lemmas.Cmp.{nat_list_cmp_total}
 use Rattle.std.proofs.lemmas.Bool.{cases_lt}
@@ -85,3 +87,12 @@ module _ {X : Type 0} where
   searched es k (Err at) h within parted =
       let p = parted (comparisons_rise es k h) in
       record { stands = tt; absent = would_stand es k at within (λ j d lt. p.0 j d (omega arith) lt) (λ j d ge lt. p.1 j d ge lt) }
+
+module _ {V : Type 0} where
+  -- what stands at a key, where the first entry has it
+  pub first_has : (k : List ℕ) (e : List ℕ × V) (es : List (List ℕ × V)) → bytes_eq k e.0 ≡ true → find byte_order k (e ∷ es) ≡ Some e.1
+  first_has k e es same = ap (λ (b : Bool). cond b (Some e.1) (find byte_order k es)) (sym (texts_ties k e.0) ∙ same)
+
+  -- and where it hasn't
+  pub first_lacks : (k : List ℕ) (e : List ℕ × V) (es : List (List ℕ × V)) → bytes_eq k e.0 ≡ false → find byte_order k (e ∷ es) ≡ find byte_order k es
+  first_lacks k e es other = ap (λ (b : Bool). cond b (Some e.1) (find byte_order k es)) (sym (texts_ties k e.0) ∙ other)

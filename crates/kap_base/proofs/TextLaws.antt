@@ -1,13 +1,13 @@
 -- What is known of each text and of each number.
-use Rattle.std.proofs.Common.{◌≡◌, ℕ, ◌<◌, ◌^◌, Bool, true, false, not, ◌&&◌, List, ◌++◌, length, take, take_at, Result, Ok, Err, IfOk, IsTrue, arith, ℤ, pos, negsuc, refl, subst, sym}
+use Rattle.std.proofs.Common.{◌≡◌, ◌∙◌, ℕ, ◌+◌, ◌<◌, ◌^◌, ap, append_assoc, length-append, Bool, true, false, not, ◌&&◌, List, [], ◌∷◌, ◌++◌, length, take, take_at, Result, Ok, Err, IfOk, IsTrue, arith, ℤ, pos, negsuc, refl, subst, sym}
 use Rattle.std.specs.Prelude.{IsUtf8}
 use Rattle.std.specs.Int.{w64}
 use mir.Val.{SFits}
 use Rattle.std.proofs.lemmas.Bool.Decides.{nat_tests}
 use Rattle.std.specs.Str.{is_utf8}
-use Rattle.std.proofs.lemmas.Str.{is_utf8-from_IsUtf8}
+use Rattle.std.proofs.lemmas.Str.{IsUtf8-append, IsUtf8-from_is_utf8, is_utf8-from_IsUtf8}
 use Rattle.kap_base.specs.Points.{is_value}
-use Rattle.kap_base.specs.Texts.{backslash, ends_with, has_line_feed, is_empty, is_name, is_plain}
+use Rattle.kap_base.specs.Texts.{backslash, ends_with, has_line_feed, is_empty, is_name, is_plain, or_else}
 use Rattle.kap_base.specs.declared.memory.NoMemory.{NoMemory}
 use Rattle.kap_base.specs.declared.value.Value.TheVariants as values
 
@@ -36,3 +36,15 @@ own_is_name own (Ok t) plain same utf8 = plain_is_name t (subst (λ (l : List �
 -- what begins with a text has that text as its front
 pub front_is_text : (text bytes rest whole : List ℕ) → bytes ≡ text → whole ≡ bytes ++ rest → IsUtf8 text → IsTrue (is_utf8 (take (length text) whole))
 front_is_text text bytes rest whole same is utf8 = rw (is, same) (rw (take_at text rest (length text) refl) (is_utf8-from_IsUtf8 text utf8))
+
+-- a text behind a text is the front of what begins with both
+pub both_are_text : (front more tail cells : List ℕ) (len : ℕ) → length front ≡ len → cells ≡ more ++ tail → IsTrue (is_utf8 front) → IsUtf8 more → IsTrue (is_utf8 (take (len + length more) (front ++ cells)))
+both_are_text front more tail cells len long is there utf8 =
+    let whole : front ++ cells ≡ (front ++ more) ++ tail = ap (λ (l : List ℕ). front ++ l) is ∙ sym (append_assoc front more tail) in
+    let count : len + length more ≡ length (front ++ more) = ap (λ (n : ℕ). n + length more) (sym long) ∙ sym (length-append front more) in
+    rw (whole, count) (rw (take_at (front ++ more) tail (length (front ++ more)) refl) (is_utf8-from_IsUtf8 (front ++ more) (IsUtf8-append front more (IsUtf8-from_is_utf8 front there) utf8)))
+
+-- where there are bytes, the other ones don't count
+pub or_else_some : (bytes others : List ℕ) → 0 < length bytes → or_else bytes others ≡ bytes
+or_else_some [] others some = absurd (omega (arith, some))
+or_else_some (b ∷ bytes) others some = refl

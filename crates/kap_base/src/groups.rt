@@ -7,7 +7,7 @@ use crate::duplicate::Duplicate;
 use crate::memory::NoMemory;
 use crate::point::Point;
 use crate::text::Text;
-use crate::{Names, Points, Tags};
+use crate::{Names, SharedPoints, Tags};
 use std::alloc::Global;
 use std::marker::Model;
 
@@ -45,7 +45,7 @@ pub struct Batch {
     /// The time at which the batch ends, in nanoseconds from 1970-01-01T00:00:00Z on, within `TIME_LIMIT`.
     pub tmax: i64,
     /// The points, in the order in which they came.
-    pub points: Points,
+    pub points: SharedPoints,
 }
 
 impl Model for Batch {

@@ -8,6 +8,7 @@ ghost use Rattle.std.specs.Option.{option_copied};
 ghost use Rattle.kap_base.specs.Maps.{byte_order, with_entries, is_below};
 ghost use Rattle.kap_base.specs.Places.{StandsAt, WouldStandAt};
 
+use crate::bytes::are_same;
 use crate::duplicate::Duplicate;
 use crate::memory::NoMemory;
 use crate::text::Text;
@@ -134,10 +135,30 @@ fn put_behind<V: Drop>(entries: &mut Vec<(Text, V)>, key: Text, value: V) -> Res
     }
 }
 
+/// The value at the key, by a look at each entry.
+fn scanned_value<'a, V>(entries: &'a [(Text, V)], key: &Text) -> Option<&'a V>
+    ensures { option_copied result ≡ map.find byte_order key.now entries.now }
+{
+    let mut rest = entries;
+    'looking: while let Some((first, others)) = rest.split_first() {
+        if are_same(key.bytes(), first.0.bytes()) {
+            return Some(&first.1);
+        }
+        rest = others;
+    }
+    None
+}
+
+/// How many entries are few: to look at each of them takes fewer steps than a search.
+const FEW_ENTRIES: usize = 8;
+
 fn value_at<'a, V>(entries: &'a [(Text, V)], key: &Text) -> Option<&'a V>
     requires { IsTrue (map.is_sorted byte_order entries.now) }
     ensures { option_copied result ≡ map.find byte_order key.now entries.now }
 {
+    if entries.len() <= FEW_ENTRIES {
+        return scanned_value(entries, key);
+    }
     match search(entries, key) {
         Ok(at) => Some(&entries[at].1),
         Err(_) => None,

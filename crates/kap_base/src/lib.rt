@@ -52,6 +52,9 @@ pub type Names = ItemList<Text>;
 /// A list of points.
 pub type Points = ItemList<Point>;
 
+/// A list of points, each of which others may share.
+pub type SharedPoints = ItemList<Shared<Point>>;
+
 /// The tags of a point: texts under texts, in byte order of the keys (InfluxDB 1.8 line protocol reference: tag set).
 pub type Tags = KeyMap<Text>;
 

@@ -1,4 +1,4 @@
-ghost use Rattle.std.specs.Prelude.{◌≡◌, ◌≤◌, length, IfOk, IsOk, IsUtf8, string_bytes};
+ghost use Rattle.std.specs.Prelude.{◌≡◌, ◌≤◌, ◌++◌, length, IfOk, IsOk, IsUtf8, OnErr, OnOk, string_bytes};
 ghost use Rattle.kap_base.specs.declared.short_text.TheConstants.{SHORT_LIMIT};
 
 use crate::short_text::{SHORT_LIMIT, ShortText};
@@ -43,6 +43,17 @@ fn long_text(string: String) -> Packed
         string,
         short: ShortText::empty(),
     }
+}
+
+/// The string of two texts.
+fn both(alloc: Global, front: &str, back: &str) -> Result<String, AllocError>
+    ensures { IfOk result (λ string. string_bytes string ≡ front.now ++ back.now) }
+{
+    let room = front.len().saturating_add(back.len());
+    let mut string = String::with_capacity(alloc, room)?;
+    string.push_str(front)?;
+    string.push_str(back)?;
+    Ok(string)
 }
 
 impl Packed {
@@ -90,5 +101,22 @@ impl Packed {
             });
         }
         Ok(long_text(String::from_str(alloc, self.string.as_str())?))
+    }
+
+    /// Adds a text at the end. An `Err` changes nothing.
+    #[tactic(auto, using(crate::proofs::TextLaws::or_else_some))]
+    pub(crate) fn append(&mut self, more: &str) -> Result<(), AllocError>
+        ensures ok { OnOk result (self.new ≡ self.old ++ more.now) }
+        ensures err { OnErr result (self.new ≡ self.old) }
+    {
+        if !self.string.is_empty() {
+            return self.string.push_str(more);
+        }
+        if more.len() <= SHORT_LIMIT - self.short.len() {
+            self.short.append(more);
+            return Ok(());
+        }
+        self.string = both(*self.string.allocator(), self.short.as_str(), more)?;
+        Ok(())
     }
 }

@@ -1,6 +1,6 @@
 ghost use Rattle.std.specs.Prelude.{◌≡◌, nat_lt, IsTrue, OnErr, OnOk};
 ghost use Rattle.std.specs.FinMap as map;
-ghost use Rattle.kap_base.specs.Points.{are_fields, is_value};
+ghost use Rattle.kap_base.specs.Points.{are_dimensions, are_fields, is_value};
 ghost use Rattle.kap_base.specs.Texts.{is_name};
 
 use crate::duplicate::Duplicate;
@@ -96,6 +96,15 @@ impl Point {
     {
         self.fields = fields;
         self
+    }
+
+    /// Has these dimensions in the place of its own, and is grouped by its measurement too or not.
+    pub fn regroup(&mut self, dims: Names, by_name: bool)
+        requires { IsTrue (are_dimensions dims) }
+        ensures { self.new ≡ record self.old { dims = dims; by_name = by_name } }
+    {
+        self.dims = dims;
+        self.by_name = by_name;
     }
 }
 

@@ -1,14 +1,17 @@
 //! Values with many owners. A point is handed on by many nodes and kept once; what a name of a script stands for is used many
 //! times and kept once.
 
-ghost use Rattle.std.specs.Prelude.{◌≡◌, IfOk, nat_eq};
+ghost use Rattle.std.specs.Prelude.{◌≡◌, IfOk, IsTrue, nat_eq};
 ghost use Rattle.std.specs.Cmp.{partial_equiv_from_equiv};
 ghost use Rattle.std.specs.Cmp.Lexicographic.{nat_list_eq_equiv, pointwise};
+ghost use Rattle.kap_base.specs.Points.{are_dimensions};
 ghost use Rattle.kap_base.specs.Tree.{tree_of};
 
+use crate::Names;
 use crate::duplicate::Duplicate;
 use crate::expr::Expr;
 use crate::memory::NoMemory;
+use crate::point::Point;
 use crate::text::Text;
 use std::alloc::Global;
 use std::marker::Model;
@@ -53,6 +56,30 @@ impl<T: Duplicate + Drop> Shared<T> {
             Ok(value) => Ok(value),
             Err(shared) => (*shared).copy(alloc),
         }
+    }
+}
+
+impl Shared<Point> {
+    /// The point with these dimensions in the place of its own, grouped by its measurement too or not: itself, where no other owner
+    /// shares it, else a copy.
+    pub fn regrouped(
+        self,
+        alloc: Global,
+        dims: Names,
+        by_name: bool,
+    ) -> Result<Shared<Point>, NoMemory>
+        requires { IsTrue (are_dimensions dims) }
+        ensures { IfOk result (λ point. point
+            ≡ record self { dims = dims; by_name = by_name }) }
+    {
+        let mut value = self.value;
+        if let Some(point) = Arc::get_mut(&mut value) {
+            point.regroup(dims, by_name);
+            return Ok(Shared { value });
+        }
+        let mut point = (*value).copy(alloc)?;
+        point.regroup(dims, by_name);
+        Shared::new(alloc, point)
     }
 }
 

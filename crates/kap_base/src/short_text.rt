@@ -1,6 +1,6 @@
 //! Texts that take no allocation.
 
-ghost use Rattle.std.specs.Prelude.{◌≡◌, ◌≤◌, ◌++◌, [], length, take, drop, IsUtf8};
+ghost use Rattle.std.specs.Prelude.{◌≡◌, ◌≤◌, ◌+◌, ◌++◌, [], length, take, drop, IsUtf8};
 ghost use Rattle.kap_base.specs.declared.short_text.TheConstants.{SHORT_LIMIT};
 
 use std::marker::Model;
@@ -60,6 +60,25 @@ impl ShortText {
             bytes: [0; SHORT_LIMIT],
             len: 0,
         }
+    }
+
+    /// How many bytes it has.
+    pub(crate) fn len(&self) -> usize
+        ensures len { result ≡ length self.now }
+        ensures limit { result ≤ SHORT_LIMIT }
+    {
+        self.len as usize
+    }
+
+    /// Adds a text at the end.
+    pub(crate) fn append(&mut self, more: &str)
+        requires { length self.old + length more.now ≤ SHORT_LIMIT }
+        ensures { self.new ≡ self.old ++ more.now }
+    {
+        let len = self.len as usize;
+        let (_, rest) = self.bytes.split_at_mut(len);
+        copy_front(rest, more.as_bytes());
+        self.len = (len + more.len()) as u8;
     }
 
     /// Its bytes, as text.

@@ -1,4 +1,4 @@
-ghost use Rattle.std.specs.Prelude.{◌≡◌, IfOk, IsUtf8, IsErrOf, Some, bytes_eq, nat_eq, refl, string_bytes};
+ghost use Rattle.std.specs.Prelude.{◌≡◌, ◌++◌, OnErr, OnOk, IfOk, IsUtf8, IsErrOf, Some, bytes_eq, nat_eq, refl, string_bytes};
 ghost use Rattle.std.specs.Cmp.{partial_equiv_from_equiv};
 ghost use Rattle.std.specs.Cmp.Lexicographic.{nat_list_cmp_total, nat_list_eq_equiv, pointwise, slice_cmp, texts_po, texts_ties};
 ghost use Rattle.std.specs.Ordering.{nat_cmp};
@@ -89,6 +89,15 @@ impl Text {
         Text {
             packed: Packed::from_string(string),
         }
+    }
+
+    /// Adds a text at the end. An `Err` changes nothing.
+    pub fn append(&mut self, more: &str) -> Result<(), NoMemory>
+        ensures ok { OnOk result (self.new ≡ self.old ++ more.now) }
+        ensures err { OnErr result (self.new ≡ self.old) }
+    {
+        self.packed.append(more)?;
+        Ok(())
     }
 
     /// Its bytes.

@@ -107,9 +107,9 @@ fn replay_pairs<
 ///   input, and writes the lines of the points that the tasks log and of the changes of level of their alerts, in order of the
 ///   points that caused them, then of the tasks, then of their nodes; behind them, with `--counts`, how many points each node
 ///   dropped. There are at most 64 tasks. The points go through a net of the nodes, whose edges have room for C messages, from 1 to
-///   65,536, or 64; W workers in threads move it, from 1 to 64, or one a task and at most 4, or with `--schedule` one thread does, in the order that N
-///   gives, from 0 to 4,294,967,295. What is written is the same for each W, C and N. The options stand in any order, each at most
-///   once.
+///   65,536, or 64. W workers in threads move it, from 1 to 64, or one a task and at most 4; with `--schedule` one thread does, in
+///   the order that N gives, from 0 to 4,294,967,295. What is written is the same for each W, C and N. The options stand in any
+///   order, each at most once.
 /// - `gen N`: it writes the sample recording of N points, from 1 to 1,000,000: a point a second, of one of eight hosts in turn.
 /// - `gen N ID SCRIPT [ID SCRIPT]..`: it writes a summary of a replay of this recording: the numbers of points, of lines of logged
 ///   points and of lines of changes of level, and how many bytes these lines have. Workers move the net, one a task and at most 4.

@@ -1,9 +1,9 @@
 -- A time that is read is spelled so, and a time that is spelled is read.
 use Rattle.std.proofs.Common.{◌≡◌, ℕ, zero, suc, ◌*◌, Bool, true, false, not, cond, Option, Some, None, List, [], ◌∷◌, ◌++◌, length, drop, Ok, Err, refl, sym, ap, subst, ◌∙◌, append_assoc, arith}
-use Rattle.std.specs.Prelude.{ℤ, nat_le}
+use Rattle.std.specs.Prelude.{ℤ, Result, nat_le}
 use Rattle.std.specs.Char.{is_ascii_digit}
 use Rattle.std.specs.List.{list_all, before_first, position_or_len}
-use Rattle.std.specs.Option.{option_map_or}
+use Rattle.std.specs.Option.{option_map, option_map_or}
 use Rattle.std.specs.Str.Parse.{digits_value}
 use Rattle.std.proofs.lemmas.Bool.Decides.{nat_tests}
 use Rattle.std.proofs.lemmas.List.{append-nil, take-append-drop}
@@ -15,6 +15,7 @@ use Rattle.line_points.specs.declared.mode.Unit.{Unit as TimeUnit}
 use Rattle.line_points.specs.declared.mode.Mode.{Mode}
 use Rattle.line_points.specs.declared.mode.Mode.TheVariants.{Live, Recording}
 use Rattle.line_points.specs.Parts.{comma, space, begins, is_space, without_spaces, is_at_separator}
+use Rattle.line_points.specs.Cap.{cap}
 use Rattle.line_points.specs.Numbers.{is_digits, number_of, with_sign}
 use Rattle.line_points.specs.Line.{nanoseconds, unit_of, missing_time, time_of_units, word_time, time_of}
 use Rattle.line_points.specs.Grammar.{minus, spaces, SpellsTime, no_time, some_time}
@@ -112,6 +113,21 @@ given_again mode negative digits behind all range =
     let word = minus negative ++ digits in
     let ends = word_ends is_space word (spaces behind) (number_whole negative digits all) (place_end behind) in
     rw (number_some negative digits (spaces behind) all, ends.behind, are_spaces behind, ends.before, number_again negative digits all, range) refl
+
+-- a number and nothing else counts the units of the time
+pub time_of_number : (mode : Mode) (bytes : List ℕ) (number : Bool × ℕ) → number_of bytes ≡ Some number → time_of mode bytes ≡ time_of_units (unit_of mode) number
+unfolding time_of
+time_of_number mode bytes number read =
+    let n = number_taken bytes number read in
+    let word = minus number.0 ++ n.digits in
+    let same : bytes ≡ word ++ [] = n.is ∙ sym (append-nil word) in
+    let here : number_of word ≡ Some number = ap number_of (sym n.is) ∙ read in
+    let ends = word_ends is_space word [] (number_whole number.0 n.digits n.all) refl in
+    rw same (rw (number_some number.0 n.digits [] n.all, ends.behind, ends.before, here) refl)
+
+pub chosen_number : (mode : Mode) (bytes : List ℕ) (o : Option (Bool × ℕ)) (x : Bool × ℕ) (r : Result ℤ LineFault) → number_of bytes ≡ o → Some x ≡ option_map cap o → ((n : Bool × ℕ) → x ≡ cap n → r ≡ time_of_units (unit_of mode) n) → r ≡ time_of mode bytes
+chosen_number mode bytes (Some n) x r read e is = let same : x ≡ cap n = cc in is n same ∙ sym (time_of_number mode bytes n read)
+chosen_number mode bytes None x r read e is = absurd cc
 
 missing_again : (unit : TimeUnit) (now : ℤ) → time_of (Live unit now) [] ≡ Ok now
 unfolding time_of

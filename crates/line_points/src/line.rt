@@ -26,7 +26,7 @@ fn point(alloc: Global, line: &str, db: &Text, rp: &Text, mode: &Mode) -> Result
     scanner.skip_spaces();
     let name = measurement(alloc, &mut scanner)?;
     let tags = tags(alloc, &mut scanner)?;
-    let fields = fields(alloc, &mut scanner)?;
+    let fields = fields(alloc, &mut scanner, tags.len())?;
     let time = last_time(mode, &mut scanner)?;
     let db = db.copy(alloc)?;
     let rp = rp.copy(alloc)?;

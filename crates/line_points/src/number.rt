@@ -1,8 +1,9 @@
-ghost use Rattle.std.specs.Prelude.{◌≡◌, ℕ, min, IsTrue};
+ghost use Rattle.std.specs.Prelude.{◌≡◌, ◌≤◌, ℕ, length, min, IsTrue};
 ghost use Rattle.std.specs.List.{list_all};
 ghost use Rattle.std.specs.Char.{is_ascii_digit};
 ghost use Rattle.std.specs.Option.{option_map};
 ghost use Rattle.std.specs.Str.Parse.{digits_value};
+ghost use Rattle.line_points.specs.declared.number.TheConstants.{SURE_DIGITS};
 ghost use Rattle.line_points.specs.Numbers.{is_digits, number_from, number_of, before_last_byte, is_true, is_false};
 ghost use Rattle.line_points.specs.Cap.{cap, parts};
 
@@ -13,10 +14,15 @@ pub struct Number {
     pub magnitude: u64,
 }
 
+/// Whether all are digits. It looks at each of them, so that it can look at many at once.
 fn all_digits(bytes: &[u8]) -> bool
     ensures { result ≡ list_all is_ascii_digit bytes.now }
 {
-    bytes.iter().all(|b| b.is_ascii_digit())
+    let mut digits = true;
+    'looking: for byte in bytes {
+        digits &= byte.is_ascii_digit();
+    }
+    digits
 }
 
 /// Whether there are bytes, and all are digits.
@@ -26,7 +32,24 @@ pub fn is_digits(bytes: &[u8]) -> bool
     !bytes.is_empty() && all_digits(bytes)
 }
 
-fn magnitude(digits: &[u8]) -> u64
+/// So many digits stand for a number that fits 64 bits, whichever they are.
+const SURE_DIGITS: usize = 19;
+
+/// The number of at most `SURE_DIGITS` digits.
+fn sure_magnitude(digits: &[u8]) -> u64
+    requires digits { IsTrue (is_digits digits.now) }
+    requires few { length digits.now ≤ SURE_DIGITS }
+    ensures { result ≡ digits_value 10 digits.now }
+{
+    let mut value = 0u64;
+    'adding: for digit in digits {
+        value = value * 10 + u64::from(*digit - b'0');
+    }
+    value
+}
+
+/// The number of any digits, or the greatest one of 64 bits where it is greater.
+fn capped_magnitude(digits: &[u8]) -> u64
     requires { IsTrue (is_digits digits.now) }
     ensures { result ≡ min (digits_value 10 digits.now) u64.MAX }
 {
@@ -37,6 +60,18 @@ fn magnitude(digits: &[u8]) -> u64
             .saturating_add(u64::from(*digit - b'0'));
     }
     value
+}
+
+/// The number of the digits, or the greatest one of 64 bits where it is greater.
+fn magnitude(digits: &[u8]) -> u64
+    requires { IsTrue (is_digits digits.now) }
+    ensures { result ≡ min (digits_value 10 digits.now) u64.MAX }
+{
+    if digits.len() <= SURE_DIGITS {
+        sure_magnitude(digits)
+    } else {
+        capped_magnitude(digits)
+    }
 }
 
 fn number_from(negative: bool, bytes: &[u8]) -> Option<Number>

@@ -34,6 +34,7 @@ fn put_with_escapes(part: Part, bytes: &[u8], out: &mut Bytes) -> Result<(), NoM
     Ok(())
 }
 
+#[inline(always)]
 fn put_part(part: Part, text: &Text, out: &mut Bytes) -> Result<(), NoMemory>
     ensures ok { OnOk result (out.new ≡ out.old ++ part_text part text.now) }
     ensures before { take (length out.old) out.new ≡ out.old }
@@ -45,6 +46,7 @@ fn put_part(part: Part, text: &Text, out: &mut Bytes) -> Result<(), NoMemory>
     out.append(bytes)
 }
 
+#[inline(always)]
 fn put_number(number: i64, out: &mut Bytes) -> Result<(), NoMemory>
     ensures ok { OnOk result (out.new ≡ out.old ++ signed_decimal number) }
     ensures before { take (length out.old) out.new ≡ out.old }
@@ -74,6 +76,7 @@ fn put_value(value: &Value, out: &mut Bytes) -> Result<(), NoMemory>
     Ok(())
 }
 
+#[inline(always)]
 fn put_field(field: &(Text, Value), out: &mut Bytes) -> Result<(), NoMemory>
     ensures ok { OnOk result (out.new ≡ out.old ++ field_text field.now) }
     ensures before { take (length out.old) out.new ≡ out.old }

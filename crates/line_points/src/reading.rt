@@ -6,7 +6,6 @@ ghost use Rattle.line_points.specs.Parts.{without_spaces};
 ghost use Rattle.line_points.specs.Line.{differ, measurement_at, tag_at, tags_from, tags_at, quoted_at, word_at, value_at, field_at, fields_from, fields_at, time_of};
 ghost use Rattle.line_points.specs.Reading.{Gives};
 
-use crate::bytes::comma_count;
 use crate::fault::LineFault;
 use crate::mode::Mode;
 use crate::part::Part;
@@ -50,8 +49,7 @@ fn all_tags(alloc: Global, scanner: &mut Scanner) -> Result<ItemList<(Text, Text
     ensures { Gives result scanner.new.rest.now
         (tags_from (length scanner.old.rest.now) scanner.old.rest.now) }
 {
-    let room = comma_count(scanner.rest());
-    let mut tags = ItemList::from_items(Vec::with_capacity(alloc, room)?);
+    let mut tags = ItemList::from_items(Vec::with_capacity(alloc, scanner.commas())?);
     'tags: while scanner.take(b',') {
         let tag = tag(alloc, scanner)?;
         tags.push(tag)?;
@@ -124,11 +122,15 @@ fn field(alloc: Global, scanner: &mut Scanner) -> Result<(Text, Value), LineFaul
     Ok((key, value))
 }
 
-fn all_fields(alloc: Global, scanner: &mut Scanner) -> Result<ItemList<(Text, Value)>, LineFault>
+/// The fields. `room` is a guess at how many they are.
+fn all_fields(
+    alloc: Global,
+    scanner: &mut Scanner,
+    room: usize,
+) -> Result<ItemList<(Text, Value)>, LineFault>
     ensures { Gives result scanner.new.rest.now
         (fields_from (length scanner.old.rest.now) scanner.old.rest.now) }
 {
-    let room = comma_count(scanner.rest()) + 1;
     let mut fields = ItemList::from_items(Vec::with_capacity(alloc, room)?);
     'fields: loop {
         let field = field(alloc, scanner)?;
@@ -139,15 +141,17 @@ fn all_fields(alloc: Global, scanner: &mut Scanner) -> Result<ItemList<(Text, Va
     }
 }
 
+/// The fields behind the spaces that come next; `tags` is how many tags stand before them, whose commas are not counted for room.
 #[tactic(auto, unfolding(crate::specs::Line::fields_at))]
-pub fn fields(alloc: Global, scanner: &mut Scanner) -> Result<Fields, LineFault>
+pub fn fields(alloc: Global, scanner: &mut Scanner, tags: usize) -> Result<Fields, LineFault>
     ensures { Gives result scanner.new.rest.now (fields_at scanner.old.rest.now) }
 {
     scanner.skip_spaces();
     if scanner.is_empty() {
         return Err(LineFault::NoField);
     }
-    let fields = all_fields(alloc, scanner)?;
+    let room = scanner.commas().saturating_sub(tags).saturating_add(1);
+    let fields = all_fields(alloc, scanner, room)?;
     let map = Fields::from_entries(alloc, fields.into_items())?;
     Ok(map)
 }

@@ -1,4 +1,4 @@
-ghost use Rattle.std.specs.Prelude.{◌≡◌, ◌≤◌, ℕ, Bool, length, drop, position};
+ghost use Rattle.std.specs.Prelude.{◌≡◌, ◌≤◌, ℕ, Bool, IfSome, length, drop, position};
 ghost use Rattle.std.specs.List.{list_all, before_first, position_or_len};
 ghost use Rattle.line_points.specs.Parts.{is_space};
 ghost use Rattle.line_points.specs.Cap.{cap, parts};
@@ -47,6 +47,14 @@ fn word_time(mode: &Mode, word: &[u8]) -> Result<i64, LineFault>
     }
 }
 
+/// The time of a line, of which these bytes stand behind its fields, where they are a number and nothing else.
+fn number_time(mode: &Mode, bytes: &[u8]) -> Option<Result<i64, LineFault>>
+    ensures { IfSome result (λ time. time ≡ time_of mode.now bytes.now) }
+{
+    let number = read_number(bytes)?;
+    Some(time_of_units(mode.unit(), number))
+}
+
 /// The time of a line, of which these bytes stand behind its fields.
 #[tactic(auto, unfolding(crate::specs::Line::time_of))]
 pub fn time(mode: &Mode, bytes: &[u8]) -> Result<i64, LineFault>
@@ -54,6 +62,9 @@ pub fn time(mode: &Mode, bytes: &[u8]) -> Result<i64, LineFault>
 {
     if bytes.is_empty() {
         return mode.missing_time();
+    }
+    if let Some(time) = number_time(mode, bytes) {
+        return time;
     }
     let (word, behind) = split_at_space(bytes);
     if !are_spaces(behind) {

@@ -38,6 +38,7 @@ impl Queue {
     }
 
     /// Adds a message at the end. An `Err` changes nothing.
+    #[inline(always)]
     pub fn push(&mut self, msg: Msg) -> Result<(), NoMemory>
         ensures ok { OnOk result (self.new ≡ self.old ++ msg ∷ []) }
         ensures err { OnErr result (self.new ≡ self.old) }

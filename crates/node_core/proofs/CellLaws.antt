@@ -1,5 +1,6 @@
 -- The place of a group's cell.
 use Rattle.std.proofs.Common.{◌≡◌, ℕ, zero, suc, ◌<◌, true, false, List, [], ◌∷◌, ◌++◌, length, get_or, Option, Some, None, is_some, refl, sym, ap, ◌∙◌, arith, true≢false}
+use Rattle.std.specs.Option.{option_map}
 use Rattle.std.specs.Prelude.{slice_get, unwrap_or}
 use Rattle.std.specs.FinMap.{FinMap, get, from_entries, from_entries_push, slice_cmp-IsAntisymmetric, nat_cmp-IsAntisymmetric}
 use Rattle.std.specs.Cmp.Lexicographic.{bytes_decides, nat_list_cmp_total, nat_list_eq_equiv}
@@ -43,6 +44,20 @@ module _ {C : Type 0} where
         value = value ∙ kept_cell _ first (sym there) ∙ ap (λ (o : Option C). Some (cell_or first o)) (sym (get-lookup m.entries k));
         writes = λ c. put_at m.entries (set_value_at m.entries at c) k c (updates-with_value_at m at c nat_list_eq_equiv unique k e.1 entry).0;
       }
+
+  value_at : (es : List (List ℕ × C)) (at : ℕ) (e : List ℕ × C) → at < length es → slice_get es at ≡ Some e → slice_get (values_of es) at ≡ Some e.1
+  value_at [] at e lt h = absurd (omega arith)
+  value_at (x ∷ es) zero e lt h = ap (option_map (λ (e : List ℕ × C). e.1)) h
+  value_at (x ∷ es) (suc at) e lt h = value_at es at e (omega arith) h
+
+  -- where the entry at a place has the key
+  pub known_cell : {S : Type 0} (m : IndexMap (List ℕ) C S) (k : List ℕ) (at : ℕ) (c : C) → IsUnique bytes_eq m → at < length m.entries → slice_get m.entries at ≡ Some (k, c)
+      → get_in bytes_eq m k ≡ Some c → (first : C) → IsCellOf m.entries m.entries k first at
+  known_cell m k at c unique within entry value first = record {
+    within = within;
+    value = value_at m.entries at (k, c) within entry ∙ ap (λ (o : Option C). Some (cell_or first o)) (sym (get-lookup m.entries k ∙ value));
+    writes = λ d. put_at m.entries (set_value_at m.entries at d) k d (updates-with_value_at m at d nat_list_eq_equiv unique k c entry).0;
+  }
 
   last_value : (es : List (List ℕ × C)) (k : List ℕ) (c : C) → slice_get (values_of (es ++ (k, c) ∷ [])) (length es) ≡ Some c
   last_value [] k c = refl

@@ -8,7 +8,7 @@ ghost use Rattle.node_core.specs.Keys.{group_key, dim_part, ended};
 ghost use Rattle.state_code.specs.Laws.{bytes_spelled};
 ghost use Rattle.state_code.specs.Spelling.{FitsBytes, spell_bytes, read_bytes};
 
-use kap_base::{Bytes, Duplicate, NoMemory, Point, Tags, Text};
+use kap_base::{Bytes, Duplicate, NoMemory, Point, Tags, Text, are_same};
 use state_code::{CodeFault, Cursor, Spelled, put_bytes};
 use std::alloc::Global;
 use std::cmp::Ordering;
@@ -110,7 +110,7 @@ impl PartialEq for Key {
     ghost laws = { partial_equiv_from_equiv nat_list_eq_equiv };
 
     fn eq(&self, other: &Key) -> bool {
-        self.bytes() == other.bytes()
+        are_same(self.bytes(), other.bytes())
     }
 }
 

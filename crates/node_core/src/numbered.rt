@@ -74,11 +74,15 @@ fn give_more_items(stamp: Stamp, more: Vec<Body>, out: &mut ItemList<Item>) -> R
 
 /// Gives bodies out with a stamp.
 #[tactic(auto, using(crate::proofs::FewLaws::items_at_few))]
+#[inline(always)]
 fn give_items(stamp: Stamp, bodies: Few<Body>, out: &mut ItemList<Item>) -> Result<(), NoMemory>
     ensures { OnOk result (out.new ≡ out.old ++ items_at stamp bodies) }
 {
     let (first, more) = bodies.into_parts();
     give_first_item(stamp, first, out)?;
+    if more.is_empty() {
+        return Ok(());
+    }
     give_more_items(stamp, more, out)
 }
 
@@ -143,6 +147,7 @@ fn give_more_effects(
 
 /// Gives effects out with a stamp, numbered from `seq` on, and answers the next number.
 #[tactic(auto, using(crate::proofs::FewLaws::effects_from_few, crate::proofs::FewLaws::length_few))]
+#[inline(always)]
 fn give_effects(
     life: u32,
     node: u32,
@@ -157,6 +162,9 @@ fn give_effects(
 {
     let (first, more) = deeds.into_parts();
     let next = give_first_effect(life, node, stamp, seq, first, effects)?;
+    if more.is_empty() {
+        return Ok(next);
+    }
     give_more_effects(life, node, stamp, next, more, effects)
 }
 

@@ -13,7 +13,7 @@ use crate::key::Key;
 use crate::rule::Rule;
 use crate::said::Said;
 use indexmap::IndexMap;
-use kap_base::{Bytes, Duplicate, ItemList, NoMemory, Point, Shared};
+use kap_base::{Bytes, Duplicate, ItemList, NoMemory, Point, Shared, are_same};
 use state_code::{CodeFault, Cursor, Spelled, put_u32};
 use std::alloc::Global;
 use std::hash::{BuildHasherDefault, DefaultHasher};
@@ -30,6 +30,8 @@ pub struct Table<C> {
     cells: Cells<C>,
     /// Room for the key that is looked up.
     looked_up: Key,
+    /// Where the last key's cell is.
+    last: usize,
 }
 
 impl<C> Model for Table<C> {
@@ -53,12 +55,27 @@ impl<C: Drop> Table<C> {
         Table {
             cells: IndexMap::with_hasher(alloc, BuildHasherDefault::new()),
             looked_up: Key::new(alloc),
+            last: 0,
         }
     }
 }
 
-/// Where the key's cell is; a key that has none gets the first one.
-fn cell_at<R: Rule>(
+/// Whether the key's cell is at this place.
+fn is_at<C>(cells: &Cells<C>, at: usize, key: &Key) -> bool
+    ensures { IsTrue result → (first : C)
+        → IsCellOf cells.now.entries cells.now.entries key.now first at }
+{
+    if cells.len() <= at {
+        return false;
+    }
+    match cells.get_index(at) {
+        Some(entry) => are_same(entry.0.bytes(), key.bytes()),
+        None => false,
+    }
+}
+
+/// Where the key's cell is, by its hash; a key that has none gets the first one.
+fn hashed_at<R: Rule>(
     rule: &R,
     alloc: Global,
     cells: &mut Cells<R::Cell>,
@@ -77,6 +94,37 @@ fn cell_at<R: Rule>(
             Ok(at)
         }
     }
+}
+
+/// The place behind this one, and the first behind the last of so many.
+fn place_behind(at: usize, count: usize) -> usize {
+    match at.checked_add(1) {
+        Some(next) if next < count => next,
+        _ => 0,
+    }
+}
+
+/// Where the key's cell is; a key that has none gets the first one. Points often come from one group after the other in the same
+/// order, or from one group, so the place behind the last key's and the last key's are looked at before the key is hashed.
+fn cell_at<R: Rule>(
+    rule: &R,
+    alloc: Global,
+    cells: &mut Cells<R::Cell>,
+    last: usize,
+    key: &Key,
+) -> Result<usize, NoMemory>
+    ensures ok { IfOk result
+        (IsCellOf cells.old.entries cells.new.entries key.now (R.kept rule.now [])) }
+    ensures err { OnErr result (cells.new.entries ≡ cells.old.entries) }
+{
+    let next = place_behind(last, cells.len());
+    if is_at(cells, next, key) {
+        return Ok(next);
+    }
+    if is_at(cells, last, key) {
+        return Ok(last);
+    }
+    hashed_at(rule, alloc, cells, key)
 }
 
 /// The keys and their cells, in byte order of the keys.
@@ -173,6 +221,7 @@ impl<C: Spelled + Drop> Spelled for Table<C> {
         Ok(Table {
             cells: by_key(alloc, cells)?,
             looked_up: Key::new(alloc),
+            last: 0,
         })
     }
 }
@@ -193,7 +242,8 @@ pub(crate) fn feed_cell<R: Rule>(
         ≡ (turn_of (R.kept rule.old []) (R.step rule.old) table.old port point).said) }
 {
     table.looked_up.become_key_of(point.value())?;
-    let at = cell_at(rule, alloc, &mut table.cells, &table.looked_up)?;
+    let at = cell_at(rule, alloc, &mut table.cells, table.last, &table.looked_up)?;
+    table.last = at;
     let cell = &mut table.cells[at];
     rule.feed(alloc, cell, port, point)
 }

@@ -49,7 +49,7 @@ fn put_batch(batch: &Batch, text: &mut Bytes, alloc: Global) -> Result<(), Fail>
     text.append(end.as_bytes())?;
     for point in batch.points.as_slice() {
         text.append(b" [")?;
-        put_line(point, text)?;
+        put_line(point.value(), text)?;
         text.append(b"]")?;
     }
     Ok(())

@@ -1,8 +1,13 @@
-ghost use Rattle.std.specs.Prelude.{◌≡◌, ◌+◌, ◌≤◌, ◌++◌, List, ℕ, length, drop};
+ghost use Rattle.std.specs.Prelude.{◌≡◌, ◌+◌, ◌<◌, ◌≤◌, ◌++◌, List, ℕ, IsTrue, not, length, take, drop};
+ghost use Rattle.std.specs.Bool.{OnTrue};
 ghost use Rattle.std.specs.List.{position_or_len};
+ghost use Rattle.kap_base.specs.Texts.{has_line_feed};
+ghost use Rattle.line_points.specs.Body.{without_return};
 ghost use Rattle.recording_file.specs.Feeds.{ShowFeeds};
 ghost use Rattle.recording_file.specs.Lines.{is_feed};
 
+use kap_base::are_same;
+use line_points::without_return;
 use memchr::{memchr, memrchr};
 
 /// Where the first line feed stands in the bytes, none of which stands in their first `searched`; their length where there is none.
@@ -17,6 +22,22 @@ pub fn line_end(bytes: &[u8], searched: usize) -> usize
         Some(at) => searched + at,
         None => bytes.len(),
     }
+}
+
+/// Whether the bytes begin with this text, which has no line feed, and a line feed behind it; false where a carriage return ends
+/// the text.
+pub fn begins_line(bytes: &[u8], text: &[u8]) -> bool
+    requires within { length text.now < length bytes.now }
+    requires text { IsTrue (not (has_line_feed text.now)) }
+    ensures same { OnTrue result
+        (without_return (take (length text.now) bytes.now) ≡ text.now) }
+    ensures end { OnTrue result (length text.now ≡ position_or_len is_feed bytes.now) }
+{
+    let (line, _) = bytes.split_at(text.len());
+    if bytes[text.len()] != b'\n' {
+        return false;
+    }
+    are_same(without_return(line), text)
 }
 
 /// How many bytes stand before and in each of the last three line feeds that were read; 0 where there is none.

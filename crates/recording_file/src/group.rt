@@ -24,7 +24,10 @@ fn is_text(text: &Text, bytes: &[u8]) -> bool
 
 /// Sets the database or the policy to the one that a line gives, where it isn't that already.
 fn set_name(alloc: Global, line: &[u8], name: &mut Text) -> Result<(), LineFault>
+    requires line { IsTrue (not (has_line_feed line.now)) }
+    requires name { IsTrue (not (has_line_feed name.old)) }
     ensures set { OnOk result ((name_of_line line.now ≡ Ok name.new) × (name.new ≡ line.now)) }
+    ensures one_line { IsTrue (not (has_line_feed name.new)) }
     ensures fault { IfErr result (λ f. f ≢ LineFault.NoMemory → name_of_line line.now ≡ Err f) }
 {
     if line.len() > LINE_LIMIT {
@@ -104,9 +107,10 @@ fn pass_name<S: Source>(
     source: &mut S,
     name: &mut Text,
 ) -> Result<bool, RecFault>
+    requires { IsTrue (not (has_line_feed name.old)) }
     ensures reads { Reads lines.old lines.new (S.left source.old) (S.left source.new) }
     ensures name { IfOk result (λ more. OnTrue more (PassesName name.new lines.old lines.new)) }
-    ensures one_line { IfOk result (λ more. OnTrue more (IsTrue (not (has_line_feed name.new)))) }
+    ensures one_line { IsTrue (not (has_line_feed name.new)) }
     ensures count_rises { IfOk result (λ more. OnTrue more (CountRises lines.old lines.new)) }
     ensures line { IfOk result (λ more. OnTrue more (lines.new.line ≡ lines.old.line + 1)) }
     ensures held { (n : ℕ) → HoldsLines (1 + n) lines.old → source.new ≡ source.old }
@@ -117,6 +121,11 @@ fn pass_name<S: Source>(
     ensures fault { IfErr result (RefusesName lines.old lines.new) }
     ensures cause { HasReadCause (S.faults source.old) (S.faults source.new) result }
 {
+    let known = name.bytes();
+    if lines.begins_with(known) {
+        lines.advance(known.len());
+        return Ok(true);
+    }
     let Some(size) = lines.find(source)? else {
         return Ok(false);
     };
@@ -134,6 +143,8 @@ fn point_behind_database<S: Source>(
     rp: &mut Text,
 ) -> Result<Point, RecFault>
     requires db { IsTrue (not (has_line_feed db.now)) }
+    requires rp { IsTrue (not (has_line_feed rp.old)) }
+    ensures rp { IsTrue (not (has_line_feed rp.new)) }
     ensures reads { Reads lines.old lines.new (S.left source.old) (S.left source.new) }
     ensures point { IfOk result (GivesPoint (read_database db.now) lines.old lines.new) }
     ensures count_rises { OnOk result (CountRises lines.old lines.new) }
@@ -156,6 +167,10 @@ pub fn next_point<S: Source>(
     db: &mut Text,
     rp: &mut Text,
 ) -> Result<Option<Point>, RecFault>
+    requires db { IsTrue (not (has_line_feed db.old)) }
+    requires rp { IsTrue (not (has_line_feed rp.old)) }
+    ensures db { IsTrue (not (has_line_feed db.new)) }
+    ensures rp { IsTrue (not (has_line_feed rp.new)) }
     ensures reads { Reads lines.old lines.new (S.left source.old) (S.left source.new) }
     ensures point { IfOk result (λ o. IfSome o (GivesPoint read lines.old lines.new)) }
     ensures count_rises { IfOk result (λ o. OnSome o (CountRises lines.old lines.new)) }

@@ -2,13 +2,14 @@ ghost use Rattle.std.specs.Prelude.{◌≡◌, ◌≢◌, ◌⊎◌, false, ◌+
 ghost use Rattle.std.specs.Bool.{OnTrue, OnFalse};
 ghost use Rattle.std.specs.List.{position_or_len};
 ghost use Rattle.kap_base.specs.Texts.{has_line_feed};
+ghost use Rattle.line_points.specs.declared.line.TheConstants.{LINE_LIMIT};
 ghost use Rattle.line_points.specs.Body.{without_return};
 ghost use Rattle.recording_file.specs.Causes.{HasReadCause};
 ghost use Rattle.recording_file.specs.Lines.{is_feed, is_long};
 ghost use Rattle.recording_file.specs.Finding.{ReadPlace, Stays, room, IsLine, IsUndecided, FindsNone, HoldsLines, Passes};
 
 use crate::fault::RecFault;
-use crate::feeds::{LastFeeds, last_feeds, line_end};
+use crate::feeds::{LastFeeds, begins_line, last_feeds, line_end};
 use crate::got::GotBytes;
 use crate::window::Window;
 use kap_io::Source;
@@ -220,6 +221,23 @@ impl Lines {
             }
             searched = end;
         }
+    }
+
+    /// Whether the first line is this text, which has no line feed: it is there with its line feed, both may be passed, and it is
+    /// no longer than a line. False leaves it open.
+    pub fn begins_with(&self, text: &[u8]) -> bool
+        requires { IsTrue (not (has_line_feed text.now)) }
+        ensures line { OnTrue result (IsLine self.now (length text.now)) }
+        ensures same { OnTrue result
+            (without_return (take (length text.now) self.now.bytes) ≡ text.now) }
+        ensures short { OnTrue result (length text.now ≤ LINE_LIMIT) }
+    {
+        let size = text.len();
+        let held = self.window.bytes();
+        if held.len() <= size || self.room() <= size || LINE_LIMIT < size {
+            return false;
+        }
+        begins_line(held, text)
     }
 
     /// The first line, of this size.

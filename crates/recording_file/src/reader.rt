@@ -25,9 +25,10 @@ pub struct Reader {
 }
 
 impl Model for Reader {
-    ghost use Rattle.std.specs.Prelude.{◌≡◌, false};
+    ghost use Rattle.std.specs.Prelude.{◌≡◌, false, IsTrue, not};
     ghost use Rattle.std.specs.Coded.{codes};
     ghost use Rattle.kap_base.specs.Maps.{key_map_code};
+    ghost use Rattle.kap_base.specs.Texts.{has_line_feed};
     ghost use Rattle.recording_file.specs.Reading.{ReaderState};
     ghost use Rattle.recording_file.specs.Got.{points_of};
     ghost use Rattle.recording_file.specs.Steps.{StandsAt};
@@ -43,7 +44,10 @@ impl Model for Reader {
       spent = r.spent;
     } };
 
-    ghost invariant = { λ r. r.spent ≡ false → StandsAt (points_of r.given) r.lines };
+    ghost invariant = { λ r.
+        (r.spent ≡ false → StandsAt (points_of r.given) r.lines)
+        × IsTrue (not (has_line_feed r.db))
+        × IsTrue (not (has_line_feed r.rp)) };
 }
 
 impl Reader {

@@ -10,7 +10,7 @@ ghost use Rattle.select_nodes.specs.Steps.{choice_items};
 use crate::distinct::distinct;
 use crate::picks::{Pick, count, first, last};
 use crate::readings::{Rank, Reading, best, best_of, spread, sum};
-use kap_base::{NoMemory, Point, Value};
+use kap_base::{NoMemory, Point, Shared, Value};
 use std::alloc::Global;
 use task_graph::{Count, Select, SelectSpec};
 
@@ -73,7 +73,7 @@ fn timed_reading(point_times: bool, tmax: i64, reading: Reading) -> Pick
 }
 
 /// The first by rank of the integers at the field of points.
-fn timed_best(rank: Rank, spec: &SelectSpec, tmax: i64, points: &[Point]) -> Option<Pick>
+fn timed_best(rank: Rank, spec: &SelectSpec, tmax: i64, points: &[Shared<Point>]) -> Option<Pick>
     requires { IsTrue (is_time tmax) }
     ensures { result ≡ option_map (timed_reading spec.now.use_point_times tmax)
         (first (by_rank rank (readings_at spec.now.field points.now))) }
@@ -91,7 +91,7 @@ fn timed_best_of(
     count: Count,
     spec: &SelectSpec,
     tmax: i64,
-    points: &[Point],
+    points: &[Shared<Point>],
 ) -> Result<Vec<Pick>, NoMemory>
     requires { IsTrue (is_time tmax) }
     ensures { IfOk result (λ picks. picks.items ≡ map (timed_reading spec.now.use_point_times tmax)
@@ -109,7 +109,7 @@ pub(crate) fn choose(
     alloc: Global,
     spec: &SelectSpec,
     tmax: i64,
-    points: &[Point],
+    points: &[Shared<Point>],
 ) -> Result<Choice, NoMemory>
     requires { IsTrue (is_time tmax) }
     ensures { IfOk result (λ choice. choice_items choice ≡ chosen spec.now tmax points.now) }

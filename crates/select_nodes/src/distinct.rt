@@ -11,7 +11,7 @@ ghost use Rattle.select_nodes.specs.Picks.{values_at};
 ghost use Rattle.select_nodes.specs.Steps.{Told, is_seen, key_of, seen_key};
 
 use crate::picks::Pick;
-use kap_base::{Duplicate, NoMemory, Point, Text, Value};
+use kap_base::{Duplicate, NoMemory, Point, Shared, Text, Value};
 use std::alloc::Global;
 use std::collections::BTreeSet;
 
@@ -65,7 +65,7 @@ fn tell<'a>(
 /// The values at the field of points, each once, at its first place. It takes k log k steps for k points.
 pub(crate) fn distinct(
     alloc: Global,
-    points: &[Point],
+    points: &[Shared<Point>],
     field: &Text,
     tmax: i64,
 ) -> Result<Vec<Pick>, NoMemory>
@@ -76,7 +76,7 @@ pub(crate) fn distinct(
     let mut seen = BTreeSet::new(alloc);
     let mut picks = Vec::new(alloc);
     'telling: for point in points {
-        tell(alloc, &mut seen, &mut picks, point, field, tmax)?;
+        tell(alloc, &mut seen, &mut picks, point.value(), field, tmax)?;
     }
     Ok(picks)
 }

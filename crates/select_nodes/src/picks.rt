@@ -6,7 +6,7 @@ ghost use Rattle.std.specs.List.{last_or};
 ghost use Rattle.std.specs.Option.{option_to_list};
 ghost use Rattle.select_nodes.specs.Picks.{first, pick_at, picks_at, values_at};
 
-use kap_base::{Duplicate, NoMemory, Point, Text, Value};
+use kap_base::{Duplicate, NoMemory, Point, Shared, Text, Value};
 use std::alloc::Global;
 use std::marker::Model;
 
@@ -45,12 +45,16 @@ pub(crate) fn pick_at(alloc: Global, point: &Point, field: &Text) -> Result<Opti
 }
 
 /// The first of what stands at the field of points.
-pub(crate) fn first(alloc: Global, points: &[Point], field: &Text) -> Result<Option<Pick>, NoMemory>
+pub(crate) fn first(
+    alloc: Global,
+    points: &[Shared<Point>],
+    field: &Text,
+) -> Result<Option<Pick>, NoMemory>
     ensures { IfOk result (λ pick. pick ≡ first (picks_at field.now points.now)) }
 {
     let mut left = points;
     'seeking: while let Some((point, others)) = left.split_first() {
-        if let Some(pick) = pick_at(alloc, point, field)? {
+        if let Some(pick) = pick_at(alloc, point.value(), field)? {
             return Ok(Some(pick));
         }
         left = others;
@@ -59,12 +63,16 @@ pub(crate) fn first(alloc: Global, points: &[Point], field: &Text) -> Result<Opt
 }
 
 /// The last of what stands at the field of points.
-pub(crate) fn last(alloc: Global, points: &[Point], field: &Text) -> Result<Option<Pick>, NoMemory>
+pub(crate) fn last(
+    alloc: Global,
+    points: &[Shared<Point>],
+    field: &Text,
+) -> Result<Option<Pick>, NoMemory>
     ensures { IfOk result (λ pick. pick ≡ last_or None (picks_at field.now points.now)) }
 {
     let mut left = points;
     'seeking: while let Some((point, others)) = left.split_last() {
-        if let Some(pick) = pick_at(alloc, point, field)? {
+        if let Some(pick) = pick_at(alloc, point.value(), field)? {
             return Ok(Some(pick));
         }
         left = others;
@@ -87,18 +95,18 @@ fn counted(count: u64, point: &Point, field: &Text) -> Result<u64, NoMemory>
 }
 
 /// At how many points something stands at the field.
-fn count_all(points: &[Point], field: &Text) -> Result<u64, NoMemory>
+fn count_all(points: &[Shared<Point>], field: &Text) -> Result<u64, NoMemory>
     ensures { IfOk result (λ n. n ≡ length (values_at field.now points.now)) }
 {
     let mut count = 0;
     'counting: for point in points {
-        count = counted(count, point, field)?;
+        count = counted(count, point.value(), field)?;
     }
     Ok(count)
 }
 
 /// At how many points something stands at the field. A number that passes 63 bits is want of memory.
-pub(crate) fn count(points: &[Point], field: &Text) -> Result<i64, NoMemory>
+pub(crate) fn count(points: &[Shared<Point>], field: &Text) -> Result<i64, NoMemory>
     ensures { IfOk result (λ n. n ≡ pos (length (values_at field.now points.now))) }
 {
     match i64::try_from(count_all(points, field)?) {

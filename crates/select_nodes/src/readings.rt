@@ -8,7 +8,7 @@ ghost use Rattle.select_nodes.specs.Picks.{first, reading_at, readings_at};
 ghost use Rattle.select_nodes.specs.Ranks.{by_rank, goes_before};
 ghost use Rattle.select_nodes.specs.Steps.{added, better};
 
-use kap_base::{NoMemory, Point, Text, Value};
+use kap_base::{NoMemory, Point, Shared, Text, Value};
 use std::alloc::Global;
 use std::cmp::Ordering;
 use std::marker::Model;
@@ -61,12 +61,16 @@ fn reading_at(point: &Point, field: &Text) -> Option<Reading>
 }
 
 /// The integers at the field of points, in order.
-fn readings_at(alloc: Global, points: &[Point], field: &Text) -> Result<Vec<Reading>, NoMemory>
+fn readings_at(
+    alloc: Global,
+    points: &[Shared<Point>],
+    field: &Text,
+) -> Result<Vec<Reading>, NoMemory>
     ensures { IfOk result (λ readings. readings.items ≡ readings_at field.now points.now) }
 {
     let mut readings = Vec::new(alloc);
     'reading: for point in points {
-        if let Some(reading) = reading_at(point, field) {
+        if let Some(reading) = reading_at(point.value(), field) {
             readings.push(reading)?;
         }
     }
@@ -85,12 +89,12 @@ fn added(sum: Option<i64>, next: Option<Reading>) -> Option<i64>
 }
 
 /// The sum of the integers at the field of points, brought into 64 bits.
-pub(crate) fn sum(points: &[Point], field: &Text) -> Option<i64>
+pub(crate) fn sum(points: &[Shared<Point>], field: &Text) -> Option<i64>
     ensures { result ≡ sum_in (readings_at field.now points.now) }
 {
     let mut sum = None;
     'adding: for point in points {
-        sum = added(sum, reading_at(point, field));
+        sum = added(sum, reading_at(point.value(), field));
     }
     sum
 }
@@ -123,12 +127,12 @@ fn better(rank: Rank, best: Option<Reading>, next: Option<Reading>) -> Option<Re
 }
 
 /// The first by rank of the integers at the field of points, and of equal ones the one at the earliest place.
-pub(crate) fn best(rank: Rank, points: &[Point], field: &Text) -> Option<Reading>
+pub(crate) fn best(rank: Rank, points: &[Shared<Point>], field: &Text) -> Option<Reading>
     ensures { result ≡ first (by_rank rank (readings_at field.now points.now)) }
 {
     let mut best = None;
     'comparing: for point in points {
-        best = better(rank, best, reading_at(point, field));
+        best = better(rank, best, reading_at(point.value(), field));
     }
     best
 }
@@ -142,7 +146,7 @@ fn less(high: i64, low: i64) -> i64
 }
 
 /// The greatest of the integers at the field of points less the least, brought into 64 bits.
-pub(crate) fn spread(points: &[Point], field: &Text) -> Option<i64>
+pub(crate) fn spread(points: &[Shared<Point>], field: &Text) -> Option<i64>
     ensures { result ≡ spread_in (readings_at field.now points.now) }
 {
     let high = best(Rank::Highest, points, field)?;
@@ -174,7 +178,7 @@ pub(crate) fn best_of(
     alloc: Global,
     rank: Rank,
     count: u64,
-    points: &[Point],
+    points: &[Shared<Point>],
     field: &Text,
 ) -> Result<Vec<Reading>, NoMemory>
     ensures { IfOk result (λ best. best.items

@@ -9,7 +9,9 @@ use crate::cursor::Cursor;
 use crate::fault::CodeFault;
 use crate::fields::{put_i64, put_text};
 use crate::spelled::Spelled;
-use kap_base::{Bytes, Fields, Names, NoMemory, Point, Tags, Text, Value, are_dimensions, is_time};
+use kap_base::{
+    Bytes, Fields, Names, NoMemory, Point, Shared, Tags, Text, Value, are_dimensions, is_time,
+};
 use std::alloc::Global;
 
 fn is_tag(entry: &(Text, Text)) -> bool
@@ -146,5 +148,25 @@ impl Spelled for Point {
             by_name,
             time,
         })
+    }
+}
+
+/// The same, of a point that others may share.
+impl Spelled for Shared<Point> {
+    ghost fits = { FitsPoint };
+
+    ghost spell = { spell_point };
+
+    ghost read = { read_point };
+
+    ghost spelled = { point_spelled };
+
+    fn append_spelling(&self, to: &mut Bytes) -> Result<(), NoMemory> {
+        self.value().append_spelling(to)
+    }
+
+    fn read_spelling(alloc: Global, from: &mut Cursor) -> Result<Shared<Point>, CodeFault> {
+        let point = <Point as Spelled>::read_spelling(alloc, from)?;
+        Ok(Shared::new(alloc, point)?)
     }
 }

@@ -6,7 +6,9 @@ ghost use Rattle.kap_base.specs.Points.{is_time};
 ghost use Rattle.kap_base.specs.Texts.{is_measurement};
 ghost use Rattle.window_node.specs.Batches.{batch_of, last};
 
-use kap_base::{Batch, Body, Duplicate, Group, NoMemory, Point, Points, Shared, Text, group_of};
+use kap_base::{
+    Batch, Body, Duplicate, Group, NoMemory, Point, Shared, SharedPoints, Text, group_of,
+};
 use node_core::Said;
 use std::alloc::Global;
 
@@ -26,7 +28,7 @@ pub(crate) fn said_of(
     alloc: Global,
     frame: (Text, Group),
     tmax: i64,
-    points: Points,
+    points: SharedPoints,
 ) -> Result<Said, NoMemory>
     requires measurement { IsTrue (is_measurement frame.0) }
     requires tmax { IsTrue (is_time tmax) }
@@ -55,7 +57,7 @@ fn excess(len: usize, count: u64) -> usize
 }
 
 /// The last so many points, or all where there are no more. It takes no time where all stay.
-pub(crate) fn last_points(points: Points, count: u64) -> Points
+pub(crate) fn last_points(points: SharedPoints, count: u64) -> SharedPoints
     ensures { result ≡ last count points }
 {
     let excess = excess(points.len(), count);
@@ -64,11 +66,15 @@ pub(crate) fn last_points(points: Points, count: u64) -> Points
     }
     let mut items = points.into_items();
     items.drain(..excess);
-    Points::from_items(items)
+    SharedPoints::from_items(items)
 }
 
 /// Copies of the last so many points, or of all where there are no more.
-pub(crate) fn last_copies(alloc: Global, points: &[Point], count: u64) -> Result<Points, NoMemory>
+pub(crate) fn last_copies(
+    alloc: Global,
+    points: &[Shared<Point>],
+    count: u64,
+) -> Result<SharedPoints, NoMemory>
     ensures { IfOk result (λ copies. copies ≡ last count points.now) }
 {
     let (_, rest) = points.split_at(excess(points.len(), count));
@@ -76,5 +82,5 @@ pub(crate) fn last_copies(alloc: Global, points: &[Point], count: u64) -> Result
     'copying: for point in rest {
         copies.push(point.copy(alloc)?)?;
     }
-    Ok(Points::from_items(copies))
+    Ok(SharedPoints::from_items(copies))
 }

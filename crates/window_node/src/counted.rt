@@ -7,7 +7,7 @@ ghost use Rattle.window_node.specs.CountedLaws.{counted_goes_on};
 ghost use Rattle.window_node.specs.States.{FitsCounted, counted_spelled, read_counted, spell_counted};
 
 use crate::batches::{frame_of, last_copies, last_points, said_of};
-use kap_base::{Bytes, NoMemory, Point, Points, Shared};
+use kap_base::{Bytes, NoMemory, Point, Shared, SharedPoints};
 use node_core::{Rule, Said};
 use state_code::{CodeFault, Cursor, Spelled};
 use std::alloc::Global;
@@ -30,7 +30,7 @@ pub struct CountedWindow {
 #[derive(Drop)]
 pub struct CountedGroup {
     seen: u64,
-    live: Points,
+    live: SharedPoints,
 }
 
 impl Model for CountedGroup {
@@ -52,7 +52,7 @@ impl CountedGroup {
     {
         CountedGroup {
             seen: 0,
-            live: Points::new(alloc),
+            live: SharedPoints::new(alloc),
         }
     }
 }
@@ -103,16 +103,16 @@ fn give(
     alloc: Global,
     window: &CountedWindow,
     number: u64,
-    points: Points,
-    point: Point,
-) -> Result<(Points, Said), NoMemory>
+    points: SharedPoints,
+    point: Shared<Point>,
+) -> Result<(SharedPoints, Said), NoMemory>
     ensures live { IfOk result (λ r. r.0
         ≡ last (kept_count window.now number) (points ++ point ∷ [])) }
     ensures said { IfOk result (λ r. r.1 ≡ batch_at point point.time
         (last window.now.period_count (points ++ point ∷ []))) }
 {
-    let frame = frame_of(alloc, &point)?;
-    let time = point.time;
+    let frame = frame_of(alloc, point.value())?;
+    let time = point.value().time;
     let mut points = points;
     points.push(point)?;
     let live = last_copies(alloc, points.as_slice(), window.kept_count(number))?;
@@ -125,7 +125,7 @@ fn go_on(
     alloc: Global,
     window: &CountedWindow,
     group: CountedGroup,
-    point: Point,
+    point: Shared<Point>,
 ) -> Result<(CountedGroup, Said), NoMemory>
     ensures group { IfOk result (λ r. r.0 ≡ (counted_step window.now group 0 point).state) }
     ensures said { IfOk result (λ r. r.1 ≡ (counted_step window.now group 0 point).said) }
@@ -160,7 +160,7 @@ impl Spelled for CountedGroup {
 
     fn read_spelling(alloc: Global, from: &mut Cursor) -> Result<CountedGroup, CodeFault> {
         let seen = <u64 as Spelled>::read_spelling(alloc, from)?;
-        let live = <Points as Spelled>::read_spelling(alloc, from)?;
+        let live = <SharedPoints as Spelled>::read_spelling(alloc, from)?;
         Ok(CountedGroup { seen, live })
     }
 }
@@ -190,7 +190,6 @@ impl Rule for CountedWindow {
         point: Shared<Point>,
     ) -> Result<Said, NoMemory> {
         let _ = port;
-        let point = point.into_value(alloc)?;
         let group = mem::replace(cell, CountedGroup::new(alloc));
         let (group, said) = go_on(alloc, self, group, point)?;
         *cell = group;

@@ -12,7 +12,7 @@ ghost use Rattle.window_node.specs.States.{FitsEdge, edge_spelled, is_edge, read
 
 use crate::batches::{frame_of, said_of};
 use crate::spans::{nanos_of, time_behind};
-use kap_base::{Bytes, Duplicate, NoMemory, Point, Points, Shared, trunc};
+use kap_base::{Bytes, Duplicate, NoMemory, Point, Shared, SharedPoints, trunc};
 use node_core::{Rule, Said};
 use state_code::{CodeFault, Cursor, Spelled};
 use std::alloc::Global;
@@ -42,7 +42,7 @@ pub struct EdgeWindow {
 pub struct EdgeGroup {
     first: i64,
     edge: i128,
-    live: Points,
+    live: SharedPoints,
 }
 
 impl Model for EdgeGroup {
@@ -148,28 +148,38 @@ impl EdgeWindow {
 }
 
 /// Puts a point behind the live ones, where the edge or a later one can take it.
-fn keep(window: &EdgeWindow, edge: i128, live: &mut Points, point: Point) -> Result<(), NoMemory>
+fn keep(
+    window: &EdgeWindow,
+    edge: i128,
+    live: &mut SharedPoints,
+    point: Shared<Point>,
+) -> Result<(), NoMemory>
     ensures { OnOk result (live.new ≡ live.old ++ filter (is_live window.now edge) (point ∷ [])) }
 {
-    if window.is_live(edge, point.time) {
+    if window.is_live(edge, point.value().time) {
         return live.push(point);
     }
     Ok(())
 }
 
 /// A group with its first point.
-fn opened(alloc: Global, window: &EdgeWindow, point: Point) -> Result<EdgeGroup, NoMemory>
+fn opened(alloc: Global, window: &EdgeWindow, point: Shared<Point>) -> Result<EdgeGroup, NoMemory>
     ensures { IfOk result (λ group. group ≡ opened window.now point) }
 {
-    let first = point.time;
+    let first = point.value().time;
     let edge = window.first_edge(first);
-    let mut live = Points::new(alloc);
+    let mut live = SharedPoints::new(alloc);
     keep(window, edge, &mut live, point)?;
     Ok(EdgeGroup { first, edge, live })
 }
 
 /// Copies a point into a batch, where that takes it.
-fn copy_into(alloc: Global, taken: bool, point: &Point, batch: &mut Points) -> Result<(), NoMemory>
+fn copy_into(
+    alloc: Global,
+    taken: bool,
+    point: &Shared<Point>,
+    batch: &mut SharedPoints,
+) -> Result<(), NoMemory>
     ensures { OnOk result
         (batch.new ≡ batch.old ++ (if taken then point.now ∷ [] else [])) }
 {
@@ -186,17 +196,17 @@ fn deal(
     window: &EdgeWindow,
     edge: i128,
     next: i128,
-    point: Point,
-    batch: &mut Points,
-    live: &mut Points,
+    point: Shared<Point>,
+    batch: &mut SharedPoints,
+    live: &mut SharedPoints,
 ) -> Result<(), NoMemory>
     ensures batch { OnOk result
         (batch.new ≡ batch.old ++ filter (takes window.now edge) (point ∷ [])) }
     ensures live { OnOk result
         (live.new ≡ live.old ++ filter (is_live window.now next) (point ∷ [])) }
 {
-    let taken = window.takes(edge, point.time);
-    if !window.is_live(next, point.time) {
+    let taken = window.takes(edge, point.value().time);
+    if !window.is_live(next, point.value().time) {
         if taken {
             return batch.push(point);
         }
@@ -206,19 +216,21 @@ fn deal(
     live.push(point)
 }
 
-/// Parts the live points at an edge: those that its batch takes, and those that the next edge can take.
+/// Parts the live points at an edge: those that its batch takes, and those that the next edge can take. Both get room for as many
+/// as there were: the next window may have as many.
 fn part(
     alloc: Global,
     window: &EdgeWindow,
     edge: i128,
     next: i128,
-    points: Points,
-) -> Result<(Points, Points), NoMemory>
+    points: SharedPoints,
+) -> Result<(SharedPoints, SharedPoints), NoMemory>
     ensures batch { IfOk result (λ parts. parts.0 ≡ filter (takes window.now edge) points) }
     ensures live { IfOk result (λ parts. parts.1 ≡ filter (is_live window.now next) points) }
 {
-    let mut batch = Points::new(alloc);
-    let mut live = Points::new(alloc);
+    let room = points.len();
+    let mut batch = SharedPoints::from_items(Vec::with_capacity(alloc, room)?);
+    let mut live = SharedPoints::from_items(Vec::with_capacity(alloc, room)?);
     'parting: for point in points.into_items() {
         deal(alloc, window, edge, next, point, &mut batch, &mut live)?;
     }
@@ -242,7 +254,7 @@ fn pass_edge(
     alloc: Global,
     window: &EdgeWindow,
     group: EdgeGroup,
-    point: Point,
+    point: Shared<Point>,
 ) -> Result<(EdgeGroup, Said), NoMemory>
     requires { group.edge ≤ℤ point.time }
     ensures group { IfOk result (λ r. r.0 ≡ passed window.now group point) }
@@ -250,10 +262,10 @@ fn pass_edge(
         ≡ batch_at point group.edge (filter (takes window.now group.edge) group.live)) }
 {
     let EdgeGroup { first, edge, live } = group;
-    let tmax = tmax_of(edge, point.time);
-    let next = window.following(point.time);
+    let tmax = tmax_of(edge, point.value().time);
+    let next = window.following(point.value().time);
     let (batch, mut live) = part(alloc, window, edge, next, live)?;
-    let frame = frame_of(alloc, &point)?;
+    let frame = frame_of(alloc, point.value())?;
     let said = said_of(alloc, frame, tmax, batch)?;
     keep(window, next, &mut live, point)?;
     let group = EdgeGroup {
@@ -270,12 +282,12 @@ fn go_on(
     alloc: Global,
     window: &EdgeWindow,
     group: EdgeGroup,
-    point: Point,
+    point: Shared<Point>,
 ) -> Result<(EdgeGroup, Said), NoMemory>
     ensures group { IfOk result (λ r. r.0 ≡ moved window.now group point) }
     ensures said { IfOk result (λ r. r.1 ≡ emitted window.now group.edge point group.live) }
 {
-    if group.edge <= i128::from(point.time) {
+    if group.edge <= i128::from(point.value().time) {
         let (group, said) = pass_edge(alloc, window, group, point)?;
         return Ok((group, said));
     }
@@ -307,7 +319,7 @@ impl Spelled for EdgeGroup {
     fn read_spelling(alloc: Global, from: &mut Cursor) -> Result<EdgeGroup, CodeFault> {
         let first = <i64 as Spelled>::read_spelling(alloc, from)?;
         let edge = <i128 as Spelled>::read_spelling(alloc, from)?;
-        let live = <Points as Spelled>::read_spelling(alloc, from)?;
+        let live = <SharedPoints as Spelled>::read_spelling(alloc, from)?;
         if edge < LEAST_EDGE {
             return Err(CodeFault::At(from.offset()));
         }
@@ -361,7 +373,6 @@ impl Rule for EdgeWindow {
         point: Shared<Point>,
     ) -> Result<Said, NoMemory> {
         let _ = port;
-        let point = point.into_value(alloc)?;
         match cell.group.take() {
             None => {
                 cell.group = Some(opened(alloc, self, point)?);

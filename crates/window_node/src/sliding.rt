@@ -12,7 +12,7 @@ ghost use Rattle.window_node.specs.States.{FitsSliding, read_sliding, sliding_sp
 
 use crate::batches::{frame_of, said_of};
 use crate::spans::time_behind;
-use kap_base::{Bytes, Duplicate, NoMemory, Point, Points, Shared, is_time};
+use kap_base::{Bytes, Duplicate, NoMemory, Point, Shared, SharedPoints, is_time};
 use node_core::{Rule, Said};
 use state_code::{CodeFault, Cursor, Spelled};
 use std::alloc::Global;
@@ -35,7 +35,7 @@ pub struct SlidingWindow {
 pub struct SlidingGroup {
     first: i64,
     high: i64,
-    live: Points,
+    live: SharedPoints,
 }
 
 impl Model for SlidingGroup {
@@ -110,31 +110,36 @@ fn greater(a: i64, b: i64) -> i64
 }
 
 /// Puts a point behind the live ones where no batch is given yet, if a later one can take it.
-fn keep(window: &SlidingWindow, first: i64, live: &mut Points, point: Point) -> Result<(), NoMemory>
+fn keep(
+    window: &SlidingWindow,
+    first: i64,
+    live: &mut SharedPoints,
+    point: Shared<Point>,
+) -> Result<(), NoMemory>
     ensures { OnOk result (live.new
         ≡ live.old ++ filter (is_near window.now (first +ℤ pos window.now.period)) (point ∷ [])) }
 {
     let full = time_behind(first, &window.period);
-    if window.is_near(full, point.time) {
+    if window.is_near(full, point.value().time) {
         return live.push(point);
     }
     Ok(())
 }
 
 /// Leaves the points near the greatest time.
-fn retain_near(window: &SlidingWindow, high: i64, items: &mut Vec<Point>)
+fn retain_near(window: &SlidingWindow, high: i64, items: &mut Vec<Shared<Point>>)
     ensures { items.new.items ≡ filter (is_near window.now high) items.old.items }
 {
-    items.retain(|point| window.is_near(i128::from(high), point.time));
+    items.retain(|point| window.is_near(i128::from(high), point.value().time));
 }
 
 /// The points near the greatest time.
-fn near_points(window: &SlidingWindow, high: i64, points: Points) -> Points
+fn near_points(window: &SlidingWindow, high: i64, points: SharedPoints) -> SharedPoints
     ensures { result ≡ filter (is_near window.now high) points }
 {
     let mut items = points.into_items();
     retain_near(window, high, &mut items);
-    Points::from_items(items)
+    SharedPoints::from_items(items)
 }
 
 /// Takes a point at which a batch is given.
@@ -142,16 +147,16 @@ fn give(
     alloc: Global,
     window: &SlidingWindow,
     high: i64,
-    points: Points,
-    point: Point,
-) -> Result<(Points, Said), NoMemory>
+    points: SharedPoints,
+    point: Shared<Point>,
+) -> Result<(SharedPoints, Said), NoMemory>
     requires { IsTrue (is_time high) }
     ensures live { IfOk result (λ r. r.0
         ≡ filter (is_near window.now high) (points ++ point ∷ [])) }
     ensures said { IfOk result (λ r. r.1
         ≡ batch_at point high (filter (is_near window.now high) (points ++ point ∷ []))) }
 {
-    let frame = frame_of(alloc, &point)?;
+    let frame = frame_of(alloc, point.value())?;
     let mut points = points;
     points.push(point)?;
     let live = near_points(window, high, points);
@@ -164,13 +169,13 @@ fn go_on(
     alloc: Global,
     window: &SlidingWindow,
     group: SlidingGroup,
-    point: Point,
+    point: Shared<Point>,
 ) -> Result<(SlidingGroup, Said), NoMemory>
     ensures group { IfOk result (λ r. r.0 ≡ slid_on window.now group point) }
     ensures said { IfOk result (λ r. r.1 ≡ slid window.now group.first
         (int_max group.high point.time) point (group.live ++ point ∷ [])) }
 {
-    let high = greater(group.high, point.time);
+    let high = greater(group.high, point.value().time);
     let SlidingGroup {
         first,
         mut live,
@@ -192,7 +197,7 @@ fn started(alloc: Global, time: i64) -> SlidingGroup
     SlidingGroup {
         first: time,
         high: time,
-        live: Points::new(alloc),
+        live: SharedPoints::new(alloc),
     }
 }
 
@@ -215,7 +220,7 @@ impl Spelled for SlidingGroup {
     fn read_spelling(alloc: Global, from: &mut Cursor) -> Result<SlidingGroup, CodeFault> {
         let first = <i64 as Spelled>::read_spelling(alloc, from)?;
         let high = <i64 as Spelled>::read_spelling(alloc, from)?;
-        let live = <Points as Spelled>::read_spelling(alloc, from)?;
+        let live = <SharedPoints as Spelled>::read_spelling(alloc, from)?;
         if !is_time(high) {
             return Err(CodeFault::At(from.offset()));
         }
@@ -269,9 +274,8 @@ impl Rule for SlidingWindow {
         point: Shared<Point>,
     ) -> Result<Said, NoMemory> {
         let _ = port;
-        let point = point.into_value(alloc)?;
         let group = match cell.group.take() {
-            None => started(alloc, point.time),
+            None => started(alloc, point.value().time),
             Some(group) => group,
         };
         let (group, said) = go_on(alloc, self, group, point)?;

@@ -1,6 +1,6 @@
 use Rattle.std.proofs.Common.{[], sym}
 use Rattle.node_core.proofs.CellLaws.{found_cell, new_cell}
-use Rattle.node_core.proofs.table.cell_at.Goals as goal
+use Rattle.node_core.proofs.table.hashed_at.Goals as goal
 
 pub returns-in-Some-clause-ok : goal.returns-in-Some-clause-ok
 returns-in-Some-clause-ok g c = found_cell c.args.cells.now c.args.key.now c.in-Some.at (g.R.Rule.kept c.args.rule.now []) c.get_index_of.ensures.unique (sym c.in-Some.ensures.index) c.in-Some.ensures.value c.in-Some.ensures.found
