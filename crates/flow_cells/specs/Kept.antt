@@ -1,5 +1,5 @@
 -- What a cell keeps by itself, whoever moves it.
-use Rattle.std.specs.Prelude.{◌≡◌, ◌≤◌, List, [], ◌∷◌, ◌++◌, map, length, None}
+use Rattle.std.specs.Prelude.{◌≡◌, ◌≤◌, true, List, [], ◌∷◌, ◌++◌, map, length, None}
 use Rattle.std.specs.List.{AllByRecursion as Each}
 use Rattle.kap_base.specs.declared.items.Effect.{Effect}
 use Rattle.kap_base.specs.declared.items.Msg.{Msg}
@@ -29,6 +29,10 @@ received_of [] source = source ∷ []
 received_of (e ∷ ins) source = map (λ (i : InEdge). received i.head) (e ∷ ins)
 
 module _ {N P S : Type 0} (g : Ghosts N P S) where
+  -- what is saved is the state
+  abbrev pub HasSaved : Core N → Type 0
+  HasSaved c = (c.saved ≡ g.spell (g.spec c.node) (g.state c.node)) × g.fits (g.spec c.node) (g.state c.node)
+
   -- the core of a node of this spec stands where a run stands
   pub record IsAt (p : P) (r : Run S) (c : Core N) : Type 0 where
     pub spec : g.spec c.node ≡ p
@@ -38,6 +42,7 @@ module _ {N P S : Type 0} (g : Ghosts N P S) where
     pub saved : c.saved ≡ g.spell p r.saved
     pub fits : g.fits p r.saved
     pub passed : c.passed ≡ r.passed
+    pub clean : c.clean ≡ true → HasSaved c
 
   -- the run of a core on what was handled since the load
   abbrev pub run_of : Core N → List Entry → Run S

@@ -12,6 +12,7 @@ use Rattle.flow_cells.specs.declared.parts.InEdge.{InEdge}
 use Rattle.flow_cells.specs.declared.parts.Core.{Core}
 use Rattle.flow_cells.specs.Runs.{begun}
 use Rattle.flow_cells.specs.Kept.{IsAt, IsGiven, KeptBy, received_of, run_of}
+use Rattle.flow_cells.specs.MoveLaws.{kept-clean}
 use Rattle.flow_cells.specs.Made.{IsFresh, IsMadeBehind, IsNothing, IsUnused, one_or_more}
 
 fresh-heads : (ins : List InEdge) → Each IsFresh ins → map (λ (i : InEdge). received i.head) ins ≡ replicate (length ins) []
@@ -78,6 +79,7 @@ module _ {N P S : Type 0} (g : Ghosts N P S) where
     saved = m.saved ∙ ap (λ (x : N). g.spell (g.spec x) (g.state x)) (sym m.node);
     fits = subst (λ (x : N). g.fits (g.spec x) (g.state x)) (sym m.node) m.fits;
     passed = refl;
+    clean = λ _. (m.saved ∙ ap (λ (x : N). g.spell (g.spec x) (g.state x)) (sym m.node), subst (λ (x : N). g.fits (g.spec x) (g.state x)) (sym m.node) m.fits);
   })
 
   -- the core of a cell that is made keeps what a cell keeps
@@ -96,8 +98,8 @@ module _ {N P S : Type 0} (g : Ghosts N P S) where
 
   -- an out more, where nothing was received since the load
   pub out-keeps : (base : Core N) (ins : List InEdge) (source : List Msg) (buffer : Lists) (c c' : Core N) (o : OutEdge) → KeptBy g base (received_of ins source) buffer c → Each IsNothing (received_of ins source) → IsUnused o
-      → c'.node ≡ c.node → c'.gathered ≡ c.gathered → c'.effects ≡ c.effects → c'.saved ≡ c.saved → c'.passed ≡ c.passed → c'.outs.items ≡ c.outs.items ++ o ∷ [] → KeptBy g base (received_of ins source) buffer c'
-  out-keeps base ins source buffer c c' o k nothing unused node gathered effects saved passed outs =
+      → c'.node ≡ c.node → c'.gathered ≡ c.gathered → c'.effects ≡ c.effects → c'.saved ≡ c.saved → c'.passed ≡ c.passed → c'.clean ≡ c.clean → c'.outs.items ≡ c.outs.items ++ o ∷ [] → KeptBy g base (received_of ins source) buffer c'
+  out-keeps base ins source buffer c c' o k nothing unused node gathered effects saved passed clean outs =
       let none : k.handled ≡ [] = merges-nothing (received_of ins source) buffer k.handled (received-next ins source nothing) k.merged in
       let at : IsAt g (g.spec base.node) (run_of g base []) c = subst (λ (ms : List Entry). IsAt g (g.spec base.node) (run_of g base ms) c) none k.at in
       record {
@@ -112,6 +114,7 @@ module _ {N P S : Type 0} (g : Ghosts N P S) where
           saved = saved ∙ at.saved;
           fits = at.fits;
           passed = passed ∙ at.passed;
+          clean = kept-clean g c c' node saved clean at.clean;
         };
         ports = k.ports;
       }

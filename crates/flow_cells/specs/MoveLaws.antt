@@ -1,5 +1,5 @@
 -- How the moves of a cell keep what it keeps.
-use Rattle.std.proofs.Common.{◌≡◌, ℕ, zero, suc, ◌<◌, ◌≤◌, List, [], ◌∷◌, ◌++◌, map, length, get_or, set, Option, Some, None, refl, sym, ap, subst, ◌∙◌, append_assoc, arith}
+use Rattle.std.proofs.Common.{◌≡◌, ℕ, zero, suc, ◌<◌, ◌≤◌, List, [], ◌∷◌, ◌++◌, map, length, get_or, set, Option, Some, None, true, refl, sym, ap, subst, ◌∙◌, append_assoc, arith}
 use Rattle.std.specs.Prelude.{slice_get}
 use Rattle.std.specs.List.{AllByRecursion as Each}
 use Rattle.kap_base.specs.declared.items.Msg.{Msg}
@@ -14,7 +14,7 @@ use Rattle.flow_cells.specs.declared.parts.InEdge.{InEdge}
 use Rattle.flow_cells.specs.declared.parts.Core.{Core}
 use Rattle.flow_cells.specs.Outs.{LooksOn, SendsOn}
 use Rattle.flow_cells.specs.Runs.{Run, begun, run}
-use Rattle.flow_cells.specs.Kept.{IsAt, IsGiven, KeptBy, received_of, run_of}
+use Rattle.flow_cells.specs.Kept.{HasSaved, IsAt, IsGiven, KeptBy, received_of, run_of}
 use Rattle.flow_cells.specs.Handled.{Handles}
 use Rattle.flow_cells.specs.HandledLaws.{run-append}
 use Rattle.flow_cells.specs.Moves.{Eases, Still}
@@ -89,10 +89,16 @@ module _ {N P S : Type 0} (g : Ghosts N P S) where
         ports = omega (arith, long, bound);
       }
 
+  -- where the node, what is saved and whether that is the state are as before, it is the state where it was
+  pub kept-clean : (c c' : Core N) → c'.node ≡ c.node → c'.saved ≡ c.saved → c'.clean ≡ c.clean → (c.clean ≡ true → HasSaved g c) → c'.clean ≡ true → HasSaved g c'
+  kept-clean c c' node saved clean h is =
+      let has : HasSaved g c = h (sym clean ∙ is) in
+      (saved ∙ has.0 ∙ ap (λ (x : N). g.spell (g.spec x) (g.state x)) (sym node), subst (λ (x : N). g.fits (g.spec x) (g.state x)) (sym node) has.1)
+
   -- what was given out stays given out
-  pub kept-outs : (base : Core N) (lists buffer : Lists) (c c' : Core N) → (k : KeptBy g base lists buffer c) → c'.node ≡ c.node → c'.gathered ≡ c.gathered → c'.effects ≡ c.effects → c'.saved ≡ c.saved → c'.passed ≡ c.passed
+  pub kept-outs : (base : Core N) (lists buffer : Lists) (c c' : Core N) → (k : KeptBy g base lists buffer c) → c'.node ≡ c.node → c'.gathered ≡ c.gathered → c'.effects ≡ c.effects → c'.saved ≡ c.saved → c'.passed ≡ c.passed → c'.clean ≡ c.clean
       → ((given : List Msg) → Each (IsGiven given) c.outs.items → Each (IsGiven given) c'.outs.items) → KeptBy g base lists buffer c'
-  kept-outs base lists buffer c c' k node gathered effects saved passed outs = record {
+  kept-outs base lists buffer c c' k node gathered effects saved passed clean outs = record {
     handled = k.handled;
     merged = k.merged;
     stuck = k.stuck;
@@ -104,6 +110,7 @@ module _ {N P S : Type 0} (g : Ghosts N P S) where
       saved = saved ∙ k.at.saved;
       fits = k.at.fits;
       passed = passed ∙ k.at.passed;
+      clean = kept-clean c c' node saved clean k.at.clean;
     };
     ports = k.ports;
   }

@@ -11,7 +11,7 @@ use Rattle.merge_node.specs.Merge.{Lists}
 use Rattle.flow_cells.specs.Kept.{IsGiven, KeptBy, gathered, run_of}
 use Rattle.flow_cells.specs.Moves.{Eases}
 use Rattle.flow_cells.specs.OutLaws.{each-set, each-at}
-use Rattle.flow_cells.specs.MoveLaws.{some-value}
+use Rattle.flow_cells.specs.MoveLaws.{kept-clean, some-value}
 
 -- what stands at a place
 pub got : {A : Type 0} (xs : List A) (i : ℕ) (x d : A) → slice_get xs i ≡ Some x → get_or xs i d ≡ x
@@ -39,9 +39,9 @@ given-set given outs i a b lt here e all =
 
 module _ {N P S : Type 0} (g : Ghosts N P S) where
   -- effects that are gathered are still those that were given
-  pub kept-gathered : (base : Core N) (lists buffer : Lists) (c c' : Core N) → (k : KeptBy g base lists buffer c) → c'.node ≡ c.node → c'.outs ≡ c.outs → c'.saved ≡ c.saved → c'.passed ≡ c.passed
+  pub kept-gathered : (base : Core N) (lists buffer : Lists) (c c' : Core N) → (k : KeptBy g base lists buffer c) → c'.node ≡ c.node → c'.outs ≡ c.outs → c'.saved ≡ c.saved → c'.passed ≡ c.passed → c'.clean ≡ c.clean
       → gathered c'.gathered ++ c'.effects ≡ gathered c.gathered ++ c.effects → KeptBy g base lists buffer c'
-  kept-gathered base lists buffer c c' k node outs saved passed effects = record {
+  kept-gathered base lists buffer c c' k node outs saved passed clean effects = record {
     handled = k.handled;
     merged = k.merged;
     stuck = k.stuck;
@@ -53,6 +53,7 @@ module _ {N P S : Type 0} (g : Ghosts N P S) where
       saved = saved ∙ k.at.saved;
       fits = k.at.fits;
       passed = passed ∙ k.at.passed;
+      clean = kept-clean g c c' node saved clean k.at.clean;
     };
     ports = k.ports;
   }

@@ -31,6 +31,10 @@ fn take_all(alloc: Global, effects: &mut Effects) -> Effects
 fn push_effects(to: &mut Effects, effects: Effects) -> Result<(), NoMemory>
     ensures { OnOk result (to.new ≡ to.old ++ effects) }
 {
+    if to.is_empty() {
+        *to = effects;
+        return Ok(());
+    }
     let mut rest = effects.into_items();
     rest.reverse();
     'pushing: while let Some(effect) = rest.pop() {

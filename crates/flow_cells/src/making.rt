@@ -35,6 +35,7 @@ fn make_core<N: Node>(alloc: Global, node: N, passed: Stamp) -> Result<Core<N>, 
         effects: Effects::new(alloc),
         saved,
         passed,
+        clean: true,
     })
 }
 

@@ -57,6 +57,8 @@ pub struct Core<N> {
     pub saved: Bytes,
     /// The stamp of that barrier.
     pub passed: Stamp,
+    /// Whether nothing was fed to the node since, so that what is saved is its state.
+    pub clean: bool,
 }
 
 /// A core with its inputs.

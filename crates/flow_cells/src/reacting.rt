@@ -25,6 +25,7 @@ impl<N: Node> Core<N> {
     {
         let mut given = mem::replace(&mut self.given, Items::new(alloc));
         given.clear();
+        self.clean = false;
         self.node
             .feed(alloc, parent, item, &mut given, &mut self.effects)?;
         self.given = push_items(alloc, &mut self.outs, given)?;
@@ -42,6 +43,7 @@ impl<N: Node> Core<N> {
         self.saved.clear();
         self.node.save(&mut self.saved)?;
         self.passed = stamp;
+        self.clean = true;
         push_each(alloc, &mut self.outs, Msg::Barrier(stamp))?;
         Ok(())
     }

@@ -192,6 +192,13 @@ impl<V: Drop> KeyMap<V> {
         })
     }
 
+    /// Its entries, in byte order of the keys.
+    pub fn into_entries(self) -> Vec<(Text, V)>
+        ensures { result.items ≡ map.entries self }
+    {
+        self.entries
+    }
+
     /// The map of these entries, or None exactly where their keys don't rise.
     pub fn from_rising(entries: Vec<(Text, V)>) -> Option<KeyMap<V>>
         ensures rises { is_some result ≡ map.is_sorted byte_order entries.items }

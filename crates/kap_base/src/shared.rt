@@ -1,7 +1,7 @@
 //! Values with many owners. A point is handed on by many nodes and kept once; what a name of a script stands for is used many
 //! times and kept once.
 
-ghost use Rattle.std.specs.Prelude.{◌≡◌, IfOk, IsTrue, nat_eq};
+ghost use Rattle.std.specs.Prelude.{◌≡◌, IfOk, IfSome, IsTrue, nat_eq};
 ghost use Rattle.std.specs.Cmp.{partial_equiv_from_equiv};
 ghost use Rattle.std.specs.Cmp.Lexicographic.{nat_list_eq_equiv, pointwise};
 ghost use Rattle.kap_base.specs.Points.{are_dimensions};
@@ -15,6 +15,7 @@ use crate::point::Point;
 use crate::text::Text;
 use std::alloc::Global;
 use std::marker::Model;
+use std::mem;
 use std::sync::Arc;
 
 /// A value that many owners share, which contracts see as the value. A copy is one owner more, and takes no room.
@@ -44,6 +45,22 @@ impl<T: Drop> Shared<T> {
         ensures { result.now ≡ self.now }
     {
         &self.value
+    }
+}
+
+impl<T: Drop> Shared<T> {
+    /// Another value with one owner: in the place of this one, which is given back, where nobody else has it, and else in a new
+    /// place.
+    pub fn replace(self, alloc: Global, value: T) -> Result<(Shared<T>, Option<T>), NoMemory>
+        ensures new { IfOk result (λ placed. placed.0 ≡ value) }
+        ensures old { IfOk result (λ placed. IfSome placed.1 (λ old. old ≡ self)) }
+    {
+        let mut place = self.value;
+        if let Some(held) = Arc::get_mut(&mut place) {
+            let old = mem::replace(held, value);
+            return Ok((Shared { value: place }, Some(old)));
+        }
+        Ok((Shared::new(alloc, value)?, None))
     }
 }
 

@@ -87,12 +87,19 @@ fn replay_pairs<
     let mut ready: Ready<N> = Ready {
         names: Vec::new(alloc),
         plans: Vec::new(alloc),
+        changes: false,
     };
     match add_tasks(alloc, 1, words, &mut ready, pats) {
         Ok(()) => {
-            let Ready { names, plans } = ready;
+            let Ready {
+                names,
+                plans,
+                changes,
+            } = ready;
             let way = way_of(rt, gate, options, plans.len());
-            replay(alloc, options, &names, plans, &way, input, out, ran)
+            replay(
+                alloc, options, &names, plans, !changes, &way, input, out, ran,
+            )
         }
         Err(status) => status,
     }

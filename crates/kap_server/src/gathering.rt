@@ -59,7 +59,6 @@ pub(crate) fn gather<S: Source>(
                 });
             }
         };
-        let point = Shared::new(alloc, point)?;
         points.push(point)?;
         if limit <= points.len() || !reader.holds_point() {
             return Ok(Epoch {

@@ -83,10 +83,11 @@ pub(crate) fn write_summary<
     let mut ready: Ready<N> = Ready {
         names: Vec::new(alloc),
         plans: Vec::new(alloc),
+        changes: false,
     };
     match add_tasks(alloc, 1, words, &mut ready, pats) {
         Ok(()) => {
-            let Ready { names, plans } = ready;
+            let Ready { names, plans, .. } = ready;
             let options = no_options();
             let way = way_of(rt, gate, options, plans.len());
             match summarize(alloc, count, &names, plans, capacity_of(options), &way) {

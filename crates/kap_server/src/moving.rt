@@ -6,7 +6,7 @@ use crate::options::{ReplayOptions, workers_of};
 use net_run::{Way, Workers};
 
 /// How many points of an epoch are worth the making of threads, where no option says how many workers there are.
-const FEW_POINTS: usize = 1_024;
+const FEW_POINTS: usize = 512;
 
 /// The way that the options say for so many tasks: by workers, unless they give an order.
 pub(crate) fn way_of<'a, R, G>(

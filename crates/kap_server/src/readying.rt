@@ -16,14 +16,38 @@ use lambda_types::Patterns;
 use node_core::Node;
 use node_set::{ScriptNode, TaskPlan, plan_task};
 use std::alloc::Global;
+use task_graph::{Dims, Graph, Spec};
 use task_run::LifePlan;
 use tick_compile::{Task, compile};
 
-/// Tasks that are ready to run: the names by which lines tell of them, and their lives.
+/// Tasks that are ready to run: the names by which lines tell of them, their lives, and whether a node of theirs may change a point.
 #[derive(Drop)]
 pub(crate) struct Ready<N: Node> {
     pub(crate) names: Vec<TaskNames>,
     pub(crate) plans: Vec<LifePlan<N>>,
+    pub(crate) changes: bool,
+}
+
+/// Whether a node that is given this may change a point, which it does in place where nobody else has it.
+fn may_change(spec: &Spec) -> bool {
+    match spec {
+        Spec::From(from) => match &from.dims {
+            Dims::Names(names) => from.by_measurement || !names.is_empty(),
+            Dims::All => true,
+        },
+        Spec::Stream(_) | Spec::Where(_) | Spec::Log(_) | Spec::Alert(_) => false,
+        Spec::Sample(_) | Spec::ChangeDetect(_) | Spec::Window(_) | Spec::Select(_) => false,
+        _ => true,
+    }
+}
+
+/// Whether a node of the graph may change a point.
+fn changes_points(graph: &Graph) -> bool {
+    graph
+        .specs()
+        .as_slice()
+        .iter()
+        .any(|node| may_change(&node.spec))
 }
 
 /// Whether this is a task's id.
@@ -60,6 +84,7 @@ fn put_task<N: ScriptNode>(
         ready.old.plans.items ready.new.plans.items) }
 {
     let id = Text::from_str(alloc, id)?;
+    ready.changes = ready.changes || changes_points(&task.graph);
     let TaskPlan { plan, names } = plan_task(alloc, &id, life, task.graph)?;
     ready.names.push(TaskNames { id, nodes: names })?;
     ready.plans.push(plan)?;

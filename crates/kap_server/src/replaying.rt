@@ -120,8 +120,9 @@ fn finish<K: Sink, N: NumberingNode + Send>(
     }
 }
 
-/// Replays the recording that the input gives, in this way: the text of what the nodes do, epoch by epoch, and behind it of what they dropped,
-/// where that is wanted. What is due is written before each read of the input that may wait. At Ok it hands out the net.
+/// Replays the recording that the input gives, in this way: the text of what the nodes do, epoch by epoch, and behind it of what they
+/// dropped, where that is wanted. Where points are held, next ones are read in their memory. What is due is written before each read
+/// of the input that may wait. At Ok it hands out the net.
 pub(crate) fn replay<
     S: Source,
     K: Sink,
@@ -133,6 +134,7 @@ pub(crate) fn replay<
     options: ReplayOptions,
     names: &[TaskNames],
     plans: Vec<LifePlan<N>>,
+    hold: bool,
     way: &Way<'_, R, G>,
     input: &mut S,
     out: &mut K,
@@ -155,7 +157,7 @@ pub(crate) fn replay<
     ensures write_fault { result ≡ Status.WriteFault
         → HasRisen (K.faults out.old) (K.faults out.new) }
 {
-    let mut telling = match Telling::new(alloc, capacity_of(options), plans) {
+    let mut telling = match Telling::new(alloc, capacity_of(options), hold, plans) {
         Ok(telling) => telling,
         Err(NoMemory) => return Status::NoMemory,
     };
@@ -171,7 +173,7 @@ pub(crate) fn replay<
             Err(NoMemory) => return Status::NoMemory,
         };
         match telling.tell(alloc, names, points, way, &mut text) {
-            Ok(()) => {}
+            Ok(points) => reader.reuse(points),
             Err(NoMemory) => return Status::NoMemory,
         }
         match pause {

@@ -28,13 +28,16 @@ use topic_core::Topics;
 pub(crate) struct Telling<N: Node> {
     pub(crate) run: NetRun<N>,
     pub(crate) topics: Topics,
+    /// Whether the points of an epoch are held until it is told.
+    pub(crate) hold: bool,
 }
 
 impl<N: NumberingNode + Send> Telling<N> {
-    /// Before the first point. Each edge has room for so many messages.
+    /// Before the first point. Each edge has room for so many messages. Points of an epoch may be held until it is told.
     pub(crate) fn new(
         alloc: Global,
         capacity: u32,
+        hold: bool,
         plans: Vec<LifePlan<N>>,
     ) -> Result<Telling<N>, NoMemory>
         requires first { AreFirstStates N.spec N.state N.first plans.items }
@@ -49,10 +52,12 @@ impl<N: NumberingNode + Send> Telling<N> {
         Ok(Telling {
             run: NetRun::new(alloc, plans, capacity)?,
             topics: Topics::new(alloc),
+            hold,
         })
     }
 
-    /// Runs the nodes on the next points in this way, and appends the text of what they do. After NoMemory the run can't go on.
+    /// Runs the nodes on the next points in this way, and appends the text of what they do. It gives back points that were held, and
+    /// that count for nothing. After NoMemory the run can't go on.
     pub(crate) fn tell<R: Threads + Sync, G: Gate + Sync>(
         &mut self,
         alloc: Global,
@@ -60,7 +65,7 @@ impl<N: NumberingNode + Send> Telling<N> {
         points: Vec<Shared<Point>>,
         way: &Way<'_, R, G>,
         text: &mut Bytes,
-    ) -> Result<(), NoMemory>
+    ) -> Result<Vec<Shared<Point>>, NoMemory>
         requires spent { self.old.run.spent ≡ false }
         requires topics { StandsFor
             (events_of (effects_of N.answer
@@ -80,10 +85,11 @@ impl<N: NumberingNode + Send> Telling<N> {
             self.old.run.points points.items text.old text.new) }
     {
         if points.is_empty() {
-            return Ok(());
+            return Ok(points);
         }
-        let effects = self.run.run(alloc, points, way)?;
-        put_effects(alloc, names, &mut self.topics, effects.as_slice(), text)
+        let ran = self.run.run(alloc, points, self.hold, way)?;
+        put_effects(alloc, names, &mut self.topics, ran.0.as_slice(), text)?;
+        Ok(ran.1)
     }
 
     /// Appends the lines of what the nodes dropped, where they are wanted.

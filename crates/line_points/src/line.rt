@@ -1,4 +1,4 @@
-ghost use Rattle.std.specs.Prelude.{◌≡◌, ◌≢◌, Err, not, IsTrue, IfErr};
+ghost use Rattle.std.specs.Prelude.{◌≡◌, ◌≢◌, Ok, Err, Some, not, IsTrue, IfOk, IfErr};
 ghost use Rattle.kap_base.specs.Words.{Answers};
 ghost use Rattle.kap_base.specs.Texts.{has_line_feed};
 ghost use Rattle.line_points.specs.Parts.{without_spaces};
@@ -9,15 +9,23 @@ use crate::bytes::{is_blank, text};
 use crate::fault::LineFault;
 use crate::mode::Mode;
 use crate::reading::{fields, last_time, measurement, tags};
+use crate::room::{Pool, Room};
 use crate::scanner::Scanner;
-use kap_base::{Duplicate, Names, Point, Text};
+use kap_base::{Duplicate, Names, Point, Shared, Text};
 use std::alloc::Global;
 
 /// How many bytes a line may have.
 pub const LINE_LIMIT: usize = 65_536;
 
 #[tactic(auto, unfolding(crate::specs::Line::point_of))]
-fn point(alloc: Global, line: &str, db: &Text, rp: &Text, mode: &Mode) -> Result<Point, LineFault>
+fn point(
+    alloc: Global,
+    line: &str,
+    db: &Text,
+    rp: &Text,
+    mode: &Mode,
+    room: &mut Room,
+) -> Result<Point, LineFault>
     requires { IsReadable db.now rp.now mode.now line.now }
     ensures { Answers LineFault.NoMemory result (
         point_of db.now rp.now mode.now (without_spaces line.now)) }
@@ -25,8 +33,8 @@ fn point(alloc: Global, line: &str, db: &Text, rp: &Text, mode: &Mode) -> Result
     let mut scanner = Scanner::new(line);
     scanner.skip_spaces();
     let name = measurement(alloc, &mut scanner)?;
-    let tags = tags(alloc, &mut scanner)?;
-    let fields = fields(alloc, &mut scanner, tags.len())?;
+    let tags = tags(alloc, &mut scanner, room)?;
+    let fields = fields(alloc, &mut scanner, room)?;
     let time = last_time(mode, &mut scanner)?;
     let db = db.copy(alloc)?;
     let rp = rp.copy(alloc)?;
@@ -49,12 +57,13 @@ fn stored_point(
     db: &Text,
     rp: &Text,
     mode: &Mode,
+    room: &mut Room,
 ) -> Result<Point, LineFault>
     requires { IsReadable db.now rp.now mode.now line.now }
     ensures { Answers LineFault.NoMemory result (stored_of db.now rp.now mode.now line.now) }
 {
     let text = text(line)?;
-    point(alloc, text, db, rp, mode)
+    point(alloc, text, db, rp, mode, room)
 }
 
 #[tactic(auto, unfolding(crate::specs::Line::line_of))]
@@ -64,6 +73,7 @@ fn read(
     db: &Text,
     rp: &Text,
     mode: &Mode,
+    room: &mut Room,
 ) -> Result<Option<Point>, LineFault>
     requires { IsReadable db.now rp.now mode.now line.now }
     ensures { Answers LineFault.NoMemory result (line_of db.now rp.now mode.now line.now) }
@@ -74,7 +84,7 @@ fn read(
     if line.len() > LINE_LIMIT {
         return Err(LineFault::Long);
     }
-    let point = stored_point(alloc, line, db, rp, mode)?;
+    let point = stored_point(alloc, line, db, rp, mode, room)?;
     Ok(Some(point))
 }
 
@@ -100,7 +110,47 @@ pub fn read_line(
     ensures meaning { result ≢ Err LineFault.NoMemory →
         LineMeans db.now rp.now mode.now line.now result }
 {
-    read(alloc, line, db, rp, mode)
+    read(alloc, line, db, rp, mode, &mut Room::new(alloc))
+}
+
+#[tactic(auto, unfolding(crate::specs::Line::line_of))]
+fn recorded_point(
+    alloc: Global,
+    line: &[u8],
+    db: &Text,
+    rp: &Text,
+    room: &mut Room,
+) -> Result<Point, LineFault>
+    requires { IsReadable db.now rp.now Mode.Recording line.now }
+    ensures read { IfOk result (λ p. line_of db.now rp.now Mode.Recording line.now ≡ Ok (Some p)) }
+    ensures fault { IfErr result (λ f. f ≢ LineFault.NoMemory →
+        line_of db.now rp.now Mode.Recording line.now ≡ Err f) }
+{
+    if line.len() > LINE_LIMIT {
+        return Err(LineFault::Long);
+    }
+    stored_point(alloc, line, db, rp, &Mode::Recording, room)
+}
+
+/// The point of a line of a recording, as `read_line` gives it in Recording mode, in the memory of a point of the pool, where one is
+/// left; else the line's first fault.
+pub fn read_recorded(
+    alloc: Global,
+    line: &[u8],
+    db: &Text,
+    rp: &Text,
+    pool: &mut Pool,
+) -> Result<Shared<Point>, LineFault>
+    requires line { IsTrue (not (has_line_feed line.now)) }
+    requires db { IsTrue (not (has_line_feed db.now)) }
+    requires rp { IsTrue (not (has_line_feed rp.now)) }
+    ensures read { IfOk result (λ p. line_of db.now rp.now Mode.Recording line.now ≡ Ok (Some p)) }
+    ensures fault { IfErr result (λ f. f ≢ LineFault.NoMemory →
+        line_of db.now rp.now Mode.Recording line.now ≡ Err f) }
+{
+    let point = recorded_point(alloc, line, db, rp, pool.room())?;
+    let placed = pool.place(alloc, point)?;
+    Ok(placed)
 }
 
 /// The point of a line of any length, read as in Recording mode, of this database and policy and ungrouped; else the line's
@@ -117,5 +167,5 @@ pub fn read_stored(alloc: Global, line: &[u8], db: &Text, rp: &Text) -> Result<P
     ensures meaning { result ≢ Err LineFault.NoMemory →
         StoredMeans db.now rp.now line.now result }
 {
-    stored_point(alloc, line, db, rp, &Mode::Recording)
+    stored_point(alloc, line, db, rp, &Mode::Recording, &mut Room::new(alloc))
 }

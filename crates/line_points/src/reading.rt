@@ -1,4 +1,4 @@
-ghost use Rattle.std.specs.Prelude.{◌≡◌, ◌≤◌, Ok, Err, length, if◌then◌else◌};
+ghost use Rattle.std.specs.Prelude.{◌≡◌, ◌≤◌, [], Ok, Err, length, if◌then◌else◌};
 ghost use Rattle.std.specs.FinMap as map;
 ghost use Rattle.kap_base.specs.Words.{Answers};
 ghost use Rattle.kap_base.specs.Maps.{with_entries};
@@ -9,6 +9,7 @@ ghost use Rattle.line_points.specs.Reading.{Gives};
 use crate::fault::LineFault;
 use crate::mode::Mode;
 use crate::part::Part;
+use crate::room::Room;
 use crate::scanner::Scanner;
 use crate::time::time;
 use crate::word::word_value;
@@ -45,11 +46,17 @@ fn tag(alloc: Global, scanner: &mut Scanner) -> Result<(Text, Text), LineFault>
     Ok((key, value))
 }
 
-fn all_tags(alloc: Global, scanner: &mut Scanner) -> Result<ItemList<(Text, Text)>, LineFault>
+/// The tags, in this room.
+fn all_tags(
+    alloc: Global,
+    scanner: &mut Scanner,
+    room: Vec<(Text, Text)>,
+) -> Result<ItemList<(Text, Text)>, LineFault>
+    requires { room.items ≡ [] }
     ensures { Gives result scanner.new.rest.now
         (tags_from (length scanner.old.rest.now) scanner.old.rest.now) }
 {
-    let mut tags = ItemList::from_items(Vec::with_capacity(alloc, scanner.commas())?);
+    let mut tags = ItemList::from_items(room);
     'tags: while scanner.take(b',') {
         let tag = tag(alloc, scanner)?;
         tags.push(tag)?;
@@ -71,10 +78,11 @@ fn tag_map(alloc: Global, tags: ItemList<(Text, Text)>) -> Result<Tags, LineFaul
 }
 
 #[tactic(auto, unfolding(crate::specs::Line::tags_at))]
-pub fn tags(alloc: Global, scanner: &mut Scanner) -> Result<Tags, LineFault>
+pub fn tags(alloc: Global, scanner: &mut Scanner, room: &mut Room) -> Result<Tags, LineFault>
     ensures { Gives result scanner.new.rest.now (tags_at scanner.old.rest.now) }
 {
-    let tags = all_tags(alloc, scanner)?;
+    let room = room.take_tags(alloc, scanner.rest())?;
+    let tags = all_tags(alloc, scanner, room)?;
     tag_map(alloc, tags)
 }
 
@@ -122,16 +130,17 @@ fn field(alloc: Global, scanner: &mut Scanner) -> Result<(Text, Value), LineFaul
     Ok((key, value))
 }
 
-/// The fields. `room` is a guess at how many they are.
+/// The fields, in this room.
 fn all_fields(
     alloc: Global,
     scanner: &mut Scanner,
-    room: usize,
+    room: Vec<(Text, Value)>,
 ) -> Result<ItemList<(Text, Value)>, LineFault>
+    requires { room.items ≡ [] }
     ensures { Gives result scanner.new.rest.now
         (fields_from (length scanner.old.rest.now) scanner.old.rest.now) }
 {
-    let mut fields = ItemList::from_items(Vec::with_capacity(alloc, room)?);
+    let mut fields = ItemList::from_items(room);
     'fields: loop {
         let field = field(alloc, scanner)?;
         fields.push(field)?;
@@ -141,16 +150,16 @@ fn all_fields(
     }
 }
 
-/// The fields behind the spaces that come next; `tags` is how many tags stand before them, whose commas are not counted for room.
+/// The fields behind the spaces that come next.
 #[tactic(auto, unfolding(crate::specs::Line::fields_at))]
-pub fn fields(alloc: Global, scanner: &mut Scanner, tags: usize) -> Result<Fields, LineFault>
+pub fn fields(alloc: Global, scanner: &mut Scanner, room: &mut Room) -> Result<Fields, LineFault>
     ensures { Gives result scanner.new.rest.now (fields_at scanner.old.rest.now) }
 {
     scanner.skip_spaces();
     if scanner.is_empty() {
         return Err(LineFault::NoField);
     }
-    let room = scanner.commas().saturating_sub(tags).saturating_add(1);
+    let room = room.take_fields(alloc, scanner.rest())?;
     let fields = all_fields(alloc, scanner, room)?;
     let map = Fields::from_entries(alloc, fields.into_items())?;
     Ok(map)

@@ -4,7 +4,7 @@ ghost use Rattle.std.specs.Str.{IsCharBoundary};
 ghost use Rattle.kap_base.specs.Texts.{is_empty, begins_with};
 ghost use Rattle.line_points.specs.Parts.{is_separator, is_at_separator, text_at, without_spaces};
 
-use crate::bytes::{begins_with, comma_count, word_len};
+use crate::bytes::{begins_with, word_len};
 use crate::part::Part;
 use kap_base::{NoMemory, Text};
 use std::alloc::Global;
@@ -13,24 +13,13 @@ use std::alloc::Global;
 #[derive(Drop)]
 pub struct Scanner<'a> {
     rest: &'a str,
-    commas: usize,
 }
 
 impl<'a> Scanner<'a> {
     pub fn new(line: &'a str) -> Scanner<'a>
         ensures { result.rest.now ≡ line.now }
     {
-        Scanner {
-            rest: line,
-            commas: comma_count(line.as_bytes()),
-        }
-    }
-
-    /// A guess at how many commas the whole line has, at most 16, by which room is taken.
-    pub fn commas(&self) -> usize
-        ensures { result ≡ self.now.commas }
-    {
-        self.commas
+        Scanner { rest: line }
     }
 
     /// The bytes that are not read yet.

@@ -17,14 +17,26 @@ use node_core::Effects;
 use std::alloc::Global;
 use std::thread::Threads;
 
-/// Loads an epoch of points, with stamps that end at `upto`, and answers its effects at rest. After NoMemory the net can't go on.
+/// The points, where they are held. Otherwise there are none from here on, and whoever else has them has them alone.
+fn held_points(alloc: Global, points: Vec<Shared<Point>>, hold: bool) -> Vec<Shared<Point>> {
+    if hold {
+        points
+    } else {
+        drop(points);
+        Vec::new(alloc)
+    }
+}
+
+/// Loads an epoch of points, with stamps that end at `upto`, and answers its effects at rest, and the points, where they are held.
+/// After NoMemory the net can't go on.
 pub(crate) fn run_epoch<N: NumberingNode + Send, R: Threads + Sync, G: Gate + Sync>(
     alloc: Global,
     net: &mut Net<N>,
     points: Vec<Shared<Point>>,
+    hold: bool,
     upto: Stamp,
     way: &Way<'_, R, G>,
-) -> Result<Effects, NoMemory>
+) -> Result<(Effects, Vec<Shared<Point>>), NoMemory>
     requires unspent { net.old.spent ≡ false }
     requires rest { Each IsResting net.old.lives }
     requires upto { upto.0 ≡ net.old.last.0 + length points.items }
@@ -32,17 +44,16 @@ pub(crate) fn run_epoch<N: NumberingNode + Send, R: Threads + Sync, G: Gate + Sy
     ensures stands { OnOk result ((plans : List (PlanValue N)) (before : List PointValue)
         → Stands N.Node plans before net.old
         → Stands N.Node plans (before ++ points.items) net.new) }
-    ensures effects { IfOk result (λ effects. (plans : List (PlanValue N))
+    ensures effects { IfOk result (λ ran. (plans : List (PlanValue N))
         (before : List PointValue) → Stands N.Node plans before net.old
         → effects_of N.answer (map (graph_of N.spec) plans) (before ++ points.items)
-        ≡ effects_of N.answer (map (graph_of N.spec) plans) before ++ effects) }
+        ≡ effects_of N.answer (map (graph_of N.spec) plans) before ++ ran.0) }
 {
     let count = points.len();
     net.load(alloc, &points, upto, &[])?;
-    // From here on the net alone has the points.
-    drop(points);
+    let held = held_points(alloc, points, hold);
     move_to_rest(alloc, net, count, way)?;
     // At rest the net has gathered all that its nodes give for the points so far.
     let _rests = net.at_rest();
-    Ok(net.collect(alloc))
+    Ok((net.collect(alloc), held))
 }

@@ -14,4 +14,4 @@ pub use runs::NetRun;
 
 /// How many points an epoch has at most: so few that they stay in a processor's cache from their reading to their end, and so many
 /// that what each epoch costs besides, as the states that are saved at its end, is little a point.
-pub const EPOCH_LIMIT: usize = 1_024;
+pub const EPOCH_LIMIT: usize = 1_280;

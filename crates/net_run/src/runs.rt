@@ -88,33 +88,35 @@ impl<N: NumberingNode + Send> NetRun<N> {
         self.spent
     }
 
-    /// Loads an epoch of points into the net, has it come to rest in this way, and answers what the nodes do for them. A point's stamp is its
-    /// place among all points so far, from 1 on. The effects of all points, in their order, go on by these. After NoMemory the run
-    /// is spent.
+    /// Loads an epoch of points into the net, has it come to rest in this way, and answers what the nodes do for them. A point's
+    /// stamp is its place among all points so far, from 1 on. The effects of all points, in their order, go on by these. Where the
+    /// points are to be held they are given back, so that whoever reads the next ones may use their memory; a node that changes a
+    /// point then copies it. After NoMemory the run is spent.
     pub fn run<R: Threads + Sync, G: Gate + Sync>(
         &mut self,
         alloc: Global,
         points: Vec<Shared<Point>>,
+        hold: bool,
         way: &Way<'_, R, G>,
-    ) -> Result<Effects, NoMemory>
+    ) -> Result<(Effects, Vec<Shared<Point>>), NoMemory>
         requires { self.old.spent ≡ false }
         ensures lives { OnOk result (self.new.lives ≡ self.old.lives) }
         ensures points { OnOk result (self.new.points ≡ self.old.points ++ points.items) }
         ensures spent { self.new.spent ≡ is_err result }
-        ensures effects { IfOk result (λ effects.
+        ensures effects { IfOk result (λ ran.
             effects_of N.answer self.old.lives (self.old.points ++ points.items)
-            ≡ effects_of N.answer self.old.lives self.old.points ++ effects) }
+            ≡ effects_of N.answer self.old.lives self.old.points ++ ran.0) }
     {
         self.spent = true;
         let Some(upto) = self.given.checked_add(points.len() as u64) else {
             return Err(NoMemory);
         };
         let trail = Trail::More(Snapshot::of(&self.trail), Snapshot::of(&points));
-        let effects = run_epoch(alloc, &mut self.net, points, Stamp(upto), way)?;
+        let ran = run_epoch(alloc, &mut self.net, points, hold, Stamp(upto), way)?;
         self.trail = trail;
         self.given = upto;
         self.spent = false;
-        Ok(effects)
+        Ok(ran)
     }
 
     /// How many inputs each node of each life dropped and counted, life by life and node by node.

@@ -1,5 +1,5 @@
 use crate::window::Window;
-use kap_base::Point;
+use kap_base::{Point, Shared};
 use std::snapshot::Snapshot;
 
 /// The bytes that were read, one piece behind the other: each what stands in a window behind so many bytes. It has no contents:
@@ -14,5 +14,5 @@ pub enum GotBytes {
 #[derive(Drop)]
 pub enum GivenPoints {
     Start,
-    More(Snapshot<GivenPoints>, Snapshot<Point>),
+    More(Snapshot<GivenPoints>, Snapshot<Shared<Point>>),
 }

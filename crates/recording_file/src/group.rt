@@ -9,9 +9,9 @@ ghost use Rattle.recording_file.specs.Steps.{read_policy, read_database, GivesPo
 
 use crate::fault::RecFault;
 use crate::lines::Lines;
-use kap_base::{Point, Text, TextFault, are_same};
+use kap_base::{Point, Shared, Text, TextFault, are_same};
 use kap_io::Source;
-use line_points::{LINE_LIMIT, LineFault, Mode, read_line};
+use line_points::{LINE_LIMIT, LineFault, Pool, read_recorded};
 use std::alloc::Global;
 
 /// Whether the text has these bytes.
@@ -46,22 +46,6 @@ fn set_name(alloc: Global, line: &[u8], name: &mut Text) -> Result<(), LineFault
     }
 }
 
-/// The point of a line.
-fn point(alloc: Global, line: &[u8], db: &Text, rp: &Text) -> Result<Point, LineFault>
-    requires line { IsTrue (not (has_line_feed line.now)) }
-    requires db { IsTrue (not (has_line_feed db.now)) }
-    requires rp { IsTrue (not (has_line_feed rp.now)) }
-    ensures read { IfOk result (λ p. line_of db.now rp.now Mode.Recording line.now ≡ Ok (Some p)) }
-    ensures fault { IfErr result (λ f. f ≢ LineFault.NoMemory →
-        line_of db.now rp.now Mode.Recording line.now ≡ Err f) }
-{
-    match read_line(alloc, line, db, rp, &Mode::Recording) {
-        Ok(Some(point)) => Ok(point),
-        Ok(None) => unreachable!(),
-        Err(fault) => Err(fault),
-    }
-}
-
 /// What a line gives, its fault with its number.
 fn at_line<T: Drop>(line: u64, read: Result<T, LineFault>) -> Result<T, RecFault>
     ensures ok { IfOk result (λ x. read ≡ Ok x) }
@@ -81,7 +65,8 @@ pub fn point_behind_policy<S: Source>(
     source: &mut S,
     db: &Text,
     rp: &Text,
-) -> Result<Point, RecFault>
+    pool: &mut Pool,
+) -> Result<Shared<Point>, RecFault>
     requires db { IsTrue (not (has_line_feed db.now)) }
     requires rp { IsTrue (not (has_line_feed rp.now)) }
     ensures reads { Reads lines.old lines.new (S.left source.old) (S.left source.new) }
@@ -95,7 +80,10 @@ pub fn point_behind_policy<S: Source>(
     let Some(size) = lines.find(source)? else {
         return Err(RecFault::Truncated { line: lines.line() });
     };
-    let point = at_line(lines.line(), point(alloc, lines.text(size), db, rp))?;
+    let point = at_line(
+        lines.line(),
+        read_recorded(alloc, lines.text(size), db, rp, pool),
+    )?;
     lines.advance(size);
     Ok(point)
 }
@@ -141,7 +129,8 @@ fn point_behind_database<S: Source>(
     source: &mut S,
     db: &Text,
     rp: &mut Text,
-) -> Result<Point, RecFault>
+    pool: &mut Pool,
+) -> Result<Shared<Point>, RecFault>
     requires db { IsTrue (not (has_line_feed db.now)) }
     requires rp { IsTrue (not (has_line_feed rp.old)) }
     ensures rp { IsTrue (not (has_line_feed rp.new)) }
@@ -156,7 +145,7 @@ fn point_behind_database<S: Source>(
     if !pass_name(alloc, lines, source, rp)? {
         return Err(RecFault::Truncated { line: lines.line() });
     }
-    point_behind_policy(alloc, lines, source, db, rp)
+    point_behind_policy(alloc, lines, source, db, rp, pool)
 }
 
 /// The point of the next group, or `None` at the end. The database and the policy are kept.
@@ -166,7 +155,8 @@ pub fn next_point<S: Source>(
     source: &mut S,
     db: &mut Text,
     rp: &mut Text,
-) -> Result<Option<Point>, RecFault>
+    pool: &mut Pool,
+) -> Result<Option<Shared<Point>>, RecFault>
     requires db { IsTrue (not (has_line_feed db.old)) }
     requires rp { IsTrue (not (has_line_feed rp.old)) }
     ensures db { IsTrue (not (has_line_feed db.new)) }
@@ -184,6 +174,6 @@ pub fn next_point<S: Source>(
     if !pass_name(alloc, lines, source, db)? {
         return Ok(None);
     }
-    let point = point_behind_database(alloc, lines, source, db, rp)?;
+    let point = point_behind_database(alloc, lines, source, db, rp, pool)?;
     Ok(Some(point))
 }

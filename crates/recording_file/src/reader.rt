@@ -6,8 +6,9 @@ use crate::fault::RecFault;
 use crate::got::GivenPoints;
 use crate::group::next_point;
 use crate::lines::Lines;
-use kap_base::{Point, Text};
+use kap_base::{Point, Shared, Text};
 use kap_io::Source;
+use line_points::Pool;
 use std::alloc::Global;
 use std::marker::Model;
 use std::snapshot::Snapshot;
@@ -22,6 +23,7 @@ pub struct Reader {
     rp: Text,
     given: GivenPoints,
     spent: bool,
+    pool: Pool,
 }
 
 impl Model for Reader {
@@ -61,6 +63,7 @@ impl Reader {
             rp: Text::from_string(String::new(alloc)),
             given: GivenPoints::Start,
             spent: false,
+            pool: Pool::new(alloc),
         }
     }
 
@@ -79,6 +82,13 @@ impl Reader {
         self.lines.holds_group()
     }
 
+    /// Has next points be read in the memory of these, as far as nobody else has them then.
+    pub fn reuse(&mut self, points: Vec<Shared<Point>>)
+        ensures { self.new ≡ self.old }
+    {
+        self.pool.fill(points);
+    }
+
     /// The next point, or `None` where the source ended between two groups, and again whenever it is asked behind that; a source
     /// that has ended isn't asked again.
     ///
@@ -91,7 +101,7 @@ impl Reader {
         &mut self,
         alloc: Global,
         source: &mut S,
-    ) -> Result<Option<Point>, RecFault>
+    ) -> Result<Option<Shared<Point>>, RecFault>
         requires { self.old.spent ≡ false }
         // The bytes that it has read are those that the source has given.
         ensures reads { ReaderReads self.old self.new (S.left source.old) (S.left source.new) }
@@ -106,7 +116,14 @@ impl Reader {
         ensures held { LeavesSource self.old source.old source.new }
         ensures cause { HasReadCause (S.faults source.old) (S.faults source.new) result }
     {
-        let next = next_point(alloc, &mut self.lines, source, &mut self.db, &mut self.rp);
+        let next = next_point(
+            alloc,
+            &mut self.lines,
+            source,
+            &mut self.db,
+            &mut self.rp,
+            &mut self.pool,
+        );
         match next {
             Ok(Some(point)) => {
                 let before = Snapshot::of(&self.given);

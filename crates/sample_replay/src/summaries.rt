@@ -99,8 +99,8 @@ fn run_samples<N: NumberingNode + Send, R: Threads + Sync, G: Gate + Sync>(
         counts.new.points counts.new.bytes counts.new.topics) }
 {
     let points = samples_behind(alloc, from, to)?;
-    let effects = run.run(alloc, points, way)?;
-    count(alloc, names, counts, effects.as_slice(), text)
+    let ran = run.run(alloc, points, false, way)?;
+    count(alloc, names, counts, ran.0.as_slice(), text)
 }
 
 /// The summary of a replay of the sample recording of so many points, 1,000,000 at most, by lives of tasks that are named so, in a

@@ -60,7 +60,7 @@ fn point<R: AllocGlobal>(rt: &R, number: u64) -> Result<Point, Fail> {
     let alloc = rt.alloc();
     let mut input = MemSource::new(alloc, record(rt, number)?, 65_536, Vec::new(alloc));
     match Reader::new(alloc).next(alloc, &mut input) {
-        Ok(Some(point)) => Ok(point),
+        Ok(Some(point)) => Ok(point.into_value(alloc)?),
         _ => Err("no point".into()),
     }
 }

@@ -23,6 +23,9 @@ handle_source-requires-clause-ports g c =
     let cell = c.args.cell.now in
     ports-of g.N.Node cell.base.value _ cell.buffer cell.core c.requires.keeps
 
+pub save_anew-requires : goal.save_anew-requires
+save_anew-requires g c = c.requires.keeps.at.clean
+
 pub returns-clause-keeps : goal.returns-clause-keeps
 returns-clause-keeps g c =
     let node = g.N.Node in
@@ -36,9 +39,10 @@ returns-clause-keeps g c =
       state = refl;
       outs = c.load_outs.ensures.given;
       effects = c.requires.gathered;
-      saved = c.in_ok-save.ensures.ok ∙ ap (λ l. l ++ node.spell (node.spec cell.core.node) (node.state cell.core.node)) c.clear.ensures;
-      fits = c.in_ok-save.ensures.fits;
+      saved = c.in_ok-save_anew.ensures.saved;
+      fits = c.in_ok-save_anew.ensures.fits;
       passed = refl;
+      clean = λ _. (c.in_ok-save_anew.ensures.saved, c.in_ok-save_anew.ensures.fits);
     }) in
     let handles : Handles node first buffer c.handle_source.new.core c.handle_source.new.buffer =
     subst (λ (x : Core g.row.N.Denot). Handles node x buffer c.handle_source.new.core c.handle_source.new.buffer) (sym c.of.ensures) c.in_ok-handle_source.ensures.handles in

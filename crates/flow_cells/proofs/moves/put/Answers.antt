@@ -24,7 +24,7 @@ returns-clause-keeps g c =
     let h : i < length outs = omega arith in
     let edge = c.index_mut-edge.result.now in
     let here : get_or outs i edge ≡ edge = sym c.index_mut-edge.ensures.value in
-    kept-outs g.N.Node cell.base.value _ cell.buffer cell.core _ c.requires refl refl refl refl refl
+    kept-outs g.N.Node cell.base.value _ cell.buffer cell.core _ c.requires refl refl refl refl refl refl
     (λ given all. each-set (IsGiven given) outs i c.send.new.self all (c.send.ensures.given given (subst (IsGiven given) here (each-at (IsGiven given) outs i edge h all))))
 
 pub returns-clause-put : goal.returns-clause-put

@@ -43,7 +43,7 @@ replaying-preserved g c =
     let new = c.in-Ok-gather.epoch.points.items in
     let on = written_some text rest none more _ _ _ _ c.replaying.text c.replaying.reader before.written due _ c.in-Ok-write_piece.ensures.ok in
     let goes : GoesOn c.replaying.reader c.gather.new.reader _ _ new = rw c.in-More.is at c.in-Ok-gather.ensures.pauses in
-    record {
+    rw c.reuse.ensures (record {
       kept = before.kept;
       not_spent = goes.unspent;
       alive = c.in-Ok-tell.ensures.spent;
@@ -53,7 +53,7 @@ replaying-preserved g c =
       written = written_points text rest none more _ _ _ _ due c.replaying.reader on c.gather.new.reader _ new _ goes.gathers (rw (before.lives, before.fed) at c.in-Ok-tell.ensures.text);
       reads_later = grind arith;
       writes_later = grind arith;
-    }
+    })
 
 pub returns-in-Err-write_piece-clause-replayed : goal.returns-in-Err-write_piece-clause-replayed
 returns-in-Err-write_piece-clause-replayed g c =

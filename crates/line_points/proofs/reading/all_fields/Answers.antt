@@ -5,7 +5,7 @@ use Rattle.line_points.proofs.reading.all_fields.Goals as goal
 
 pub returns-in_err-field : goal.returns-in_err-field
 returns-in_err-field c =
-    let p = err_from_is_err_and c.from_residual-in_err-field.result c.from_residual-in_err-field.ensures.1 in
+    let p = err_from_is_err_and c.from_residual.result c.from_residual.ensures.1 in
     rw (p.1, p.2) (λ ne. fields-fail c.fields.fields c.fields.scanner.rest.now _ _ c.fields.invariant (c.in_err-field.ensures.value ne))
 
 pub returns-then-not-take : goal.returns-then-not-take

@@ -9,7 +9,7 @@ tags-preserved c =
 
 pub returns-in_err-tag : goal.returns-in_err-tag
 returns-in_err-tag c =
-    let p = err_from_is_err_and c.from_residual-in_err-tag.result c.from_residual-in_err-tag.ensures.1 in
+    let p = err_from_is_err_and c.from_residual.result c.from_residual.ensures.1 in
     rw (p.1, p.2) (λ ne. tags-fail c.tags.tags c.tags.scanner.rest.now _ _ c.tags.invariant (sym c.tags-test.ensures.found) (rw c.tags-test.ensures.rest at (c.in_err-tag.ensures.value ne)))
 
 pub returns : goal.returns

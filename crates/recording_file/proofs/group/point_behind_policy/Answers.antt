@@ -33,9 +33,9 @@ returns-in_err-point-clause-fault g c =
     let p = err_from_is_err_and c.from_residual-in_err-point.result c.from_residual-in_err-point.ensures.1 in
     let line : IsLine c.find.new.self c.in-Some.size = rw c.in-Some.is at c.in_ok-size.ensures.line in
     let text = without_return (take c.in-Some.size c.find.new.self.bytes) in
-    rw (p.1, p.2) (λ ps h. fails_line (read_policy c.args.db.now c.args.rp.now) ps c.find.new.self (ahead_on _ ps _ _ _ _ c.in_ok-size.ensures.stays h) c.in-Some.size c.line-2.result c.point.result _ line c.in_err-point.ensures.fault c.line-2.ensures
+    rw (p.1, p.2) (λ ps h. fails_line (read_policy c.args.db.now c.args.rp.now) ps c.find.new.self (ahead_on _ ps _ _ _ _ c.in_ok-size.ensures.stays h) c.in-Some.size c.line-2.result c.read_recorded.result _ line c.in_err-point.ensures.fault c.line-2.ensures
     (λ e other is seen. policy_fault c.args.db.now c.args.rp.now c.find.new.self.line text e seen
-    (ap (line_of c.args.db.now c.args.rp.now modes.Recording) (sym c.text.ensures.text) ∙ err_at (λ f. f ≢ faults.NoMemory → line_of c.args.db.now c.args.rp.now modes.Recording c.text.result.now ≡ Err f) c.point.result e c.point.ensures.fault is other)))
+    (ap (line_of c.args.db.now c.args.rp.now modes.Recording) (sym c.text.ensures.text) ∙ err_at (λ f. f ≢ faults.NoMemory → line_of c.args.db.now c.args.rp.now modes.Recording c.text.result.now ≡ Err f) c.read_recorded.result e c.read_recorded.ensures.fault is other)))
 
 pub returns-clause-reads : goal.returns-clause-reads
 returns-clause-reads g c = reads_passed _ _ _ _ _ c.in-Some.size c.in_ok-size.ensures.stays c.advance.ensures
@@ -45,6 +45,6 @@ returns-clause-point g c =
     let line : IsLine c.find.new.self c.in-Some.size = rw c.in-Some.is at c.in_ok-size.ensures.line in
     let text = without_return (take c.in-Some.size c.find.new.self.bytes) in
     let point = c.in_ok-point.point in
-    let read_as = value_at (λ (q : PointValue). line_of c.args.db.now c.args.rp.now modes.Recording c.text.result.now ≡ Ok (Some q)) c.point.result point c.point.ensures.read c.in_ok-point.ensures.ok in
+    let read_as = value_at (λ (q : PointValue). line_of c.args.db.now c.args.rp.now modes.Recording c.text.result.now ≡ Ok (Some q)) c.read_recorded.result point c.read_recorded.ensures.read c.in_ok-point.ensures.ok in
     λ ps h. ahead_line (read_policy c.args.db.now c.args.rp.now) read ps _ c.find.new.self c.advance.new.self c.in-Some.size line c.advance.ensures
     (λ seen. policy_step c.args.db.now c.args.rp.now c.find.new.self.line text point seen (ap (line_of c.args.db.now c.args.rp.now modes.Recording) (sym c.text.ensures.text) ∙ read_as)) (ahead_on _ ps _ _ _ _ c.in_ok-size.ensures.stays h)

@@ -29,4 +29,5 @@ returns-clause-reacts g c = λ r at.
       saved = at.saved;
       fits = at.fits;
       passed = at.passed;
+      clean = λ h. absurd cc;
     }

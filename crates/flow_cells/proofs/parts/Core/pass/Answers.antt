@@ -18,4 +18,5 @@ returns-clause-reacts g c = λ parent r at.
       saved = c.in_ok-save.ensures.ok ∙ ap (λ l. l ++ node.spell (node.spec core.node) (node.state core.node)) c.clear.ensures ∙ ap (node.spell (node.spec core.node)) at.state;
       fits = subst (node.fits (node.spec core.node)) at.state c.in_ok-save.ensures.fits;
       passed = refl;
+      clean = λ _. (c.in_ok-save.ensures.ok ∙ ap (λ l. l ++ node.spell (node.spec core.node) (node.state core.node)) c.clear.ensures, c.in_ok-save.ensures.fits);
     }

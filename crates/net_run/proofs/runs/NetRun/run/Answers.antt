@@ -14,6 +14,6 @@ invariant_of-self-2 g c = λ e.
     let fresh : c.self.inside.spent ≡ false = ap (λ (r : RunValue g.row.N-Spec.Denot). r.spent) c.self.view_is ∙ c.requires in
     let stood = (c.self.invariant fresh).1 in
     let all : points_of c.of.result.value ++ c.of-2.result.value.items ≡ before ++ c.args.points.items = rw (c.of.ensures, c.of-2.ensures) refl in (
-      ap (λ (t : Stamp). t.0) (sym c.in_ok-effects.ensures.last),
-      subst (λ (ps : List PointValue). Stands node plans ps c.run_epoch.new.net) (sym all) (c.in_ok-effects.ensures.stands plans before stood),
+      ap (λ (t : Stamp). t.0) (sym c.in_ok-ran.ensures.last),
+      subst (λ (ps : List PointValue). Stands node plans ps c.run_epoch.new.net) (sym all) (c.in_ok-ran.ensures.stands plans before stood),
     )
