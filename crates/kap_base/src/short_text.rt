@@ -7,13 +7,13 @@ use std::marker::Model;
 use std::str;
 
 /// How many bytes a short text has at most.
-pub(crate) const SHORT_LIMIT: usize = 15;
+pub(crate) const SHORT_LIMIT: usize = 16;
 
 /// A text of at most `SHORT_LIMIT` bytes, which lie in the value itself. Contracts see it as its bytes.
 #[derive(Drop)]
 pub(crate) struct ShortText {
     bytes: [u8; SHORT_LIMIT],
-    len: u8,
+    len: usize,
 }
 
 impl Model for ShortText {
@@ -48,7 +48,7 @@ impl ShortText {
         copy_front(&mut bytes, text.as_bytes());
         ShortText {
             bytes,
-            len: text.len() as u8,
+            len: text.len(),
         }
     }
 
@@ -67,7 +67,7 @@ impl ShortText {
         ensures len { result ≡ length self.now }
         ensures limit { result ≤ SHORT_LIMIT }
     {
-        self.len as usize
+        self.len
     }
 
     /// Adds a text at the end.
@@ -75,17 +75,17 @@ impl ShortText {
         requires { length self.old + length more.now ≤ SHORT_LIMIT }
         ensures { self.new ≡ self.old ++ more.now }
     {
-        let len = self.len as usize;
+        let len = self.len;
         let (_, rest) = self.bytes.split_at_mut(len);
         copy_front(rest, more.as_bytes());
-        self.len = (len + more.len()) as u8;
+        self.len = len + more.len();
     }
 
     /// Its bytes, as text.
     pub(crate) fn as_str(&self) -> &str
         ensures { result.now ≡ self.now }
     {
-        unsafe { str::from_utf8_unchecked(&self.bytes[..self.len as usize]) }
+        unsafe { str::from_utf8_unchecked(&self.bytes[..self.len]) }
     }
 
     /// An equal text.

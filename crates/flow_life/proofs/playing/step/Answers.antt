@@ -42,6 +42,9 @@ returns-in-Put-clause-prefixes g c = carries_prefixes g.N.Node c.put.new.cells c
 pub returns-in-Take-clause-no : goal.returns-in-Take-clause-no
 returns-in-Take-clause-no g c = rw c.in-Take.is c.take.ensures.no
 
+pub returns-in-Put-clause-no : goal.returns-in-Put-clause-no
+returns-in-Put-clause-no g c = rw c.in-Put.is c.put.ensures.no
+
 pub returns-in-Put-clause-yes : goal.returns-in-Put-clause-yes
 returns-in-Put-clause-yes g c = rw c.in-Put.is c.put.ensures.yes
 
