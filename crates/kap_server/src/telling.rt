@@ -14,10 +14,10 @@ ghost use Rattle.kap_server.specs.Runs.{run_rest, run_text};
 
 use edge_queue::CAPACITY_LIMIT;
 use effect_text::{TaskNames, put_dropped, put_effects};
-use kap_base::{Bytes, NoMemory, Point, Shared};
+use kap_base::{Bytes, NoMemory, Point, Shared, What};
 use kap_io::Gate;
 use net_run::{NetRun, NumberingNode, Way};
-use node_core::Node;
+use node_core::{Effects, Node};
 use std::alloc::Global;
 use std::thread::Threads;
 use task_run::LifePlan;
@@ -30,6 +30,33 @@ pub(crate) struct Telling<N: Node> {
     pub(crate) topics: Topics,
     /// Whether the points of an epoch are held until it is told.
     pub(crate) hold: bool,
+}
+
+/// The point that an effect tells of, if it does.
+fn logged_point(what: What) -> Option<Shared<Point>> {
+    match what {
+        What::Line(point) => Some(point),
+        What::Event(_event) => None,
+    }
+}
+
+/// The points that were held; where none were, those that the effects tell of. Nobody needs them any more.
+fn spent_points(
+    effects: Effects,
+    mut points: Vec<Shared<Point>>,
+    hold: bool,
+) -> Vec<Shared<Point>> {
+    if hold {
+        return points;
+    }
+    'taking: for effect in effects.into_items() {
+        if let Some(point) = logged_point(effect.what) {
+            if points.push(point).is_err() {
+                return points;
+            }
+        }
+    }
+    points
 }
 
 impl<N: NumberingNode + Send> Telling<N> {
@@ -56,8 +83,8 @@ impl<N: NumberingNode + Send> Telling<N> {
         })
     }
 
-    /// Runs the nodes on the next points in this way, and appends the text of what they do. It gives back points that were held, and
-    /// that count for nothing. After NoMemory the run can't go on.
+    /// Runs the nodes on the next points in this way, and appends the text of what they do. It gives back points that nobody needs any
+    /// more. After NoMemory the run can't go on.
     pub(crate) fn tell<R: Threads + Sync, G: Gate + Sync>(
         &mut self,
         alloc: Global,
@@ -89,7 +116,7 @@ impl<N: NumberingNode + Send> Telling<N> {
         }
         let ran = self.run.run(alloc, points, self.hold, way)?;
         put_effects(alloc, names, &mut self.topics, ran.0.as_slice(), text)?;
-        Ok(ran.1)
+        Ok(spent_points(ran.0, ran.1, self.hold))
     }
 
     /// Appends the lines of what the nodes dropped, where they are wanted.

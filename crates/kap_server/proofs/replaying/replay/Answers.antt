@@ -1,6 +1,7 @@
 use Rattle.std.proofs.Common.{◌≡◌, ℕ, List, ◌++◌, refl, arith, sym, ap, subst, ◌∙◌, map}
 use Rattle.kap_base.specs.Points.{PointValue}
 use Rattle.recording_file.specs.Reading.{Fails, GaveAll}
+use Rattle.recording_file.proofs.ReadLaws.{read_more}
 use Rattle.task_run.specs.Graphs.{Placed}
 use Rattle.task_run.specs.PointLaws.{effects_more}
 use Rattle.task_run.specs.Plans.{graph_of}
@@ -117,6 +118,11 @@ returns-in-End-clause-replayed g c =
     (subst (λ (r : List ℕ). EndsWritten c.finish.result (sink.written c.write_piece.new.out) (sink.written c.finish.new.out) told r (sink.faults c.write_piece.new.out) (sink.faults c.finish.new.out)) rest_is c.finish.ensures.written)
     (λ q. ends_well text rest none more _ _ _ _ told last now c.gather.new.reader _ stops.reads _ stops.stops q)
     (λ q. ends_cut text rest none more _ _ _ _ told last now c.gather.new.reader _ stops.reads _ stops.stops q)
+
+pub returns-in-End-clause-read : goal.returns-in-End-clause-read
+returns-in-End-clause-read g c = λ _.
+    let stops : StopsBehind c.replaying.reader c.gather.new.reader _ _ c.in-Ok-gather.epoch.points.items GaveAll = rw c.in-End.is at c.in-Ok-gather.ensures.pauses in
+    (read_more stops.last c.gather.new.reader _ stops.left _ (stops.gathers.read _ c.replaying.invariant.written.read) stops.reads).ends stops.stops.ended
 
 pub returns-in-End-clause-net : goal.returns-in-End-clause-net
 returns-in-End-clause-net g c = λ ok.

@@ -8,7 +8,7 @@ map_ok (Err e) f p = tt
 
 pub returns-clause-points : goal.returns-clause-points
 returns-clause-points g c =
-    map_ok c.count.result (λ counts. c.in_ok-effects.ensures.points ∙ ap (λ l. l ++ c.in_ok-points.points.items) c.requires.points ∙ sym c.in_ok-points.ensures) c.count.ensures
+    map_ok c.count.result (λ counts. c.in_ok-ran.ensures.points ∙ ap (λ l. l ++ c.in_ok-points.points.items) c.requires.points ∙ sym c.in_ok-points.ensures) c.count.ensures
 
 pub returns-clause-counted : goal.returns-clause-counted
 returns-clause-counted g c =
@@ -16,6 +16,6 @@ returns-clause-counted g c =
     let lives = c.args.run.now.lives in
     let points = c.args.run.now.points in
     map_ok c.count.result (λ counts.
-    rw (c.in_ok-effects.ensures.lives, c.in_ok-effects.ensures.points, c.in_ok-effects.ensures.effects)
+    rw (c.in_ok-ran.ensures.lives, c.in_ok-ran.ensures.points, c.in_ok-ran.ensures.effects)
     (rw c.as_slice.ensures at counts (effects_of node.answer lives points) c.requires.counted))
     c.count.ensures
