@@ -5,7 +5,7 @@ ghost use Rattle.std.specs.List.{list_all, list_any};
 ghost use Rattle.std.specs.FinMap.{retain_keys};
 ghost use Rattle.basic_nodes.specs.Deletions.{delete_says, is_left, without};
 
-use kap_base::{Duplicate, KeyMap, Names, NoMemory, Point, SharedText, Text};
+use kap_base::{Duplicate, KeyMap, Names, NoMemory, Point, PointDims, SharedText, Text, copies};
 use node_core::{Said, pass_new};
 use std::alloc::Global;
 use task_graph::SharedNames;
@@ -81,12 +81,13 @@ fn retain_left(taken: &SharedNames, names: &mut Vec<Text>)
 }
 
 /// The names that are none of these.
-fn names_left(taken: &SharedNames, names: Names) -> Names
-    ensures { result ≡ filter (is_left taken.now) names }
+fn names_left(alloc: Global, taken: &SharedNames, names: &PointDims) -> Result<PointDims, NoMemory>
+    ensures { IfOk result (λ left. left ≡ filter (is_left taken.now) names.now) }
 {
-    let mut items = names.into_items();
+    let mut items = copies(alloc, names.as_slice())?;
     retain_left(taken, &mut items);
-    Names::from_items(items)
+    let left = PointDims::new(alloc, Names::from_items(items))?;
+    Ok(left)
 }
 
 /// What `delete` says of a point.
@@ -112,7 +113,7 @@ pub(crate) fn feed_delete(
         return Ok(Said::dropped(alloc));
     }
     let tags = left(alloc, &deletion.tags, tags)?;
-    let dims = names_left(&deletion.tags, dims);
+    let dims = names_left(alloc, &deletion.tags, &dims)?;
     let point = Point {
         db,
         rp,

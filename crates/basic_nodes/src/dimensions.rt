@@ -7,7 +7,7 @@ ghost use Rattle.std.specs.Str.{is_utf8};
 ghost use Rattle.kap_base.specs.Points.{are_dimensions};
 ghost use Rattle.basic_nodes.specs.Dimensions.{dims_of, group_by_says, grouped, in_order, map_of};
 
-use kap_base::{Duplicate, KeyMap, Names, NoMemory, Point, Shared, SharedText, Text};
+use kap_base::{Duplicate, KeyMap, Names, NoMemory, Point, PointDims, Shared, SharedText, Text};
 use node_core::{Said, pass};
 use std::alloc::Global;
 use std::marker::Model;
@@ -15,7 +15,7 @@ use std::marker::Model;
 /// Names of tags in byte order, each once, as a point has them.
 #[derive(Debug, Drop)]
 pub struct Dimensions {
-    names: Names,
+    names: PointDims,
 }
 
 impl Model for Dimensions {
@@ -61,12 +61,13 @@ fn keys_of<V>(alloc: Global, entries: &[(Text, V)]) -> Result<Vec<Text>, NoMemor
 
 /// The keys of a map: they can be dimensions.
 #[tactic(auto, using(crate::proofs::DimensionLaws::keys_fit))]
-fn key_names<V: Drop>(alloc: Global, keyed: &KeyMap<V>) -> Result<Names, NoMemory>
+fn key_names<V: Drop>(alloc: Global, keyed: &KeyMap<V>) -> Result<PointDims, NoMemory>
     ensures keys { IfOk result (λ names. names ≡ keys keyed.now) }
     ensures fit { IfOk result (λ names. IsTrue (are_dimensions names)) }
 {
     let names = keys_of(alloc, keyed.entries())?;
-    Ok(Names::from_items(names))
+    let dims = PointDims::new(alloc, Names::from_items(names))?;
+    Ok(dims)
 }
 
 /// Adds a key, unless it is there.
@@ -103,7 +104,7 @@ impl Dimensions {
     }
 
     /// The names.
-    fn names(&self, alloc: Global) -> Result<Names, NoMemory>
+    fn names(&self, alloc: Global) -> Result<PointDims, NoMemory>
         ensures names { IfOk result (λ names. names ≡ self.now) }
         ensures fit { IfOk result (λ names. IsTrue (are_dimensions names)) }
     {
@@ -112,7 +113,7 @@ impl Dimensions {
 }
 
 /// The dimensions of a point.
-fn dims_of(alloc: Global, grouping: &Grouping, point: &Point) -> Result<Names, NoMemory>
+fn dims_of(alloc: Global, grouping: &Grouping, point: &Point) -> Result<PointDims, NoMemory>
     ensures dims { IfOk result (λ dims. dims ≡ dims_of grouping.now point.now) }
     ensures fit { IfOk result (λ dims. IsTrue (are_dimensions dims)) }
 {

@@ -1,5 +1,5 @@
 -- A point, as definitions speak of it, and what holds of each.
-use Rattle.std.specs.Prelude.{ℕ, ℤ, pos, negsuc, ◌^◌, Bool, true, ◌&&◌, List, [], ◌∷◌, nat_lt, nat_le, IsTrue}
+use Rattle.std.specs.Prelude.{ℕ, ℤ, pos, negsuc, ◌^◌, Bool, true, ◌&&◌, List, [], ◌∷◌, Option, None, Some, nat_lt, nat_le, IsTrue}
 use Rattle.std.specs.List.{list_all}
 use Rattle.std.specs.Str.{is_utf8}
 use Rattle.std.specs.FinMap.{entries, len}
@@ -32,6 +32,11 @@ is_value (values.Int (pos n)) = nat_lt n (2 ^ 63)
 is_value (values.Int (negsuc n)) = nat_lt n (2 ^ 63)
 is_value (values.Bool b) = true
 is_value (values.Str text) = is_line text
+
+-- the names that are there, or none
+abbrev pub names_in : Option (List (List ℕ)) → List (List ℕ)
+names_in None = []
+names_in (Some names) = names
 
 -- each stands below the next one
 abbrev pub rises : List (List ℕ) → Bool

@@ -3,7 +3,7 @@
 ghost use Rattle.std.specs.Prelude.{◌≡◌, map, IfOk};
 ghost use Rattle.kap_base.specs.Groups.{group_of, tag_value};
 
-use crate::duplicate::Duplicate;
+use crate::duplicate::{Duplicate, copies};
 use crate::memory::NoMemory;
 use crate::point::Point;
 use crate::text::Text;
@@ -113,7 +113,7 @@ pub fn group_of(alloc: Global, point: &Point) -> Result<Group, NoMemory>
 {
     Ok(Group {
         name: group_name(alloc, point)?,
-        dims: point.dims.copy(alloc)?,
+        dims: Names::from_items(copies(alloc, point.dims.as_slice())?),
         values: tag_values(alloc, &point.tags, point.dims.as_slice())?,
     })
 }

@@ -5,9 +5,10 @@ ghost use Rattle.kap_base.specs.Texts.{is_name};
 
 use crate::duplicate::Duplicate;
 use crate::memory::NoMemory;
+use crate::point_dims::PointDims;
 use crate::text::Text;
 use crate::value::Value;
-use crate::{Fields, Names, Tags};
+use crate::{Fields, Tags};
 use std::alloc::Global;
 use std::marker::Model;
 
@@ -25,7 +26,7 @@ pub struct Point {
     /// Its fields, one at least.
     pub fields: Fields,
     /// The names of the tags by which it is grouped, in byte order, each once.
-    pub dims: Names,
+    pub dims: PointDims,
     /// Whether it is grouped by its measurement too.
     pub by_name: bool,
     /// Nanoseconds from 1970-01-01T00:00:00Z on, within plus or minus 9,000,000,000,000,000,000.
@@ -99,7 +100,7 @@ impl Point {
     }
 
     /// Has these dimensions in the place of its own, and is grouped by its measurement too or not.
-    pub fn regroup(&mut self, dims: Names, by_name: bool)
+    pub fn regroup(&mut self, dims: PointDims, by_name: bool)
         requires { IsTrue (are_dimensions dims) }
         ensures { self.new ≡ record self.old { dims = dims; by_name = by_name } }
     {

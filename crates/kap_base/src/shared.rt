@@ -7,11 +7,11 @@ ghost use Rattle.std.specs.Cmp.Lexicographic.{nat_list_eq_equiv, pointwise};
 ghost use Rattle.kap_base.specs.Points.{are_dimensions};
 ghost use Rattle.kap_base.specs.Tree.{tree_of};
 
-use crate::Names;
 use crate::duplicate::Duplicate;
 use crate::expr::Expr;
 use crate::memory::NoMemory;
 use crate::point::Point;
+use crate::point_dims::PointDims;
 use crate::text::Text;
 use std::alloc::Global;
 use std::marker::Model;
@@ -82,7 +82,7 @@ impl Shared<Point> {
     pub fn regrouped(
         self,
         alloc: Global,
-        dims: Names,
+        dims: PointDims,
         by_name: bool,
     ) -> Result<Shared<Point>, NoMemory>
         requires { IsTrue (are_dimensions dims) }

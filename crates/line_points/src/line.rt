@@ -11,7 +11,7 @@ use crate::mode::Mode;
 use crate::reading::{fields, last_time, measurement, tags};
 use crate::room::{Pool, Room};
 use crate::scanner::Scanner;
-use kap_base::{Duplicate, Names, Point, Shared, Text};
+use kap_base::{Duplicate, Point, PointDims, Shared, Text};
 use std::alloc::Global;
 
 /// How many bytes a line may have.
@@ -44,7 +44,7 @@ fn point(
         name,
         tags,
         fields,
-        dims: Names::new(alloc),
+        dims: PointDims::none(),
         by_name: false,
         time,
     })

@@ -4,7 +4,7 @@ ghost use Rattle.std.specs.Prelude.{◌≡◌, ◌<◌, ◌≤◌, ◌++◌, IfO
 ghost use Rattle.std.specs.Fmt.{decimal};
 ghost use Rattle.sample_points.specs.Samples.{fields_of, sample_of, tags_of};
 
-use kap_base::{Fields, Names, NoMemory, Point, Tags, Text, Value};
+use kap_base::{Fields, NoMemory, Point, PointDims, Tags, Text, Value};
 use std::alloc::Global;
 
 /// The most points of a sample recording.
@@ -51,7 +51,7 @@ pub fn sample_point(alloc: Global, number: u64) -> Result<Point, NoMemory>
         name: Text::from_str(alloc, "cpu")?,
         tags: tags(alloc, number % 8)?,
         fields: fields(alloc, (37 * number % 101) as i64)?,
-        dims: Names::new(alloc),
+        dims: PointDims::none(),
         by_name: false,
         time: (number * 1_000_000_000) as i64,
     })

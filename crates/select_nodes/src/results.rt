@@ -14,7 +14,8 @@ ghost use Rattle.select_nodes.specs.Steps.{choice_items};
 use crate::choices::{Choice, choose};
 use crate::picks::Pick;
 use kap_base::{
-    Batch, Body, Duplicate, Fields, Group, Names, NoMemory, Point, Shared, Tags, Text, Value,
+    Batch, Body, Duplicate, Fields, Group, Names, NoMemory, Point, PointDims, Shared, Tags, Text,
+    Value,
 };
 use node_core::{Few, Said, pass_new};
 use std::alloc::Global;
@@ -106,11 +107,12 @@ fn result_point(
 {
     let Group {
         name: by_name,
-        dims,
+        dims: names,
         values,
     } = group;
-    let tags = group_tags(alloc, dims.as_slice(), values)?;
+    let tags = group_tags(alloc, names.as_slice(), values)?;
     let Pick { value, time } = pick;
+    let dims = PointDims::new(alloc, names)?;
     Ok(Point {
         db: Text::from_str(alloc, "")?,
         rp: Text::from_str(alloc, "")?,

@@ -8,9 +8,11 @@ ghost use Rattle.state_code.specs.Points.{are_held, are_named, are_tags, point_p
 use crate::cursor::Cursor;
 use crate::fault::CodeFault;
 use crate::fields::{put_i64, put_text};
+use crate::lists::put_items;
 use crate::spelled::Spelled;
 use kap_base::{
-    Bytes, Fields, Names, NoMemory, Point, Shared, Tags, Text, Value, are_dimensions, is_time,
+    Bytes, Fields, Names, NoMemory, Point, PointDims, Shared, Tags, Text, Value, are_dimensions,
+    is_time,
 };
 use std::alloc::Global;
 
@@ -100,7 +102,7 @@ fn append_rest(point: &Point, to: &mut Bytes) -> Result<(), NoMemory>
     ensures fits { OnOk result (FitsRest (point_parts point.now).1.1) }
     ensures before { take (length to.old) to.new ≡ to.old }
 {
-    point.dims.append_spelling(to)?;
+    put_items(point.dims.as_slice(), to)?;
     point.by_name.append_spelling(to)?;
     put_i64(to, point.time)
 }
@@ -129,15 +131,16 @@ impl Spelled for Point {
         let name = from.text(alloc)?;
         let tags = <Tags as Spelled>::read_spelling(alloc, from)?;
         let fields = <Fields as Spelled>::read_spelling(alloc, from)?;
-        let dims = <Names as Spelled>::read_spelling(alloc, from)?;
+        let names = <Names as Spelled>::read_spelling(alloc, from)?;
         let by_name = <bool as Spelled>::read_spelling(alloc, from)?;
         let time = from.i64()?;
         if !are_named(&db, &rp, &name) {
             return Err(CodeFault::At(from.offset()));
         }
-        if !are_held(&tags, &fields, &dims, time) {
+        if !are_held(&tags, &fields, &names, time) {
             return Err(CodeFault::At(from.offset()));
         }
+        let dims = PointDims::new(alloc, names)?;
         Ok(Point {
             db,
             rp,

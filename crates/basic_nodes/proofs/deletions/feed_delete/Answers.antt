@@ -9,4 +9,4 @@ invariant_of-point c =
     let fits : SFits w64 c.point.inside.time = search rules in
     let p = c.point.inside in
     rw (to_z-of_z fits)
-    (left_fits (record { db = p.db; rp = p.rp; name = p.name; tags = p.tags; fields = p.fields; dims = p.dims; by_name = p.by_name; time = p.time }) _ _ _ _ _ c.in_ok-fields.ensures c.in_ok-tags.ensures c.names_left-dims.ensures (sym c.if-is_empty.ensures) c.point.invariant)
+    (left_fits (record { db = p.db; rp = p.rp; name = p.name; tags = p.tags; fields = p.fields; dims = p.dims; by_name = p.by_name; time = p.time }) _ _ _ _ _ c.in_ok-fields.ensures c.in_ok-tags.ensures c.in_ok-dims.ensures (sym c.if-is_empty.ensures) c.point.invariant)
