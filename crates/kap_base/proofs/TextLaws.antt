@@ -1,11 +1,12 @@
 -- What is known of each text and of each number.
-use Rattle.std.proofs.Common.{◌≡◌, ◌∙◌, ℕ, ◌+◌, ◌<◌, ◌^◌, ap, append_assoc, length-append, Bool, true, false, not, ◌&&◌, List, [], ◌∷◌, ◌++◌, length, take, take_at, Result, Ok, Err, IfOk, IsTrue, arith, ℤ, pos, negsuc, refl, subst, sym}
+use Rattle.std.proofs.Common.{◌≡◌, ◌∙◌, ℕ, ◌+◌, ◌<◌, ◌≤◌, ◌^◌, ap, append_assoc, length-append, Bool, true, false, not, ◌&&◌, List, [], ◌∷◌, ◌++◌, length, take, take_at, Result, Ok, Err, IfOk, IsTrue, arith, ℤ, pos, negsuc, refl, subst, sym}
 use Rattle.std.specs.Prelude.{IsUtf8}
 use Rattle.std.specs.Int.{w64}
 use mir.Val.{SFits}
 use Rattle.std.proofs.lemmas.Bool.Decides.{nat_tests}
-use Rattle.std.specs.Str.{is_utf8}
-use Rattle.std.proofs.lemmas.Str.{IsUtf8-append, IsUtf8-from_is_utf8, is_utf8-from_IsUtf8}
+use Rattle.std.proofs.lemmas.List.{take-take}
+use Rattle.std.specs.Str.{IsCharBoundary, is_utf8}
+use Rattle.std.proofs.lemmas.Str.{IsUtf8-append, IsUtf8-from_is_utf8, IsUtf8-take, is_utf8-from_IsUtf8}
 use Rattle.kap_base.specs.Points.{is_value}
 use Rattle.kap_base.specs.Texts.{backslash, ends_with, has_line_feed, is_empty, is_name, is_plain, or_else}
 use Rattle.kap_base.specs.declared.memory.NoMemory.{NoMemory}
@@ -48,3 +49,12 @@ both_are_text front more tail cells len long is there utf8 =
 pub or_else_some : (bytes others : List ℕ) → 0 < length bytes → or_else bytes others ≡ bytes
 or_else_some [] others some = absurd (omega (arith, some))
 or_else_some (b ∷ bytes) others some = refl
+
+-- the front of a front is a text, where a character of the whole one begins behind it
+pub front_of_front_is_text : (line bytes front cells : List ℕ) (len limit : ℕ) → cells ≡ front → front ≡ take limit bytes → bytes ≡ line → len ≤ limit → IsUtf8 line → IsCharBoundary line len → IsTrue (is_utf8 (take len cells))
+front_of_front_is_text line bytes front cells len limit is it same short utf8 begins =
+    rw (is, it, same, take-take len limit line short) (is_utf8-from_IsUtf8 (take len line) (IsUtf8-take line len utf8 begins))
+
+-- the front of a text counts, where there are no other bytes before it
+pub front_counts : (none front line : List ℕ) (len : ℕ) → none ≡ [] → front ≡ take len line → IsUtf8 line → IsCharBoundary line len → IsUtf8 (or_else none front)
+front_counts none front line len empty is utf8 begins = rw (empty, is) (IsUtf8-take line len utf8 begins)

@@ -1,4 +1,5 @@
-ghost use Rattle.std.specs.Prelude.{◌≡◌, ◌≤◌, ◌++◌, length, IfOk, IsOk, IsUtf8, OnErr, OnOk, string_bytes};
+ghost use Rattle.std.specs.Prelude.{◌≡◌, ◌≤◌, ◌++◌, length, IfOk, IsOk, IsUtf8, OnErr, OnOk, string_bytes, take};
+ghost use Rattle.std.specs.Str.{IsCharBoundary};
 ghost use Rattle.kap_base.specs.declared.short_text.TheConstants.{SHORT_LIMIT};
 
 use crate::short_text::{SHORT_LIMIT, ShortText};
@@ -66,6 +67,22 @@ impl Packed {
             return Ok(short_text(alloc, text));
         }
         Ok(long_text(String::from_str(alloc, text)?))
+    }
+
+    /// The text of the first bytes of a line.
+    pub(crate) fn from_front(alloc: Global, line: &str, len: usize) -> Result<Packed, AllocError>
+        requires { IsCharBoundary line.now len }
+        ensures text { IfOk result (λ t. t ≡ take len line.now) }
+        ensures utf8 { IfOk result (λ t. IsUtf8 t) }
+    {
+        if len <= SHORT_LIMIT && SHORT_LIMIT <= line.len() {
+            return Ok(Packed {
+                string: String::new(alloc),
+                short: ShortText::from_front(line, len),
+            });
+        }
+        let (text, _) = line.split_at(len);
+        Packed::from_str(alloc, text)
     }
 
     /// The text of this string.

@@ -1,6 +1,7 @@
 //! Texts that take no allocation.
 
 ghost use Rattle.std.specs.Prelude.{◌≡◌, ◌≤◌, ◌+◌, ◌++◌, [], length, take, drop, IsUtf8};
+ghost use Rattle.std.specs.Str.{IsCharBoundary};
 ghost use Rattle.kap_base.specs.declared.short_text.TheConstants.{SHORT_LIMIT};
 
 use std::marker::Model;
@@ -50,6 +51,20 @@ impl ShortText {
             bytes,
             len: text.len(),
         }
+    }
+
+    /// The short text of the first bytes of a line that has at least as many as a short text may have. It takes those all, and so
+    /// their number is known beforehand.
+    pub(crate) fn from_front(line: &str, len: usize) -> ShortText
+        requires short { len ≤ SHORT_LIMIT }
+        requires long { SHORT_LIMIT ≤ length line.now }
+        requires boundary { IsCharBoundary line.now len }
+        ensures { result ≡ take len line.now }
+    {
+        let mut bytes = [0; SHORT_LIMIT];
+        let (front, _) = line.as_bytes().split_at(SHORT_LIMIT);
+        bytes.copy_from_slice(front);
+        ShortText { bytes, len }
     }
 
     /// The empty text.

@@ -1,4 +1,5 @@
-ghost use Rattle.std.specs.Prelude.{◌≡◌, ◌++◌, OnErr, OnOk, IfOk, IsUtf8, IsErrOf, Some, bytes_eq, nat_eq, refl, string_bytes};
+ghost use Rattle.std.specs.Prelude.{◌≡◌, ◌++◌, OnErr, OnOk, IfOk, IsUtf8, IsErrOf, Some, bytes_eq, nat_eq, refl, string_bytes, take};
+ghost use Rattle.std.specs.Str.{IsCharBoundary};
 ghost use Rattle.std.specs.Cmp.{partial_equiv_from_equiv};
 ghost use Rattle.std.specs.Cmp.Lexicographic.{nat_list_cmp_total, nat_list_eq_equiv, pointwise, slice_cmp, texts_po, texts_ties};
 ghost use Rattle.std.specs.Ordering.{nat_cmp};
@@ -78,6 +79,18 @@ impl Text {
     {
         Ok(Text {
             packed: Packed::from_str(alloc, text)?,
+        })
+    }
+
+    /// The text of the first bytes of a line.
+    #[inline(always)]
+    pub fn from_front(alloc: Global, line: &str, len: usize) -> Result<Text, NoMemory>
+        requires { IsCharBoundary line.now len }
+        ensures text { IfOk result (λ t. t ≡ take len line.now) }
+        ensures utf8 { IfOk result (λ t. IsUtf8 t) }
+    {
+        Ok(Text {
+            packed: Packed::from_front(alloc, line, len)?,
         })
     }
 

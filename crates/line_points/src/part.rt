@@ -1,4 +1,5 @@
-ghost use Rattle.std.specs.Prelude.{◌≡◌, ◌==◌, IfOk, IfSome, length, position};
+ghost use Rattle.std.specs.Prelude.{◌≡◌, ◌==◌, IfOk, IfSome, drop, length, position, take};
+ghost use Rattle.std.specs.Str.{IsCharBoundary};
 ghost use Rattle.std.specs.List.{position_or_len};
 ghost use Rattle.line_points.specs.Parts.{escapes, stops, marks, ends, opens_escape, text_at};
 
@@ -81,16 +82,18 @@ impl Part {
         }
     }
 
-    /// The part at the front, and what stands behind it, where no backslash stands in the part.
-    pub fn plain_text(self, rest: &str) -> Option<(&str, &str)>
-        ensures { IfSome result (λ r. text_at self rest.now ≡ (r.0.now, r.1.now)) }
+    /// Where the part at the front ends, where no backslash stands in it.
+    pub fn plain_end(self, rest: &str) -> Option<usize>
+        ensures boundary { IfSome result (λ at. IsCharBoundary rest.now at) }
+        ensures parts { IfSome result (λ at.
+            text_at self rest.now ≡ (take at rest.now, drop at rest.now)) }
     {
         let at = self.plain_len(rest.as_bytes());
-        let (text, behind) = rest.split_at(at);
+        let (_, behind) = rest.split_at(at);
         if begins_with(behind.as_bytes(), b'\\') {
             return None;
         }
-        Some((text, behind))
+        Some(at)
     }
 
     /// What the part at the front stands for, and the bytes behind it.

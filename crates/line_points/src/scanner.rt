@@ -74,10 +74,11 @@ impl<'a> Scanner<'a> {
         ensures shorter { length self.new.rest.now ≤ length self.old.rest.now }
         ensures value { IfOk result (λ t. text_at part self.old.rest.now ≡ (t, self.new.rest.now)) }
     {
-        match part.plain_text(self.rest) {
-            Some((text, rest)) => {
-                self.rest = rest;
-                Text::from_str(alloc, text)
+        match part.plain_end(self.rest) {
+            Some(at) => {
+                let line = self.rest;
+                self.skip(at);
+                Text::from_front(alloc, line, at)
             }
             None => self.escaped_text(alloc, part),
         }
