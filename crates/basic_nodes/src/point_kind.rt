@@ -32,6 +32,7 @@ pub enum PointKind {
 
 impl PointKind {
     /// What is said of a point.
+    #[inline(always)]
     fn feed_point(&self, alloc: Global, point: Shared<Point>) -> Result<Said, NoMemory>
         ensures { IfOk result (λ said. said ≡ says_of self.now point) }
     {

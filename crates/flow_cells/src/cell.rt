@@ -111,6 +111,7 @@ impl<N: Node> Cell<N> {
     /// Takes a message from an input into its buffer, and handles all that is then determined. `false` comes only where
     /// there is no such input, a message waits to be sent, or the ring was empty as this call looked. After NoMemory
     /// the cell is spent.
+    #[inline(always)]
     pub fn take(&mut self, alloc: Global, input: u32) -> Result<bool, NoMemory>
         requires { self.old.spent ≡ false }
         ensures keeps { OnOk result (Keeps N.Node self.new) }
@@ -130,6 +131,7 @@ impl<N: Node> Cell<N> {
 
     /// Puts the first message that waits at an out on its edge. `false` comes only where there is no such out, nothing
     /// waits there, or the ring was full as this call looked. It takes no memory.
+    #[inline(always)]
     pub fn put(&mut self, out: u32) -> bool
         requires { self.old.spent ≡ false }
         ensures keeps { Keeps N.Node self.new }

@@ -12,6 +12,7 @@ use node_core::Node;
 use std::alloc::Global;
 
 /// Takes a message from an input into the buffer, and handles all that is then determined.
+#[inline(always)]
 pub(crate) fn take<N: Node>(
     alloc: Global,
     cell: &mut CellParts<N>,
@@ -37,6 +38,7 @@ pub(crate) fn take<N: Node>(
 }
 
 /// Puts the first message that waits at an out on its edge.
+#[inline(always)]
 pub(crate) fn put<N: Node>(cell: &mut CellParts<N>, out: u32) -> bool
     requires { Keeps N.Node cell.old }
     ensures keeps { Keeps N.Node cell.new }

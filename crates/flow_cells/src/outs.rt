@@ -24,6 +24,7 @@ fn push_copies(alloc: Global, outs: &mut [OutEdge], msg: &Msg) -> Result<(), NoM
 }
 
 /// Has a message wait at each of some outs.
+#[inline(always)]
 fn push_all(alloc: Global, outs: &mut [OutEdge], msg: Msg) -> Result<(), NoMemory>
     ensures { OnOk result (outs.new ≡ map (with_unsent (msg ∷ [])) outs.old) }
 {

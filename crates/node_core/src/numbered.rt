@@ -87,6 +87,7 @@ fn give_items(stamp: Stamp, bodies: Few<Body>, out: &mut ItemList<Item>) -> Resu
 }
 
 /// Gives an effect out, if there is one, and answers the next number.
+#[inline(always)]
 fn give_first_effect(
     life: u32,
     node: u32,
