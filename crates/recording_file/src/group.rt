@@ -1,7 +1,6 @@
 ghost use Rattle.std.specs.Prelude.{◌≡◌, ◌≢◌, ◌+◌, ℕ, Ok, Err, Some, not, IsTrue, IfOk, IfErr, IfSome, IfNone, IsUtf8, OnOk, OnSome};
 ghost use Rattle.std.specs.Bool.{OnTrue, OnFalse};
 ghost use Rattle.kap_base.specs.Texts.{has_line_feed};
-ghost use Rattle.line_points.specs.Line.{line_of};
 ghost use Rattle.recording_file.specs.Causes.{HasReadCause};
 ghost use Rattle.recording_file.specs.Recording.{name_of_line, read};
 ghost use Rattle.recording_file.specs.Finding.{Reads, CountRises, FindsEnd, HoldsLines};
