@@ -14,6 +14,7 @@ use node_core::Items;
 use std::alloc::Global;
 
 /// Has a copy of a message wait at each out.
+#[inline(always)]
 fn push_copies(alloc: Global, outs: &mut [OutEdge], msg: &Msg) -> Result<(), NoMemory>
     ensures { OnOk result (outs.new ≡ map (with_unsent (msg.now ∷ [])) outs.old) }
 {

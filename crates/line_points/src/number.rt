@@ -1,4 +1,4 @@
-ghost use Rattle.std.specs.Prelude.{◌≡◌, ◌≤◌, ℕ, length, min, IsTrue};
+ghost use Rattle.std.specs.Prelude.{◌≡◌, ◌≤◌, ℕ, Some, None, if◌then◌else◌, length, min, IsTrue};
 ghost use Rattle.std.specs.List.{list_all};
 ghost use Rattle.std.specs.Char.{is_ascii_digit};
 ghost use Rattle.std.specs.Option.{option_map};
@@ -35,17 +35,22 @@ pub fn is_digits(bytes: &[u8]) -> bool
 /// So many digits stand for a number that fits 64 bits, whichever they are.
 const SURE_DIGITS: usize = 19;
 
-/// The number of at most `SURE_DIGITS` digits.
-fn sure_magnitude(digits: &[u8]) -> u64
-    requires digits { IsTrue (is_digits digits.now) }
-    requires few { length digits.now ≤ SURE_DIGITS }
-    ensures { result ≡ digits_value 10 digits.now }
+/// The number of at most `SURE_DIGITS` digits; `None` where a byte is no digit, or there is none.
+fn sure_magnitude(bytes: &[u8]) -> Option<u64>
+    requires { length bytes.now ≤ SURE_DIGITS }
+    ensures { result ≡ (if is_digits bytes.now then Some (digits_value 10 bytes.now) else None) }
 {
-    let mut value = 0u64;
-    'adding: for digit in digits {
-        value = value * 10 + u64::from(*digit - b'0');
+    if bytes.is_empty() {
+        return None;
     }
-    value
+    let mut value = 0u64;
+    'adding: for byte in bytes {
+        if !byte.is_ascii_digit() {
+            return None;
+        }
+        value = value * 10 + u64::from(*byte - b'0');
+    }
+    Some(value)
 }
 
 /// The number of any digits, or the greatest one of 64 bits where it is greater.
@@ -62,27 +67,27 @@ fn capped_magnitude(digits: &[u8]) -> u64
     value
 }
 
-/// The number of the digits, or the greatest one of 64 bits where it is greater.
-fn magnitude(digits: &[u8]) -> u64
-    requires { IsTrue (is_digits digits.now) }
-    ensures { result ≡ min (digits_value 10 digits.now) u64.MAX }
+/// The number of digits, or the greatest one of 64 bits where it is greater; `None` where a byte is no digit, or there is none.
+fn magnitude(bytes: &[u8]) -> Option<u64>
+    ensures { result ≡ (if is_digits bytes.now
+        then Some (min (digits_value 10 bytes.now) u64.MAX) else None) }
 {
-    if digits.len() <= SURE_DIGITS {
-        sure_magnitude(digits)
-    } else {
-        capped_magnitude(digits)
+    if bytes.len() <= SURE_DIGITS {
+        return sure_magnitude(bytes);
     }
+    if !is_digits(bytes) {
+        return None;
+    }
+    Some(capped_magnitude(bytes))
 }
 
 fn number_from(negative: bool, bytes: &[u8]) -> Option<Number>
     ensures { option_map parts result ≡ option_map cap (number_from negative bytes.now) }
 {
-    if !is_digits(bytes) {
-        return None;
-    }
+    let magnitude = magnitude(bytes)?;
     Some(Number {
         negative,
-        magnitude: magnitude(bytes),
+        magnitude,
     })
 }
 

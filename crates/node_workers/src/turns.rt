@@ -29,27 +29,14 @@ pub(crate) fn short(n: usize) -> u32 {
     u32::try_from(n).unwrap_or(u32::MAX)
 }
 
-/// Puts what waits at an out, as long as its edge has room, and says whether it put a message.
-fn put_some<N: Node>(cell: &mut Cell<N>, out: u32) -> bool
-    requires { cell.old.spent ≡ false }
-    ensures { HasMoved cell.old cell.new }
-{
-    'putting: for put in 0..MOVE_LIMIT {
-        if !cell.put(out) {
-            return put > 0;
-        }
-    }
-    true
-}
-
-/// Puts what waits at each out, and says whether it put a message.
+/// Puts the first message that waits at each out on its edge, where that has room, and says whether it put one.
 fn put_each<N: Node>(cell: &mut Cell<N>) -> bool
     requires { cell.old.spent ≡ false }
     ensures { HasMoved cell.old cell.new }
 {
     let mut moved = false;
     'putting: for out in 0..short(cell.outs()) {
-        if put_some(cell, out) {
+        if cell.put(out) {
             moved = true;
         }
     }

@@ -88,6 +88,7 @@ pub fn point_behind_policy<S: Source>(
 }
 
 /// Passes a line that is a database or a policy, which is set; false at the end.
+#[inline(always)]
 fn pass_name<S: Source>(
     alloc: Global,
     lines: &mut Lines,

@@ -8,5 +8,5 @@ putting-init g c = record { unspent = c.requires; moved = HasMoved-refl c.args.c
 pub putting-preserved : goal.putting-preserved
 putting-preserved g c =
     let i = c.putting.invariant in
-    let m = c.put_some.ensures in
-    record { unspent = m.spent ∙ i.unspent; moved = HasMoved-trans c.args.cell.now c.putting.cell c.put_some.new.cell i.moved m }
+    let m = c.put.ensures.moved in
+    record { unspent = m.spent ∙ i.unspent; moved = HasMoved-trans c.args.cell.now c.putting.cell c.put.new.self i.moved m }
