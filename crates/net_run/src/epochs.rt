@@ -1,6 +1,6 @@
 //! One epoch through a net.
 
-ghost use Rattle.std.specs.Prelude.{◌≡◌, ◌+◌, ◌++◌, false, IfOk, List, OnOk, length, map};
+ghost use Rattle.std.specs.Prelude.{◌≡◌, ◌+◌, ◌++◌, [], false, IfOk, IsFalse, IsTrue, List, OnOk, length, map};
 ghost use Rattle.std.specs.List.{AllByRecursion as Each};
 ghost use Rattle.kap_base.specs.Points.{PointValue};
 ghost use Rattle.task_run.specs.Lives.{effects_of};
@@ -18,7 +18,10 @@ use std::alloc::Global;
 use std::thread::Threads;
 
 /// The points, where they are held. Otherwise there are none from here on, and whoever else has them has them alone.
-fn held_points(alloc: Global, points: Vec<Shared<Point>>, hold: bool) -> Vec<Shared<Point>> {
+fn held_points(alloc: Global, points: Vec<Shared<Point>>, hold: bool) -> Vec<Shared<Point>>
+    ensures held { IsTrue hold → result.items ≡ points.items }
+    ensures none { IsFalse hold → result.items ≡ [] }
+{
     if hold {
         points
     } else {
@@ -48,6 +51,8 @@ pub(crate) fn run_epoch<N: NumberingNode + Send, R: Threads + Sync, G: Gate + Sy
         (before : List PointValue) → Stands N.Node plans before net.old
         → effects_of N.answer (map (graph_of N.spec) plans) (before ++ points.items)
         ≡ effects_of N.answer (map (graph_of N.spec) plans) before ++ ran.0) }
+    ensures held { IfOk result (λ ran. IsTrue hold → ran.1.items ≡ points.items) }
+    ensures none { IfOk result (λ ran. IsFalse hold → ran.1.items ≡ []) }
 {
     let count = points.len();
     net.load(alloc, &points, upto, &[])?;

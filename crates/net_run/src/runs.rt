@@ -52,7 +52,7 @@ impl<N: Node> Model for NetRun<N> {
 }
 
 impl<N: NumberingNode + Send> NetRun<N> {
-    ghost use Rattle.std.specs.Prelude.{◌≡◌, ◌++◌, ◌<◌, ◌≤◌, false, [], IfOk, OnOk, is_err, map};
+    ghost use Rattle.std.specs.Prelude.{◌≡◌, ◌++◌, ◌<◌, ◌≤◌, false, [], IfOk, IsFalse, IsTrue, OnOk, is_err, map};
     ghost use Rattle.std.specs.List.{AllByRecursion as Each};
     ghost use Rattle.task_run.specs.Lives.{dropped_of, effects_of};
     ghost use Rattle.task_run.specs.Plans.{AreFirstStates, graph_of};
@@ -91,7 +91,7 @@ impl<N: NumberingNode + Send> NetRun<N> {
     /// Loads an epoch of points into the net, has it come to rest in this way, and answers what the nodes do for them. A point's
     /// stamp is its place among all points so far, from 1 on. The effects of all points, in their order, go on by these. Where the
     /// points are to be held they are given back, so that whoever reads the next ones may use their memory; a node that changes a
-    /// point then copies it. After NoMemory the run is spent.
+    /// point then copies it. Else none are given back. After NoMemory the run is spent.
     pub fn run<R: Threads + Sync, G: Gate + Sync>(
         &mut self,
         alloc: Global,
@@ -106,6 +106,8 @@ impl<N: NumberingNode + Send> NetRun<N> {
         ensures effects { IfOk result (λ ran.
             effects_of N.answer self.old.lives (self.old.points ++ points.items)
             ≡ effects_of N.answer self.old.lives self.old.points ++ ran.0) }
+        ensures held { IfOk result (λ ran. IsTrue hold → ran.1.items ≡ points.items) }
+        ensures none { IfOk result (λ ran. IsFalse hold → ran.1.items ≡ []) }
     {
         self.spent = true;
         let Some(upto) = self.given.checked_add(points.len() as u64) else {
