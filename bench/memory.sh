@@ -51,7 +51,7 @@ job() {
     fi
 }
 
-logs=$(awk 'BEGIN { for (i = 0; i < 255; i++) printf "|log()" }')
+logs=$(awk 'BEGIN { for (i = 0; i < 254; i++) printf "|log()" }')
 branch="s|eval(lambda: \"f\" + 1).as('z')|log()"
 
 printf '%-34s %9s %9s %9s %9s\n' job points KiB points KiB
@@ -70,7 +70,7 @@ job 'four tasks, changes of 10000 groups' 1 10000 4 "stream|from().groupBy('host
 job 'the first 20 of 100 at each point' 10 10 1 \
     "stream|from().groupBy('host')|window().periodCount(100).everyCount(1)|top(20, 'f')|log()"
 job '64 tasks, one log each' 10 10 64 "stream|from()|log()"
-job '64 tasks, 255 logs each' 1000 10 64 "stream$logs"
+job '64 tasks, 254 logs each' 1000 10 64 "stream|from()$logs"
 
 if [ -e "$work/large" ]; then
     exit 1
