@@ -167,7 +167,7 @@ module _ {N P S : Type 0} (g : Ghosts N P S) where
     unspent = unspent;
     rest = rest;
     none = none;
-    last = last;
+    last = omega (arith, last);
     ends = made-ends plans;
     lives = made-lives plans net.lives are first;
     numbered = made-numbered plans net.lives are planned;
@@ -184,11 +184,13 @@ module _ {N P S : Type 0} (g : Ghosts N P S) where
       let course = begun n (graph_of g.spec plan) in
       let numbers : numbers_of after.lives ≡ numbers_of before.lives ++ b.life.number ∷ [] = ap numbers_of b.is ∙ map-append (λ (l : NumberedLife N). l.number) before.lives (b.life ∷ []) in
       let number : b.life.number ≡ plan.life = b.made.number in
+      let same : after.last.0 ≡ before.last.0 = ap (λ (t : Stamp). t.0) last in
+      let low : before.last.0 ≤ n = s.last in
       record {
         unspent = unspent;
         rest = rest;
         none = gathered ∙ s.none;
-        last = ap (λ (t : Stamp). t.0) last ∙ s.last;
+        last = omega (arith, same, low);
         ends = each-both (λ c. end_of c ≡ n) courses (course ∷ []) s.ends (omega arith, tt);
         lives = subst (λ (ls : List (NumberedLife N)). AllZip (IsOnCourse g) (courses ++ course ∷ []) ls) (sym b.is)
             (zip-both (IsOnCourse g) courses (course ∷ []) before.lives (b.life ∷ []) s.lives (life_begins before.last.0 n plan b.life b.made first, tt));
@@ -202,11 +204,13 @@ module _ {N P S : Type 0} (g : Ghosts N P S) where
       → Each IsResting after.lives → after.gathered ≡ [] → after.last ≡ before.last → after.spent ≡ false → StandsAt g n (remove courses e.place) after
   net_ended n number courses before after s e rest none last unspent =
       let numbers : numbers_of after.lives ≡ remove (numbers_of before.lives) e.place = ap numbers_of e.is ∙ map-remove (λ (l : NumberedLife N). l.number) before.lives e.place in
+      let same : after.last.0 ≡ before.last.0 = ap (λ (t : Stamp). t.0) last in
+      let low : before.last.0 ≤ n = s.last in
       record {
         unspent = unspent;
         rest = rest;
         none = none;
-        last = ap (λ (t : Stamp). t.0) last ∙ s.last;
+        last = omega (arith, same, low);
         ends = each_remove (λ c. end_of c ≡ n) courses e.place s.ends;
         lives = subst (λ (ls : List (NumberedLife N)). AllZip (IsOnCourse g) (remove courses e.place) ls) (sym e.is) (zip-remove (IsOnCourse g) courses before.lives e.place s.lives);
         numbered = subst (λ (ns : List ℕ). AreNumberedBy g ns (remove courses e.place)) (sym numbers)
@@ -236,7 +240,7 @@ module _ {N P S : Type 0} (g : Ghosts N P S) where
     unspent = unspent;
     rest = rest;
     none = none;
-    last = last;
+    last = omega (arith, last);
     ends = grown-ends n new courses s.ends;
     lives = lives;
     numbered = subst (λ (ns : List ℕ). AreNumberedBy g ns (map (grown new) courses)) (sym numbers) (grown-numbered new (numbers_of before.lives) courses s.numbered);

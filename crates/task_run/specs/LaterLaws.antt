@@ -15,6 +15,7 @@ use Rattle.task_run.specs.Graphs.{Placed, gives_behind, lists_of, node_gives, ou
 use Rattle.task_run.specs.Lives.{effects_with}
 use Rattle.task_run.specs.Merging.{stamps}
 use Rattle.task_run.specs.MoreLaws.{AreParts, Part, olds, wholes}
+use Rattle.task_run.specs.OrderLaws.{given-stream}
 use Rattle.task_run.specs.StampLaws.{none_above, none_with, stream_by_stamp}
 use Rattle.task_run.specs.Stamps.{IsStream, StampsUpTo, of_effect}
 use Rattle.task_run.specs.Courses.{laters}
