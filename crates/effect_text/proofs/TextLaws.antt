@@ -1,5 +1,5 @@
 -- Texts of effects, one behind the other.
-use Rattle.std.proofs.Common.{◌≡◌, ℕ, ◌+◌, ◌<◌, List, [], ◌∷◌, ◌++◌, Option, Result, Ok, Err, OnOk, drop, get_or, length, take, refl, sym, ap, ◌∙◌, append-nil, append_assoc}
+use Rattle.std.proofs.Common.{◌≡◌, ℕ, ◌+◌, ◌<◌, List, [], ◌∷◌, ◌++◌, Option, drop, get_or, length, take, refl, sym, ap, ◌∙◌, append-nil, append_assoc}
 use Rattle.std.proofs.lemmas.List.{take_more}
 use Rattle.std.proofs.lemmas.List.Concat.{flat_map-append}
 use Rattle.std.specs.List.{AllByRecursion as Each, flat_map, slice_get}
@@ -56,10 +56,6 @@ line_of_one events e t text more is added =
 -- no new transition has no line
 pub line_of_none : (events : List Event) (e : Event) (text : List ℕ) → Trans (events ++ e ∷ []) ≡ Trans events ++ [] → text ≡ text ++ flat_map transition_line (new_transitions events e)
 line_of_none events e text is = sym (append-nil text) ∙ ap (λ ts. text ++ flat_map transition_line ts) (sym (new_are events e [] is))
-
-pub on_ok : {A E P Q : Type 0} (r : Result A E) → (P → Q) → OnOk r P → OnOk r Q
-on_ok (Ok x) f p = f p
-on_ok (Err e) f p = tt
 
 -- ---- effects, one after the other
 

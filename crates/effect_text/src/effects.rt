@@ -7,7 +7,7 @@ ghost use Rattle.topic_core.specs.Print.{transition_line};
 ghost use Rattle.topic_core.specs.Topics.{StandsFor, Trans};
 ghost use Rattle.topic_core.specs.declared.transition.Transition.{Transition};
 ghost use Rattle.effect_text.specs.Lines.{effect_lines, event_in, events_of, id_of, new_transitions};
-ghost use Rattle.effect_text.specs.Lines.{node_of, out_line, task_of, text_behind, what_lines};
+ghost use Rattle.effect_text.specs.Lines.{node_of, out_line, task_of, text_behind};
 
 use crate::names::TaskNames;
 use kap_base::{Bytes, Effect, Event, NoMemory, Point, What};

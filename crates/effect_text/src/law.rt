@@ -1,7 +1,7 @@
 //! What holds of texts of effects: laws, and no code.
 
-ghost use Rattle.std.specs.Prelude.{◌≡◌, ◌++◌, [], List};
-ghost use Rattle.std.specs.List.{AllByRecursion as Each, flat_map};
+ghost use Rattle.std.specs.Prelude.{◌≡◌, ◌++◌, List};
+ghost use Rattle.std.specs.List.{AllByRecursion as Each};
 ghost use Rattle.kap_base.specs.declared.items.Effect.{Effect};
 ghost use Rattle.kap_base.specs.declared.items.Event.{Event};
 ghost use Rattle.effect_text.specs.Lines.{events_of, task_of, text_behind};

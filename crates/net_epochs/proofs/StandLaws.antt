@@ -24,7 +24,7 @@ use Rattle.flow_core.specs.LifeLoads.{acts_of}
 use Rattle.flow_core.specs.Making.{AreLivesOf, Begins, Ends, IsLifeBehind}
 use Rattle.flow_core.specs.Nets.{IsResting, NetValue, NumberedLife, numbers_of}
 use Rattle.flow_core.specs.RanLaws.{first-acts}
-use Rattle.net_epochs.specs.Epochs.{AreNumberedBy, IsOnCourse, NumbersRise, StandsAt, nodes_in}
+use Rattle.net_epochs.specs.Epochs.{AreNumberedBy, IsNumbered, IsOnCourse, NumbersRise, StandsAt, nodes_in}
 
 -- ---- lists
 
@@ -195,7 +195,7 @@ module _ {N P S : Type 0} (g : Ghosts N P S) where
         lives = subst (λ (ls : List (NumberedLife N)). AllZip (IsOnCourse g) (courses ++ course ∷ []) ls) (sym b.is)
             (zip-both (IsOnCourse g) courses (course ∷ []) before.lives (b.life ∷ []) s.lives (life_begins before.last.0 n plan b.life b.made first, tt));
         numbered = subst (λ (ns : List ℕ). AreNumberedBy g ns (courses ++ course ∷ [])) (sym numbers)
-            (zip-both (λ which c. NodesNumbered g.life g.number which 0 c.nodes) (numbers_of before.lives) (b.life.number ∷ []) courses (course ∷ []) s.numbered (life_numbered before.last.0 plan b.life b.made planned, tt));
+            (zip-both (IsNumbered g) (numbers_of before.lives) (b.life.number ∷ []) courses (course ∷ []) s.numbered (life_numbered before.last.0 plan b.life b.made planned, tt));
         rise = subst (NumbersRise 0) (sym numbers)
             (subst (λ (m : ℕ). NumbersRise 0 (numbers_of before.lives ++ m ∷ [])) (sym number) (rise-more 0 plan.life (numbers_of before.lives) (omega arith) s.rise below));
       }
@@ -214,7 +214,7 @@ module _ {N P S : Type 0} (g : Ghosts N P S) where
         ends = each_remove (λ c. end_of c ≡ n) courses e.place s.ends;
         lives = subst (λ (ls : List (NumberedLife N)). AllZip (IsOnCourse g) (remove courses e.place) ls) (sym e.is) (zip-remove (IsOnCourse g) courses before.lives e.place s.lives);
         numbered = subst (λ (ns : List ℕ). AreNumberedBy g ns (remove courses e.place)) (sym numbers)
-            (zip-remove (λ which c. NodesNumbered g.life g.number which 0 c.nodes) (numbers_of before.lives) courses e.place s.numbered);
+            (zip-remove (IsNumbered g) (numbers_of before.lives) courses e.place s.numbered);
         rise = subst (NumbersRise 0) (sym numbers) (rise-less 0 (numbers_of before.lives) e.place s.rise);
       }
 

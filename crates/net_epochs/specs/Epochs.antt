@@ -22,9 +22,13 @@ module _ {N P S : Type 0} (g : Ghosts N P S) where
   abbrev pub IsOnCourse : Course P → NumberedLife N → Type 0
   IsOnCourse c l = IsWhere g.answer g.first g.step c (acts_of g l.life.cells)
 
-  -- the nodes of each course are those of the life with its number, each with its place
+  -- the nodes of a course are those of the life with this number, each with its place
+  abbrev pub IsNumbered : ℕ → Course P → Type 0
+  IsNumbered which c = NodesNumbered g.life g.number which 0 c.nodes
+
+  -- and so those of each
   abbrev pub AreNumberedBy : List ℕ → List (Course P) → Type 0
-  AreNumberedBy numbers courses = AllZip (λ which c. NodesNumbered g.life g.number which 0 c.nodes) numbers courses
+  AreNumberedBy numbers courses = AllZip IsNumbered numbers courses
 
   -- A net stands behind n points: it is at rest, all that its nodes did was collected, and its last barrier isn't above them. Its
   -- lives have seen the points up to there, and are where these have brought them. Their numbers rise, so that no two have the
