@@ -19,7 +19,8 @@ use Rattle.task_run.specs.OrderLaws.{given-stream}
 use Rattle.task_run.specs.StampLaws.{none_above, none_with, stream_by_stamp}
 use Rattle.task_run.specs.Stamps.{IsStream, StampsUpTo, of_effect}
 use Rattle.task_run.specs.Courses.{laters}
-use Rattle.task_run.specs.CourseLaws.{length-more, new-is, old-is, parts-are, parts-of}
+use Rattle.task_run.specs.CourseLaws.{new-is, old-is, parts-are, parts-of}
+use Rattle.task_run.specs.PointLaws.{length-more}
 
 -- ---- node by node
 
