@@ -40,13 +40,13 @@ module _ {P : Type 0} where
       ]
 
 -- its number is the next one
-pub numbers_begun : (n m : ℕ) (lives : List Life) (task : StoredTask) → open_from m (lives ++ life_from n task ∷ []) ≡ open_from m lives ++ m + length lives ∷ []
+pub numbers_begun : (n m : ℕ) (lives : List Life) (task : StoredTask) → open_from m (lives ++ life_from n task ∷ []) ≡ open_from m lives ++ (m + length lives) ∷ []
 numbers_begun n m [] task = let same : m ≡ m + 0 = omega arith in ap (λ (k : ℕ). k ∷ []) same
 numbers_begun n m (life ∷ lives) task =
     let more = life_from n task ∷ [] in
     let next : m + 1 + length lives ≡ m + suc (length lives) = omega arith in
-    let rest : open_from (m + 1) (lives ++ more) ≡ open_from (m + 1) lives ++ m + suc (length lives) ∷ [] = numbers_begun n (m + 1) lives task ∙ ap (λ (k : ℕ). open_from (m + 1) lives ++ k ∷ []) next in
-    elim (is_open life) as (λ b. cond b (m ∷ open_from (m + 1) (lives ++ more)) (open_from (m + 1) (lives ++ more)) ≡ cond b (m ∷ open_from (m + 1) lives) (open_from (m + 1) lives) ++ m + suc (length lives) ∷ []) [
+    let rest : open_from (m + 1) (lives ++ more) ≡ open_from (m + 1) lives ++ (m + suc (length lives)) ∷ [] = numbers_begun n (m + 1) lives task ∙ ap (λ (k : ℕ). open_from (m + 1) lives ++ k ∷ []) next in
+    elim (is_open life) as (λ b. cond b (m ∷ open_from (m + 1) (lives ++ more)) (open_from (m + 1) (lives ++ more)) ≡ cond b (m ∷ open_from (m + 1) lives) (open_from (m + 1) lives) ++ (m + suc (length lives)) ∷ []) [
       | true ↦ ap (λ (ns : List ℕ). m ∷ ns) rest
       | false ↦ rest
     ]

@@ -61,7 +61,7 @@ pub fn open_lives_come_and_go<N: Node>()
         → open_courses (lives ++ life_from (length points) task ∷ []) (graphs ++ nodes ∷ []) points
         ≡ open_courses lives graphs points ++ begun (length points) nodes ∷ [] }
     ensures numbers_begun { (n : ℕ) (lives : List Life) (task : StoredTask)
-        → open_from 1 (lives ++ life_from n task ∷ []) ≡ open_from 1 lives ++ 1 + length lives ∷ [] }
+        → open_from 1 (lives ++ life_from n task ∷ []) ≡ open_from 1 lives ++ (1 + length lives) ∷ [] }
     ensures ended { (points : List PointValue) (id : List ℕ) (number place : ℕ)
         (lives : List Life) (graphs : List (List (Placed N.Spec)))
         → length lives ≡ length graphs → ending_from id 1 lives ≡ Some number

@@ -1,5 +1,5 @@
-use Rattle.life_effects.specs.EffectLaws.{effects_end, effects_fare, effects_go, effects_start, open_end, open_grown}
-use Rattle.life_effects.specs.FitLaws.{held_fits}
+use Rattle.life_effects.proofs.EffectLaws.{effects_end, effects_fare, effects_go, effects_start, open_end, open_grown}
+use Rattle.life_effects.proofs.FitLaws.{held_fits}
 use Rattle.life_effects.proofs.laws.stores_go_on.Goals as goal
 
 pub returns-clause-fit : goal.returns-clause-fit

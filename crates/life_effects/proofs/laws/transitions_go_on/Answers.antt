@@ -1,4 +1,4 @@
-use Rattle.life_effects.specs.TransLaws.{trans_next, trans_rest}
+use Rattle.life_effects.proofs.TransLaws.{trans_next, trans_rest}
 use Rattle.life_effects.proofs.laws.transitions_go_on.Goals as goal
 
 pub returns-clause-more : goal.returns-clause-more
