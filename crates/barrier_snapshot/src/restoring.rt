@@ -3,6 +3,7 @@
 ghost use Rattle.std.specs.Prelude.{◌≡◌, ◌<◌, ◌≤◌, ℕ, Err, IfOk, List};
 ghost use Rattle.std.specs.List.{AllByRecursion as Each};
 ghost use Rattle.flow_core.specs.Making.{HasFewParents};
+ghost use Rattle.flow_core.specs.Rooms.{HasRoomIn};
 ghost use Rattle.barrier_snapshot.specs.Captures.{IsCapture, in_lives};
 ghost use Rattle.barrier_snapshot.specs.Faults.{FaultsAt};
 ghost use Rattle.barrier_snapshot.specs.Restoring.{Restores};
@@ -19,10 +20,10 @@ use task_run::LifePlan;
 
 /// A net with a life of each plan, in their order, at rest in the states that the bytes hold, life
 /// by life and node by node. Its last barrier has the stamp 0, each cell's saved state is its
-/// state, and its edges have room for 1 to 65,536 messages. `At` comes exactly where the bytes
-/// aren't a capture of these lives: it names the place of the first byte string that isn't the
-/// state of its node, or that of the bytes behind the last one, or 0 where the number of the states
-/// is another.
+/// state, and its edges have room for just `capacity` messages, 1 to 65,536. `At` comes exactly
+/// where the bytes aren't a capture of these lives: it names the place of the first byte string
+/// that isn't the state of its node, or that of the bytes behind the last one, or 0 where the
+/// number of the states is another.
 pub fn restore<N: Node>(
     alloc: Global,
     plans: Vec<LifePlan<N>>,
@@ -33,6 +34,7 @@ pub fn restore<N: Node>(
     requires some { 0 < capacity }
     requires limit { capacity ≤ CAPACITY_LIMIT }
     ensures restores { IfOk result (Restores N.Node plans.items bytes.now) }
+    ensures room { IfOk result (λ net. Each (HasRoomIn capacity) net.lives) }
     ensures at { (offset : ℕ) (states : List N.State) → result ≡ Err (at_place offset)
         → IsCapture N.fits N.spell (in_lives N.spec plans.items) states bytes.now → ⊥ }
     ensures named { (offset : ℕ) → result ≡ Err (at_place offset)

@@ -9,6 +9,8 @@ pub mod Handled
 pub mod Moves
 -- what any number of moves leave of it
 pub mod Moved
+-- how many messages its edges have room for
+pub mod Rooms
 -- an edge that is settled, what a cell has to do, and effects that are gathered
 pub mod Settles
 pub mod Looks

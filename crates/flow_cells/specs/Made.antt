@@ -33,14 +33,10 @@ IsUnused o = (sent o.tail ≡ []) × (o.unsent ≡ [])
 
 module _ {N P S : Type 0} (g : Ghosts N P S) where
   -- a node with nothing to send, whose state is saved, and which begins behind a barrier with this stamp
-  pub record IsMadeBehind (stamp : ℕ) (n : N) (c : Core N) : Type 0 where
+  pub record IsMade (stamp : ℕ) (n : N) (c : Core N) : Type 0 where
     pub node : c.node ≡ n
     pub outs : c.outs.items ≡ []
     pub effects : gathered c.gathered ++ c.effects ≡ []
     pub saved : c.saved ≡ g.spell (g.spec n) (g.state n)
     pub fits : g.fits (g.spec n) (g.state n)
     pub passed : c.passed.0 ≡ stamp
-
-  -- the same, where it passed no barrier
-  abbrev pub IsMade : N → Core N → Type 0
-  IsMade = IsMadeBehind 0

@@ -13,7 +13,7 @@ use Rattle.flow_cells.specs.declared.parts.Core.{Core}
 use Rattle.flow_cells.specs.Runs.{begun}
 use Rattle.flow_cells.specs.Kept.{IsAt, IsGiven, KeptBy, received_of, run_of}
 use Rattle.flow_cells.specs.MoveLaws.{kept-clean}
-use Rattle.flow_cells.specs.Made.{IsFresh, IsMadeBehind, IsNothing, IsUnused, one_or_more}
+use Rattle.flow_cells.specs.Made.{IsFresh, IsMade, IsNothing, IsUnused, one_or_more}
 
 fresh-heads : (ins : List InEdge) → Each IsFresh ins → map (λ (i : InEdge). received i.head) ins ≡ replicate (length ins) []
 fresh-heads [] h = refl
@@ -70,7 +70,7 @@ each-push Q (x ∷ xs) y h q = (h.0, each-push Q xs y h.1 q)
 
 module _ {N P S : Type 0} (g : Ghosts N P S) where
   -- the core of a cell that is made stands where its run begins
-  made-at : (stamp : ℕ) (n : N) (c base : Core N) → base ≡ c → IsMadeBehind g stamp n c → IsAt g (g.spec base.node) (begun (g.state base.node) base.passed) c
+  made-at : (stamp : ℕ) (n : N) (c base : Core N) → base ≡ c → IsMade g stamp n c → IsAt g (g.spec base.node) (begun (g.state base.node) base.passed) c
   made-at stamp n c base same m = subst (λ (b : Core N). IsAt g (g.spec b.node) (begun (g.state b.node) b.passed) c) (sym same) (record {
     spec = refl;
     state = refl;
@@ -83,7 +83,7 @@ module _ {N P S : Type 0} (g : Ghosts N P S) where
   })
 
   -- the core of a cell that is made keeps what a cell keeps
-  pub made-keeps : (stamp : ℕ) (n : N) (c base : Core N) (ins : List InEdge) (source : List Msg) (buffer : Lists) → base ≡ c → IsMadeBehind g stamp n c → Each IsFresh ins → source ≡ [] → buffer ≡ replicate (one_or_more (length ins)) [] → one_or_more (length ins) ≤ g.ports (g.spec n) → KeptBy g base (received_of ins source) buffer c
+  pub made-keeps : (stamp : ℕ) (n : N) (c base : Core N) (ins : List InEdge) (source : List Msg) (buffer : Lists) → base ≡ c → IsMade g stamp n c → Each IsFresh ins → source ≡ [] → buffer ≡ replicate (one_or_more (length ins)) [] → one_or_more (length ins) ≤ g.ports (g.spec n) → KeptBy g base (received_of ins source) buffer c
   made-keeps stamp n c base ins source buffer same m fresh none is ports =
       let lists : received_of ins source ≡ replicate (one_or_more (length ins)) [] = ap (received_of ins) none ∙ fresh-received ins fresh in
       let node : base.node ≡ n = ap (λ (b : Core N). b.node) same ∙ m.node in

@@ -137,7 +137,8 @@ module _ {N : Type 0} where
     spent = q.spent ∙ p.spent;
   }
 
-  took-moved : (k : ℕ) (c d : CellParts N) → TakesOne k c d → HasMoved c d
+  -- a take that was made moves
+  pub took-moved : (k : ℕ) (c d : CellParts N) → TakesOne k c d → HasMoved c d
   took-moved k c d t = record {
     ins = subst (AllZip Came c.ins.items) (sym t.ins) (set-at Came Came-refl c.ins.items k t.old t.new t.at (taken-came t.msg t.old t.new t.takes));
     outs = zip-weaker Waits Went waits-went c.core.outs.items d.core.outs.items t.outs;
@@ -162,7 +163,8 @@ module _ {N : Type 0} where
   take_moved true k c d took none = took-moved k c d (took refl)
   take_moved false k c d took none = none-moved k c d (none refl)
 
-  put-one_moved : (i : ℕ) (c d : CellParts N) → PutsOne i c d → HasMoved c d
+  -- a put that was made moves
+  pub put-one_moved : (i : ℕ) (c d : CellParts N) → PutsOne i c d → HasMoved c d
   put-one_moved i c d t = record {
     ins = subst (λ v. AllZip Came c.ins.items v.items) (sym t.others.ins) (zip-refl Came Came-refl c.ins.items);
     outs = subst (AllZip Went c.core.outs.items) (sym t.outs) (set-at Went Went-refl c.core.outs.items i t.old t.new t.at (sends-went t.old t.new t.sends));
@@ -172,7 +174,8 @@ module _ {N : Type 0} where
     spent = t.others.spent;
   }
 
-  put-none_moved : (i : ℕ) (c d : CellParts N) → PutsNone i c d → HasMoved c d
+  -- a put that wasn't made moves nothing
+  pub put-none_moved : (i : ℕ) (c d : CellParts N) → PutsNone i c d → HasMoved c d
   put-none_moved i c d t = record {
     ins = subst (λ v. AllZip Came c.ins.items v.items) (sym t.others.ins) (zip-refl Came Came-refl c.ins.items);
     outs = zip-weaker Eases Went eases-went c.core.outs.items d.core.outs.items t.outs;

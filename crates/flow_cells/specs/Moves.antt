@@ -1,5 +1,5 @@
 -- What the moves of a cell do to it.
-use Rattle.std.specs.Prelude.{◌≡◌, ℕ, ◌≤◌, ◌⊎◌, true, [], length, Some, slice_get, slice_set}
+use Rattle.std.specs.Prelude.{◌≡◌, ℕ, ◌≤◌, ◌⊎◌, false, true, [], length, Some, slice_get, slice_set}
 use Rattle.std.specs.List.{AllZip}
 use Rattle.kap_base.specs.declared.items.Msg.{Msg}
 use Rattle.edge_queue.specs.Edges.{free, known}
@@ -22,11 +22,12 @@ pub record TakesAt (msg : Msg) (a b : InEdge) : Type 0 where
   pub from : b.from ≡ a.from
   pub out : b.out ≡ a.out
 
--- one message was taken from an input; more may wait at outs
+-- one message was taken from an input, where none waited to be sent; more may wait at outs then
 pub record TakesOne {N : Type 0} (input : ℕ) (c d : CellParts N) : Type 0 where
   pub msg : Msg
   pub old : InEdge
   pub new : InEdge
+  pub none_waited : has_unsent c.core.outs.items ≡ false
   pub at : slice_get c.ins.items input ≡ Some old
   pub takes : TakesAt msg old new
   pub ins : d.ins.items ≡ slice_set c.ins.items input new

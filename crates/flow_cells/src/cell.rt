@@ -44,7 +44,7 @@ impl<N: Node> Cell<N> {
     ghost use Rattle.flow_cells.specs.Kept.{Keeps};
     ghost use Rattle.flow_cells.specs.Loads.{Begins, IsOwn, NothingWaits};
     ghost use Rattle.flow_cells.specs.Looks.{CanTake, IsQuiet};
-    ghost use Rattle.flow_cells.specs.Made.{HasNothing, IsFresh, IsMade, IsMadeBehind, IsNothing, IsUnused, one_or_more};
+    ghost use Rattle.flow_cells.specs.Made.{HasNothing, IsFresh, IsMade, IsNothing, IsUnused, one_or_more};
     ghost use Rattle.flow_cells.specs.Moved.{HasMoved};
     ghost use Rattle.flow_cells.specs.Moves.{KeepsOthers, PutsNone, PutsOne, TakesNone, TakesOne};
     ghost use Rattle.flow_cells.specs.Settles.{IsFedBy, Settles};
@@ -52,36 +52,13 @@ impl<N: Node> Cell<N> {
     ghost use Rattle.flow_cells.specs.declared.parts.OutEdge.{OutEdge};
 
     /// A cell of a node with these inputs, on which nothing was received since their load, in the order of its parents;
-    /// none for a stream. Its saved state is its state, and the last barrier that it passed has the stamp 0. `NoMemory`
-    /// comes where an allocation fails.
-    pub fn new(alloc: Global, node: N, ins: Vec<InEdge>) -> Result<Cell<N>, NoMemory>
+    /// none for a stream. Its saved state is its state, and the last barrier that it passed has the stamp `passed`.
+    /// `NoMemory` comes where an allocation fails.
+    pub fn new(alloc: Global, node: N, ins: Vec<InEdge>, passed: Stamp) -> Result<Cell<N>, NoMemory>
         requires limit { length ins.items ≤ PARENT_LIMIT }
         requires fresh { Each IsFresh ins.items }
         requires ports { one_or_more (length ins.items) ≤ N.ports (N.spec node) }
-        ensures core { IfOk result (λ cell. IsMade N.Node node cell.core) }
-        ensures ins { IfOk result (λ cell. cell.ins.items ≡ ins.items) }
-        ensures spent { IfOk result (λ cell. cell.spent ≡ false) }
-        ensures nothing { IfOk result HasNothing }
-        ensures empty { IfOk result (λ cell. Each IsNothing cell.buffer) }
-        ensures base { IfOk result (λ cell. cell.base.value.node ≡ node) }
-        ensures keeps { IfOk result (Keeps N.Node) }
-    {
-        Ok(Cell {
-            parts: make(alloc, node, ins, Stamp(0))?,
-        })
-    }
-
-    /// The same behind a barrier: the last one that it passed has this stamp.
-    pub fn new_behind(
-        alloc: Global,
-        node: N,
-        ins: Vec<InEdge>,
-        passed: Stamp,
-    ) -> Result<Cell<N>, NoMemory>
-        requires limit { length ins.items ≤ PARENT_LIMIT }
-        requires fresh { Each IsFresh ins.items }
-        requires ports { one_or_more (length ins.items) ≤ N.ports (N.spec node) }
-        ensures core { IfOk result (λ cell. IsMadeBehind N.Node passed.0 node cell.core) }
+        ensures core { IfOk result (λ cell. IsMade N.Node passed.0 node cell.core) }
         ensures ins { IfOk result (λ cell. cell.ins.items ≡ ins.items) }
         ensures spent { IfOk result (λ cell. cell.spent ≡ false) }
         ensures nothing { IfOk result HasNothing }
@@ -108,9 +85,9 @@ impl<N: Node> Cell<N> {
         add_out(&mut self.parts, out)
     }
 
-    /// Takes a message from an input into its buffer, and handles all that is then determined. `false` comes only where
-    /// there is no such input, a message waits to be sent, or the ring was empty as this call looked. After NoMemory
-    /// the cell is spent.
+    /// Takes a message from an input into its buffer, where none waits to be sent, and handles all that is then
+    /// determined. `false` comes only where there is no such input, a message waits to be sent, or the ring was empty as
+    /// this call looked. After NoMemory the cell is spent.
     #[inline(always)]
     pub fn take(&mut self, alloc: Global, input: u32) -> Result<bool, NoMemory>
         requires { self.old.spent ≡ false }

@@ -3,7 +3,7 @@
 ghost use Rattle.std.specs.Prelude.{◌≡◌, ◌≤◌, false, [], ◌∷◌, ◌++◌, length, IfOk, OnErr, OnOk};
 ghost use Rattle.std.specs.List.{AllByRecursion as Each};
 ghost use Rattle.flow_cells.specs.Kept.{Keeps};
-ghost use Rattle.flow_cells.specs.Made.{HasNothing, IsFresh, IsMadeBehind, IsNothing, IsUnused, one_or_more};
+ghost use Rattle.flow_cells.specs.Made.{HasNothing, IsFresh, IsMade, IsNothing, IsUnused, one_or_more};
 ghost use Rattle.flow_cells.specs.Moves.{KeepsOthers};
 
 use crate::parts::{CellParts, Core, Gathered, InEdge, OutEdge};
@@ -23,7 +23,7 @@ fn parents_of(ins: &[InEdge]) -> u32
 
 /// A node in its state, with nothing to send, behind a barrier.
 fn make_core<N: Node>(alloc: Global, node: N, passed: Stamp) -> Result<Core<N>, NoMemory>
-    ensures { IfOk result (IsMadeBehind N.Node passed.0 node) }
+    ensures { IfOk result (IsMade N.Node passed.0 node) }
 {
     let mut saved = Bytes::new(alloc);
     node.save(&mut saved)?;
@@ -50,7 +50,7 @@ pub(crate) fn make<N: Node>(
     requires fresh { Each IsFresh ins.items }
     requires ports { one_or_more (length ins.items) ≤ N.ports (N.spec node) }
     ensures keeps { IfOk result (Keeps N.Node) }
-    ensures core { IfOk result (λ cell. IsMadeBehind N.Node passed.0 node cell.core) }
+    ensures core { IfOk result (λ cell. IsMade N.Node passed.0 node cell.core) }
     ensures ins { IfOk result (λ cell. cell.ins.items ≡ ins.items) }
     ensures spent { IfOk result (λ cell. cell.spent ≡ false) }
     ensures nothing { IfOk result HasNothing }

@@ -4,13 +4,17 @@ use Rattle.std.specs.List.{AllByRecursion as Each, AllZip}
 use Rattle.kap_base.specs.declared.items.Effect.{Effect}
 use Rattle.node_core.specs.declared.node.Node.{Ghosts}
 use Rattle.flow_cells.specs.Moved.{HasMoved}
+use Rattle.flow_life.specs.Listing.{ends_of}
 use Rattle.flow_life.specs.Loose.{IsLoose}
 use Rattle.flow_life.specs.Nodes.{specs_of}
+use Rattle.flow_life.specs.Rooms.{rooms_of}
 use Rattle.flow_life.specs.Streams.{plans_of}
 use Rattle.flow_life.specs.Wired.{IsUnspent}
 use Rattle.flow_core.specs.LifeLoads.{effects_since}
 use Rattle.flow_core.specs.Nets.{IsLifeIn, IsSound, NetValue, NumberedLife, numbers_of, plans_in, specs_in}
 use Rattle.flow_core.specs.Ran.{GathersAll, effects_in, together}
+use Rattle.flow_core.specs.Rooms.{rooms_in}
+use Rattle.flow_core.specs.Running.{ends_in}
 
 -- the same life, each of whose cells made moves of its own, none of which failed
 pub record HasMovedLife {N : Type 0} (l l' : NumberedLife N) : Type 0 where
@@ -43,11 +47,13 @@ module _ {N P S : Type 0} (g : Ghosts N P S) where
     pub unspent : Each IsUnspent l.life.cells
     pub loose : IsLoose g l.life.cells
 
-  -- a life has its nodes and its load as before, and all that its cells did meanwhile is gathered
+  -- a life has its nodes, its edges and its load as before, and all that its cells did meanwhile is gathered
   pub record IsGivenBack (before l : NumberedLife N) (gathered gathered' : List Effect) : Type 0 where
     pub number : l.number ≡ before.number
     pub plans : plans_of g l.life.cells ≡ plans_of g before.life.cells
     pub specs : specs_of g l.life.cells ≡ specs_of g before.life.cells
+    pub rooms : rooms_of l.life.cells ≡ rooms_of before.life.cells
+    pub ends : ends_of l.life.cells ≡ ends_of before.life.cells
     pub gathers : GathersAll (together (effects_since before.life.cells)) (together (effects_since l.life.cells)) gathered gathered'
 
   -- and so have lives
@@ -55,4 +61,6 @@ module _ {N P S : Type 0} (g : Ghosts N P S) where
     pub numbers : numbers_of lives ≡ numbers_of before
     pub plans : plans_in g lives ≡ plans_in g before
     pub specs : specs_in g lives ≡ specs_in g before
+    pub rooms : rooms_in lives ≡ rooms_in before
+    pub ends : ends_in lives ≡ ends_in before
     pub gathers : GathersAll (effects_in before) (effects_in lives) gathered gathered'

@@ -6,19 +6,22 @@ use Rattle.node_core.specs.declared.node.Node.{Ghosts}
 use Rattle.flow_cells.specs.declared.parts.CellParts.{CellParts}
 use Rattle.flow_cells.specs.Gathers.{Gathers}
 use Rattle.flow_life.specs.Gathers.{effects_of as left_of}
+use Rattle.flow_life.proofs.RoomLaws.{rooms_gathered, rooms_looked, rooms_went}
+use Rattle.flow_life.specs.Listing.{ends_of}
+use Rattle.flow_life.specs.ListingLaws.{ends-gathered, ends-planned}
 use Rattle.flow_life.specs.Lives.{IsLife}
 use Rattle.flow_life.specs.Loose.{HasLooked}
 use Rattle.flow_life.specs.LooseLaws.{back_specs, looked_gathered, looked_plans, moved_gathered, moved_loose, moved_plans}
 use Rattle.flow_life.specs.Nodes.{specs_of}
+use Rattle.flow_life.specs.Rooms.{rooms_of}
 use Rattle.flow_life.specs.Streams.{Plan, plans_of}
-use Rattle.flow_core.specs.Away.{AreGivenBack, HasMovedLife, IsBack, IsGivenBack, IsLooseLife, with_lives}
+use Rattle.flow_core.specs.Away.{AreGivenBack, HasMovedLife, IsBack, IsGivenBack, IsLooseLife}
 use Rattle.flow_core.specs.DoneLaws.{gathers-behind, gathers-front, gathers_none, gathers_then, step_gathers}
 use Rattle.flow_core.specs.LifeLoads.{effects_since}
-use Rattle.flow_core.specs.Nets.{IsLifeIn, IsSound, NetValue, NumberedLife, numbers_of, plans_in, specs_in}
-use Rattle.flow_core.specs.Ran.{GathersAll, HasRun, effects_in, together}
-use Rattle.flow_core.specs.RanLaws.{run_moved}
-use Rattle.task_run.specs.Graphs.{Placed}
-use Rattle.kap_base.specs.Points.{PointValue}
+use Rattle.flow_core.specs.Nets.{IsLifeIn, IsSound, NumberedLife, numbers_of, plans_in, specs_in}
+use Rattle.flow_core.specs.Ran.{GathersAll, effects_in, together}
+use Rattle.flow_core.specs.Rooms.{rooms_in}
+use Rattle.flow_core.specs.Running.{ends_in}
 
 module _ {N P S : Type 0} (g : Ghosts N P S) where
   -- cells that are back can be settled
@@ -44,12 +47,14 @@ module _ {N P S : Type 0} (g : Ghosts N P S) where
         number = number ∙ m.number;
         plans = plans ∙ looked_plans g o c looked ∙ moved_plans g b o m.cells;
         specs = specs ∙ back_specs g b o c life.ready.keeps is.ready.keeps m.cells looked;
+        rooms = rooms_gathered c new.life.cells gathers ∙ rooms_looked o c looked ∙ rooms_went b o m.cells;
+        ends = ends-gathered c new.life.cells gathers ∙ ends-planned g b c life is (looked_plans g o c looked ∙ moved_plans g b o m.cells);
         gathers = step_gathers b c new.life.cells gs gs' sound.gathered (looked_gathered o c looked ∙ moved_gathered b o m.cells) gathers given;
       }
 
   -- no lives
   pub none_back : (before cells : List (NumberedLife N)) (gs : List Effect) → length cells ≡ 0 → IsBack g before cells → AreGivenBack g before cells gs gs
-  none_back [] [] gs is b = record { numbers = refl; plans = refl; specs = refl; gathers = gathers_none [] gs }
+  none_back [] [] gs is b = record { numbers = refl; plans = refl; specs = refl; rooms = refl; ends = refl; gathers = gathers_none [] gs }
   none_back [] (l ∷ ls) gs is b = absurd b.moved
   none_back (c ∷ cs) [] gs is b = absurd b.moved
   none_back (c ∷ cs) (l ∷ ls) gs is b = absurd (omega (arith, is))
@@ -60,6 +65,8 @@ module _ {N P S : Type 0} (g : Ghosts N P S) where
     numbers = ap (λ (n : ℕ). n ∷ numbers_of ls') p.number ∙ ap (λ (ns : List ℕ). b.number ∷ ns) q.numbers;
     plans = ap (λ (ps : List (Plan S)). ps ∷ plans_in g ls') p.plans ∙ ap (λ (ps : List (List (Plan S))). plans_of g b.life.cells ∷ ps) q.plans;
     specs = ap (λ (ps : List P). ps ∷ specs_in g ls') p.specs ∙ ap (λ (ps : List (List P)). specs_of g b.life.cells ∷ ps) q.specs;
+    rooms = ap (λ (rs : List (List ℕ)). rs ∷ rooms_in ls') p.rooms ∙ ap (λ (rs : List (List (List ℕ))). rooms_of b.life.cells ∷ rs) q.rooms;
+    ends = ap (λ (es : List (ℕ × ℕ)). es ∷ ends_in ls') p.ends ∙ ap (λ (es : List (List (ℕ × ℕ))). ends_of b.life.cells ∷ es) q.ends;
     gathers = gathers_then (effects_in (b ∷ bs)) (effects_in (l' ∷ bs)) (effects_in (l' ∷ ls')) g0 g1 g2
         (gathers-front (together (effects_since b.life.cells)) (together (effects_since l'.life.cells)) (effects_in bs) g0 g1 p.gathers)
         (gathers-behind (together (effects_since l'.life.cells)) (effects_in bs) (effects_in ls') g1 g2 q.gathers);
@@ -76,16 +83,3 @@ module _ {N P S : Type 0} (g : Ghosts N P S) where
       split [] b = absurd b.moved
       split (b ∷ bs) back =
           one-more b bs l' others' g0 g1 g2 (one b back.sound.0 back.lives.0 back.moved.0) (rest bs (record { sound = back.sound.1; lives = back.lives.1; moved = back.moved.1 }))
-
-  -- what a net has run it has run with these lives
-  pub run_away : (lives : List (List (Placed P))) (points : List PointValue) (collected : List Effect) (net net' : NetValue N) → net'.lives ≡ net.lives → net'.last ≡ net.last → net'.gathered ≡ net.gathered
-      → HasRun g lives points collected net → HasRun g lives points collected net'
-  run_away lives points collected net net' is last gathered h =
-      run_moved g lives points collected net net' net.lives h refl refl is last
-      (subst (λ (es : List Effect). GathersAll (effects_in net.lives) (effects_in net.lives) net.gathered es) (sym gathered) (gathers_none (effects_in net.lives) net.gathered))
-
-  -- and it is so with them when they are back
-  pub run_back : (lives : List (List (Placed P))) (points : List PointValue) (collected : List Effect) (net net' : NetValue N) (before now : List (NumberedLife N)) → AreGivenBack g before now net.gathered net'.gathered
-      → net'.lives ≡ now → net'.last ≡ net.last → HasRun g lives points collected (with_lives before net) → HasRun g lives points collected net'
-  run_back lives points collected net net' before now b here last h =
-      run_moved g lives points collected (with_lives before net) net' now h b.plans b.specs here last b.gathers

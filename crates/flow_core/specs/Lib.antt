@@ -20,8 +20,12 @@ pub mod Carried
 pub mod Away
 -- what the nodes of lives dropped
 pub mod Drops
+-- how many messages edges have room for
+pub mod Rooms
 -- all steps, made until none can be made
 pub mod Running
+-- what a net at rest has carried and gathered
+pub mod Wholes
 -- steps, one after the other
 pub mod Playing
 -- proofs, no definitions

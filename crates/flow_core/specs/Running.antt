@@ -1,4 +1,4 @@
--- All steps of lives, which of them can be made, and what lives keep while steps are made until none can be made.
+-- All steps of lives, which of them can be made, and what lives and their net keep while steps are made.
 use Rattle.std.specs.Prelude.{◌≡◌, ℕ, ◌+◌, ◌≤◌, List, [], ◌∷◌, ◌++◌, length, map}
 use Rattle.std.specs.List.{All}
 use Rattle.kap_base.specs.declared.items.Effect.{Effect}
@@ -6,8 +6,11 @@ use Rattle.node_core.specs.declared.node.Node.{Ghosts}
 use Rattle.flow_life.specs.declared.steps.Step.{Step}
 use Rattle.flow_life.specs.Left.{left_of}
 use Rattle.flow_life.specs.Listing.{ends_of, steps_from}
-use Rattle.flow_core.specs.Nets.{EnabledIn, NumberedLife, numbers_of, plans_in, specs_in}
-use Rattle.flow_core.specs.Ran.{GathersAll, effects_in}
+use Rattle.task_run.specs.Graphs.{Placed}
+use Rattle.kap_base.specs.Points.{PointValue}
+use Rattle.flow_core.specs.Nets.{EnabledIn, NetValue, NumberedLife, numbers_of, plans_in, specs_in}
+use Rattle.flow_core.specs.Ran.{GathersAll, HasRun, effects_in}
+use Rattle.flow_core.specs.Rooms.{rooms_in}
 
 -- the steps of lives whose cells are numbered from here on, life by life; of each life it is known how many inputs and outs its cells have
 abbrev pub steps_onward : ℕ → List (List (ℕ × ℕ)) → List Step
@@ -42,11 +45,24 @@ module _ {N P S : Type 0} (g : Ghosts N P S) where
   left_in [] = 0
   left_in (l ∷ lives) = left_of g l.life.cells + left_in lives
 
-  -- some steps were made, or none: lives and nodes stay, and what was done more is gathered
+  -- some steps were made, or none: lives, nodes and edges stay, and what was done more is gathered
   pub record GoesOn (lives lives' : List (NumberedLife N)) (gathered gathered' : List Effect) : Type 0 where
     pub numbers : numbers_of lives' ≡ numbers_of lives
     pub plans : plans_in g lives' ≡ plans_in g lives
     pub specs : specs_in g lives' ≡ specs_in g lives
+    pub rooms : rooms_in lives' ≡ rooms_in lives
     pub ends : ends_in lives' ≡ ends_in lives
     pub left : left_in lives' ≤ left_in lives
     pub gathers : GathersAll (effects_in lives) (effects_in lives') gathered gathered'
+
+  -- A net in which some moves were made, or none: its lives with their numbers, nodes, edges and steps stay, and so do its load and
+  -- its last barrier. What it had run it has run, and what was done more is gathered.
+  pub record NetGoesOn (net net' : NetValue N) : Type 0 where
+    pub numbers : numbers_of net'.lives ≡ numbers_of net.lives
+    pub plans : plans_in g net'.lives ≡ plans_in g net.lives
+    pub specs : specs_in g net'.lives ≡ specs_in g net.lives
+    pub rooms : rooms_in net'.lives ≡ rooms_in net.lives
+    pub steps : steps_of net'.lives ≡ steps_of net.lives
+    pub last : net'.last ≡ net.last
+    pub runs : (lives : List (List (Placed P))) (points : List PointValue) (collected : List Effect) → HasRun g lives points collected net → HasRun g lives points collected net'
+    pub gathers : GathersAll (effects_in net.lives) (effects_in net'.lives) net.gathered net'.gathered

@@ -5,6 +5,7 @@ ghost use Rattle.std.specs.List.{AllByRecursion as Each};
 ghost use Rattle.flow_life.specs.Left.{left_of};
 ghost use Rattle.flow_life.specs.Listing.{ends_of};
 ghost use Rattle.flow_life.specs.Nodes.{specs_of};
+ghost use Rattle.flow_life.specs.Rooms.{rooms_of};
 ghost use Rattle.flow_life.specs.Settling.{Grows};
 ghost use Rattle.flow_life.specs.Steps.{IsEnabled, moves_of, one_if};
 ghost use Rattle.flow_life.specs.Loads.{plan_now};
@@ -16,6 +17,7 @@ ghost use Rattle.flow_core.specs.LifeLoads.{effects_since};
 ghost use Rattle.flow_core.specs.Nets.{EnabledIn, GrowsIn, HasCell, HasMovedTwice, HasPrefixes, HasStreamsCarried, IsLifeIn, IsResting, IsSound, SomeEnabledIn, cell_count, cell_of, moves_in, numbers_of, plans_from, plans_in, specs_in, step_behind};
 ghost use Rattle.flow_core.specs.Playing.{PlaysIn};
 ghost use Rattle.flow_core.specs.Ran.{GathersAll, effects_in, together};
+ghost use Rattle.flow_core.specs.Rooms.{rooms_in};
 ghost use Rattle.flow_core.specs.Running.{SameEnabledIn, ends_in, left_in};
 
 use flow_life::{Life, Step};
@@ -74,6 +76,7 @@ fn step_life<N: Node>(
         (plans_of N.Node life.new.life.cells ≡ plans_of N.Node life.old.life.cells) }
     ensures specs { OnOk result
         (specs_of N.Node life.new.life.cells ≡ specs_of N.Node life.old.life.cells) }
+    ensures rooms { OnOk result (rooms_of life.new.life.cells ≡ rooms_of life.old.life.cells) }
     ensures yes { IfOk result (λ made. IsTrue made → IsEnabled life.old.life.cells next) }
     ensures no { IfOk result (λ made. IsFalse made → IsEnabled life.old.life.cells next → ⊥) }
     ensures grows { IfOk result (λ made. IsTrue made
@@ -108,6 +111,7 @@ pub(crate) fn step<N: Node>(
     ensures sound { OnOk result (Each IsSound lives.new) }
     ensures plans { OnOk result (plans_in N.Node lives.new ≡ plans_in N.Node lives.old) }
     ensures specs { OnOk result (specs_in N.Node lives.new ≡ specs_in N.Node lives.old) }
+    ensures rooms { OnOk result (rooms_in lives.new ≡ rooms_in lives.old) }
     ensures yes { IfOk result (λ made. IsTrue made → EnabledIn lives.old next) }
     ensures no { IfOk result (λ made. IsFalse made → EnabledIn lives.old next → ⊥) }
     ensures grows { IfOk result (λ made. IsTrue made → GrowsIn next lives.old lives.new) }
@@ -176,6 +180,7 @@ fn load_life<N: Node>(
         ≡ map (plan_now N.Node source.items) life.old.life.cells) }
     ensures specs { OnOk result
         (specs_of N.Node life.new.life.cells ≡ specs_of N.Node life.old.life.cells) }
+    ensures rooms { OnOk result (rooms_of life.new.life.cells ≡ rooms_of life.old.life.cells) }
     ensures ends { OnOk result (ends_of life.new.life.cells ≡ ends_of life.old.life.cells) }
     ensures count { OnOk result (moves_of life.new.life.cells ≡ 0) }
     ensures given { OnOk result (gathered.new
@@ -202,6 +207,7 @@ pub(crate) fn load<N: Node>(
     ensures plans { OnOk result (plans_in N.Node lives.new
         ≡ plans_from N.Node source.items lives.old) }
     ensures specs { OnOk result (specs_in N.Node lives.new ≡ specs_in N.Node lives.old) }
+    ensures rooms { OnOk result (rooms_in lives.new ≡ rooms_in lives.old) }
     ensures ends { OnOk result (ends_in lives.new ≡ ends_in lives.old) }
     ensures count { OnOk result (moves_in lives.new ≡ 0) }
     ensures given { OnOk result (gathered.new ≡ gathered.old ++ effects_in lives.new) }
@@ -229,6 +235,7 @@ pub(crate) fn play<N: Node>(
     ensures sound { OnOk result (Each IsSound lives.new) }
     ensures plans { OnOk result (plans_in N.Node lives.new ≡ plans_in N.Node lives.old) }
     ensures specs { OnOk result (specs_in N.Node lives.new ≡ specs_in N.Node lives.old) }
+    ensures rooms { OnOk result (rooms_in lives.new ≡ rooms_in lives.old) }
     ensures ends { OnOk result (ends_in lives.new ≡ ends_in lives.old) }
     ensures plays { IfOk result (λ made. PlaysIn steps.now lives.old made lives.new) }
     ensures count { IfOk result (λ made. moves_in lives.new ≡ moves_in lives.old + made) }

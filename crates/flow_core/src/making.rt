@@ -3,11 +3,13 @@
 ghost use Rattle.std.specs.Prelude.{◌≡◌, ◌<◌, ◌≤◌, ◌++◌, [], false, IfOk, OnOk, length, reverse};
 ghost use Rattle.std.specs.List.{AllByRecursion as Each};
 ghost use Rattle.flow_cells.specs.Made.{HasNothing};
+ghost use Rattle.flow_cells.specs.Rooms.{HasRoom};
 ghost use Rattle.flow_life.specs.Loads.{IsGathered};
 ghost use Rattle.flow_life.specs.Making.{HasCarriedNothing, IsSaved, nodes_of, passed_of};
 ghost use Rattle.flow_life.specs.Steps.{AreQuiet};
 ghost use Rattle.flow_life.specs.Wired.{parents_of};
 ghost use Rattle.flow_core.specs.Making.{AreLivesOf, CanAddAll, HasFewParents, IsLifeBehind};
+ghost use Rattle.flow_core.specs.Rooms.{HasRoomIn};
 
 use crate::lives::Numbered;
 use edge_queue::CAPACITY_LIMIT;
@@ -32,6 +34,7 @@ fn add_cells<N: Node>(
         (reverse nodes.items) parents.now }
     requires rest { AreQuiet life.old.cells }
     requires carried { Each HasCarriedNothing life.old.cells }
+    requires room { Each (HasRoom capacity) life.old.cells }
     requires gathered { Each IsGathered life.old.cells }
     requires saved { Each (IsSaved N.Node) life.old.cells }
     requires passed { Each (λ b. b ≡ stamp.0) (passed_of life.old.cells) }
@@ -44,6 +47,7 @@ fn add_cells<N: Node>(
         ≡ parents_of life.old.cells ++ parents.now) }
     ensures rest { OnOk result (AreQuiet life.new.cells) }
     ensures carried { OnOk result (Each HasCarriedNothing life.new.cells) }
+    ensures room { OnOk result (Each (HasRoom capacity) life.new.cells) }
     ensures gathered { OnOk result (Each IsGathered life.new.cells) }
     ensures saved { OnOk result (Each (IsSaved N.Node) life.new.cells) }
     ensures passed { OnOk result (Each (λ b. b ≡ stamp.0) (passed_of life.new.cells)) }
@@ -54,7 +58,7 @@ fn add_cells<N: Node>(
     let Some(node) = nodes.pop() else {
         return Ok(());
     };
-    life.add_behind(alloc, node, first.as_slice(), capacity, stamp)?;
+    life.add(alloc, node, first.as_slice(), capacity, stamp)?;
     add_cells(alloc, life, nodes, others, capacity, stamp)
 }
 
@@ -68,7 +72,8 @@ pub(crate) fn life_of<N: Node>(
     requires few { HasFewParents plan }
     requires some { 0 < capacity }
     requires limit { capacity ≤ CAPACITY_LIMIT }
-    ensures { IfOk result (IsLifeBehind N.Node stamp.0 plan) }
+    ensures life { IfOk result (IsLifeBehind N.Node stamp.0 plan) }
+    ensures room { IfOk result (HasRoomIn capacity) }
 {
     let number = plan.life;
     let mut nodes = plan.nodes.into_items();
@@ -88,7 +93,8 @@ pub(crate) fn lives_of<N: Node>(
     requires few { Each HasFewParents plans.items }
     requires some { 0 < capacity }
     requires limit { capacity ≤ CAPACITY_LIMIT }
-    ensures { IfOk result (λ lives. AreLivesOf N.Node plans.items lives.items) }
+    ensures lives { IfOk result (λ lives. AreLivesOf N.Node plans.items lives.items) }
+    ensures room { IfOk result (λ lives. Each (HasRoomIn capacity) lives.items) }
 {
     let mut lives = Vec::new(alloc);
     'making: for plan in plans {

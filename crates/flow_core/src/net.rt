@@ -71,11 +71,13 @@ impl<N: Node> Net<N> {
     ghost use Rattle.flow_core.specs.Gathering.{LivesRise, NumbersEffects, effects_by_node};
     ghost use Rattle.flow_core.specs.Making.{AreLivesOf, Begins, Ends, HasFewParents};
     ghost use Rattle.flow_core.specs.Messages.{AreMarksOf, load_messages};
-    ghost use Rattle.flow_core.specs.Nets.{EnabledIn, GrowsIn, HasCell, HasMovedTwice, HasPrefixes, HasStreamsCarried, HaveMovedTwice, IsLifeIn, IsResting, IsSound, NumberedLife, SomeEnabledIn, cell_count, moves_in, numbers_of, plans_from, plans_in, specs_in};
+    ghost use Rattle.flow_core.specs.Nets.{EnabledIn, GrowsIn, HasCell, HasMovedTwice, HasPrefixes, HaveMovedTwice, IsLifeIn, IsResting, IsSound, NumberedLife, SomeEnabledIn, cell_count, moves_in, numbers_of, plans_from, plans_in, specs_in};
     ghost use Rattle.flow_core.specs.Playing.{PlaysIn};
-    ghost use Rattle.flow_core.specs.Ran.{GathersAll, HasGathered, HasRun, IsNew, effects_in};
-    ghost use Rattle.flow_core.specs.Running.{SameEnabledIn, left_in, steps_of};
+    ghost use Rattle.flow_core.specs.Ran.{HasGathered, HasRun, IsNew, effects_in};
+    ghost use Rattle.flow_core.specs.Rooms.{HasRoomIn, rooms_in};
+    ghost use Rattle.flow_core.specs.Running.{NetGoesOn, SameEnabledIn, left_in, steps_of};
     ghost use Rattle.flow_core.specs.Sorting.{AreSorted};
+    ghost use Rattle.flow_core.specs.Wholes.{IsWhole};
 
     /// A net without lives.
     pub fn new(alloc: Global) -> Net<N>
@@ -92,8 +94,8 @@ impl<N: Node> Net<N> {
         }
     }
 
-    /// A net with a life of each plan, in their order, whose edges have room for 1 to 65,536 messages. It is at rest, and each
-    /// cell's saved state is its state.
+    /// A net with a life of each plan, in their order, whose edges have room for just `capacity` messages, 1 to 65,536. It is at
+    /// rest, and each cell's saved state is its state.
     pub fn make(alloc: Global, plans: Vec<LifePlan<N>>, capacity: u32) -> Result<Net<N>, NoMemory>
         requires few { Each HasFewParents plans.items }
         requires some { 0 < capacity }
@@ -103,6 +105,9 @@ impl<N: Node> Net<N> {
         ensures gathered { IfOk result (λ net. net.gathered ≡ []) }
         ensures new { IfOk result (λ net. AreFirstStates N.spec N.state N.first plans.items
             → IsNew N.Node plans.items net) }
+        ensures carried { IfOk result (λ net. AreFirstStates N.spec N.state N.first plans.items
+            → HasCarried N.Node (map (graph_of N.spec) plans.items) [] net) }
+        ensures room { IfOk result (λ net. Each (HasRoomIn capacity) net.lives) }
         ensures last { IfOk result (λ net. net.last.0 ≡ 0) }
         ensures spent { IfOk result (λ net. net.spent ≡ false) }
     {
@@ -130,8 +135,8 @@ impl<N: Node> Net<N> {
         Ok(())
     }
 
-    /// A life of a plan begins at rest, behind the others, with edges that have room for 1 to 65,536 messages: its cells have the
-    /// plan's nodes, whose states are saved at the barrier at the end of the last load. An `Err` changes nothing.
+    /// A life of a plan begins at rest, behind the others, with edges that have room for just `capacity` messages, 1 to 65,536: its
+    /// cells have the plan's nodes, whose states are saved at the barrier at the end of the last load. An `Err` changes nothing.
     pub fn begin(&mut self, alloc: Global, plan: LifePlan<N>, capacity: u32) -> Result<(), NoMemory>
         requires unspent { self.old.spent ≡ false }
         requires rest { Each IsResting self.old.lives }
@@ -140,6 +145,8 @@ impl<N: Node> Net<N> {
         requires limit { capacity ≤ CAPACITY_LIMIT }
         ensures begins { OnOk result (Begins N.Node self.old.last.0 plan
             self.old.lives self.new.lives) }
+        ensures room { OnOk result (Each (HasRoomIn capacity) self.old.lives
+            → Each (HasRoomIn capacity) self.new.lives) }
         ensures rest { Each IsResting self.new.lives }
         ensures gathered { self.new.gathered ≡ self.old.gathered }
         ensures last { self.new.last ≡ self.old.last }
@@ -185,6 +192,7 @@ impl<N: Node> Net<N> {
         ensures plans { OnOk result (plans_in N.Node self.new.lives
             ≡ plans_from N.Node (load_messages points.now upto marks.now) self.old.lives) }
         ensures specs { OnOk result (specs_in N.Node self.new.lives ≡ specs_in N.Node self.old.lives) }
+        ensures rooms { OnOk result (rooms_in self.new.lives ≡ rooms_in self.old.lives) }
         ensures steps { OnOk result (steps_of self.new.lives ≡ steps_of self.old.lives) }
         ensures count { OnOk result (moves_in self.new.lives ≡ 0) }
         ensures first { OnOk result ((plans : List (PlanValue N)) → IsNew N.Node plans self.old
@@ -215,27 +223,17 @@ impl<N: Node> Net<N> {
     /// before. After NoMemory the net is spent.
     pub fn step(&mut self, alloc: Global, next: Step) -> Result<bool, NoMemory>
         requires { self.old.spent ≡ false }
-        ensures numbers { OnOk result (numbers_of self.new.lives ≡ numbers_of self.old.lives) }
-        ensures plans { OnOk result (plans_in N.Node self.new.lives ≡ plans_in N.Node self.old.lives) }
-        ensures specs { OnOk result (specs_in N.Node self.new.lives ≡ specs_in N.Node self.old.lives) }
+        ensures goes { OnOk result (NetGoesOn N.Node self.old self.new) }
         ensures yes { IfOk result (λ made. IsTrue made → EnabledIn self.old.lives next) }
         ensures no { IfOk result (λ made. IsFalse made → EnabledIn self.old.lives next → ⊥) }
         ensures grows { IfOk result (λ made. IsTrue made
             → GrowsIn next self.old.lives self.new.lives) }
-        ensures steps { OnOk result (steps_of self.new.lives ≡ steps_of self.old.lives) }
         ensures count { IfOk result (λ made. moves_in self.new.lives
             ≡ moves_in self.old.lives + one_if made) }
         ensures left { IfOk result (λ made. left_in N.Node self.old.lives
             ≡ left_in N.Node self.new.lives + one_if made) }
         ensures still { IfOk result (λ made. IsFalse made
             → SameEnabledIn self.old.lives self.new.lives) }
-        ensures runs { OnOk result ((lives : List (List (Placed N.Spec)))
-            (points : List PointValue) (collected : List Effect)
-            → HasRun N.Node lives points collected self.old
-            → HasRun N.Node lives points collected self.new) }
-        ensures gathers { OnOk result (GathersAll (effects_in self.old.lives)
-            (effects_in self.new.lives) self.old.gathered self.new.gathered) }
-        ensures last { OnOk result (self.new.last ≡ self.old.last) }
         ensures unspent { OnOk result (self.new.spent ≡ false) }
         ensures spent { OnErr result (self.new.spent ≡ true) }
     {
@@ -248,20 +246,10 @@ impl<N: Node> Net<N> {
     /// Tries steps in their order: makes each one that is enabled at its turn, and counts those. After NoMemory the net is spent.
     pub fn play(&mut self, alloc: Global, steps: &[Step]) -> Result<u64, NoMemory>
         requires { self.old.spent ≡ false }
-        ensures numbers { OnOk result (numbers_of self.new.lives ≡ numbers_of self.old.lives) }
-        ensures plans { OnOk result (plans_in N.Node self.new.lives ≡ plans_in N.Node self.old.lives) }
-        ensures specs { OnOk result (specs_in N.Node self.new.lives ≡ specs_in N.Node self.old.lives) }
-        ensures steps { OnOk result (steps_of self.new.lives ≡ steps_of self.old.lives) }
+        ensures goes { OnOk result (NetGoesOn N.Node self.old self.new) }
         ensures plays { IfOk result (λ made. PlaysIn steps.now self.old.lives made self.new.lives) }
         ensures count { IfOk result (λ made. moves_in self.new.lives
             ≡ moves_in self.old.lives + made) }
-        ensures runs { OnOk result ((lives : List (List (Placed N.Spec)))
-            (points : List PointValue) (collected : List Effect)
-            → HasRun N.Node lives points collected self.old
-            → HasRun N.Node lives points collected self.new) }
-        ensures gathers { OnOk result (GathersAll (effects_in self.old.lives)
-            (effects_in self.new.lives) self.old.gathered self.new.gathered) }
-        ensures last { OnOk result (self.new.last ≡ self.old.last) }
         ensures unspent { OnOk result (self.new.spent ≡ false) }
         ensures spent { OnErr result (self.new.spent ≡ true) }
     {
@@ -287,17 +275,8 @@ impl<N: Node> Net<N> {
     pub fn play_by(&mut self, alloc: Global, number: u32) -> Result<(), NoMemory>
         requires { self.old.spent ≡ false }
         ensures rest { OnOk result (Each IsResting self.new.lives) }
-        ensures numbers { OnOk result (numbers_of self.new.lives ≡ numbers_of self.old.lives) }
-        ensures plans { OnOk result (plans_in N.Node self.new.lives ≡ plans_in N.Node self.old.lives) }
-        ensures specs { OnOk result (specs_in N.Node self.new.lives ≡ specs_in N.Node self.old.lives) }
-        ensures steps { OnOk result (steps_of self.new.lives ≡ steps_of self.old.lives) }
-        ensures runs { OnOk result ((lives : List (List (Placed N.Spec)))
-            (points : List PointValue) (collected : List Effect)
-            → HasRun N.Node lives points collected self.old
-            → HasRun N.Node lives points collected self.new) }
-        ensures gathers { OnOk result (GathersAll (effects_in self.old.lives)
-            (effects_in self.new.lives) self.old.gathered self.new.gathered) }
-        ensures last { OnOk result (self.new.last ≡ self.old.last) }
+        ensures whole { OnOk result (IsWhole N.Node self.new) }
+        ensures goes { OnOk result (NetGoesOn N.Node self.old self.new) }
         ensures unspent { OnOk result (self.new.spent ≡ false) }
         ensures spent { OnErr result (self.new.spent ≡ true) }
     {
@@ -312,17 +291,8 @@ impl<N: Node> Net<N> {
     pub fn run(&mut self, alloc: Global) -> Result<(), NoMemory>
         requires { self.old.spent ≡ false }
         ensures rest { OnOk result (Each IsResting self.new.lives) }
-        ensures numbers { OnOk result (numbers_of self.new.lives ≡ numbers_of self.old.lives) }
-        ensures plans { OnOk result (plans_in N.Node self.new.lives ≡ plans_in N.Node self.old.lives) }
-        ensures specs { OnOk result (specs_in N.Node self.new.lives ≡ specs_in N.Node self.old.lives) }
-        ensures steps { OnOk result (steps_of self.new.lives ≡ steps_of self.old.lives) }
-        ensures runs { OnOk result ((lives : List (List (Placed N.Spec)))
-            (points : List PointValue) (collected : List Effect)
-            → HasRun N.Node lives points collected self.old
-            → HasRun N.Node lives points collected self.new) }
-        ensures gathers { OnOk result (GathersAll (effects_in self.old.lives)
-            (effects_in self.new.lives) self.old.gathered self.new.gathered) }
-        ensures last { OnOk result (self.new.last ≡ self.old.last) }
+        ensures whole { OnOk result (IsWhole N.Node self.new) }
+        ensures goes { OnOk result (NetGoesOn N.Node self.old self.new) }
         ensures unspent { OnOk result (self.new.spent ≡ false) }
         ensures spent { OnErr result (self.new.spent ≡ true) }
     {
@@ -339,23 +309,11 @@ impl<N: Node> Net<N> {
         requires { self.now.spent ≡ false }
         ensures rest { IsTrue result → Each IsResting self.now.lives }
         ensures busy { IsFalse result → Each IsResting self.now.lives → ⊥ }
-        ensures streams { IsTrue result → Each (HasStreamsCarried N.Node) self.now.lives }
+        ensures whole { IsTrue result → IsWhole N.Node self.now }
         ensures twice { IsTrue result → Each (HasMovedTwice N.Node) self.now.lives }
         ensures twice_in_all { IsTrue result → HaveMovedTwice N.Node self.now.lives }
         ensures none { IsTrue result → left_in N.Node self.now.lives ≡ 0 }
         ensures alive { IsFalse result → SomeEnabledIn self.now.lives }
-        ensures all { IsTrue result → (lives : List (List (Placed N.Spec)))
-            (points : List PointValue) (collected : List Effect)
-            → HasRun N.Node lives points collected self.now
-            → IsPermutation (effects_by_node N.answer lives points)
-            (collected ++ self.now.gathered) }
-        ensures carried { IsTrue result → (lives : List (List (Placed N.Spec)))
-            (points : List PointValue) (collected : List Effect)
-            → HasRun N.Node lives points collected self.now
-            → HasCarried N.Node lives points self.now }
-        ensures carried_none { IsTrue result → (plans : List (PlanValue N))
-            → IsNew N.Node plans self.now
-            → HasCarried N.Node (map (graph_of N.spec) plans) [] self.now }
     {
         keep_lives(&self.lives);
         at_rest(&self.lives)
@@ -368,10 +326,7 @@ impl<N: Node> Net<N> {
         ensures sound { Each IsSound result.lives.items }
         ensures lives { Each (IsLifeIn N.Node) result.lives.items }
         ensures none { self.new.lives ≡ [] }
-        ensures runs { (lives : List (List (Placed N.Spec)))
-            (points : List PointValue) (collected : List Effect)
-            → HasRun N.Node lives points collected self.old
-            → HasRun N.Node lives points collected (with_lives result.lives.items self.new) }
+        ensures goes { NetGoesOn N.Node self.old (with_lives result.lives.items self.new) }
         ensures gathered { self.new.gathered ≡ self.old.gathered }
         ensures last { self.new.last ≡ self.old.last }
         ensures spent { self.new.spent ≡ true }
@@ -387,25 +342,9 @@ impl<N: Node> Net<N> {
     pub fn give_cells(&mut self, alloc: Global, cells: Cells<N>) -> Result<(), NoMemory>
         requires none { self.old.lives ≡ [] }
         requires back { AreBack N.Node cells.lives.items }
-        ensures numbers { OnOk result ((before : List (NumberedLife N))
+        ensures goes { OnOk result ((before : List (NumberedLife N))
             → IsBack N.Node before cells.lives.items
-            → numbers_of self.new.lives ≡ numbers_of before) }
-        ensures plans { OnOk result ((before : List (NumberedLife N))
-            → IsBack N.Node before cells.lives.items
-            → plans_in N.Node self.new.lives ≡ plans_in N.Node before) }
-        ensures specs { OnOk result ((before : List (NumberedLife N))
-            → IsBack N.Node before cells.lives.items
-            → specs_in N.Node self.new.lives ≡ specs_in N.Node before) }
-        ensures runs { OnOk result ((lives : List (List (Placed N.Spec)))
-            (points : List PointValue) (collected : List Effect) (before : List (NumberedLife N))
-            → IsBack N.Node before cells.lives.items
-            → HasRun N.Node lives points collected (with_lives before self.old)
-            → HasRun N.Node lives points collected self.new) }
-        ensures gathers { OnOk result ((before : List (NumberedLife N))
-            → IsBack N.Node before cells.lives.items
-            → GathersAll (effects_in before) (effects_in self.new.lives)
-            self.old.gathered self.new.gathered) }
-        ensures last { OnOk result (self.new.last ≡ self.old.last) }
+            → NetGoesOn N.Node (with_lives before self.old) self.new) }
         ensures unspent { OnOk result (self.new.spent ≡ false) }
         ensures spent { OnErr result (self.new.spent ≡ true) }
     {

@@ -2,7 +2,7 @@
 
 ghost use Rattle.std.specs.Prelude.{◌<◌, ◌≤◌, IfOk, IsFalse, IsTrue, OnOk, length};
 ghost use Rattle.std.specs.List.{AllByRecursion as Each};
-ghost use Rattle.flow_core.specs.Nets.{IsResting, IsSound};
+ghost use Rattle.flow_core.specs.Nets.{IsLifeIn, IsResting, IsSound};
 ghost use Rattle.flow_core.specs.Running.{AreOff, GoesOn, IsOff, SameEnabledIn, left_in};
 
 use crate::listing::list_steps;
@@ -185,6 +185,7 @@ pub(crate) fn play_by<N: Node>(
     ensures sound { OnOk result (Each IsSound lives.new) }
     ensures goes { OnOk result (GoesOn N.Node lives.old lives.new gathered.old gathered.new) }
     ensures rest { OnOk result (Each IsResting lives.new) }
+    ensures lives { OnOk result (Each (IsLifeIn N.Node) lives.new) }
 {
     let steps = list_steps(alloc, lives)?;
     play_turns(alloc, lives, &steps, number, gathered)?;
@@ -202,6 +203,7 @@ pub(crate) fn run<N: Node>(
     ensures sound { OnOk result (Each IsSound lives.new) }
     ensures goes { OnOk result (GoesOn N.Node lives.old lives.new gathered.old gathered.new) }
     ensures rest { OnOk result (Each IsResting lives.new) }
+    ensures lives { OnOk result (Each (IsLifeIn N.Node) lives.new) }
 {
     let steps = list_steps(alloc, lives)?;
     run_passes(alloc, lives, &steps, gathered)?;

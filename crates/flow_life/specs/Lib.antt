@@ -16,6 +16,8 @@ pub mod Loads
 pub mod Gathers
 -- what nodes are, and what was gathered from each
 pub mod Nodes
+-- how many messages edges have room for
+pub mod Rooms
 -- all steps, in order
 pub mod Listing
 -- what is still to be sent and to be received

@@ -49,6 +49,7 @@ impl<N: Node> Life<N> {
     ghost use Rattle.merge_node.specs.Merge.{IsClosed};
     ghost use Rattle.flow_cells.specs.Gathers.{Gathers};
     ghost use Rattle.flow_cells.specs.Made.{HasNothing, one_or_more};
+    ghost use Rattle.flow_cells.specs.Rooms.{HasRoom};
     ghost use Rattle.flow_cells.specs.declared.parts.CellParts.{CellParts};
     ghost use Rattle.flow_life.specs.Gathers.{effects_of};
     ghost use Rattle.flow_life.specs.Left.{left_of};
@@ -59,6 +60,7 @@ impl<N: Node> Life<N> {
     ghost use Rattle.flow_life.specs.Making.{HasCarriedNothing, IsSaved, nodes_of, passed_of};
     ghost use Rattle.flow_life.specs.Nodes.{gathered_of, specs_of};
     ghost use Rattle.flow_life.specs.Playing.{Plays};
+    ghost use Rattle.flow_life.specs.Rooms.{rooms_of};
     ghost use Rattle.flow_life.specs.Settling.{Grows};
     ghost use Rattle.flow_life.specs.Steps.{AreQuiet, HasEmptyBuffers, IsEnabled, SomeEnabled, moves_of, one_if};
     ghost use Rattle.flow_life.specs.Streams.{AreStreams, CarriesPrefixes, CarriesStreams, plans_of, stream_length};
@@ -77,48 +79,10 @@ impl<N: Node> Life<N> {
     }
 
     /// Adds a cell of a node with these parents, which stand before it, where nothing was received since the load.
-    /// Edges have room for 1 to 65,536 messages. The last barrier that the new cell passed has the stamp 0. The life is
-    /// at rest with nothing to gather, and each cell's saved state is its state. After NoMemory the life is spent.
+    /// The edges to it have room for just `capacity` messages, 1 to 65,536. The last barrier that the new cell passed has
+    /// the stamp `passed`. The life is at rest with nothing to gather, and each cell's saved state is its state. After
+    /// NoMemory the life is spent.
     pub fn add(
-        &mut self,
-        alloc: Global,
-        node: N,
-        parents: &[u32],
-        capacity: u32,
-    ) -> Result<(), NoMemory>
-        requires unspent { self.old.spent ≡ false }
-        requires nothing { Each HasNothing self.old.cells }
-        requires earlier { Each (λ p. p < length self.old.cells) parents.now }
-        requires parents { length parents.now ≤ PARENT_LIMIT }
-        requires ports { one_or_more (length parents.now) ≤ N.ports (N.spec node) }
-        requires some { 0 < capacity }
-        requires limit { capacity ≤ CAPACITY_LIMIT }
-        ensures nothing { OnOk result (Each HasNothing self.new.cells) }
-        ensures nodes { OnOk result (nodes_of self.new.cells
-            ≡ nodes_of self.old.cells ++ node ∷ []) }
-        ensures parents { OnOk result (parents_of self.new.cells
-            ≡ parents_of self.old.cells ++ parents.now ∷ []) }
-        ensures passed { OnOk result (passed_of self.new.cells
-            ≡ passed_of self.old.cells ++ 0 ∷ []) }
-        ensures rest { OnOk result (AreQuiet self.new.cells) }
-        ensures gathered { OnOk result (Each IsGathered self.new.cells) }
-        ensures saved { OnOk result (Each (IsSaved N.Node) self.new.cells) }
-        ensures carried { OnOk result (Each HasCarriedNothing self.old.cells
-            → Each HasCarriedNothing self.new.cells) }
-        ensures unspent { OnOk result (self.new.spent ≡ false) }
-        ensures spent { OnErr result (self.new.spent ≡ true) }
-    {
-        match add_cell(alloc, &mut self.cells, node, parents, capacity, Stamp(0)) {
-            Ok(()) => Ok(()),
-            Err(fault) => {
-                self.spent = true;
-                Err(fault)
-            }
-        }
-    }
-
-    /// The same behind a barrier: the last one that the new cell passed has this stamp.
-    pub fn add_behind(
         &mut self,
         alloc: Global,
         node: N,
@@ -145,6 +109,8 @@ impl<N: Node> Life<N> {
         ensures saved { OnOk result (Each (IsSaved N.Node) self.new.cells) }
         ensures carried { OnOk result (Each HasCarriedNothing self.old.cells
             → Each HasCarriedNothing self.new.cells) }
+        ensures room { OnOk result (Each (HasRoom capacity) self.old.cells
+            → Each (HasRoom capacity) self.new.cells) }
         ensures unspent { OnOk result (self.new.spent ≡ false) }
         ensures spent { OnErr result (self.new.spent ≡ true) }
     {
@@ -168,6 +134,7 @@ impl<N: Node> Life<N> {
         ensures specs { OnOk result (specs_of N.Node self.new.cells
             ≡ specs_of N.Node self.old.cells) }
         ensures gathered { OnOk result (gathered_of self.new.cells ≡ gathered_of self.old.cells) }
+        ensures rooms { OnOk result (rooms_of self.new.cells ≡ rooms_of self.old.cells) }
         ensures yes { IfOk result (λ made. IsTrue made → IsEnabled self.old.cells next) }
         ensures no { IfOk result (λ made. IsFalse made → IsEnabled self.old.cells next → ⊥) }
         ensures grows { IfOk result (λ made. IsTrue made
@@ -205,6 +172,7 @@ impl<N: Node> Life<N> {
         ensures specs { OnOk result (specs_of N.Node self.new.cells
             ≡ specs_of N.Node self.old.cells) }
         ensures gathered { OnOk result (gathered_of self.new.cells ≡ gathered_of self.old.cells) }
+        ensures rooms { OnOk result (rooms_of self.new.cells ≡ rooms_of self.old.cells) }
         ensures plays { IfOk result (λ made. Plays steps.now self.old.cells made self.new.cells) }
         ensures count { IfOk result (λ made. moves_of self.new.cells
             ≡ moves_of self.old.cells + made) }

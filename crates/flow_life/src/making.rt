@@ -3,6 +3,7 @@
 ghost use Rattle.std.specs.Prelude.{◌≡◌, ◌<◌, ◌≤◌, [], ◌∷◌, ◌++◌, length, map, IfOk, OnOk};
 ghost use Rattle.std.specs.List.{AllByRecursion as Each};
 ghost use Rattle.flow_cells.specs.Made.{HasNothing, one_or_more};
+ghost use Rattle.flow_cells.specs.Rooms.{HasRoom};
 ghost use Rattle.flow_cells.specs.declared.parts.InEdge.{InEdge};
 ghost use Rattle.flow_life.specs.Lives.{IsLife};
 ghost use Rattle.flow_life.specs.Loads.{IsGathered};
@@ -50,6 +51,8 @@ fn add_edge<N: Node>(
         → Each IsUntouched ins.new.items) }
     ensures carried { OnOk result (Each HasCarriedNothing cells.old
         → Each HasCarriedNothing cells.new) }
+    ensures room { OnOk result (Each (HasRoom capacity) cells.old
+        → Each (HasRoom capacity) cells.new) }
 {
     let child = number_of(cells.len())?;
     let input = number_of(ins.len())?;
@@ -98,12 +101,14 @@ pub(crate) fn add_cell<N: Node>(
     ensures saved { OnOk result (Each (IsSaved N.Node) cells.new.items) }
     ensures carried { OnOk result (Each HasCarriedNothing cells.old.items
         → Each HasCarriedNothing cells.new.items) }
+    ensures room { OnOk result (Each (HasRoom capacity) cells.old.items
+        → Each (HasRoom capacity) cells.new.items) }
 {
     let mut ins = Vec::new(alloc);
     'adding: for parent in parents {
         add_edge(alloc, cells, &mut ins, *parent, capacity)?;
     }
-    let cell = Cell::new_behind(alloc, node, ins, passed)?;
+    let cell = Cell::new(alloc, node, ins, passed)?;
     cells.push(cell)?;
     Ok(())
 }

@@ -4,6 +4,7 @@ ghost use Rattle.std.specs.Prelude.{◌≡◌, ◌+◌, IfOk, IsFalse, IsTrue, O
 ghost use Rattle.std.specs.List.{AllByRecursion as Each};
 ghost use Rattle.flow_life.specs.Loads.{IsGathered};
 ghost use Rattle.flow_life.specs.Nodes.{gathered_of, specs_of};
+ghost use Rattle.flow_life.specs.Rooms.{rooms_of};
 ghost use Rattle.flow_life.specs.Settling.{Receives, Sends};
 ghost use Rattle.flow_life.specs.Steps.{CanPutAt, CanTakeAt, moves_of, one_if};
 ghost use Rattle.flow_life.specs.Streams.{plans_of};
@@ -23,6 +24,7 @@ pub(crate) fn put<N: Node>(cells: &mut [Cell<N>], cell: u32, out: u32) -> bool
     ensures plans { plans_of N.Node cells.new ≡ plans_of N.Node cells.old }
     ensures specs { specs_of N.Node cells.new ≡ specs_of N.Node cells.old }
     ensures gathered { gathered_of cells.new ≡ gathered_of cells.old }
+    ensures rooms { rooms_of cells.new ≡ rooms_of cells.old }
     ensures yes { IsTrue result → CanPutAt cells.old cell out }
     ensures no { IsFalse result → CanPutAt cells.old cell out → ⊥ }
     ensures sends { IsTrue result → Sends cell out cells.old cells.new }
@@ -55,6 +57,7 @@ pub(crate) fn take<N: Node>(
     ensures plans { OnOk result (plans_of N.Node cells.new ≡ plans_of N.Node cells.old) }
     ensures specs { OnOk result (specs_of N.Node cells.new ≡ specs_of N.Node cells.old) }
     ensures gathered { OnOk result (gathered_of cells.new ≡ gathered_of cells.old) }
+    ensures rooms { OnOk result (rooms_of cells.new ≡ rooms_of cells.old) }
     ensures yes { IfOk result (λ made. IsTrue made → CanTakeAt cells.old cell input) }
     ensures no { IfOk result (λ made. IsFalse made → CanTakeAt cells.old cell input → ⊥) }
     ensures receives { IfOk result (λ made. IsTrue made → Receives cell input cells.old cells.new) }

@@ -9,6 +9,7 @@ ghost use Rattle.flow_life.specs.Lives.{IsLife};
 ghost use Rattle.flow_life.specs.Loads.{IsGathered};
 ghost use Rattle.flow_life.specs.Nodes.{gathered_of, specs_of};
 ghost use Rattle.flow_life.specs.Playing.{Plays};
+ghost use Rattle.flow_life.specs.Rooms.{rooms_of};
 ghost use Rattle.flow_life.specs.Settling.{Grows};
 ghost use Rattle.flow_life.specs.Steps.{AreQuiet, HasEmptyBuffers, IsEnabled, SomeEnabled, moves_of, one_if};
 ghost use Rattle.flow_life.specs.Streams.{AreStreams, CarriesPrefixes, CarriesStreams, plans_of, stream_length};
@@ -34,6 +35,7 @@ pub(crate) fn step<N: Node>(
     ensures plans { OnOk result (plans_of N.Node cells.new ≡ plans_of N.Node cells.old) }
     ensures specs { OnOk result (specs_of N.Node cells.new ≡ specs_of N.Node cells.old) }
     ensures gathered { OnOk result (gathered_of cells.new ≡ gathered_of cells.old) }
+    ensures rooms { OnOk result (rooms_of cells.new ≡ rooms_of cells.old) }
     ensures yes { IfOk result (λ made. IsTrue made → IsEnabled cells.old next) }
     ensures no { IfOk result (λ made. IsFalse made → IsEnabled cells.old next → ⊥) }
     ensures grows { IfOk result (λ made. IsTrue made → Grows next cells.old cells.new) }
@@ -65,6 +67,7 @@ pub(crate) fn play<N: Node>(
     ensures plans { OnOk result (plans_of N.Node cells.new ≡ plans_of N.Node cells.old) }
     ensures specs { OnOk result (specs_of N.Node cells.new ≡ specs_of N.Node cells.old) }
     ensures gathered { OnOk result (gathered_of cells.new ≡ gathered_of cells.old) }
+    ensures rooms { OnOk result (rooms_of cells.new ≡ rooms_of cells.old) }
     ensures plays { IfOk result (λ made. Plays steps.now cells.old made cells.new) }
     ensures count { IfOk result (λ made. moves_of cells.new ≡ moves_of cells.old + made) }
 {

@@ -65,7 +65,7 @@ pub fn add_node<N: Node>(
     if !are_below(parents, life.cells()) {
         return Err(NoMemory);
     }
-    life.add(alloc, node, parents, capacity)
+    life.add(alloc, node, parents, capacity, Stamp(0))
 }
 
 /// Adds a life to a net.

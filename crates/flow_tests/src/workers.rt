@@ -11,7 +11,7 @@ use crate::sides::plan_of_two;
 use flow_core::Net;
 use kap_base::{Bytes, NoMemory, Stamp};
 use kap_io::{Gate, NoGate};
-use node_workers::{WORKER_LIMIT, run_epoch};
+use node_workers::{WORKER_LIMIT, work_to_rest};
 use std::alloc::Global;
 use std::process::Abort;
 use std::sync::atomic::{AtomicU64, Ordering};
@@ -103,7 +103,7 @@ fn run_by<R: AllocGlobal + Abort + Threads + Sync>(
         Stamp(points.len() as u64),
         &[Stamp(50)],
     )?;
-    run_epoch(rt, rt.alloc(), &mut net, workers, gate)?;
+    work_to_rest(rt, rt.alloc(), &mut net, workers, gate)?;
     assert!(rt; net.at_rest());
     let effects = net.collect(rt.alloc());
     text_of(rt.alloc(), &effects)

@@ -73,7 +73,12 @@ impl<N: NumberingNode + Send> Telling<N> {
         requires some { 0 < capacity }
         requires limit { capacity ≤ CAPACITY_LIMIT }
         ensures run { IfOk result (λ t. t.run
-            ≡ record { lives = map (graph_of N.spec) plans.items; points = []; spent = false }) }
+            ≡ record {
+              lives = map (graph_of N.spec) plans.items;
+              points = [];
+              capacity = capacity;
+              spent = false;
+            }) }
         ensures topics { IfOk result (λ t. StandsFor [] t.topics) }
     {
         Ok(Telling {

@@ -1,6 +1,6 @@
 -- One epoch behind others.
-use Rattle.std.proofs.Common.{◌≡◌, ◌+◌, List, [], ◌++◌, IsPermutation, inl, inr, length, map, refl, sym, ap, subst, arith, length-append}
-use Rattle.std.specs.Prelude.{Bool, true, false, IsFalse, IsTrue}
+use Rattle.std.proofs.Common.{◌≡◌, ◌+◌, List, [], ◌++◌, IsPermutation, inl, inr, length, map, refl, sym, ap, subst, ◌∙◌, arith, length-append}
+use Rattle.std.specs.List.{AllByRecursion as Each, AllZip}
 use Rattle.std.proofs.lemmas.List.Sorted.{IsPermutation-append_right, IsPermutation-refl, IsPermutation-trans}
 use Rattle.kap_base.specs.Points.{PointValue}
 use Rattle.kap_base.specs.declared.items.Effect.{Effect}
@@ -9,9 +9,10 @@ use Rattle.node_core.specs.declared.node.Node.{Ghosts}
 use Rattle.task_run.specs.Graphs.{Placed}
 use Rattle.task_run.specs.Lives.{effects_of}
 use Rattle.task_run.specs.Plans.{PlanValue, graph_of}
+use Rattle.flow_core.specs.Carried.{HasCarried, LifeHasCarried}
 use Rattle.flow_core.specs.Gathering.{effects_by_node}
 use Rattle.flow_core.specs.Messages.{AreMarksOf}
-use Rattle.flow_core.specs.Nets.{NetValue}
+use Rattle.flow_core.specs.Nets.{IsResting, NetValue}
 use Rattle.flow_core.specs.Ran.{HasRun, IsNew}
 use Rattle.flow_core.specs.RanLaws.{none_given}
 use Rattle.net_run.specs.Epochs.{HasCome}
@@ -48,7 +49,10 @@ module _ {N P S : Type 0} (g : Ghosts N P S) where
       subst (λ (es : List Effect). IsPermutation (effects_by_node g.answer lives points) es) (sym is)
       (IsPermutation-trans (effects_by_node g.answer lives points) (old ++ gathered) (old ++ more) all (IsPermutation-append_right old gathered more same))
 
--- what isn't false is true
-pub is_so : (b : Bool) → (IsFalse b → ⊥) → IsTrue b
-is_so true not = refl
-is_so false not = absurd (not refl)
+  -- what edges have carried they have carried where the lives stay
+  pub carried_on : (lives : List (List (Placed P))) (points : List PointValue) (net net' : NetValue N) → net'.lives ≡ net.lives → net'.spent ≡ net.spent → HasCarried g lives points net → HasCarried g lives points net'
+  carried_on lives points net net' same spent h = record {
+    unspent = spent ∙ h.unspent;
+    rest = subst (Each IsResting) (sym same) h.rest;
+    lives_are = subst (AllZip (LifeHasCarried g points) lives) (sym same) h.lives_are;
+  }

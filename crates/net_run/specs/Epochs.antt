@@ -5,6 +5,7 @@ use Rattle.kap_base.specs.Points.{PointValue}
 use Rattle.node_core.specs.declared.node.Node.{Ghosts}
 use Rattle.task_run.specs.Lives.{effects_of}
 use Rattle.task_run.specs.Plans.{PlanValue, graph_of}
+use Rattle.flow_core.specs.Carried.{HasCarried}
 use Rattle.flow_core.specs.Gathering.{LivesRise, effects_by_node}
 use Rattle.flow_core.specs.Nets.{IsResting, NetValue}
 use Rattle.flow_core.specs.Ran.{HasRun, IsNew}
@@ -22,6 +23,7 @@ module _ {N P S : Type 0} (g : Ghosts N P S) where
     pub last : net.last.0 ≡ length points
     pub rest : Each IsResting net.lives
     pub come : HasCome plans points net
+    pub carried : HasCarried g (map (graph_of g.spec) plans) points net
     pub none : net.gathered ≡ []
     pub all : IsPermutation (effects_by_node g.answer (map (graph_of g.spec) plans) points) (effects_of g.answer (map (graph_of g.spec) plans) points)
     pub rise : LivesRise g.life g.number 1 (map (graph_of g.spec) plans)

@@ -7,16 +7,17 @@ ghost use Rattle.task_run.specs.Courses.{Course, end_of, grown, later_effects};
 ghost use Rattle.task_run.specs.Lives.{effects_of};
 ghost use Rattle.task_run.specs.Plans.{PlanValue, graph_of};
 ghost use Rattle.flow_core.specs.Gathering.{LivesRise};
-ghost use Rattle.flow_core.specs.Nets.{HasStreamsCarried, IsLifeIn, IsResting, numbers_of};
+ghost use Rattle.flow_core.specs.Nets.{HasStreamsCarried, IsResting, numbers_of};
+ghost use Rattle.flow_core.specs.Rooms.{rooms_in};
 ghost use Rattle.net_epochs.specs.Epochs.{IsOnCourse, StandsAt, nodes_in};
 ghost use Rattle.net_run.specs.Epochs.{Stands};
 
 use crate::moving::{Way, move_to_rest};
 use crate::numbering::NumberingNode;
-use flow_core::{Net, keep_lives};
+use flow_core::Net;
 use kap_base::{NoMemory, Point, Shared, Stamp};
 use kap_io::Gate;
-use node_core::{Effects, Node};
+use node_core::Effects;
 use std::alloc::Global;
 use std::thread::Threads;
 
@@ -31,14 +32,6 @@ fn held_points(alloc: Global, points: Vec<Shared<Point>>, hold: bool) -> Vec<Sha
         drop(points);
         Vec::new(alloc)
     }
-}
-
-/// What the lives of a net keep, of which no call failed.
-fn keep_net<N: Node>(net: &Net<N>)
-    requires { net.now.spent ≡ false }
-    ensures { Each (IsLifeIn N.Node) net.now.lives }
-{
-    keep_lives(net.lives());
 }
 
 /// Loads an epoch of points, with stamps that end at `upto`, into a net whose lives may have begun behind different points, has it
@@ -61,6 +54,7 @@ pub fn run_epoch<N: NumberingNode + Send, R: Threads + Sync, G: Gate + Sync>(
     ensures none { OnOk result (net.new.gathered ≡ []) }
     ensures numbers { OnOk result (numbers_of net.new.lives ≡ numbers_of net.old.lives) }
     ensures last { OnOk result (net.new.last ≡ upto) }
+    ensures rooms { OnOk result (rooms_in net.new.lives ≡ rooms_in net.old.lives) }
     ensures unspent { OnOk result (net.new.spent ≡ false) }
     ensures spent { OnErr result (net.new.spent ≡ true) }
     ensures lives { OnOk result ((n : ℕ) (courses : List (Course N.Spec))
@@ -79,9 +73,6 @@ pub fn run_epoch<N: NumberingNode + Send, R: Threads + Sync, G: Gate + Sync>(
 {
     net.load(alloc, points, upto, &[])?;
     move_to_rest(alloc, net, points.len(), way)?;
-    // At rest each edge has carried its stream, and the net has gathered all that its nodes give for the points.
-    let _rests = net.at_rest();
-    keep_net(net);
     Ok(net.collect(alloc))
 }
 
@@ -100,6 +91,7 @@ pub(crate) fn run_held<N: NumberingNode + Send, R: Threads + Sync, G: Gate + Syn
     requires rest { Each IsResting net.old.lives }
     requires upto { upto.0 ≡ net.old.last.0 + length points.items }
     ensures last { OnOk result (net.new.last ≡ upto) }
+    ensures rooms { OnOk result (rooms_in net.new.lives ≡ rooms_in net.old.lives) }
     ensures stands { OnOk result ((plans : List (PlanValue N)) (before : List PointValue)
         → Stands N.Node plans before net.old
         → Stands N.Node plans (before ++ points.items) net.new) }
@@ -114,7 +106,5 @@ pub(crate) fn run_held<N: NumberingNode + Send, R: Threads + Sync, G: Gate + Syn
     net.load(alloc, &points, upto, &[])?;
     let held = held_points(alloc, points, hold);
     move_to_rest(alloc, net, count, way)?;
-    // At rest the net has gathered all that its nodes give for the points so far.
-    let _rests = net.at_rest();
     Ok((net.collect(alloc), held))
 }

@@ -1,19 +1,17 @@
 //! Ways in which nets come to rest.
 
-ghost use Rattle.std.specs.Prelude.{◌≡◌, ◌<◌, ◌≤◌, false, true, List, OnErr, OnOk};
+ghost use Rattle.std.specs.Prelude.{◌≡◌, ◌<◌, ◌≤◌, false, true, OnErr, OnOk};
 ghost use Rattle.std.specs.List.{AllByRecursion as Each};
-ghost use Rattle.kap_base.specs.Points.{PointValue};
-ghost use Rattle.kap_base.specs.declared.items.Effect.{Effect};
-ghost use Rattle.task_run.specs.Graphs.{Placed};
-ghost use Rattle.flow_core.specs.Nets.{IsResting, numbers_of, plans_in, specs_in};
-ghost use Rattle.flow_core.specs.Ran.{GathersAll, HasRun, effects_in};
+ghost use Rattle.flow_core.specs.Nets.{IsResting};
+ghost use Rattle.flow_core.specs.Running.{NetGoesOn};
+ghost use Rattle.flow_core.specs.Wholes.{IsWhole};
 ghost use Rattle.node_workers.specs.declared.TheConstants.{WORKER_LIMIT};
 
 use flow_core::Net;
 use kap_base::NoMemory;
 use kap_io::Gate;
 use node_core::Node;
-use node_workers::{WORKER_LIMIT, run_epoch};
+use node_workers::{WORKER_LIMIT, work_to_rest};
 use std::alloc::Global;
 use std::thread::Threads;
 
@@ -70,22 +68,14 @@ pub(crate) fn move_to_rest<N: Node + Send, R: Threads + Sync, G: Gate + Sync>(
 ) -> Result<(), NoMemory>
     requires { net.old.spent ≡ false }
     ensures rest { OnOk result (Each IsResting net.new.lives) }
-    ensures numbers { OnOk result (numbers_of net.new.lives ≡ numbers_of net.old.lives) }
-    ensures plans { OnOk result (plans_in N.Node net.new.lives ≡ plans_in N.Node net.old.lives) }
-    ensures specs { OnOk result (specs_in N.Node net.new.lives ≡ specs_in N.Node net.old.lives) }
-    ensures runs { OnOk result ((lives : List (List (Placed N.Spec)))
-        (points : List PointValue) (collected : List Effect)
-        → HasRun N.Node lives points collected net.old
-        → HasRun N.Node lives points collected net.new) }
-    ensures gathers { OnOk result (GathersAll (effects_in net.old.lives) (effects_in net.new.lives)
-        net.old.gathered net.new.gathered) }
-    ensures last { OnOk result (net.new.last ≡ net.old.last) }
+    ensures whole { OnOk result (IsWhole N.Node net.new) }
+    ensures goes { OnOk result (NetGoesOn N.Node net.old net.new) }
     ensures unspent { OnOk result (net.new.spent ≡ false) }
     ensures spent { OnErr result (net.new.spent ≡ true) }
 {
     match way {
         Way::Schedule(number) => net.play_by(alloc, *number),
-        Way::Workers(workers) => run_epoch(
+        Way::Workers(workers) => work_to_rest(
             workers.rt,
             alloc,
             net,

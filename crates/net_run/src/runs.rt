@@ -16,39 +16,45 @@ use std::thread::Threads;
 use task_run::{Counts, LifePlan};
 
 /// Lives that run through a net, one epoch of points after the other. Contracts see the nodes of each life, the points of all
-/// epochs, and whether memory ran out. It keeps the states of the nodes, and no points once their epoch is done.
+/// epochs, how many messages each edge has room for, and whether memory ran out. It keeps the states of the nodes, and no points
+/// once their epoch is done.
 #[derive(Drop)]
 pub struct NetRun<N: Node> {
     net: Net<N>,
     /// How many points were loaded.
     given: u64,
     spent: bool,
-    // What was planned of the lives, and the points: clauses alone see them.
+    // What was planned of the lives, the room of edges, and the points: clauses alone see them.
     plans: Snapshot<Vec<LifePlan<N>>>,
+    capacity: Snapshot<u32>,
     trail: Trail,
 }
 
 impl<N: Node> Model for NetRun<N> {
     ghost use Rattle.std.specs.Coded.{codes};
     ghost use Rattle.std.specs.Prelude.{◌≡◌, false, map};
+    ghost use Rattle.std.specs.List.{AllByRecursion as Each};
     ghost use Rattle.kap_base.specs.Maps.{key_map_code};
-    ghost use Rattle.task_run.specs.Lives.{RunValue};
     ghost use Rattle.task_run.specs.Plans.{graph_of};
+    ghost use Rattle.flow_core.specs.Rooms.{HasRoomIn};
     ghost use Rattle.net_run.specs.Epochs.{Stands};
+    ghost use Rattle.net_run.specs.Runs.{NetRunValue};
     ghost use Rattle.net_run.specs.Trails.{points_of};
 
-    ghost Value = { RunValue N.Spec };
+    ghost Value = { NetRunValue N.Spec };
 
     ghost coded = { Prim.hlevel (codes, key_map_code) };
 
     ghost view = { λ r. record {
       lives = map (graph_of N.spec) r.plans.value.items;
       points = points_of r.trail;
+      capacity = r.capacity.value;
       spent = r.spent;
     } };
 
     ghost invariant = { λ r. r.spent ≡ false
-        → (r.given ≡ r.net.last.0) × Stands N.Node r.plans.value.items (points_of r.trail) r.net };
+        → (r.given ≡ r.net.last.0) × Stands N.Node r.plans.value.items (points_of r.trail) r.net
+        × Each (HasRoomIn r.capacity.value) r.net.lives };
 }
 
 impl<N: NumberingNode + Send> NetRun<N> {
@@ -59,9 +65,10 @@ impl<N: NumberingNode + Send> NetRun<N> {
     ghost use Rattle.flow_core.specs.Carried.{HasCarried};
     ghost use Rattle.flow_core.specs.Gathering.{LivesRise};
     ghost use Rattle.flow_core.specs.Making.{HasFewParents};
+    ghost use Rattle.flow_core.specs.Rooms.{HasRoomIn};
 
     /// A net of lives whose nodes are in their first states, before the first point. Their numbers rise from 1 on, and their edges
-    /// have room for 1 to 65,536 messages.
+    /// have room for just `capacity` messages, 1 to 65,536.
     pub fn new(alloc: Global, plans: Vec<LifePlan<N>>, capacity: u32) -> Result<NetRun<N>, NoMemory>
         requires first { AreFirstStates N.spec N.state N.first plans.items }
         requires rise { LivesRise N.life N.number 1 (map (graph_of N.spec) plans.items) }
@@ -69,7 +76,12 @@ impl<N: NumberingNode + Send> NetRun<N> {
         requires some { 0 < capacity }
         requires limit { capacity ≤ CAPACITY_LIMIT }
         ensures { IfOk result (λ run. run
-            ≡ record { lives = map (graph_of N.spec) plans.items; points = []; spent = false }) }
+            ≡ record {
+              lives = map (graph_of N.spec) plans.items;
+              points = [];
+              capacity = capacity;
+              spent = false;
+            }) }
     {
         let planned = Snapshot::of(&plans);
         Ok(NetRun {
@@ -77,6 +89,7 @@ impl<N: NumberingNode + Send> NetRun<N> {
             given: 0,
             spent: false,
             plans: planned,
+            capacity: Snapshot::of(&capacity),
             trail: Trail::Start,
         })
     }
@@ -102,6 +115,7 @@ impl<N: NumberingNode + Send> NetRun<N> {
         requires { self.old.spent ≡ false }
         ensures lives { OnOk result (self.new.lives ≡ self.old.lives) }
         ensures points { OnOk result (self.new.points ≡ self.old.points ++ points.items) }
+        ensures capacity { OnOk result (self.new.capacity ≡ self.old.capacity) }
         ensures spent { self.new.spent ≡ is_err result }
         ensures effects { IfOk result (λ ran.
             effects_of N.answer self.old.lives (self.old.points ++ points.items)
@@ -134,11 +148,10 @@ impl<N: NumberingNode + Send> NetRun<N> {
     /// aside, what its parent gives out for all points. It takes no memory.
     pub fn into_net(self) -> Net<N>
         requires { self.spent ≡ false }
-        ensures { HasCarried N.Node self.lives self.points result }
+        ensures carried { HasCarried N.Node self.lives self.points result }
+        ensures room { Each (HasRoomIn self.capacity) result.lives }
     {
         let NetRun { net, .. } = self;
-        // At rest a net shows what its edges have carried.
-        let _rests = net.at_rest();
         net
     }
 }

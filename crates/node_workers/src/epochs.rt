@@ -1,12 +1,10 @@
 //! A net is run to its rest by workers.
 
-ghost use Rattle.std.specs.Prelude.{◌≡◌, ◌<◌, ◌≤◌, false, true, List, OnErr, OnOk};
+ghost use Rattle.std.specs.Prelude.{◌≡◌, ◌<◌, ◌≤◌, false, true, OnErr, OnOk};
 ghost use Rattle.std.specs.List.{AllByRecursion as Each, AllZip};
-ghost use Rattle.kap_base.specs.Points.{PointValue};
-ghost use Rattle.kap_base.specs.declared.items.Effect.{Effect};
-ghost use Rattle.task_run.specs.Graphs.{Placed};
-ghost use Rattle.flow_core.specs.Nets.{HasStreamsCarried, IsResting, numbers_of, plans_in, specs_in};
-ghost use Rattle.flow_core.specs.Ran.{GathersAll, HasRun, effects_in};
+ghost use Rattle.flow_core.specs.Nets.{IsResting};
+ghost use Rattle.flow_core.specs.Running.{NetGoesOn};
+ghost use Rattle.flow_core.specs.Wholes.{IsWhole};
 ghost use Rattle.node_workers.specs.Workers.{HasStoodLife};
 
 use crate::WORKER_LIMIT;
@@ -32,11 +30,26 @@ fn move_cells<N: Node + Send, G: Gate + Sync, R: Threads + Sync>(
     run_workers(rt, alloc, &mut cells.lives, workers, gate);
 }
 
+/// Makes the moves that workers left. Where they left none, no step is listed and tried.
+fn finish<N: Node>(alloc: Global, net: &mut Net<N>) -> Result<(), NoMemory>
+    requires { net.old.spent ≡ false }
+    ensures rest { OnOk result (Each IsResting net.new.lives) }
+    ensures whole { OnOk result (IsWhole N.Node net.new) }
+    ensures goes { OnOk result (NetGoesOn N.Node net.old net.new) }
+    ensures unspent { OnOk result (net.new.spent ≡ false) }
+    ensures spent { OnErr result (net.new.spent ≡ true) }
+{
+    if net.at_rest() {
+        return Ok(());
+    }
+    net.run(alloc)
+}
+
 /// Runs a net to its rest by 1 to 64 workers, in whatever order their moves come. Each worker has cells of its own, which no
 /// other one has, and passes the gate before each of its turns. Workers end after a bounded number of turns, and the caller makes
 /// the moves that are left; so it waits for nobody but their end, and a thread that can't be made changes nothing. At rest each
 /// edge has carried its stream, and each cell is in the state in which one thread alone leaves it. After NoMemory the net is spent.
-pub fn run_epoch<N: Node + Send, G: Gate + Sync, R: Threads + Sync>(
+pub fn work_to_rest<N: Node + Send, G: Gate + Sync, R: Threads + Sync>(
     rt: &R,
     alloc: Global,
     net: &mut Net<N>,
@@ -47,17 +60,8 @@ pub fn run_epoch<N: Node + Send, G: Gate + Sync, R: Threads + Sync>(
     requires some { 0 < workers }
     requires limit { workers ≤ WORKER_LIMIT }
     ensures rest { OnOk result (Each IsResting net.new.lives) }
-    ensures streams { OnOk result (Each (HasStreamsCarried N.Node) net.new.lives) }
-    ensures numbers { OnOk result (numbers_of net.new.lives ≡ numbers_of net.old.lives) }
-    ensures plans { OnOk result (plans_in N.Node net.new.lives ≡ plans_in N.Node net.old.lives) }
-    ensures specs { OnOk result (specs_in N.Node net.new.lives ≡ specs_in N.Node net.old.lives) }
-    ensures runs { OnOk result ((lives : List (List (Placed N.Spec)))
-        (points : List PointValue) (collected : List Effect)
-        → HasRun N.Node lives points collected net.old
-        → HasRun N.Node lives points collected net.new) }
-    ensures gathers { OnOk result (GathersAll (effects_in net.old.lives) (effects_in net.new.lives)
-        net.old.gathered net.new.gathered) }
-    ensures last { OnOk result (net.new.last ≡ net.old.last) }
+    ensures whole { OnOk result (IsWhole N.Node net.new) }
+    ensures goes { OnOk result (NetGoesOn N.Node net.old net.new) }
     ensures unspent { OnOk result (net.new.spent ≡ false) }
     ensures spent { OnErr result (net.new.spent ≡ true) }
 {
@@ -67,8 +71,5 @@ pub fn run_epoch<N: Node + Send, G: Gate + Sync, R: Threads + Sync>(
         return Err(NoMemory);
     }
     net.give_cells(alloc, cells)?;
-    net.run(alloc)?;
-    // So its edges have carried their streams.
-    let _ = net.at_rest();
-    Ok(())
+    finish(alloc, net)
 }

@@ -5,7 +5,7 @@ mod epochs;
 mod sharing;
 mod turns;
 
-pub use epochs::run_epoch;
+pub use epochs::work_to_rest;
 
 /// How many workers there are at most.
 pub const WORKER_LIMIT: u32 = 64;

@@ -100,6 +100,7 @@ returns-clause-took g c = λ _.
       msg = c.in-Some.msg;
       old = edge;
       new = record edge { head = c.take.new.self };
+      none_waited = sym (ap has_unsent c.deref.ensures.value) ∙ sym (c.has_unsent.ensures) ∙ c.if-has_unsent.false;
       at = get-here ins i edge h ∙ ap (λ (e : InEdge). Some e) here;
       takes = record { head = c.in-Some.ensures.taken; from = refl; out = refl };
       ins = refl;

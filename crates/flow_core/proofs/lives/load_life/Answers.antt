@@ -1,5 +1,6 @@
 use Rattle.std.proofs.Common.{◌∙◌}
 use Rattle.flow_life.specs.ListingLaws.{ends-gathered}
+use Rattle.flow_life.proofs.RoomLaws.{rooms_gathered, rooms_loaded}
 use Rattle.flow_core.specs.DoneLaws.{load_gathers}
 use Rattle.flow_core.proofs.lives.load_life.Goals as goal
 
@@ -8,3 +9,6 @@ returns-clause-given g c = load_gathers c.args.source.items _ _ _ _ _ c.in_ok-lo
 
 pub returns-clause-ends : goal.returns-clause-ends
 returns-clause-ends g c = ends-gathered _ _ c.in_ok-gather.ensures.gathers ∙ c.in_ok-load.ensures.ends
+
+pub returns-clause-rooms : goal.returns-clause-rooms
+returns-clause-rooms g c = rooms_gathered _ _ c.in_ok-gather.ensures.gathers ∙ rooms_loaded c.args.source.items _ _ c.in_ok-load.ensures.loads

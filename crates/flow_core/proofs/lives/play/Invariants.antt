@@ -3,6 +3,7 @@ use Rattle.std.specs.List.{AllByRecursion as Each}
 use Rattle.flow_core.specs.Nets.{IsSound, moves_in, numbers_of, plans_in, specs_in}
 use Rattle.flow_core.specs.Playing.{PlaysIn}
 use Rattle.flow_core.specs.Ran.{GathersAll, effects_in}
+use Rattle.flow_core.specs.Rooms.{rooms_in}
 use Rattle.flow_core.specs.Running.{ends_in}
 use Rattle.flow_core.proofs.lives.play.Given as goal
 
@@ -14,6 +15,7 @@ invariant-playing g l = record {
   sound : Each IsSound l.lives;
   plans : plans_in g.N.Node l.lives ≡ plans_in g.N.Node l.fn.lives;
   specs : specs_in g.N.Node l.lives ≡ specs_in g.N.Node l.fn.lives;
+  rooms : rooms_in l.lives ≡ rooms_in l.fn.lives;
   ends : ends_in l.lives ≡ ends_in l.fn.lives;
   plays : PlaysIn (take l.next-index l.steps) l.fn.lives l.made l.lives;
   count : moves_in l.lives ≡ moves_in l.fn.lives + l.made;

@@ -3,6 +3,7 @@ use Rattle.flow_life.specs.Left.{left_of}
 use Rattle.flow_life.specs.LeftLaws.{left-same}
 use Rattle.flow_life.specs.ListingLaws.{ends-gathered}
 use Rattle.flow_life.specs.Steps.{one_if}
+use Rattle.flow_life.proofs.RoomLaws.{rooms_gathered}
 use Rattle.flow_core.specs.DoneLaws.{idle_gathers, step_gathers}
 use Rattle.flow_core.specs.NetLaws.{grows_gathered}
 use Rattle.flow_core.proofs.lives.step_life.Goals as goal
@@ -27,3 +28,6 @@ returns-clause-left g c =
     let first : left_of g.N.Node c.args.life.now.life.cells ≡ mid + 1 = c.in_ok-made.ensures.left ∙ ap (λ b. mid + one_if b) c.if-not-made.false in
     let same : new ≡ mid = left-same g.N.Node _ _ c.in_ok-gather_from.ensures.plans c.in_ok-gather_from.ensures.count in
     first ∙ ap (λ (n : ℕ). n + 1) (sym same)
+
+pub returns-clause-rooms : goal.returns-clause-rooms
+returns-clause-rooms g c = rooms_gathered _ _ c.in_ok-gather_from.ensures.gathers ∙ c.in_ok-made.ensures.rooms

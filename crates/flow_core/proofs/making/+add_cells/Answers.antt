@@ -11,8 +11,8 @@ returns-in_default-clause-nodes g t c =
     let none = none_left (λ n. node.ports (node.spec n)) (length c.args.life.now.cells) (reverse c.args.nodes.items) c.args.parents.now c.in_default.ensures.cases c.requires.can in
     sym (append-nil (nodes_of c.args.life.now.cells)) ∙ ap (λ l. nodes_of c.args.life.now.cells ++ l) (sym none)
 
-pub add_behind-requires-clause-earlier : goal.add_behind-requires-clause-earlier
-add_behind-requires-clause-earlier g t c =
+pub add-requires-clause-earlier : goal.add-requires-clause-earlier
+add-requires-clause-earlier g t c =
     let node = g.N.Node in
     let last = ap reverse c.in-Some-pop.ensures.items ∙ reverse-append c.pop.new.self.items (c.in-Some-pop.node ∷ []) in
     let can = can_first (λ n. node.ports (node.spec n)) (length c.args.life.now.cells) (reverse c.args.nodes.items) c.args.parents.now c.in-Some-pop.node (reverse c.pop.new.self.items) c.in-Some.first.now c.in-Some.others.now last c.in-Some.ensures.cases.0 c.requires.can in

@@ -11,6 +11,7 @@ returns-clause-goes g c =
       numbers = e.numbers;
       plans = e.plans;
       specs = e.specs;
+      rooms = e.rooms;
       ends = e.ends;
       left = omega (arith, left);
       gathers = e.gathers;

@@ -1,5 +1,6 @@
 use Rattle.std.proofs.Common.{◌≡◌, ℕ, List, [], ◌∷◌, ◌++◌, drop, get_or, length, map, take, refl, sym, ap, subst, ◌∙◌, arith}
 use Rattle.std.specs.List.{AllByRecursion as Each}
+use Rattle.edge_queue.specs.Edges.{edge_capacity}
 use Rattle.flow_life.specs.Lives.{IsLife}
 use Rattle.flow_life.specs.Making.{AreBlank, HasCarriedNothing, IsUntouched, nodes_of, passed_of}
 use Rattle.flow_life.specs.Wired.{parents_of}
@@ -7,7 +8,9 @@ use Rattle.std.proofs.lemmas.List.{take_more}
 use Rattle.std.proofs.Math.Seq.{take-append_seam, take-length}
 use Rattle.flow_cells.specs.declared.parts.CellParts.{CellParts}
 use Rattle.flow_cells.specs.declared.parts.InEdge.{InEdge}
+use Rattle.flow_cells.specs.declared.parts.OutEdge.{OutEdge}
 use Rattle.flow_cells.specs.Made.{HasNothing}
+use Rattle.flow_cells.specs.Rooms.{HasRoom}
 use Rattle.flow_life.specs.MakingLaws.{blank-first, holds-of, life-cell, map-push}
 use Rattle.flow_life.specs.SplitLaws.{each-append}
 use Rattle.flow_life.specs.StartLaws.{nothing-gathered, nothing-quiet, nothing-saved}
@@ -24,6 +27,7 @@ adding-init g c = record {
   parents = refl;
   passed = refl;
   untouched = holds-of (Each IsUntouched) [] c.new-ins.result.items c.new-ins.ensures.items tt;
+  room = λ all. all;
   carried = λ all. all;
 }
 
@@ -45,6 +49,7 @@ adding-preserved g c =
       parents = ap parents_of back ∙ e.parents ∙ ap parents_of old ∙ i.parents;
       passed = ap passed_of back ∙ e.passed ∙ ap passed_of old ∙ i.passed;
       untouched = e.untouched i.untouched;
+      room = λ all. holds-of (Each (HasRoom c.args.capacity)) new (take c.adding.cells.len (new ++ drop (length new) items)) back (e.room (subst (Each (HasRoom c.args.capacity)) (sym old) (i.room all)));
       carried = λ all. holds-of (Each HasCarriedNothing) new (take c.adding.cells.len (new ++ drop (length new) items)) back (e.carried (subst (Each HasCarriedNothing) (sym old) (i.carried all)));
     }
 
@@ -107,3 +112,10 @@ returns-clause-carried g c = λ all.
     let e = c.in_ok-cell.ensures in
     holds-of (Each HasCarriedNothing) (c.adding.cells.items ++ c.in_ok-cell.cell ∷ []) c.push.new.self.items c.in_ok-push.ensures.items
     (each-append HasCarriedNothing c.adding.cells.items (c.in_ok-cell.cell ∷ []) (c.adding.invariant.carried all) (subst (Each IsUntouched) (sym e.ins) c.adding.invariant.untouched, tt))
+
+pub returns-clause-room : goal.returns-clause-room
+returns-clause-room g c = λ all.
+    let capacity = c.args.capacity in
+    let none : HasRoom capacity c.in_ok-cell.cell = subst (Each (λ (o : OutEdge). edge_capacity o.tail ≡ capacity)) (sym c.in_ok-cell.ensures.core.outs) tt in
+    holds-of (Each (HasRoom capacity)) (c.adding.cells.items ++ c.in_ok-cell.cell ∷ []) c.push.new.self.items c.in_ok-push.ensures.items
+    (each-append (HasRoom capacity) c.adding.cells.items (c.in_ok-cell.cell ∷ []) (c.adding.invariant.room all) (none, tt))

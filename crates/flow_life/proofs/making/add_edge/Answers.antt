@@ -7,6 +7,7 @@ use Rattle.flow_cells.specs.declared.parts.InEdge.{InEdge}
 use Rattle.flow_cells.specs.declared.parts.OutEdge.{OutEdge}
 use Rattle.flow_cells.specs.Made.{HasNothing}
 use Rattle.flow_cells.specs.OutLaws.{each-set, get-here}
+use Rattle.flow_cells.specs.Rooms.{HasRoom}
 use Rattle.flow_life.specs.Making.{AreBlank, HasCarriedNothing, IsUntouched}
 use Rattle.flow_life.specs.PlaceLaws.{each-get, map-set}
 use Rattle.flow_life.specs.Wired.{IsUnspent}
@@ -82,3 +83,16 @@ returns-clause-carried g c = λ all.
     let at : slice_get cells c.args.parent ≡ Some mover = get-here cells c.args.parent c.index-cells-parent.result (omega arith) in
     each-set HasCarriedNothing cells c.args.parent c.add_out.new.self all
     (subst (λ v. Each IsUntouched v.items) (sym c.in_ok-add_out.ensures.others.ins) (each-get HasCarriedNothing cells c.args.parent mover at all))
+
+pub returns-clause-room : goal.returns-clause-room
+returns-clause-room g c = λ all.
+    let cells = c.args.cells.now in
+    let capacity = c.args.capacity in
+    let has = λ (x : OutEdge). edge_capacity x.tail ≡ capacity in
+    let mover = get_or cells c.args.parent c.index-cells-parent.result in
+    let at : slice_get cells c.args.parent ≡ Some mover = get-here cells c.args.parent c.index-cells-parent.result (omega arith) in
+    let outs = mover.core.outs.items in
+    let o : OutEdge = record { tail = c.in_ok-tail.tail; unsent = c.new.result; child = c.in_ok-child.child; input = c.in_ok-input.input } in
+    each-set (HasRoom capacity) cells c.args.parent c.add_out.new.self all
+    (holds-of (Each has) (outs ++ o ∷ []) c.add_out.new.self.core.outs.items c.in_ok-add_out.ensures.ok
+    (each-append has outs (o ∷ []) (each-get (HasRoom capacity) cells c.args.parent mover at all) (c.in_ok-tail.ensures.capacity, tt)))

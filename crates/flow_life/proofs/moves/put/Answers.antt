@@ -88,6 +88,9 @@ returns-then-not-put-clause-specs g c = (still g (goal.at.returns-then-not-put-c
 pub returns-then-not-put-clause-gathered : goal.returns-then-not-put-clause-gathered
 returns-then-not-put-clause-gathered g c = (still g (goal.at.returns-then-not-put-clause-gathered g c).Then-not-put).gathered
 
+pub returns-then-not-put-clause-rooms : goal.returns-then-not-put-clause-rooms
+returns-then-not-put-clause-rooms g c = (still g (goal.at.returns-then-not-put-clause-rooms g c).Then-not-put).rooms
+
 pub returns-then-not-put-clause-no : goal.returns-then-not-put-clause-no
 returns-then-not-put-clause-no g c = λ _ can.
     let cells = c.args.cells.now in
@@ -136,6 +139,9 @@ returns-clause-specs g c = (whole g (goal.at.returns-clause-specs g c).After-set
 
 pub returns-clause-gathered : goal.returns-clause-gathered
 returns-clause-gathered g c = (whole g (goal.at.returns-clause-gathered g c).After-settle_input).stays.gathered
+
+pub returns-clause-rooms : goal.returns-clause-rooms
+returns-clause-rooms g c = (whole g (goal.at.returns-clause-rooms g c).After-settle_input).stays.rooms
 
 pub returns-clause-yes : goal.returns-clause-yes
 returns-clause-yes g c = λ _. (whole g (goal.at.returns-clause-yes g c).After-settle_input).could

@@ -133,6 +133,11 @@ returns-clause-gathered g c =
     let p = goal.at.returns-clause-gathered g c in
     (whole g p.After-settle_input (took-it g p.In_ok-took)).stays.gathered
 
+pub returns-clause-rooms : goal.returns-clause-rooms
+returns-clause-rooms g c =
+    let p = goal.at.returns-clause-rooms g c in
+    (whole g p.After-settle_input (took-it g p.In_ok-took)).stays.rooms
+
 pub returns-clause-yes : goal.returns-clause-yes
 returns-clause-yes g c = λ _.
     let p = goal.at.returns-clause-yes g c in

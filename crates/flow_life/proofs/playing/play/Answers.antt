@@ -16,6 +16,7 @@ playing-init g c = record {
   plans = refl;
   specs = refl;
   gathered = refl;
+  rooms = refl;
   plays = played;
   count = omega arith;
 }
@@ -36,6 +37,7 @@ playing-preserved g c =
       plans = e.plans ∙ before.plans;
       specs = e.specs ∙ before.specs;
       gathered = e.gathered ∙ before.gathered;
+      rooms = e.rooms ∙ before.rooms;
       plays = plays_more IsEnabled Grows SameEnabled c.args.steps.now c.playing.next-index _ _ _ _ _ _ _ made c.playing-test.true refl before.plays e.yes e.no e.grows e.still count;
       count = omega (arith, e.count, before.count, count);
     }

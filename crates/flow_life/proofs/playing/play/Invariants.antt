@@ -1,6 +1,7 @@
 use Rattle.std.proofs.Common.{◌≡◌, ◌+◌, ◌≤◌, take}
 use Rattle.flow_life.specs.Nodes.{gathered_of, specs_of}
 use Rattle.flow_life.specs.Playing.{Plays}
+use Rattle.flow_life.specs.Rooms.{rooms_of}
 use Rattle.flow_life.specs.Steps.{moves_of}
 use Rattle.flow_life.specs.Streams.{plans_of}
 use Rattle.flow_life.specs.Lives.{IsLife}
@@ -14,6 +15,7 @@ invariant-playing g l = record {
   plans : plans_of g.N.Node l.cells ≡ plans_of g.N.Node l.fn.cells;
   specs : specs_of g.N.Node l.cells ≡ specs_of g.N.Node l.fn.cells;
   gathered : gathered_of l.cells ≡ gathered_of l.fn.cells;
+  rooms : rooms_of l.cells ≡ rooms_of l.fn.cells;
   plays : Plays (take l.next-index l.steps) l.fn.cells l.made l.cells;
   count : moves_of l.cells ≡ moves_of l.fn.cells + l.made;
 }

@@ -30,7 +30,7 @@ returns-clause-in_order g c = λ numbers lives points first rise ran.
     subst (λ ls. DidTheRestOf node c.args.mark ls late.new.self.lives) (sym all.ensures.lives)
     (subst (λ ls. DidTheRestOf node c.args.mark c.args.net.now.lives ls) (sym late.ensures.lives) c.requires.behind) in
     let none : IsPermutation (effects_by_node node.answer lives []) [] = subst (λ es. IsPermutation es []) (sym (none_given node.answer lives)) (IsPermutation-refl []) in
-    let done = c.at_rest.ensures.all (surely c.at_rest.result (λ busy. c.at_rest.ensures.busy busy c.requires.rest)) lives points [] ran in
+    let done = (c.at_rest.ensures.whole (surely c.at_rest.result (λ busy. c.at_rest.ensures.busy busy c.requires.rest))).all lives points [] ran in
     let whole = all.ensures.whole numbers lives [] points first [] rise none done in
     let rising = c.sorted_effects_are_whole.ensures.rising numbers lives [] points first all.result rise whole in
     c.nets_collect_alike.ensures.in_order c.args.mark all.new.self late.new.self all.result late.result did

@@ -27,7 +27,7 @@ capture-requires-clause-passed g c =
     subst (λ l. Contains l mark) (sym (c.loads_have_messages.ensures.barriers points last (mark ∷ []) (omega (arith, end)) (omega (arith, some, at, end), omega (arith, inside, at, end), tt))) (0, omega arith, refl) in
     let are = subst (λ plans. AreLivesOf node plans c.in_ok-net.net.lives) c.in_ok-plans.ensures.items c.in_ok-net.ensures.lives in
     c.if-not-has_passed_inside.ensures.passed refl
-    (c.streams_are_steady.ensures.loaded mark msgs (c.args.plan ∷ []) c.in_ok-net.net.lives c.play.new.self.lives are (c.requires.steady, tt) has (c.in_ok-play.ensures.plans ∙ c.in_ok-load.ensures.plans) (c.in_ok-play.ensures.specs ∙ c.in_ok-load.ensures.specs))
+    (c.streams_are_steady.ensures.loaded mark msgs (c.args.plan ∷ []) c.in_ok-net.net.lives c.play.new.self.lives are (c.requires.steady, tt) has (c.in_ok-play.ensures.goes.plans ∙ c.in_ok-load.ensures.plans) (c.in_ok-play.ensures.goes.specs ∙ c.in_ok-load.ensures.specs))
 
 pub returns-clause-behind : goal.returns-clause-behind
 returns-clause-behind g c =
@@ -53,18 +53,18 @@ returns-clause-behind g c =
     let stands = c.lives_stand.ensures.made first made are (c.requires.first, tt) in
     let loaded = c.in_ok-load.ensures.plans ∙ ap (λ l. plans_from node l made) same in
     let stop : AreLoadedWith node msgs made c.play.new.self.lives = record {
-      plans = c.in_ok-play.ensures.plans ∙ loaded;
-      specs = c.in_ok-play.ensures.specs ∙ c.in_ok-load.ensures.specs;
+      plans = c.in_ok-play.ensures.goes.plans ∙ loaded;
+      specs = c.in_ok-play.ensures.goes.specs ∙ c.in_ok-load.ensures.specs;
       lives = c.keep_lives.ensures;
     } in
     let rest : AreLoadedWith node msgs made c.run.new.self.lives = record {
-      plans = c.in_ok-run.ensures.plans ∙ c.in_ok-play.ensures.plans ∙ loaded;
-      specs = c.in_ok-run.ensures.specs ∙ c.in_ok-play.ensures.specs ∙ c.in_ok-load.ensures.specs;
+      plans = c.in_ok-run.ensures.goes.plans ∙ c.in_ok-play.ensures.goes.plans ∙ loaded;
+      specs = c.in_ok-run.ensures.goes.specs ∙ c.in_ok-play.ensures.goes.specs ∙ c.in_ok-load.ensures.specs;
       lives = c.keep_lives-2.ensures;
     } in
     let go : AreLoadedWith node (load_messages back last []) c.in-Ok.other.lives c.run-2.new.self.lives = record {
-      plans = c.in_ok-run-2.ensures.plans ∙ c.in_ok-load-2.ensures.plans ∙ ap (λ l. plans_from node (load_messages l last []) c.in-Ok.other.lives) c.split_at.ensures.back;
-      specs = c.in_ok-run-2.ensures.specs ∙ c.in_ok-load-2.ensures.specs;
+      plans = c.in_ok-run-2.ensures.goes.plans ∙ c.in_ok-load-2.ensures.plans ∙ ap (λ l. plans_from node (load_messages l last []) c.in-Ok.other.lives) c.split_at.ensures.back;
+      specs = c.in_ok-run-2.ensures.goes.specs ∙ c.in_ok-load-2.ensures.specs;
       lives = c.keep_lives-3.ensures;
     } in
     let restores = subst (λ plans. Restores node plans c.as_slice.result.now c.in-Ok.other) c.in_ok-plans-2.ensures.items c.in-Ok.ensures.restores in
@@ -78,12 +78,12 @@ pub returns-clause-gathered : goal.returns-clause-gathered
 returns-clause-gathered g c =
     let moved = c.effects_are_gathered.ensures.moved [] in
     let loaded = c.effects_are_gathered.ensures.loaded c.in_ok-net.net c.load.new.self c.in_ok-net.ensures.gathered c.in_ok-load.ensures.gathers in
-    moved c.play.new.self c.run.new.self (moved c.load.new.self c.play.new.self loaded c.in_ok-play.ensures.gathers) c.in_ok-run.ensures.gathers
+    moved c.play.new.self c.run.new.self (moved c.load.new.self c.play.new.self loaded c.in_ok-play.ensures.goes.gathers) c.in_ok-run.ensures.goes.gathers
 
 pub returns-clause-gathered_too : goal.returns-clause-gathered_too
 returns-clause-gathered_too g c =
     let loaded = c.effects_are_gathered.ensures.loaded c.in-Ok.other c.load-2.new.self c.in-Ok.ensures.restores.gathered c.in_ok-load-2.ensures.gathers in
-    c.effects_are_gathered.ensures.moved [] c.load-2.new.self c.run-2.new.self loaded c.in_ok-run-2.ensures.gathers
+    c.effects_are_gathered.ensures.moved [] c.load-2.new.self c.run-2.new.self loaded c.in_ok-run-2.ensures.goes.gathers
 
 pub returns-clause-runs : goal.returns-clause-runs
 returns-clause-runs g c =
@@ -97,4 +97,4 @@ returns-clause-runs g c =
     let graphs = graph_of node.spec c.args.plan ∷ [] in
     let new = subst (λ plans. AreFirstStates node.spec node.state node.first plans → IsNew node plans c.in_ok-net.net) c.in_ok-plans.ensures.items c.in_ok-net.ensures.new (c.requires.first, tt) in
     let loaded = c.in_ok-load.ensures.first first new end (omega (arith, some, at, end), omega (arith, inside, at, end), tt) in
-    c.in_ok-run.ensures.runs graphs points [] (c.in_ok-play.ensures.runs graphs points [] loaded)
+    c.in_ok-run.ensures.goes.runs graphs points [] (c.in_ok-play.ensures.goes.runs graphs points [] loaded)

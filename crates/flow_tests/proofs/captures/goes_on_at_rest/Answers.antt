@@ -21,19 +21,19 @@ returns-clause-same g c =
     let stands = c.lives_stand.ensures.made first made are (c.requires.first, tt) in
     let msgs = load_messages points last [] in
     let stop : AreLoadedWith node msgs made c.run.new.self.lives = record {
-      plans = c.in_ok-run.ensures.plans ∙ c.in_ok-load.ensures.plans;
-      specs = c.in_ok-run.ensures.specs ∙ c.in_ok-load.ensures.specs;
+      plans = c.in_ok-run.ensures.goes.plans ∙ c.in_ok-load.ensures.plans;
+      specs = c.in_ok-run.ensures.goes.specs ∙ c.in_ok-load.ensures.specs;
       lives = c.keep_lives.ensures;
     } in
     let more = load_messages c.args.more.now c.args.end [] in
     let rest : AreLoadedWith node more c.run.new.self.lives c.run-2.new.self.lives = record {
-      plans = c.in_ok-run-2.ensures.plans ∙ c.in_ok-load-2.ensures.plans ∙ ap (plans_from node more) c.collect-before.ensures.lives;
-      specs = c.in_ok-run-2.ensures.specs ∙ c.in_ok-load-2.ensures.specs ∙ ap (specs_in node) c.collect-before.ensures.lives;
+      plans = c.in_ok-run-2.ensures.goes.plans ∙ c.in_ok-load-2.ensures.plans ∙ ap (plans_from node more) c.collect-before.ensures.lives;
+      specs = c.in_ok-run-2.ensures.goes.specs ∙ c.in_ok-load-2.ensures.specs ∙ ap (specs_in node) c.collect-before.ensures.lives;
       lives = c.keep_lives-2.ensures;
     } in
     let go : AreLoadedWith node more c.in-Ok.other.lives c.run-3.new.self.lives = record {
-      plans = c.in_ok-run-3.ensures.plans ∙ c.in_ok-load-3.ensures.plans;
-      specs = c.in_ok-run-3.ensures.specs ∙ c.in_ok-load-3.ensures.specs;
+      plans = c.in_ok-run-3.ensures.goes.plans ∙ c.in_ok-load-3.ensures.plans;
+      specs = c.in_ok-run-3.ensures.goes.specs ∙ c.in_ok-load-3.ensures.specs;
       lives = c.keep_lives-3.ensures;
     } in
     let restores = subst (λ plans. Restores node plans c.as_slice.result.now c.in-Ok.other) c.in_ok-plans-2.ensures.items c.in-Ok.ensures.restores in
@@ -46,9 +46,9 @@ returns-clause-same g c =
 pub returns-clause-gathered : goal.returns-clause-gathered
 returns-clause-gathered g c =
     let loaded = c.effects_are_gathered.ensures.loaded c.collect-before.new.self c.load-2.new.self c.collect-before.ensures.none c.in_ok-load-2.ensures.gathers in
-    c.effects_are_gathered.ensures.moved [] c.load-2.new.self c.run-2.new.self loaded c.in_ok-run-2.ensures.gathers
+    c.effects_are_gathered.ensures.moved [] c.load-2.new.self c.run-2.new.self loaded c.in_ok-run-2.ensures.goes.gathers
 
 pub returns-clause-gathered_too : goal.returns-clause-gathered_too
 returns-clause-gathered_too g c =
     let loaded = c.effects_are_gathered.ensures.loaded c.in-Ok.other c.load-3.new.self c.in-Ok.ensures.restores.gathered c.in_ok-load-3.ensures.gathers in
-    c.effects_are_gathered.ensures.moved [] c.load-3.new.self c.run-3.new.self loaded c.in_ok-run-3.ensures.gathers
+    c.effects_are_gathered.ensures.moved [] c.load-3.new.self c.run-3.new.self loaded c.in_ok-run-3.ensures.goes.gathers

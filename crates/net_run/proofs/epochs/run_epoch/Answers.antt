@@ -5,8 +5,9 @@ use Rattle.kap_base.specs.declared.items.Stamp.{Stamp}
 use Rattle.task_run.specs.Courses.{grown, later_effects}
 use Rattle.flow_core.specs.Gathering.{LivesRise}
 use Rattle.flow_core.specs.GatheredLaws.{gathered_loaded, gathered_moved}
-use Rattle.flow_core.specs.Nets.{IsResting, numbers_of}
+use Rattle.flow_core.specs.Nets.{HasStreamsCarried, IsResting, numbers_of}
 use Rattle.flow_core.specs.Ran.{effects_in}
+use Rattle.flow_core.specs.Rooms.{rooms_in}
 use Rattle.flow_core.specs.UniqueLaws.{sorted_is}
 use Rattle.net_epochs.specs.Epochs.{IsOnCourse}
 use Rattle.net_epochs.proofs.NetLaws.{grown_nodes, net_went}
@@ -18,15 +19,15 @@ pub returns-clause-lives : goal.returns-clause-lives
 returns-clause-lives g c = λ n courses last ends z.
     subst (λ ls. AllZip (IsOnCourse g.N.Node) (map (grown c.args.points.now) courses) ls) (sym c.collect.ensures.lives)
     (net_went g.N.Node g.met.N.Node.stamped g.met.N.Node.folds n c.args.points.now c.args.upto [] courses c.args.net.now.lives c.move_to_rest.new.net.lives last tt ends z
-    (c.in_ok-move_to_rest.ensures.plans ∙ c.in_ok-load.ensures.plans) (c.in_ok-move_to_rest.ensures.specs ∙ c.in_ok-load.ensures.specs) c.keep_net.ensures c.in_ok-move_to_rest.ensures.rest).stands
+    (c.in_ok-move_to_rest.ensures.goes.plans ∙ c.in_ok-load.ensures.plans) (c.in_ok-move_to_rest.ensures.goes.specs ∙ c.in_ok-load.ensures.specs) c.in_ok-move_to_rest.ensures.whole.kept c.in_ok-move_to_rest.ensures.rest).stands
 
 pub returns-clause-stands : goal.returns-clause-stands
 returns-clause-stands g c = λ n courses last s.
     net_ran g.N.Node n c.args.points.now courses c.args.net.now c.collect.new.self s
     (subst (Each IsResting) (sym c.collect.ensures.lives) c.in_ok-move_to_rest.ensures.rest)
     c.collect.ensures.none
-    (ap numbers_of c.collect.ensures.lives ∙ c.in_ok-move_to_rest.ensures.numbers ∙ c.in_ok-load.ensures.numbers)
-    (ap (λ (t : Stamp). t.0) (c.collect.ensures.last ∙ c.in_ok-move_to_rest.ensures.last ∙ c.in_ok-load.ensures.last) ∙ last)
+    (ap numbers_of c.collect.ensures.lives ∙ c.in_ok-move_to_rest.ensures.goes.numbers ∙ c.in_ok-load.ensures.numbers)
+    (ap (λ (t : Stamp). t.0) (c.collect.ensures.last ∙ c.in_ok-move_to_rest.ensures.goes.last ∙ c.in_ok-load.ensures.last) ∙ last)
     (c.collect.ensures.spent ∙ c.in_ok-move_to_rest.ensures.unspent)
     (returns-clause-lives g c n courses last s.ends s.lives)
 
@@ -36,10 +37,19 @@ returns-clause-effects g c = λ n low courses last ends z rise.
     let new = c.args.points.now in
     let due = later_effects g.N.Node.answer n (length new) (map (grown new) courses) in
     let did = (net_went g.N.Node g.met.N.Node.stamped g.met.N.Node.folds n new c.args.upto [] courses c.args.net.now.lives c.move_to_rest.new.net.lives last tt ends z
-    (c.in_ok-move_to_rest.ensures.plans ∙ c.in_ok-load.ensures.plans) (c.in_ok-move_to_rest.ensures.specs ∙ c.in_ok-load.ensures.specs) c.keep_net.ensures c.in_ok-move_to_rest.ensures.rest).did in
+    (c.in_ok-move_to_rest.ensures.goes.plans ∙ c.in_ok-load.ensures.plans) (c.in_ok-move_to_rest.ensures.goes.specs ∙ c.in_ok-load.ensures.specs) c.in_ok-move_to_rest.ensures.whole.kept c.in_ok-move_to_rest.ensures.rest).did in
     let loaded = gathered_loaded c.args.net.now c.load.new.self c.requires.none c.in_ok-load.ensures.gathers in
-    let moved = gathered_moved [] c.load.new.self c.move_to_rest.new.net loaded c.in_ok-move_to_rest.ensures.gathers in
+    let moved = gathered_moved [] c.load.new.self c.move_to_rest.new.net loaded c.in_ok-move_to_rest.ensures.goes.gathers in
     sorted_is due c.collect.result (later_rise g.N.Node.answer g.N.Node.life g.N.Node.number g.met.N.Node.stamped numbers n (length new) low (map (grown new) courses) (subst (λ ns. LivesRise g.N.Node.life g.N.Node.number low ns) (sym (grown_nodes new courses)) rise))
     (IsPermutation-trans due (effects_in c.move_to_rest.new.net.lives) c.collect.result (IsPermutation-sym (effects_in c.move_to_rest.new.net.lives) due did)
     (IsPermutation-trans (effects_in c.move_to_rest.new.net.lives) c.move_to_rest.new.net.gathered c.collect.result moved c.collect.ensures.same))
     c.collect.ensures.sorted
+
+pub returns-clause-streams : goal.returns-clause-streams
+returns-clause-streams g c = subst (Each (HasStreamsCarried g.N.Node)) (sym c.collect.ensures.lives) c.in_ok-move_to_rest.ensures.whole.streams
+
+pub returns-clause-numbers : goal.returns-clause-numbers
+returns-clause-numbers g c = ap numbers_of c.collect.ensures.lives ∙ c.in_ok-move_to_rest.ensures.goes.numbers ∙ c.in_ok-load.ensures.numbers
+
+pub returns-clause-rooms : goal.returns-clause-rooms
+returns-clause-rooms g c = ap rooms_in c.collect.ensures.lives ∙ c.in_ok-move_to_rest.ensures.goes.rooms ∙ c.in_ok-load.ensures.rooms

@@ -44,4 +44,4 @@ pub returns-clause-net : goal.returns-clause-net
 returns-clause-net g c =
     let on = c.running.invariant in
     let last : c.running.done ≡ c.args.count = let low = on.within in let end = c.running-test.false in omega arith in
-    rw (on.lives, on.points, last) at c.into_net.ensures
+    rw (on.lives, on.points, last) at c.into_net.ensures.carried

@@ -1,11 +1,11 @@
-use Rattle.std.proofs.Common.{◌≡◌, List, ap, rules, subst, sym, ◌∙◌}
+use Rattle.std.proofs.Common.{◌≡◌, List, ap, refl, rules, subst, sym}
 use Rattle.std.specs.List.{AllByRecursion as Each}
 use Rattle.std.specs.Vec.{with_items}
 use Rattle.std.proofs.lemmas.List.{places, with_items_is}
-use Rattle.flow_core.specs.Away.{AreGivenBack, IsBack, IsLooseLife}
-use Rattle.flow_core.specs.AwayLaws.{back_loose, run_back}
-use Rattle.flow_core.specs.Nets.{NumberedLife, numbers_of, plans_in, specs_in}
-use Rattle.flow_core.specs.Ran.{GathersAll, effects_in}
+use Rattle.flow_core.specs.Away.{AreGivenBack, IsBack, IsLooseLife, with_lives}
+use Rattle.flow_core.specs.AwayLaws.{back_loose}
+use Rattle.flow_core.specs.Nets.{NumberedLife}
+use Rattle.flow_core.proofs.NetLaws.{net_goes}
 use Rattle.flow_core.proofs.net.Net.give_cells.Given as given
 use Rattle.flow_core.proofs.net.Net.give_cells.Goals as goal
 use Rattle.flow_core.proofs.net.Net.give_cells.Goals.{In_ok-give}
@@ -27,27 +27,8 @@ pub give-requires : goal.give-requires
 give-requires g c =
     subst (Each (IsLooseLife g.N.Node)) (sym c.deref_mut.ensures.value) (back_loose g.N.Node c.requires.back.before c.args.cells.lives.items c.requires.back.back)
 
-pub returns-clause-numbers : goal.returns-clause-numbers
-returns-clause-numbers g c = λ before back.
-    let l = gives g (goal.at.returns-clause-numbers g c).In_ok-give before back in
-    ap numbers_of l.here ∙ l.given.numbers
-
-pub returns-clause-plans : goal.returns-clause-plans
-returns-clause-plans g c = λ before back.
-    let l = gives g (goal.at.returns-clause-plans g c).In_ok-give before back in
-    ap (plans_in g.N.Node) l.here ∙ l.given.plans
-
-pub returns-clause-specs : goal.returns-clause-specs
-returns-clause-specs g c = λ before back.
-    let l = gives g (goal.at.returns-clause-specs g c).In_ok-give before back in
-    ap (specs_in g.N.Node) l.here ∙ l.given.specs
-
-pub returns-clause-runs : goal.returns-clause-runs
-returns-clause-runs g c = λ lives points collected before back h.
-    let l = gives g (goal.at.returns-clause-runs g c).In_ok-give before back in
-    run_back g.N.Node lives points collected c.args.self.now _ before c.give.new.lives l.given l.here (ap (λ v. v.last) c.self.view_is) h
-
-pub returns-clause-gathers : goal.returns-clause-gathers
-returns-clause-gathers g c = λ before back.
-    let l = gives g (goal.at.returns-clause-gathers g c).In_ok-give before back in
-    subst (λ ls. GathersAll (effects_in before) (effects_in ls) c.args.self.now.gathered c.give.new.gathered) (sym l.here) l.given.gathers
+pub returns-clause-goes : goal.returns-clause-goes
+returns-clause-goes g c = λ before back.
+    let l = gives g (goal.at.returns-clause-goes g c).In_ok-give before back in
+    let b = l.given in
+    net_goes g.N.Node (with_lives before c.args.self.now) _ before c.give.new.lives c.args.self.now.gathered refl refl l.here (ap (λ v. v.last) c.self.view_is) b.numbers b.plans b.specs b.rooms b.ends b.gathers

@@ -9,6 +9,7 @@ use Rattle.flow_core.specs.Messages.{load_messages}
 use Rattle.flow_core.specs.Nets.{IsLifeIn, plans_from, plans_in, specs_in}
 use Rattle.flow_core.specs.Ran.{effects_in}
 use Rattle.flow_core.specs.RanLaws.{run_again, run_first}
+use Rattle.flow_core.specs.Rooms.{rooms_in}
 use Rattle.flow_core.proofs.net.Net.load.Given as given
 use Rattle.flow_core.proofs.net.Net.load.Goals as goal
 use Rattle.flow_core.proofs.net.Net.load.Goals.{In_ok-load}
@@ -17,6 +18,7 @@ use Rattle.flow_core.proofs.net.Net.load.Goals.{In_ok-load}
 record Loads (g : given.Over) (c : goal.In_ok-load g) : Type 0 where
   plans : plans_in g.N.Node c.load.new.lives ≡ plans_from g.N.Node (load_messages c.args.points.now c.args.upto c.args.marks.now) c.args.self.now.lives
   specs : specs_in g.N.Node c.load.new.lives ≡ specs_in g.N.Node c.args.self.now.lives
+  rooms : rooms_in c.load.new.lives ≡ rooms_in c.args.self.now.lives
   here : (with_items c.self.inside.lives c.load.new.lives).items ≡ c.load.new.lives
   given : c.load.new.gathered ≡ c.args.self.now.gathered ++ effects_in c.load.new.lives
 
@@ -26,6 +28,7 @@ loads g c =
     record {
       plans = c.in_ok-load.ensures.plans ∙ ap (λ (l : List Msg). plans_from g.N.Node l c.deref_mut.result.now) c.in_ok-source.ensures ∙ ap (plans_from g.N.Node (load_messages c.args.points.now c.args.upto c.args.marks.now)) same;
       specs = c.in_ok-load.ensures.specs ∙ ap (specs_in g.N.Node) same;
+      rooms = c.in_ok-load.ensures.rooms ∙ ap rooms_in same;
       here = with_items_is c.self.inside.lives c.load.new.lives (search (rules, places));
       given = c.in_ok-load.ensures.given ∙ ap (λ v. v.gathered ++ effects_in c.load.new.lives) c.self.view_is;
     }
@@ -49,3 +52,8 @@ pub returns-clause-gathers : goal.returns-clause-gathers
 returns-clause-gathers g c =
     let l = loads g (goal.at.returns-clause-gathers g c).In_ok-load in
     l.given ∙ ap (λ ls. c.args.self.now.gathered ++ effects_in ls) (sym l.here)
+
+pub returns-clause-rooms : goal.returns-clause-rooms
+returns-clause-rooms g c =
+    let l = loads g (goal.at.returns-clause-rooms g c).In_ok-load in
+    ap rooms_in l.here ∙ l.rooms

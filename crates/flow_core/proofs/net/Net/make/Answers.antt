@@ -1,11 +1,19 @@
+use Rattle.std.proofs.Common.{refl}
+use Rattle.flow_core.specs.CarriedLaws.{new_carried}
 use Rattle.flow_core.specs.PlanLaws.{lives_rest, lives_sound}
 use Rattle.flow_core.proofs.net.Net.make.Goals as goal
 
 pub invariant_of-result : goal.invariant_of-result
-invariant_of-result g c = λ _. lives_sound g.N.Node _ _ c.in_ok-lives_of.ensures
+invariant_of-result g c = λ _. lives_sound g.N.Node _ _ c.in_ok-lives_of.ensures.lives
 
 pub returns-clause-rest : goal.returns-clause-rest
-returns-clause-rest g c = lives_rest g.N.Node _ _ c.in_ok-lives_of.ensures
+returns-clause-rest g c = lives_rest g.N.Node _ _ c.in_ok-lives_of.ensures.lives
 
 pub returns-clause-new : goal.returns-clause-new
-returns-clause-new g c = λ first. record { lives = c.in_ok-lives_of.ensures; first = first; gathered = c.new.ensures }
+returns-clause-new g c = λ first. record { lives = c.in_ok-lives_of.ensures.lives; first = first; gathered = c.new.ensures }
+
+pub returns-clause-carried : goal.returns-clause-carried
+returns-clause-carried g c = λ first.
+    new_carried g.N.Node g.met.N.Node.stamped g.met.N.Node.folds c.args.plans.items _
+    (record { lives = c.in_ok-lives_of.ensures.lives; first = first; gathered = c.new.ensures }) refl
+    (lives_rest g.N.Node _ _ c.in_ok-lives_of.ensures.lives)

@@ -1,16 +1,29 @@
-use Rattle.std.proofs.Common.{ap, rules, ◌∙◌}
+use Rattle.std.proofs.Common.{◌≡◌, ap, refl, rules, subst, sym, ◌∙◌}
+use Rattle.std.specs.List.{AllByRecursion as Each}
+use Rattle.std.specs.Vec.{with_items}
 use Rattle.std.proofs.lemmas.List.{places, with_items_is}
-use Rattle.flow_core.specs.DoneLaws.{gathers_stepped}
-use Rattle.flow_core.specs.RanLaws.{run_stepped}
+use Rattle.flow_core.specs.CarriedLaws.{run_carried}
+use Rattle.flow_core.specs.Nets.{IsLifeIn, IsResting}
+use Rattle.flow_core.specs.RanLaws.{run_rests}
+use Rattle.flow_core.proofs.NetLaws.{net_goes, streams_rest}
 use Rattle.flow_core.proofs.net.Net.play_by.Goals as goal
 
-pub returns-clause-runs : goal.returns-clause-runs
-returns-clause-runs g c = λ lives points collected.
+pub returns-clause-goes : goal.returns-clause-goes
+returns-clause-goes g c =
     let made = c.in_ok-play_by.ensures.goes in
-    run_stepped g.N.Node lives points collected _ _ _ c.play_by.new.lives _ (c.deref_mut.ensures.value ∙ ap (λ v. v.lives) c.self.view_is) (ap (λ v. v.gathered) c.self.view_is)
-    (with_items_is c.self.inside.lives c.play_by.new.lives (search (rules, places))) (ap (λ v. v.last) c.self.view_is) made.plans made.specs made.gathers
+    net_goes g.N.Node _ _ _ c.play_by.new.lives _ (c.deref_mut.ensures.value ∙ ap (λ v. v.lives) c.self.view_is) (ap (λ v. v.gathered) c.self.view_is)
+    (with_items_is c.self.inside.lives c.play_by.new.lives (search (rules, places))) (ap (λ v. v.last) c.self.view_is) made.numbers made.plans made.specs made.rooms made.ends made.gathers
 
-pub returns-clause-gathers : goal.returns-clause-gathers
-returns-clause-gathers g c =
-    gathers_stepped _ _ _ c.play_by.new.lives _ _ _ (c.deref_mut.ensures.value ∙ ap (λ v. v.lives) c.self.view_is) (ap (λ v. v.gathered) c.self.view_is)
-    (with_items_is c.self.inside.lives c.play_by.new.lives (search (rules, places))) c.in_ok-play_by.ensures.goes.gathers
+pub returns-clause-whole : goal.returns-clause-whole
+returns-clause-whole g c =
+    let node = g.N.Node in
+    let made = c.in_ok-play_by.ensures in
+    let here : (with_items c.self.inside.lives c.play_by.new.lives).items ≡ c.play_by.new.lives = with_items_is c.self.inside.lives c.play_by.new.lives (search (rules, places)) in
+    let kept = subst (Each (IsLifeIn node)) (sym here) made.lives in
+    let rest = subst (Each IsResting) (sym here) made.rest in
+    record {
+      kept = kept;
+      streams = streams_rest node _ kept rest;
+      carried = λ lives points collected h. run_carried node g.met.N.Node.stamped g.met.N.Node.folds lives points collected _ h refl kept rest;
+      all = λ lives points collected h. run_rests node g.met.N.Node.stamped g.met.N.Node.folds lives points collected _ h kept rest;
+    }

@@ -1,7 +1,12 @@
-use Rattle.std.proofs.Common.{ap, ◌∙◌}
-use Rattle.flow_core.specs.AwayLaws.{run_away}
+use Rattle.std.proofs.Common.{ap, refl, subst, sym, ◌∙◌}
+use Rattle.flow_core.specs.DoneLaws.{gathers_none}
+use Rattle.flow_core.specs.Ran.{GathersAll, effects_in}
+use Rattle.flow_core.proofs.NetLaws.{net_goes}
 use Rattle.flow_core.proofs.net.Net.take_cells.Goals as goal
 
-pub returns-clause-runs : goal.returns-clause-runs
-returns-clause-runs g c = λ lives points collected.
-    run_away g.N.Node lives points collected c.args.self.now _ (ap (λ v. v.items) c.replace-lives.ensures.value ∙ ap (λ v. v.lives) c.self.view_is) (ap (λ v. v.last) c.self.view_is) (ap (λ v. v.gathered) c.self.view_is)
+pub returns-clause-goes : goal.returns-clause-goes
+returns-clause-goes g c =
+    let old = c.args.self.now in
+    let done = effects_in old.lives in
+    net_goes g.N.Node old _ old.lives old.lives old.gathered refl refl (ap (λ v. v.items) c.replace-lives.ensures.value ∙ ap (λ v. v.lives) c.self.view_is) (ap (λ v. v.last) c.self.view_is) refl refl refl refl refl
+    (subst (λ es. GathersAll done done old.gathered es) (sym (ap (λ v. v.gathered) c.self.view_is)) (gathers_none done old.gathered))
