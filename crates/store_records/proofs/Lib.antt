@@ -1,5 +1,4 @@
 pub mod BodyLaws
 pub mod FollowLaws
 pub mod LineLaws
-pub mod SizeLaws
 pub mod StateLoops

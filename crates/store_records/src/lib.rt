@@ -15,4 +15,3 @@ pub use laws::record_laws;
 pub use rec::{Rec, Transitions};
 pub use records::{read_record, record_body};
 pub use task::{Life, LifeNumbers, Snapshot, StoredTask};
-pub use transitions::spelled_len;
