@@ -6,7 +6,7 @@
 mod places;
 
 use flow_core::Net;
-use kap_io::{Clock, DirDisk, Disk, MemDisk, NoGate, ReadSource, RealClock, WriteSink};
+use kap_io::{Clock, DirDisk, Disk, LockFile, MemDisk, NoGate, ReadSource, RealClock, WriteSink};
 use kap_server::{Status, command, status_text};
 use lambda_types::RegexPatterns;
 use net_run::NumberingNode;
@@ -138,7 +138,7 @@ fn run<
     N: ScriptNode + NumberingNode + Send,
 >(rt: &R, place: Place<'_>, words: &[String]) -> Status
 where
-    R::File: FileExt,
+    R::File: FileExt + LockFile,
 {
     let alloc = rt.alloc();
     match place {
@@ -170,7 +170,7 @@ fn answer<
     N: ScriptNode + NumberingNode + Send,
 >(rt: &R) -> Status
 where
-    R::File: FileExt,
+    R::File: FileExt + LockFile,
 {
     let words = match words_of(rt) {
         Ok(words) => words,

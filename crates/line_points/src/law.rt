@@ -1,7 +1,9 @@
-ghost use Rattle.std.specs.Prelude.{◌≡◌, ◌↔◌, ℕ, List, Option, Result};
+ghost use Rattle.std.specs.Prelude.{◌≡◌, ◌↔◌, ◌^◌, ℕ, List, Option, Result};
 ghost use Rattle.kap_base.specs.Points.{PointValue};
 ghost use Rattle.line_points.specs.declared.fault.LineFault.{LineFault};
+ghost use Rattle.line_points.specs.declared.line.TheConstants.{LINE_LIMIT};
 ghost use Rattle.line_points.specs.declared.mode.Mode.{Mode};
+ghost use Rattle.line_points.specs.declared.room.TheConstants.{SPARE_LIMIT};
 ghost use Rattle.line_points.specs.Line.{Reads, Blank, Faulty};
 ghost use Rattle.line_points.specs.Grammar.{IsBlank};
 ghost use Rattle.line_points.specs.FaultRows.{FaultOfLine};
@@ -33,4 +35,10 @@ pub fn each_spelling()
 pub fn fault_rows()
     ensures { (db rp line : List ℕ) (mode : Mode) (f : LineFault) →
         (Faulty db rp mode line f) ↔ (FaultOfLine mode line f) }
+{}
+
+/// The limits of lines, and of the points that are kept for next ones, as numbers.
+pub fn limits_of_lines()
+    ensures line { LINE_LIMIT ≡ 2 ^ 16 }
+    ensures spares { SPARE_LIMIT ≡ 1280 }
 {}

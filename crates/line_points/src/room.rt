@@ -1,11 +1,15 @@
 //! Memory of points that nobody needs any more, in which next ones are read.
 
-ghost use Rattle.std.specs.Prelude.{◌≡◌, ◌≤◌, [], IfOk};
+ghost use Rattle.std.specs.Prelude.{◌≡◌, ◌≤◌, [], IfOk, length};
+ghost use Rattle.line_points.specs.declared.room.TheConstants.{SPARE_LIMIT};
 
 use crate::bytes::comma_count;
 use kap_base::{NoMemory, Point, Shared, Text, Value};
 use std::alloc::Global;
 use std::mem;
+
+/// How many points are kept at most, in whose memory next ones are read: as many as a replay reads at once.
+pub const SPARE_LIMIT: usize = 1_280;
 
 /// Room for the tags and the fields of a point that is to be read. What it held counts for nothing.
 #[derive(Drop)]
@@ -74,11 +78,37 @@ impl Room {
     }
 }
 
-/// Points that their owner doesn't need any more, in whose memory next ones are read, as far as nobody else has them then.
+/// Adds a point to the spare ones, where there are fewer than `SPARE_LIMIT`; else, or where memory is short, it is let go.
+fn add_spare(spares: &mut Vec<Shared<Point>>, point: Shared<Point>)
+    requires { length spares.old.items ≤ SPARE_LIMIT }
+    ensures { length spares.new.items ≤ SPARE_LIMIT }
+{
+    if spares.len() < SPARE_LIMIT {
+        let _added = spares.push(point);
+    }
+}
+
+/// Adds points to the spare ones, as far as there are at most `SPARE_LIMIT` then; the others are let go.
+fn add_spares(spares: &mut Vec<Shared<Point>>, points: Vec<Shared<Point>>)
+    requires { length spares.old.items ≤ SPARE_LIMIT }
+    ensures { length spares.new.items ≤ SPARE_LIMIT }
+{
+    if spares.is_empty() && points.len() <= SPARE_LIMIT {
+        *spares = points;
+        return;
+    }
+    'adding: for point in points {
+        add_spare(spares, point);
+    }
+}
+
+/// Points that their owner doesn't need any more, in whose memory next ones are read, as far as nobody else has them then. It keeps
+/// at most `SPARE_LIMIT` of them, however many it is given.
 #[derive(Drop)]
 pub struct Pool {
     spares: Vec<Shared<Point>>,
     room: Room,
+    ghost few: { length spares.items ≤ SPARE_LIMIT },
 }
 
 impl Pool {
@@ -90,17 +120,9 @@ impl Pool {
         }
     }
 
-    /// Adds points to those that are left; where memory is short they are let go.
+    /// Adds points to those that are left, as far as these are few enough; the others are let go.
     pub fn fill(&mut self, points: Vec<Shared<Point>>) {
-        if self.spares.is_empty() {
-            self.spares = points;
-            return;
-        }
-        'filling: for point in points {
-            if self.spares.push(point).is_err() {
-                return;
-            }
-        }
+        add_spares(&mut self.spares, points);
     }
 
     /// The room of the point that was placed last.

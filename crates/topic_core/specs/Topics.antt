@@ -66,6 +66,10 @@ numbered n (c ∷ cs) = transition n c.0 c.1 ∷ numbered (n + 1) cs
 abbrev pub Trans : List Event → List Transition
 Trans events = numbered 1 (changes [] events)
 
+-- the event that a transition was
+abbrev pub event_of : Transition → Event
+event_of t = record { topic = t.topic; id = t.id; level = t.new_level; time = t.time; message = t.message }
+
 -- ---- what is kept
 
 -- the number of transitions so far, and for each topic and id that had one its last level

@@ -1,0 +1,15 @@
+//! What transitions keep of their events: laws, and no code.
+
+ghost use Rattle.std.specs.Prelude.{◌≡◌, List, map};
+ghost use Rattle.kap_base.specs.declared.items.Event.{Event};
+ghost use Rattle.topic_core.specs.Topics.{StandsFor, TopicsValue, Trans, event_of};
+
+/// Transitions stand for their events: taken as events again they make the same transitions, and what is kept of the one is what is
+/// kept of the other.
+pub fn transition_laws()
+    ensures again { (events : List Event) → Trans (map event_of (Trans events)) ≡ Trans events }
+    ensures stand { (events : List Event) (kept : TopicsValue) → StandsFor events kept
+        → StandsFor (map event_of (Trans events)) kept }
+    ensures stood { (events : List Event) (kept : TopicsValue)
+        → StandsFor (map event_of (Trans events)) kept → StandsFor events kept }
+{}
