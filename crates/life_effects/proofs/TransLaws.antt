@@ -14,10 +14,10 @@ use Rattle.kap_base.specs.Points.{is_time}
 use Rattle.kap_base.specs.declared.items.Event.{Event}
 use Rattle.kap_base.specs.declared.items.Level.{Level}
 use Rattle.kap_base.specs.declared.items.Level.TheVariants.{Fine, Info, Warning, Critical}
-use Rattle.topic_core.specs.Topics.{Trans, change, changes, is_of, last_level, numbered, same_text, transition}
+use Rattle.topic_core.specs.Topics.{Trans, change, changes, event_of, is_of, last_level, numbered, same_text, transition}
 use Rattle.topic_core.specs.declared.transition.Transition.{Transition}
 use Rattle.life_effects.specs.Times.{times_fit}
-use Rattle.store_records.specs.Held.{are_next, event_of, is_next, level_of}
+use Rattle.store_records.specs.Held.{are_next, is_next, level_of}
 
 -- ---- levels and texts
 

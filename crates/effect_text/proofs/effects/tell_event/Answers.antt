@@ -22,3 +22,6 @@ returns-in_ok-push-in-Some-clause-told c = λ events before stands is.
 pub returns-in-None-clause-lines : goal.returns-in-None-clause-lines
 returns-in-None-clause-lines c = λ events stands.
     line_of_none events c.args.event.now c.args.text.now (c.in_ok-transition.ensures.all events stands ∙ ap (λ t. Trans events ++ option_to_list t) c.in-None.is)
+
+pub returns-in_ok-push-in-Some-clause-topics : goal.returns-in_ok-push-in-Some-clause-topics
+returns-in_ok-push-in-Some-clause-topics c = c.in_ok-transition.ensures.stands
