@@ -3,3 +3,4 @@ mod ReadLaws
 mod FillLaws
 mod SpellLaws
 mod UniqueLaws
+mod FormLaws

@@ -1,5 +1,5 @@
 -- A text that is read as parts is their spelling.
-use Rattle.std.proofs.Common.{◌≡◌, ℕ, suc, ◌+◌, ◌<◌, Bool, true, false, cond, List, [], ◌∷◌, ◌++◌, length, take, drop, get_or, Option, Some, None, Result, Ok, Err, refl, sym, ap, subst, ◌∙◌, append-nil, append_assoc, arith, ◌&&◌}
+use Rattle.std.proofs.Common.{◌≡◌, ℕ, suc, ◌<◌, Bool, true, false, cond, List, [], ◌∷◌, ◌++◌, length, take, drop, get_or, Option, Some, None, Result, Ok, Err, refl, sym, ap, subst, ◌∙◌, append-nil, append_assoc, arith, ◌&&◌}
 use Rattle.std.specs.Prelude.{bytes_eq, codes, ◌==◌, nat_lt}
 use Rattle.std.specs.List.{before_first, after_first, position_or_len}
 use Rattle.std.specs.Option.{option_map_or}
@@ -21,7 +21,7 @@ use Rattle.msg_template.specs.Spellings.{SpellsAction, Spells, action_spelling, 
 
 -- ---- spaces
 
-all_spaces : (bytes : List ℕ) → are_spaces bytes ≡ true → bytes ≡ spaces (length bytes)
+pub all_spaces : (bytes : List ℕ) → are_spaces bytes ≡ true → bytes ≡ spaces (length bytes)
 all_spaces [] e = refl
 all_spaces (b ∷ bytes) e =
     let first : b ≡ 32 = eqb-true b 32 (first_of (b == 32) (are_spaces bytes) e) in
@@ -33,7 +33,7 @@ pub record Spaced (bytes : List ℕ) : Type 0 where
   pub count : ℕ
   pub is : bytes ≡ spaces count ++ without_spaces bytes
 
-spaced : (bytes : List ℕ) → Spaced bytes
+pub spaced : (bytes : List ℕ) → Spaced bytes
 spaced [] = record { count = 0; is = refl }
 spaced (b ∷ bytes) = go (spaced bytes) (b == 32) refl
   where
@@ -49,7 +49,7 @@ spaced (b ∷ bytes) = go (spaced bytes) (b == 32) refl
 
 -- ---- a dot and a name
 
-named_text : (name : List ℕ) (action : Action) → named name ≡ Some action → 46 ∷ name ≡ action_spelling action
+pub named_text : (name : List ℕ) (action : Action) → named name ≡ Some action → 46 ∷ name ≡ action_spelling action
 named_text name action e = id (bytes_eq name (codes "ID")) refl e
   where
     is : (text : List ℕ) → bytes_eq name text ≡ true → name ≡ text
@@ -97,6 +97,25 @@ named_text name action e = id (bytes_eq name (codes "ID")) refl e
     id true t h = ap (λ (l : List ℕ). 46 ∷ l) (is (codes "ID") t) ∙ ap action_spelling (some actions.Id h)
     id false t h = own (bytes_eq name (codes "Name")) refl h
 
+-- ---- quotes
+
+-- what stands at a quote
+pub quoted : (bytes : List ℕ) (p : List ℕ × List ℕ) → cut_at_quote bytes ≡ Some p → bytes ≡ p.0 ++ (34 ∷ p.1)
+quoted bytes p h = go (nat_lt (position_or_len is_quote bytes) (length bytes)) refl h
+  where
+    go : (t : Bool) → nat_lt (position_or_len is_quote bytes) (length bytes) ≡ t → cond t (Some (before_first is_quote bytes, after_first is_quote bytes)) None ≡ Some p → bytes ≡ p.0 ++ (34 ∷ p.1)
+    go true e h =
+        let n = position_or_len is_quote bytes in
+        let lt : n < length bytes = grind (arith, nat_tests) in
+        let quote : get_or bytes n 0 ≡ 34 = eqb-true (get_or bytes n 0) 34 (passes_at_first is_quote bytes 0 lt) in
+        let same : (before_first is_quote bytes, after_first is_quote bytes) ≡ p = cc in
+        split_at_first is_quote bytes 0 lt ∙ ap (λ (c : ℕ). before_first is_quote bytes ++ (c ∷ after_first is_quote bytes)) quote
+        ∙ ap (λ (q : List ℕ × List ℕ). q.0 ++ (34 ∷ q.1)) same
+    go false e h = absurd cc
+
+pub keyed_more : (words key rest : List ℕ) → keyed words key ++ rest ≡ words ++ (34 ∷ (key ++ (34 ∷ rest)))
+keyed_more words key rest = append_assoc words (34 ∷ (key ++ (34 ∷ []))) rest ∙ ap (λ (l : List ℕ). words ++ (34 ∷ l)) (append_assoc key (34 ∷ []) rest)
+
 module _ (of_id : Bool) (at : ℕ) (action : Action) where
   abbrev wrong : Result Action TemplateFault
   wrong = Err (faults.Action at)
@@ -137,22 +156,6 @@ module _ (of_id : Bool) (at : ℕ) (action : Action) where
       tags true t h = ap (λ (l : List ℕ). keyed l key) ((bytes_eq-Decides words (codes "index .Tags ")).0 t) ∙ ap action_spelling (ok_is (actions.Tag key) action h)
       tags false t h = fields (bytes_eq words (codes "index .Fields ")) refl h
 
-  quoted : (bytes : List ℕ) (p : List ℕ × List ℕ) → cut_at_quote bytes ≡ Some p → bytes ≡ p.0 ++ (34 ∷ p.1)
-  quoted bytes p h = go (nat_lt (position_or_len is_quote bytes) (length bytes)) refl h
-    where
-      go : (t : Bool) → nat_lt (position_or_len is_quote bytes) (length bytes) ≡ t → cond t (Some (before_first is_quote bytes, after_first is_quote bytes)) None ≡ Some p → bytes ≡ p.0 ++ (34 ∷ p.1)
-      go true e h =
-          let n = position_or_len is_quote bytes in
-          let lt : n < length bytes = grind (arith, nat_tests) in
-          let quote : get_or bytes n 0 ≡ 34 = eqb-true (get_or bytes n 0) 34 (passes_at_first is_quote bytes 0 lt) in
-          let same : (before_first is_quote bytes, after_first is_quote bytes) ≡ p = cc in
-          split_at_first is_quote bytes 0 lt ∙ ap (λ (c : ℕ). before_first is_quote bytes ++ (c ∷ after_first is_quote bytes)) quote
-          ∙ ap (λ (q : List ℕ × List ℕ). q.0 ++ (34 ∷ q.1)) same
-      go false e h = absurd cc
-
-  keyed_more : (words key rest : List ℕ) → keyed words key ++ rest ≡ words ++ (34 ∷ (key ++ (34 ∷ rest)))
-  keyed_more words key rest = append_assoc words (34 ∷ (key ++ (34 ∷ []))) rest ∙ ap (λ (l : List ℕ). words ++ (34 ∷ l)) (append_assoc key (34 ∷ []) rest)
-
   indexed_text : (body : List ℕ) → indexed at body ≡ Ok action → SpellsAction action body
   indexed_text body h = go (cut_at_quote body) refl h
     where
@@ -190,7 +193,7 @@ module _ (of_id : Bool) (at : ℕ) (action : Action) where
       }
   at_dot body bytes b e false t h = indexed_text body h
 
-  spells_action : (body : List ℕ) → action_at of_id at body ≡ Ok action → SpellsAction action body
+  pub spells_action : (body : List ℕ) → action_at of_id at body ≡ Ok action → SpellsAction action body
   spells_action body h = go (without_spaces body) refl h
     where
       go : (w : List ℕ) → without_spaces body ≡ w → action_of_words of_id at body w ≡ Ok action → SpellsAction action body

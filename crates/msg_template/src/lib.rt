@@ -14,6 +14,9 @@ mod template;
 pub use action::Action;
 pub use facts::Facts;
 pub use fault::TemplateFault;
-pub use law::{one_meaning, parts_are_spelled};
+pub use law::{
+    actions_are_read_by_form, examples_of_templates, limit_is_a_number, one_meaning,
+    parts_are_spelled,
+};
 pub use reading::{read, read_id};
 pub use template::{Part, TEMPLATE_LIMIT, Template};
