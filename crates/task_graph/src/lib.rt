@@ -7,7 +7,7 @@ mod sorts;
 mod spec;
 
 pub use graph::{Flow, Graph, GraphFault, NODE_LIMIT, PARENT_LIMIT};
-pub use laws::{graphs_hang_together, lowest_fault_is_first};
+pub use laws::{graphs_hang_together, limits_are_numbers, lowest_fault_is_first};
 pub use sorts::{
     Count, ElapsedUnit, Line, Measurement, Name, Period, SPAN_LIMIT, Span, UNIT_LIMIT,
 };
