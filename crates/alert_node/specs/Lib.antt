@@ -5,3 +5,4 @@ pub mod Events
 pub mod Alerts
 pub mod AlertLaws
 pub mod WatchSpelling
+pub mod Rows

@@ -3,7 +3,7 @@ use Rattle.std.specs.Prelude.{ℕ, ◌+◌, Bool, false, List, [], ◌∷◌, �
 use Rattle.kap_base.specs.declared.items.Level.{Level}
 use Rattle.kap_base.specs.declared.items.Level.TheVariants.{Fine, Info, Warning, Critical}
 use Rattle.kap_base.specs.Points.{PointValue}
-use Rattle.lambda_count.specs.Outcomes.{is_true, value_or_none}
+use Rattle.lambda_eval.specs.Outcomes.{is_true, value_or_none}
 use Rattle.lambda_eval.specs.Values.{val}
 use Rattle.lambda_types.specs.declared.lambda.Lambda.{Lambda}
 use Rattle.node_core.specs.Groups.{Came}

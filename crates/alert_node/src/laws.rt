@@ -1,35 +1,15 @@
-//! What an `alert` answers, what the numbers of evaluations are, and how texts are cut: laws, and no code.
+//! What the numbers of evaluations of an `alert` are, and how texts are cut: laws, and no code.
 
 ghost use Rattle.std.specs.Prelude.{◌≡◌, ℕ, false, List, count_by};
 ghost use Rattle.msg_template.specs.Filling.{IsCutTo};
 ghost use Rattle.msg_template.specs.declared.template.TheConstants.{TEMPLATE_LIMIT};
-ghost use Rattle.node_core.specs.Groups.{Came, in_groups, is_point};
-ghost use Rattle.node_core.specs.Numbering.{stamped};
+ghost use Rattle.node_core.specs.Groups.{Came};
 ghost use Rattle.alert_node.specs.declared.alert.Alert.{Alert};
 ghost use Rattle.alert_node.specs.declared.watch.Ask.{Ask};
-ghost use Rattle.alert_node.specs.Alerts.{alert_says, seat_of};
 ghost use Rattle.alert_node.specs.Events.{cut, is_fine};
 ghost use Rattle.alert_node.specs.Asking.{level_asked};
 ghost use Rattle.alert_node.specs.Watches.{count_of, evaluations, same_ask, watch_in};
-
-use crate::node::AlertNode;
-use node_core::Node;
-
-/// Of an `alert`, in a life and with a number: what it answers is what it says of each group, stamped and numbered; that
-/// life and that number are its own; it has one port; and points are for it.
-pub fn alerts_answer_by_groups()
-    ensures answer { (life node : ℕ) (alert : Alert)
-        → ⟦<AlertNode as Node>⟧.answer (seat_of life node alert)
-        ≡ stamped life node (in_groups (alert_says alert)) }
-    ensures life { (life node : ℕ) (alert : Alert)
-        → ⟦<AlertNode as Node>⟧.life (seat_of life node alert) ≡ life }
-    ensures number { (life node : ℕ) (alert : Alert)
-        → ⟦<AlertNode as Node>⟧.number (seat_of life node alert) ≡ node }
-    ensures ports { (life node : ℕ) (alert : Alert)
-        → ⟦<AlertNode as Node>⟧.ports (seat_of life node alert) ≡ 1 }
-    ensures takes { (life node : ℕ) (alert : Alert)
-        → ⟦<AlertNode as Node>⟧.takes (seat_of life node alert) ≡ is_point }
-{}
+ghost use Rattle.alert_node.specs.Rows.{AboveFirst, BehindAReset, ChangesOnly, EachAboveOk, HeldByAReset, HighestFirst, NoRecoveries, ResetDecides};
 
 /// The number of an expression or a reset of a level above OK is how often it was evaluated at the group's points.
 pub fn counts_are_evaluations()
@@ -42,4 +22,16 @@ pub fn counts_are_evaluations()
 pub fn texts_are_cut()
     ensures longest { (whole : List ℕ) → IsCutTo TEMPLATE_LIMIT whole (cut whole) }
     ensures only { (whole text : List ℕ) → IsCutTo TEMPLATE_LIMIT whole text → text ≡ cut whole }
+{}
+
+/// Examples of levels, of what is evaluated for them, and of events.
+pub fn examples_of_alerts()
+    ensures held_by_a_reset { HeldByAReset }
+    ensures highest_first { HighestFirst }
+    ensures reset_decides { ResetDecides }
+    ensures behind_a_reset { BehindAReset }
+    ensures above_first { AboveFirst }
+    ensures each_above_ok { EachAboveOk }
+    ensures changes_only { ChangesOnly }
+    ensures no_recoveries { NoRecoveries }
 {}

@@ -1,7 +1,7 @@
 //! The level of a point.
 
 ghost use Rattle.std.specs.Prelude.{◌≡◌, IfOk};
-ghost use Rattle.lambda_count.specs.Outcomes.{is_true};
+ghost use Rattle.lambda_eval.specs.Outcomes.{is_true};
 ghost use Rattle.alert_node.specs.Asking.{asked, level_asked};
 ghost use Rattle.alert_node.specs.Levels.{asks_at, decides};
 ghost use Rattle.alert_node.specs.Watches.{condition_of, truth_at, truth_of, watched};
@@ -9,7 +9,7 @@ ghost use Rattle.alert_node.specs.Watches.{condition_of, truth_at, truth_of, wat
 use crate::alert::Alert;
 use crate::watch::{Ask, Watch};
 use kap_base::{Level, NoMemory, Point, Value};
-use lambda_count::outcome;
+use lambda_eval::outcome;
 use lambda_types::Lambda;
 use std::alloc::Global;
 use task_graph::Conditions;

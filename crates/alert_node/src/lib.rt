@@ -11,7 +11,7 @@ mod templates;
 mod watch;
 
 pub use alert::Alert;
-pub use laws::{alerts_answer_by_groups, counts_are_evaluations, texts_are_cut};
+pub use laws::{counts_are_evaluations, examples_of_alerts, texts_are_cut};
 pub use node::{AlertNode, build};
 pub use sends::send_alert_node;
 pub use watch::{Ask, Counts, Watch};

@@ -5,7 +5,7 @@ ghost use Rattle.alert_node.specs.Watches.{count_of, counted, number_of, one_mor
 ghost use Rattle.alert_node.specs.WatchSpelling.{FitsCounts, FitsWatch, counts_spelled, read_counts, read_watch, spell_counts, spell_watch, watch_spelled};
 
 use kap_base::{Bytes, Level, NoMemory};
-use lambda_count::next_count;
+use lambda_eval::next_count;
 use state_code::{CodeFault, Cursor, Spelled};
 use std::alloc::Global;
 

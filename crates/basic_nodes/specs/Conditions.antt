@@ -3,7 +3,7 @@ use Rattle.std.specs.Prelude.{ℕ, Bool, true, ◌&&◌, if◌then◌else◌, Li
 use Rattle.kap_base.specs.Points.{PointValue}
 use Rattle.kap_base.specs.Tree.{Tree}
 use Rattle.lambda_eval.specs.Values.{joined_by_and, val}
-use Rattle.lambda_count.specs.Outcomes.{value_or_none}
+use Rattle.lambda_eval.specs.Outcomes.{value_or_none}
 use Rattle.node_core.specs.declared.said.Said.{Said}
 use Rattle.node_core.specs.Meaning.{silence}
 use Rattle.basic_nodes.specs.declared.selection.Selection.{Selection}

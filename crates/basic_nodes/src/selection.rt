@@ -1,7 +1,7 @@
 //! `from` and `where`: the points for which conditions are true.
 
 ghost use Rattle.std.specs.Prelude.{◌≡◌, true, IfOk, OnOk};
-ghost use Rattle.lambda_count.specs.Outcomes.{value_or_none};
+ghost use Rattle.lambda_eval.specs.Outcomes.{value_or_none};
 ghost use Rattle.lambda_eval.specs.Values.{joined_by_and, val};
 ghost use Rattle.basic_nodes.specs.Conditions.{agrees, chosen_says, from_says, is_asked, where_says};
 ghost use Rattle.basic_nodes.specs.GroupKinds.{counted_by};
@@ -9,7 +9,7 @@ ghost use Rattle.basic_nodes.specs.GroupKinds.{counted_by};
 use crate::dimensions::{Grouping, group};
 use crate::words::pass_where;
 use kap_base::{NoMemory, Point, Shared, Text, Value};
-use lambda_count::{next_count, outcome, outcome_of_all};
+use lambda_eval::{next_count, outcome, outcome_of_all};
 use lambda_types::Lambda;
 use node_core::{Said, pass};
 use std::alloc::Global;

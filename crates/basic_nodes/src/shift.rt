@@ -6,7 +6,7 @@ ghost use Rattle.basic_nodes.specs.GroupKinds.{counted_by};
 ghost use Rattle.basic_nodes.specs.Shifts.{later, sample_says, shift_says};
 
 use kap_base::{NoMemory, Point, Shared, is_time};
-use lambda_count::next_count;
+use lambda_eval::next_count;
 use node_core::{Said, pass_if, pass_new};
 use std::alloc::Global;
 use task_graph::Count;

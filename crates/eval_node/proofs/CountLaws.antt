@@ -3,7 +3,7 @@ use Rattle.std.proofs.Common.{◌≡◌, ℕ, zero, suc, ◌+◌, Bool, true, fa
 use Rattle.kap_base.specs.declared.value.Value.{Value}
 use Rattle.kap_base.specs.Points.{PointValue}
 use Rattle.kap_base.specs.Tree.{Tree}
-use Rattle.lambda_count.specs.Outcomes.{value_or_none}
+use Rattle.lambda_eval.specs.Outcomes.{value_or_none}
 use Rattle.lambda_eval.specs.Values.{val}
 use Rattle.node_core.specs.Groups.{Came}
 use Rattle.task_graph.specs.declared.spec.EvalResult.{EvalResult}

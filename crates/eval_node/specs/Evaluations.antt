@@ -4,7 +4,7 @@ use Rattle.std.specs.FinMap.{insert}
 use Rattle.kap_base.specs.declared.value.Value.{Value}
 use Rattle.kap_base.specs.Points.{PointValue}
 use Rattle.kap_base.specs.Tree.{Tree}
-use Rattle.lambda_count.specs.Outcomes.{value_or_none}
+use Rattle.lambda_eval.specs.Outcomes.{value_or_none}
 use Rattle.lambda_eval.specs.Values.{val}
 use Rattle.task_graph.specs.declared.spec.EvalResult.{EvalResult}
 

@@ -1,13 +1,13 @@
 //! The lambdas of an `eval` at a point.
 
 ghost use Rattle.std.specs.Prelude.{◌≡◌, IfOk, OnOk, option_map};
-ghost use Rattle.lambda_count.specs.Outcomes.{value_or_none};
+ghost use Rattle.lambda_eval.specs.Outcomes.{value_or_none};
 ghost use Rattle.lambda_eval.specs.Values.{val};
 ghost use Rattle.eval_node.specs.Evaluations.{evaluated, with_result};
 
 use crate::counts::{count_at, put_count};
 use kap_base::{Duplicate, NoMemory, Point};
-use lambda_count::{next_count, outcome};
+use lambda_eval::{next_count, outcome};
 use lambda_types::Lambda;
 use std::alloc::Global;
 use task_graph::EvalResult;

@@ -8,7 +8,7 @@ use Rattle.kap_base.specs.Points.{PointValue}
 use Rattle.kap_base.specs.Tree.{Tree}
 use Rattle.kap_base.specs.declared.value.Value.{Value}
 use Rattle.kap_base.specs.declared.value.Value.TheVariants.{Bool as Truth}
-use Rattle.lambda_count.specs.Outcomes.{value_or_none}
+use Rattle.lambda_eval.specs.Outcomes.{value_or_none}
 use Rattle.lambda_eval.specs.Values.{val}
 use Rattle.node_core.specs.declared.said.Said.{Said}
 use Rattle.node_core.specs.Groups.{Came, GroupAnswer}

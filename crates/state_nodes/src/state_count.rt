@@ -3,7 +3,7 @@ ghost use Rattle.state_nodes.specs.StateCounts.{counts_in, number_behind, number
 
 use crate::words::{result_name, with_number};
 use kap_base::{NoMemory, Point, Shared, Value};
-use lambda_count::{next_count, outcome};
+use lambda_eval::{next_count, outcome};
 use lambda_types::Lambda;
 use node_core::{Rule, Said, pass_new};
 use std::alloc::Global;

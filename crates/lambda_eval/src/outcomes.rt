@@ -1,11 +1,14 @@
+//! What comes of an evaluation, and how often a lambda was evaluated at a group's points.
+
 ghost use Rattle.std.specs.Prelude.{◌≡◌, ◌+◌, IfOk, IfSome, IsTrue};
 ghost use Rattle.kap_base.specs.Points.{is_value};
+ghost use Rattle.lambda_eval.specs.Outcomes.{value_or_none};
 ghost use Rattle.lambda_eval.specs.Values.{joined_by_and, val};
-ghost use Rattle.lambda_count.specs.Outcomes.{value_or_none};
 
 use crate::limits::EVALUATION_LIMIT;
+use crate::values::{value, value_of_all};
 use kap_base::{NoMemory, Point, Value};
-use lambda_eval::{EvalFault, value, value_of_all};
+use lambda_fns::EvalFault;
 use lambda_types::Lambda;
 use std::alloc::Global;
 
