@@ -7,3 +7,4 @@ pub mod Readers
 pub mod Unique
 pub mod Head
 pub mod Quietly
+pub mod Beside

@@ -8,6 +8,8 @@ mod crashes;
 #[cfg(test)]
 mod devices;
 #[cfg(test)]
+mod limits;
+#[cfg(test)]
 mod locks;
 #[cfg(test)]
 mod logs;

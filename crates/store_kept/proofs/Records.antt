@@ -2,9 +2,9 @@
 use Rattle.std.proofs.Common.{◌≡◌, ℕ, true, false, List, [], ◌∷◌, ◌++◌, map, sym, ap, ◌∙◌, subst, Option}
 use Rattle.std.specs.Prelude.{IfSome}
 use Rattle.state_code.specs.Laws.{once}
-use Rattle.topic_core.specs.Topics.{StandsFor, TopicsValue}
+use Rattle.topic_core.specs.Topics.{StandsFor, TopicsValue, event_of}
 use Rattle.topic_core.specs.declared.transition.Transition.{Transition}
-use Rattle.store_records.specs.Held.{Held, MayFollow, event_of, transitions_in}
+use Rattle.store_records.specs.Held.{Held, MayFollow, transitions_in}
 use Rattle.store_records.specs.Histories.{end_of, held}
 use Rattle.store_records.specs.Records.{IsBodyOf, record_spelled}
 use Rattle.store_records.specs.declared.rec.Rec.{Rec}

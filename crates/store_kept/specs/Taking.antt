@@ -1,9 +1,9 @@
 -- Taking in the next record, by its body.
 use Rattle.std.specs.Prelude.{ℕ, ◌&&◌, ◌==◌, Bool, true, false, List, [], ◌∷◌, ◌++◌, map}
 use Rattle.std.specs.List.{list_all}
-use Rattle.topic_core.specs.Topics.{StandsFor, TopicsValue}
+use Rattle.topic_core.specs.Topics.{StandsFor, TopicsValue, event_of}
 use Rattle.topic_core.specs.declared.transition.Transition.{Transition}
-use Rattle.store_records.specs.Held.{MayFollow, are_next, event_of, has_task, may_define}
+use Rattle.store_records.specs.Held.{MayFollow, are_next, has_task, may_define}
 use Rattle.store_records.specs.Histories.{Follow, held}
 use Rattle.store_records.specs.Lines.{are_lines, is_of}
 use Rattle.store_records.specs.Records.{IsBodyOf}

@@ -1,10 +1,10 @@
 //! Taking in the next record, by its body.
 
 ghost use Rattle.std.specs.Prelude.{◌≡◌, ◌++◌, List, IfOk, IsTrue, length, map};
-ghost use Rattle.store_records.specs.Held.{event_of, transitions_in};
+ghost use Rattle.store_records.specs.Held.{transitions_in};
 ghost use Rattle.store_records.specs.Histories.{end_of};
 ghost use Rattle.store_records.specs.declared.rec.Rec.{Rec};
-ghost use Rattle.topic_core.specs.Topics.{StandsFor};
+ghost use Rattle.topic_core.specs.Topics.{StandsFor, event_of};
 ghost use Rattle.topic_core.specs.declared.transition.Transition.{Transition};
 ghost use Rattle.store_kept.specs.Keeping.{kept_of};
 ghost use Rattle.store_kept.specs.Taking.{Holds, TakesOrNot, follows};

@@ -3,9 +3,9 @@ use Rattle.std.proofs.Common.{◌≡◌, ℕ, ◌+◌, Bool, true, false, ◌&&�
 use Rattle.std.proofs.lemmas.List.{append-nil, map-append}
 use Rattle.kap_base.specs.declared.items.Event.{Event}
 use Rattle.kap_base.specs.declared.items.Level.{Level}
-use Rattle.topic_core.specs.Topics.{StandsFor, TopicsValue, level_before}
+use Rattle.topic_core.specs.Topics.{StandsFor, TopicsValue, event_of, level_before}
 use Rattle.topic_core.specs.declared.transition.Transition.{Transition}
-use Rattle.store_records.specs.Held.{are_next, event_of, goes_on, is_next, level_of}
+use Rattle.store_records.specs.Held.{are_next, goes_on, is_next, level_of}
 
 pub nil_of : {A : Type 0} (xs : List A) → length xs ≡ 0 → xs ≡ []
 nil_of [] e = refl

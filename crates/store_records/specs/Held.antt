@@ -6,11 +6,10 @@ use Rattle.std.specs.Ordering.{is_lt}
 use Rattle.kap_base.specs.Maps.{byte_order}
 use Rattle.kap_base.specs.Texts.{is_task_id}
 use Rattle.kap_base.specs.Points.{PointValue, is_time}
-use Rattle.kap_base.specs.declared.items.Event.{Event}
 use Rattle.kap_base.specs.declared.items.Level.{Level}
 use Rattle.kap_base.specs.declared.items.Level.TheVariants.{Fine}
 use Rattle.kap_base.specs.Levels.{same_level}
-use Rattle.topic_core.specs.Topics.{last_level}
+use Rattle.topic_core.specs.Topics.{event_of, last_level}
 use Rattle.topic_core.specs.declared.transition.Transition.{Transition}
 use Rattle.store_records.specs.Lines.{are_lines, is_of}
 use Rattle.store_records.specs.States.{AreStates}
@@ -110,10 +109,6 @@ open_from n [] = []
 open_from n (life ∷ lives) = if is_open life then n ∷ open_from (n + 1) lives else open_from (n + 1) lives
 
 -- ---- transitions
-
--- the event that a transition was
-abbrev pub event_of : Transition → Event
-event_of t = record { topic = t.topic; id = t.id; level = t.new_level; time = t.time; message = t.message }
 
 -- the level of a topic and id behind these transitions, OK where it had none
 abbrev pub level_of : List ℕ → List ℕ → List Transition → Level

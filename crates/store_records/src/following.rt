@@ -2,18 +2,16 @@
 
 ghost use Rattle.std.specs.Prelude.{◌≡◌, ◌==◌, ◌+◌, ◌&&◌, ◌∷◌, ◌++◌, [], IfOk, IsTrue, List, OnOk, length, map, position};
 ghost use Rattle.std.specs.List.{list_all};
-ghost use Rattle.store_records.specs.Held.{are_next, event_of, goes_on, has_task, is_called, is_next, may_define};
+ghost use Rattle.store_records.specs.Held.{are_next, goes_on, has_task, is_called, is_next, may_define};
 ghost use Rattle.store_records.specs.Lines.{are_lines, is_of};
-ghost use Rattle.topic_core.specs.Topics.{StandsFor};
+ghost use Rattle.topic_core.specs.Topics.{StandsFor, event_of};
 ghost use Rattle.topic_core.specs.declared.transition.Transition.{Transition};
 
 use crate::lines::are_of;
 use crate::task::StoredTask;
-use kap_base::{
-    Duplicate, Event, Level, NoMemory, Point, SCRIPT_LIMIT, TASK_LIMIT, Text, is_task_id, is_time,
-};
+use kap_base::{Level, NoMemory, Point, SCRIPT_LIMIT, TASK_LIMIT, Text, is_task_id, is_time};
 use std::alloc::Global;
-use topic_core::{Topics, Transition};
+use topic_core::{Topics, Transition, event_of};
 
 fn is_called(task: &StoredTask, id: &Text) -> bool
     ensures { result ≡ is_called id.now task.now }
@@ -70,18 +68,6 @@ pub fn is_batch(db: &Text, rp: &Text, points: &[Point]) -> bool
         return false;
     }
     are_of(db, rp, points)
-}
-
-fn event_of(alloc: Global, transition: &Transition) -> Result<Event, NoMemory>
-    ensures { IfOk result (λ event. event ≡ event_of transition.now) }
-{
-    Ok(Event {
-        topic: transition.topic.copy(alloc)?,
-        id: transition.id.copy(alloc)?,
-        level: transition.new_level,
-        time: transition.time,
-        message: transition.message.copy(alloc)?,
-    })
 }
 
 /// Whether the number is the one behind `count`.

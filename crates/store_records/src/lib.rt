@@ -15,3 +15,4 @@ pub use laws::record_laws;
 pub use rec::{Rec, Transitions};
 pub use records::{read_record, record_body};
 pub use task::{Life, LifeNumbers, Snapshot, StoredTask};
+pub use transitions::spelled_len;

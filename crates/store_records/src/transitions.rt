@@ -1,6 +1,6 @@
 //! Transitions as bytes.
 
-ghost use Rattle.std.specs.Prelude.{◌≡◌, ◌++◌, OnOk, length, take};
+ghost use Rattle.std.specs.Prelude.{◌≡◌, ◌-◌, ◌^◌, ◌++◌, OnOk, length, min, take};
 ghost use Rattle.state_code.specs.Places.{ReadsOrNot};
 ghost use Rattle.state_code.specs.Levels.{spell_level};
 ghost use Rattle.state_code.specs.Spelling.{FitsList, read_list, read_many, spell_list, spell_pair};
@@ -48,6 +48,18 @@ fn put_transition(transition: &Transition, to: &mut Bytes) -> Result<(), NoMemor
     put_named(transition, to)?;
     put_levels(transition, to)?;
     put_said(transition, to)
+}
+
+/// How many bytes a transition takes in the body of a record; more than 2^64 - 1 are told as so many.
+#[tactic(auto, using(crate::proofs::SizeLaws::transition_size))]
+pub fn spelled_len(transition: &Transition) -> u64
+    ensures { result ≡ min (length (spell_transition transition.now)) (2 ^ 64 - 1) }
+{
+    let topic = transition.topic.bytes().len() as u64;
+    let id = transition.id.bytes().len() as u64;
+    let message = transition.message.bytes().len() as u64;
+    let texts = id.saturating_add(message);
+    topic.saturating_add(texts).saturating_add(30)
 }
 
 fn read_transition(alloc: Global, from: &mut Cursor) -> Result<Transition, CodeFault>

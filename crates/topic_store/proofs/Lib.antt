@@ -4,5 +4,7 @@ pub mod Found
 pub mod Latest
 pub mod Made
 pub mod PieceLaws
+pub mod PointLaws
 pub mod Reading
 pub mod Rereading
+pub mod TransitionLaws

@@ -1,8 +1,8 @@
 use Rattle.std.proofs.Common.{◌≡◌, List, ◌++◌, map, subst}
 use Rattle.std.specs.Prelude.{IfOk, IsTrue}
-use Rattle.topic_core.specs.Topics.{StandsFor}
+use Rattle.topic_core.specs.Topics.{StandsFor, event_of}
 use Rattle.topic_core.specs.declared.transition.Transition.{Transition}
-use Rattle.store_records.specs.Held.{are_next, event_of}
+use Rattle.store_records.specs.Held.{are_next}
 use Rattle.store_kept.proofs.taking.may_follow.Goals as goal
 
 pub returns-in-Trans-clause-may : goal.returns-in-Trans-clause-may

@@ -2,8 +2,7 @@ use Rattle.std.proofs.Common.{◌≡◌, ◌++◌, ◌∷◌, [], map, subst}
 use Rattle.kap_base.specs.Maps.{KeyMap}
 use Rattle.kap_base.specs.declared.items.Event.{Event}
 use Rattle.kap_base.specs.declared.items.Level.{Level}
-use Rattle.topic_core.specs.Topics.{StandsFor, level_before}
-use Rattle.store_records.specs.Held.{event_of}
+use Rattle.topic_core.specs.Topics.{StandsFor, event_of, level_before}
 use Rattle.store_records.proofs.FollowLaws.{next_is}
 use Rattle.store_records.proofs.following.take_transition.Goals as goal
 
