@@ -4,6 +4,7 @@ ghost use Rattle.kap_io.specs.Causes.{HasCause};
 
 use crate::disk::{Disk, Part};
 use crate::failed::Failed;
+use crate::lock_file::LockFile;
 use std::alloc::Global;
 use std::fs::{File, Files, OpenFile};
 use std::io::ErrorKind;
@@ -11,10 +12,12 @@ use std::os::unix::fs::FileExt;
 use std::path::PathBuf;
 use std::{fs, io};
 
-/// A disk over the files `head`, `left` and `right` of a folder. It tells no contents. A file that isn't there has size 0 until
-/// the first write, cut or sync makes it. A folder that can't be used is a failed call, and so is a write that can't reach the disk.
-/// A sync reaches the disk, with data and length; the first one of a file also syncs the folder, so that the file can't vanish with
-/// the power. Each `Err` of the system is counted.
+/// A disk over the files `head`, `left` and `right` of a folder. It tells no contents. Its first call takes the exclusive lock of
+/// `head`, which is made where it isn't there, and holds it as long as the disk lives: so no two disks of this kind change a folder
+/// at a time, in one process or in two. Where another one has the lock each call fails. `left` or `right` that isn't there has size 0
+/// until the first write, cut or sync makes it. A folder that can't be used is a failed call, and so is a write that can't reach the
+/// disk. A sync reaches the disk, with data and length; the first one of a file also syncs the folder, so that the file can't vanish
+/// with the power. Each `Err` of the system is counted.
 #[derive(Drop)]
 pub struct DirDisk<R: Files + Drop> {
     folder: Folder<R>,
@@ -27,9 +30,21 @@ struct Folder<R: Files + Drop> {
     alloc: Global,
     system: R,
     path: PathBuf,
+    owner: Owner,
     head: Seat<R::File>,
     left: Seat<R::File>,
     right: Seat<R::File>,
+}
+
+/// Who has the lock of a folder's head.
+#[derive(Clone, Copy)]
+enum Owner {
+    /// Nobody has asked for it.
+    Unknown,
+    /// This disk.
+    Ours,
+    /// Another one had it, when this one last asked.
+    Another,
 }
 
 /// A file of a folder.
@@ -59,7 +74,7 @@ impl<F: Drop> Seat<F> {
 
 impl<R: Files + Drop> DirDisk<R>
 where
-    R::File: FileExt,
+    R::File: FileExt + LockFile,
 {
     /// The disk in this folder. Nothing is opened yet.
     pub fn new(alloc: Global, system: R, folder: PathBuf) -> Self
@@ -70,6 +85,7 @@ where
                 alloc,
                 system,
                 path: folder,
+                owner: Owner::Unknown,
                 head: Seat::empty(),
                 left: Seat::empty(),
                 right: Seat::empty(),
@@ -77,11 +93,16 @@ where
             faults: 0,
         }
     }
+
+    /// Whether the last call failed since another disk, of this process or another one, uses the folder.
+    pub fn is_in_use(&self) -> bool {
+        matches!(self.folder.owner, Owner::Another)
+    }
 }
 
 impl<R: Files + Drop> Disk for DirDisk<R>
 where
-    R::File: FileExt,
+    R::File: FileExt + LockFile,
 {
     ghost tells = { false };
 
@@ -129,7 +150,7 @@ where
 
 impl<R: Files + Drop> Folder<R>
 where
-    R::File: FileExt,
+    R::File: FileExt + LockFile,
 {
     fn seat(&self, part: Part) -> &Seat<R::File> {
         match part {
@@ -181,7 +202,23 @@ where
         }
     }
 
+    /// Takes the lock of the head, where this disk hasn't got it.
+    fn lock(&mut self) -> io::Result<()> {
+        if let Owner::Ours = self.owner {
+            return Ok(());
+        }
+        self.owner = Owner::Unknown;
+        if self.made(Part::Head)?.take_lock()? {
+            self.owner = Owner::Ours;
+            Ok(())
+        } else {
+            self.owner = Owner::Another;
+            Err(ErrorKind::WouldBlock.into())
+        }
+    }
+
     fn size(&mut self, part: Part) -> io::Result<u64> {
+        self.lock()?;
         match self.found(part)? {
             Some(file) => Ok(file.metadata()?.len()),
             None => Ok(0),
@@ -191,6 +228,7 @@ where
     fn read(&mut self, part: Part, at: u64, buf: &mut [u8]) -> io::Result<usize>
         ensures { ReadsAtMost result buf.new }
     {
+        self.lock()?;
         match self.found(part)? {
             Some(file) => file.read_at(buf, at),
             None => Ok(0),
@@ -198,14 +236,17 @@ where
     }
 
     fn write(&mut self, part: Part, at: u64, piece: &[u8]) -> io::Result<()> {
+        self.lock()?;
         self.made(part)?.write_all_at(piece, at)
     }
 
     fn cut(&mut self, part: Part, size: u64) -> io::Result<()> {
+        self.lock()?;
         self.made(part)?.set_len(size)
     }
 
     fn sync(&mut self, part: Part) -> io::Result<()> {
+        self.lock()?;
         self.made(part)?.sync_data()?;
         if !self.seat(part).is_settled {
             File::open(&self.system, &self.path)?.sync_all()?;

@@ -60,7 +60,7 @@ fn a_log_stands_in_a_folder(rt: HostRuntime) -> Result<(), Fail> {
 }
 
 /// Whether each call of a disk fails.
-fn each_call_fails<D: Disk>(disk: &mut D) -> bool {
+pub(crate) fn each_call_fails<D: Disk>(disk: &mut D) -> bool {
     let mut bytes = [0; 8];
     disk.size(Part::Head) == Err(Failed)
         && disk.read(Part::Head, 0, &mut bytes) == Err(Failed)

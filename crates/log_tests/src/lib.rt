@@ -8,4 +8,6 @@ mod crashes;
 #[cfg(test)]
 mod devices;
 #[cfg(test)]
+mod locks;
+#[cfg(test)]
 mod logs;
