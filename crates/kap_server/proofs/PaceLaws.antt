@@ -1,5 +1,7 @@
 -- How many points the next epoch may have.
-use Rattle.std.proofs.Common.{◌≡◌, ℕ, zero, suc, ◌-◌, ◌<◌, List, [], ◌++◌, length, refl, sym, ap, ◌∙◌, append-nil, arith}
+use Rattle.std.proofs.Common.{◌≡◌, ℕ, false, ◌-◌, ◌<◌, List, [], ◌++◌, length, refl, sym, ap, ◌∙◌, append-nil, arith}
+use Rattle.std.specs.Prelude.{nat_le}
+use Rattle.std.proofs.lemmas.Bool.Decides.{nat_tests}
 use Rattle.std.proofs.lemmas.List.{append_cancel_left}
 use Rattle.kap_base.specs.Points.{PointValue}
 use Rattle.kap_base.specs.declared.items.Effect.{Effect}
@@ -10,8 +12,9 @@ use Rattle.kap_server.specs.Paces.{Paces, next_limit}
 
 -- where nothing was done, as many as before
 idle : (limit : ℕ) → 0 < limit → limit ≡ next_limit limit 0 0 0
-idle zero some = absurd (omega arith)
-idle (suc n) some = refl
+idle limit some =
+    let full : nat_le limit 0 ≡ false = grind (arith, nat_tests) in
+    rw full refl
 
 module _ {P : Type 0} (answer : P → Answer) (lives : List (List (Placed P))) where
   -- no points do nothing
