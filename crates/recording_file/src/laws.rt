@@ -1,4 +1,4 @@
-ghost use Rattle.std.specs.Prelude.{◌≡◌, ◌≤◌, ◌++◌, ◌↔◌, ℕ, List, All, length, map};
+ghost use Rattle.std.specs.Prelude.{◌≡◌, ◌≤◌, ◌++◌, ◌↔◌, ◌^◌, ℕ, List, All, length, map};
 ghost use Rattle.std.specs.List.{flat_map};
 ghost use Rattle.kap_base.specs.Points.{PointValue};
 ghost use Rattle.recording_file.specs.declared.lines.TheConstants.{RECORDING_LIMIT};
@@ -25,4 +25,9 @@ pub fn records_are_read_again()
 pub fn readings_go_on()
     ensures { (bytes more : List ℕ) → length bytes ≤ RECORDING_LIMIT
         → GoesOn (reading_so_far bytes) (reading_of (bytes ++ more)) }
+{}
+
+/// The limit of recordings, as a number: 1 GiB. It does nothing: its contract is that law.
+pub fn limit_of_recordings()
+    ensures { RECORDING_LIMIT ≡ 2 ^ 30 }
 {}

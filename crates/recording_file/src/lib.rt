@@ -12,7 +12,9 @@ mod reader;
 mod window;
 
 pub use fault::RecFault;
-pub use laws::{readings_go_on, recordings_are_groups, records_are_read_again};
+pub use laws::{
+    limit_of_recordings, readings_go_on, recordings_are_groups, records_are_read_again,
+};
 pub use lines::RECORDING_LIMIT;
 pub use print::print_record;
 pub use reader::Reader;

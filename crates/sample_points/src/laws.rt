@@ -1,6 +1,6 @@
 //! Laws of the sample recording, and no code.
 
-ghost use Rattle.std.specs.Prelude.{◌≡◌, ◌≤◌, ℕ};
+ghost use Rattle.std.specs.Prelude.{◌≡◌, ◌≤◌, ◌^◌, ℕ};
 ghost use Rattle.recording_file.specs.Printed.{record_text};
 ghost use Rattle.recording_file.specs.Recording.{Recording};
 ghost use Rattle.sample_points.specs.declared.samples.TheConstants.{SAMPLE_LIMIT};
@@ -16,4 +16,9 @@ pub fn sample_points_are_spelled()
 /// law.
 pub fn samples_are_a_recording()
     ensures { (n : ℕ) → n ≤ SAMPLE_LIMIT → Recording (sample_text n) (samples n) }
+{}
+
+/// The limit of sample recordings, as a number of points. It does nothing: its contract is that law.
+pub fn limit_of_samples()
+    ensures { SAMPLE_LIMIT ≡ 10 ^ 6 }
 {}

@@ -4,5 +4,5 @@
 mod laws;
 mod samples;
 
-pub use laws::{sample_points_are_spelled, samples_are_a_recording};
+pub use laws::{limit_of_samples, sample_points_are_spelled, samples_are_a_recording};
 pub use samples::{SAMPLE_LIMIT, sample_point};
