@@ -25,7 +25,8 @@ pub fn texts_check_in_one_way()
         → ChecksTo refused text a → ChecksTo refused text b → a ≡ b }
 {}
 
-/// Where no pattern is refused, pairs are some tasks, or the first that is none is none for one reason, and not both.
+/// Where no pattern is refused, pairs are some tasks, or the first that is none is none for one reason, and
+/// not both.
 pub fn pairs_have_one_meaning()
     ensures some { (ids : List (List ℕ)) (pairs : List Pair)
         → ((tasks : List Task) × AreTasks ids pairs tasks)
@@ -38,8 +39,9 @@ pub fn pairs_have_one_meaning()
         → AreTasks ids pairs tasks → AreNoTasks None ids pairs status → ⊥ }
 {}
 
-/// The limits of the commands, as numbers: of tasks, their ids and scripts; of recordings and their lines; of the points, effects and
-/// text of an epoch; of the room of an edge, and the number of workers, and both where no option says them; of sample recordings.
+/// The limits of the commands, as numbers: of tasks, their ids and scripts; of recordings and their lines; of
+/// the points, effects and text of an epoch; of the room of an edge, and the number of workers, and both
+/// where no option says them; of sample recordings.
 pub fn limits_of_commands()
     ensures tasks { TASK_LIMIT ≡ 64 }
     ensures ids { ID_LIMIT ≡ 64 }

@@ -26,7 +26,8 @@ fn is_little(effects: usize, bytes: usize) -> bool
     effects <= EFFECT_LIMIT / 2 && bytes <= TEXT_LIMIT / 2
 }
 
-/// How many points the next epoch may have, where one that could have `limit` had so many, with so many effects and bytes of text.
+/// How many points the next epoch may have, where one that could have `limit` had so many, with so many
+/// effects and bytes of text.
 fn next_limit(limit: usize, points: usize, effects: usize, bytes: usize) -> usize
     requires some { 0 < limit }
     requires most { limit ≤ EPOCH_LIMIT }
@@ -43,8 +44,8 @@ fn next_limit(limit: usize, points: usize, effects: usize, bytes: usize) -> usiz
     limit
 }
 
-/// How many points the next epoch may have: 1 to `EPOCH_LIMIT`, and the fewer, the more the nodes do at each point, since all that
-/// they do at those of an epoch stands in memory until it is written.
+/// How many points the next epoch may have: 1 to `EPOCH_LIMIT`, and the fewer, the more the nodes do at each
+/// point, since all that they do at those of an epoch stands in memory until it is written.
 #[derive(Drop)]
 pub(crate) struct Pace {
     limit: usize,

@@ -29,9 +29,9 @@ pub(crate) struct Epoch {
     pub(crate) pause: Pause,
 }
 
-/// Reads points, up to `limit` of them, and no longer than the next one is surely there. Where the first one is surely there the
-/// input isn't asked at all. Where it may have to be waited for, all text that is due for the points before must be written:
-/// `due` is what isn't, and clauses alone look at it.
+/// Reads points, up to `limit` of them, and no longer than the next one is surely there. Where the first one
+/// is surely there the input isn't asked at all. Where it may have to be waited for, all text that is due for
+/// the points before must be written: `due` is what isn't, and clauses alone look at it.
 pub(crate) fn read_epoch<S: Source>(
     alloc: Global,
     reader: &mut Reader,

@@ -45,8 +45,8 @@ fn logged_point(what: What) -> Option<Shared<Point>> {
     }
 }
 
-/// Adds the point that an effect tells of, if it does, where there are fewer than `EPOCH_LIMIT`; else, or where memory is short, it is
-/// let go.
+/// Adds the point that an effect tells of, if it does, where there are fewer than `EPOCH_LIMIT`; else, or
+/// where memory is short, it is let go.
 fn add_point(points: &mut Vec<Shared<Point>>, what: What)
     requires { length points.old.items ≤ EPOCH_LIMIT }
     ensures { length points.new.items ≤ EPOCH_LIMIT }
@@ -69,7 +69,8 @@ fn logged_points(alloc: Global, effects: Effects) -> Vec<Shared<Point>>
     points
 }
 
-/// The points that were held; where none were, some of those that the effects tell of. Nobody needs them any more.
+/// The points that were held; where none were, some of those that the effects tell of. Nobody needs them any
+/// more.
 fn spent_points(
     alloc: Global,
     effects: Effects,
@@ -86,7 +87,8 @@ fn spent_points(
 }
 
 impl<N: NumberingNode + Send> Telling<N> {
-    /// Before the first point. Each edge has room for so many messages. Points of an epoch may be held until it is told.
+    /// Before the first point. Each edge has room for so many messages. Points of an epoch may be held until
+    /// it is told.
     pub(crate) fn new(
         alloc: Global,
         capacity: u32,
@@ -110,8 +112,8 @@ impl<N: NumberingNode + Send> Telling<N> {
         })
     }
 
-    /// Runs the nodes on the next points in this way, and appends the text of what they do. It gives back points that nobody needs any
-    /// more. After NoMemory the run can't go on.
+    /// Runs the nodes on the next points in this way, and appends the text of what they do. It gives back
+    /// points that nobody needs any more. After NoMemory the run can't go on.
     pub(crate) fn tell<R: Threads + Sync, G: Gate + Sync>(
         &mut self,
         alloc: Global,
