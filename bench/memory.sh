@@ -4,13 +4,14 @@
 # Replays recordings of SMALL and of LARGE points (100,000 and 1,000,000 if none are given; the last three
 # jobs take a tenth, a tenth and a thousandth of these) by the built program KAPD (crates/kapd/out/kapd,
 # which `rt run` in crates/kapd builds), and prints the peaks of both runs in KiB, job by job. It ends
-# with status 1 where the two differ by more than 1 MiB, or the second is above 32 MiB. It needs GNU time
-# as /usr/bin/time.
+# with status 1 where the two differ by more than 1 MiB, or the second is above 32 MiB, in the last job
+# above 96 MiB. It needs GNU time as /usr/bin/time.
 set -eu
 top=$(cd "$(dirname "$0")/.." && pwd)
 kapd=${1:-$top/crates/kapd/out/kapd}
 small=${2:-100000}
 large=${3:-1000000}
+most=32768
 if [ ! -x "$kapd" ]; then
     echo "memory.sh: no program at $kapd" >&2
     exit 2
@@ -46,7 +47,7 @@ job() {
     one=$(peak $((small / part)) "$hosts" "$@")
     other=$(peak $((large / part)) "$hosts" "$@")
     printf '%-34s %9d %9d %9d %9d\n' "$name" $((small / part)) "$one" $((large / part)) "$other"
-    if [ $((other - one)) -gt 1024 ] || [ $((one - other)) -gt 1024 ] || [ "$other" -gt 32768 ]; then
+    if [ $((other - one)) -gt 1024 ] || [ $((one - other)) -gt 1024 ] || [ "$other" -gt "$most" ]; then
         echo "$name" >> "$work/large"
     fi
 }
@@ -70,6 +71,8 @@ job 'four tasks, changes of 10000 groups' 1 10000 4 "stream|from().groupBy('host
 job 'the first 20 of 100 at each point' 10 10 1 \
     "stream|from().groupBy('host')|window().periodCount(100).everyCount(1)|top(20, 'f')|log()"
 job '64 tasks, one log each' 10 10 64 "stream|from()|log()"
+# The net of these 16,384 nodes takes 77 MiB at a single point already.
+most=98304
 job '64 tasks, 254 logs each' 1000 10 64 "stream|from()$logs"
 
 if [ -e "$work/large" ]; then

@@ -3,7 +3,8 @@ pub mod CheckLaws
 pub mod PairLaws
 pub mod WordLaws
 pub mod OptionLaws
-pub mod GatherLaws
+pub mod EpochLaws
+pub mod PaceLaws
 pub mod ReadyLaws
 pub mod TellLaws
 pub mod RunLaws

@@ -20,7 +20,7 @@ use Rattle.kap_server.specs.declared.status.Status.TheVariants as statuses
 use Rattle.kap_server.specs.Statuses.{status_of, status_at}
 use Rattle.kap_server.specs.Command.{IsUnlessFailed}
 use Rattle.kap_server.specs.Replaying.{AddsText, Grows, HasWritten, IsWritten, Replayed, TextOf, Writes, WritesPrefix, WritesSome, due_of}
-use Rattle.kap_server.specs.Gathering.{Gathers}
+use Rattle.kap_server.specs.Epochs.{GavePoints}
 use Rattle.kap_server.specs.Nets.{HoldsNet, HoldsNetOf}
 use Rattle.kap_server.specs.Runs.{EndsWritten}
 
@@ -73,13 +73,13 @@ module _ (text rest : TextOf) (none : text [] ≡ []) (grows : Grows text) where
     }
 
     -- points were given, and their text is due
-    pub written_points : (b : ReaderState) (u : Option (List ℕ)) (points : List PointValue) (more : List ℕ) → Gathers a b t u points → AddsText text a.given points due more → HasWritten text more b s u w v
-    written_points b u points more gathers adds = record {
-      read = gathers.read s on.read;
-      first = gathers.first on.first;
+    pub written_points : (b : ReaderState) (u : Option (List ℕ)) (points : List PointValue) (more : List ℕ) → GavePoints a b t u points → AddsText text a.given points due more → HasWritten text more b s u w v
+    written_points b u points more gave adds = record {
+      read = gave.read s on.read;
+      first = gave.first on.first;
       done = on.done;
       written = on.written;
-      is = ap text gathers.given ∙ adds.are
+      is = ap text gave.given ∙ adds.are
           ∙ ap (λ (l : List ℕ). l ++ adds.lines) on.is
           ∙ append_assoc on.done due adds.lines
           ∙ ap (λ (l : List ℕ). on.done ++ l) (sym adds.added);

@@ -4,7 +4,8 @@ pub mod Statuses
 pub mod ReadingIn
 pub mod Checking
 pub mod Replaying
-pub mod Gathering
+pub mod Epochs
+pub mod Paces
 pub mod Pairs
 pub mod Runs
 pub mod Readying

@@ -1,11 +1,12 @@
 -- The options of a replay.
-use Rattle.std.specs.Prelude.{ℕ, ◌<◌, ◌≤◌, ◌^◌, Bool, true, false, not, ◌&&◌, ◌==◌, List, length, slice_index, Option, Some, None, IfSome, is_some, codes, nat_le, nat_lt, if◌then◌else◌}
+use Rattle.std.specs.Prelude.{ℕ, ◌<◌, ◌≤◌, ◌^◌, Bool, true, false, not, ◌&&◌, ◌==◌, List, length, slice_index, Option, Some, None, IfSome, is_some, unwrap_or, codes, min, max, nat_le, nat_lt, if◌then◌else◌}
 use Rattle.std.specs.Str.{bytes_eq}
 use Rattle.std.specs.Str.Parse.{digits_value}
 use Rattle.edge_queue.specs.declared.TheConstants.{CAPACITY_LIMIT}
 use Rattle.node_workers.specs.declared.TheConstants.{WORKER_LIMIT}
 use Rattle.lambda_fns.specs.Numbers.{are_digits}
 use Rattle.kap_server.specs.declared.options.ReplayOptions.{ReplayOptions}
+use Rattle.kap_server.specs.declared.options.TheConstants.{CAPACITY, WORKERS}
 
 -- ---- numbers
 
@@ -74,3 +75,15 @@ with_value options name value =
 -- a number of workers that is given is 1 to 64, and a capacity one that edges can have
 abbrev pub AreWithinLimits : ReplayOptions → Type 0
 AreWithinLimits options = IfSome options.workers (λ n. (0 < n) × (n ≤ WORKER_LIMIT)) × IfSome options.capacity (λ n. (0 < n) × (n ≤ CAPACITY_LIMIT))
+
+-- for how many messages each edge of a net has room: as many as are given, or 64
+abbrev pub capacity_of : ReplayOptions → ℕ
+capacity_of options = unwrap_or options.capacity CAPACITY
+
+-- how many workers move a net of so many tasks, where none are given: one a task, and at most 4
+abbrev pub workers_for : ℕ → ℕ
+workers_for tasks = max 1 (min tasks WORKERS)
+
+-- how many workers move it: as many as are given, or so many
+abbrev pub workers_of : ReplayOptions → ℕ → ℕ
+workers_of options tasks = unwrap_or options.workers (workers_for tasks)

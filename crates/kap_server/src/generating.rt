@@ -8,10 +8,10 @@ ghost use Rattle.kap_server.specs.Nets.{HoldsNetOfSamples};
 ghost use Rattle.kap_server.specs.Readying.{is_pattern_refused};
 ghost use Rattle.kap_server.specs.Words.{pairs_of};
 
-use crate::moving::way_of;
 use crate::options::{capacity_of, no_options};
 use crate::readying::{Ready, add_tasks};
 use crate::status::Status;
+use crate::ways::way_of;
 use flow_core::Net;
 use kap_base::{NoMemory, TASK_LIMIT};
 use kap_io::{Failed, Gate, Sink, write_all};

@@ -3,21 +3,22 @@
 
 mod checking;
 mod commands;
-mod gathering;
 mod generating;
 mod laws;
 mod listing;
 mod making;
-mod moving;
 mod options;
+mod pace;
+mod reading;
 mod readying;
 mod replaying;
 mod status;
 mod telling;
 mod texts;
+mod ways;
 mod words;
 
 pub use commands::command;
-pub use laws::{pairs_have_one_meaning, texts_check_in_one_way};
+pub use laws::{limits_of_commands, pairs_have_one_meaning, texts_check_in_one_way};
 pub use status::Status;
 pub use texts::status_text;

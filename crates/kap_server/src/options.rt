@@ -3,7 +3,7 @@
 ghost use Rattle.std.specs.Prelude.{◌≡◌, ◌==◌, ◌<◌, ◌≤◌, IfSome, slice_index, string_bytes};
 ghost use Rattle.edge_queue.specs.declared.TheConstants.{CAPACITY_LIMIT};
 ghost use Rattle.node_workers.specs.declared.TheConstants.{WORKER_LIMIT};
-ghost use Rattle.kap_server.specs.Options.{AreWithinLimits, has_leading_zero, no_options, number_in, number_within, with_capacity, with_counts, with_schedule, with_value, with_workers};
+ghost use Rattle.kap_server.specs.Options.{AreWithinLimits, capacity_of, has_leading_zero, no_options, number_in, number_within, with_capacity, with_counts, with_schedule, with_value, with_workers, workers_for, workers_of};
 
 use edge_queue::CAPACITY_LIMIT;
 use node_workers::WORKER_LIMIT;
@@ -43,6 +43,7 @@ pub(crate) fn no_options() -> ReplayOptions
 /// For how many messages each edge of a net has room.
 pub(crate) fn capacity_of(options: ReplayOptions) -> u32
     requires { AreWithinLimits options }
+    ensures given { result ≡ capacity_of options }
     ensures some { 0 < result }
     ensures limit { result ≤ CAPACITY_LIMIT }
 {
@@ -55,6 +56,7 @@ pub(crate) fn capacity_of(options: ReplayOptions) -> u32
 /// How many workers move a net of so many tasks, where no option says it: one for each of the first four. More of them would share
 /// the nodes of a task, and to hand each point from thread to thread costs more than it saves.
 fn workers_for(tasks: usize) -> u32
+    ensures number { result ≡ workers_for tasks }
     ensures some { 0 < result }
     ensures limit { result ≤ WORKER_LIMIT }
 {
@@ -64,6 +66,7 @@ fn workers_for(tasks: usize) -> u32
 /// How many workers move a net of so many tasks.
 pub(crate) fn workers_of(options: ReplayOptions, tasks: usize) -> u32
     requires { AreWithinLimits options }
+    ensures given { result ≡ workers_of options tasks }
     ensures some { 0 < result }
     ensures limit { result ≤ WORKER_LIMIT }
 {

@@ -1,11 +1,11 @@
 //! The replay of tasks that are ready to run.
 
-ghost use Rattle.std.specs.Prelude.{◌≡◌, ◌≢◌, ◌≤◌, false, map, OnOk, OnErr};
+ghost use Rattle.std.specs.Prelude.{◌≡◌, ◌≢◌, ◌⊎◌, ◌≤◌, [], false, map, OnOk, OnErr};
 ghost use Rattle.std.specs.List.{AllByRecursion as Each};
 ghost use Rattle.kap_base.specs.Words.{HasRisen};
 ghost use Rattle.kap_io.specs.Causes.{HasCause};
 ghost use Rattle.kap_io.specs.Pieces.{AppendsPrefix};
-ghost use Rattle.recording_file.specs.Reading.{HasEnded};
+ghost use Rattle.recording_file.specs.Reading.{HasEnded, HoldsGroup};
 ghost use Rattle.flow_core.specs.Gathering.{LivesRise};
 ghost use Rattle.flow_core.specs.Making.{HasFewParents};
 ghost use Rattle.task_run.specs.Plans.{AreFirstStates, graph_of};
@@ -14,15 +14,15 @@ ghost use Rattle.kap_server.specs.Options.{AreWithinLimits};
 ghost use Rattle.kap_server.specs.Replaying.{IsWritten, WritesSome, Replayed};
 ghost use Rattle.kap_server.specs.Runs.{EndsWritten, run_rest, run_text};
 
-use crate::gathering::{Epoch, Pause, gather};
 use crate::options::{ReplayOptions, capacity_of};
+use crate::reading::{Epoch, Pause, read_epoch};
 use crate::status::Status;
 use crate::telling::Telling;
 use effect_text::TaskNames;
 use flow_core::Net;
 use kap_base::{Bytes, NoMemory};
 use kap_io::{Failed, Gate, Sink, Source, write_all};
-use net_run::{EPOCH_LIMIT, NumberingNode, Way};
+use net_run::{NumberingNode, Way};
 use recording_file::Reader;
 use std::alloc::Global;
 use std::thread::Threads;
@@ -36,6 +36,7 @@ fn write_due<K: Sink>(out: &mut K, text: &mut Bytes) -> Result<(), Failed>
     ensures ok { OnOk result
         (WritesSome text.old text.new (K.written out.old) (K.written out.new)) }
     ensures err { OnErr result (AppendsPrefix (K.written out.old) (K.written out.new) text.old) }
+    ensures none { OnOk result (text.new ≡ []) }
     ensures cause { HasCause (K.faults out.old) (K.faults out.new) result }
 {
     write_all(out, text.as_slice())?;
@@ -43,14 +44,17 @@ fn write_due<K: Sink>(out: &mut K, text: &mut Bytes) -> Result<(), Failed>
     Ok(())
 }
 
-/// Writes the text that is due, where it is a whole piece, or where `all` of it is wanted.
-fn write_piece<K: Sink>(out: &mut K, text: &mut Bytes, all: bool) -> Result<(), Failed>
+/// Writes the text that is due, where it is a whole piece, or where the reader may have to wait for the next point.
+fn write_piece<K: Sink>(out: &mut K, text: &mut Bytes, reader: &Reader) -> Result<(), Failed>
+    requires { reader.now.spent ≡ false }
     ensures ok { OnOk result
         (WritesSome text.old text.new (K.written out.old) (K.written out.new)) }
     ensures err { OnErr result (AppendsPrefix (K.written out.old) (K.written out.new) text.old) }
+    ensures due { OnOk result ((text.new ≡ []) ⊎ HoldsGroup reader.now) }
     ensures cause { HasCause (K.faults out.old) (K.faults out.new) result }
 {
-    if all || DUE_LIMIT <= text.len() {
+    let held = reader.holds_point();
+    if !held || DUE_LIMIT <= text.len() {
         write_due(out, text)?;
     }
     Ok(())
@@ -164,11 +168,12 @@ pub(crate) fn replay<
     let mut reader = Reader::new(alloc);
     let mut text = Bytes::new(alloc);
     'replaying: loop {
-        match write_piece(out, &mut text, !reader.holds_point()) {
+        match write_piece(out, &mut text, &reader) {
             Ok(()) => {}
             Err(_) => return Status::WriteFault,
         }
-        let Epoch { points, pause } = match gather(alloc, &mut reader, EPOCH_LIMIT, input) {
+        let limit = telling.pace.limit();
+        let Epoch { points, pause } = match read_epoch(alloc, &mut reader, limit, &text, input) {
             Ok(epoch) => epoch,
             Err(NoMemory) => return Status::NoMemory,
         };

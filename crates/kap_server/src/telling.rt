@@ -1,7 +1,8 @@
 //! What a run of nodes does on points, as text.
 
-ghost use Rattle.std.specs.Prelude.{◌≡◌, ◌<◌, ◌≤◌, false, [], ◌++◌, map, IfOk, OnOk};
+ghost use Rattle.std.specs.Prelude.{◌≡◌, ◌<◌, ◌≤◌, false, [], ◌++◌, map, max, IfOk, OnOk, length};
 ghost use Rattle.std.specs.List.{AllByRecursion as Each};
+ghost use Rattle.net_run.specs.declared.TheConstants.{EPOCH_LIMIT};
 ghost use Rattle.edge_queue.specs.declared.TheConstants.{CAPACITY_LIMIT};
 ghost use Rattle.effect_text.specs.Lines.{events_of};
 ghost use Rattle.flow_core.specs.Gathering.{LivesRise};
@@ -9,14 +10,16 @@ ghost use Rattle.flow_core.specs.Making.{HasFewParents};
 ghost use Rattle.task_run.specs.Lives.{effects_of};
 ghost use Rattle.task_run.specs.Plans.{AreFirstStates, graph_of};
 ghost use Rattle.topic_core.specs.Topics.{StandsFor};
+ghost use Rattle.kap_server.specs.Paces.{Paces};
 ghost use Rattle.kap_server.specs.Replaying.{AddsText};
 ghost use Rattle.kap_server.specs.Runs.{run_rest, run_text};
 
+use crate::pace::Pace;
 use edge_queue::CAPACITY_LIMIT;
 use effect_text::{TaskNames, put_dropped, put_effects};
 use kap_base::{Bytes, NoMemory, Point, Shared, What};
 use kap_io::Gate;
-use net_run::{NetRun, NumberingNode, Way};
+use net_run::{EPOCH_LIMIT, NetRun, NumberingNode, Way};
 use node_core::{Effects, Node};
 use std::alloc::Global;
 use std::thread::Threads;
@@ -30,6 +33,8 @@ pub(crate) struct Telling<N: Node> {
     pub(crate) topics: Topics,
     /// Whether the points of an epoch are held until it is told.
     pub(crate) hold: bool,
+    /// How many points the next epoch may have.
+    pub(crate) pace: Pace,
 }
 
 /// The point that an effect tells of, if it does.
@@ -40,27 +45,50 @@ fn logged_point(what: What) -> Option<Shared<Point>> {
     }
 }
 
-/// The points that were held; where none were, those that the effects tell of. Nobody needs them any more.
-fn spent_points(
-    effects: Effects,
-    mut points: Vec<Shared<Point>>,
-    hold: bool,
-) -> Vec<Shared<Point>> {
-    if hold {
-        return points;
-    }
-    'taking: for effect in effects.into_items() {
-        if let Some(point) = logged_point(effect.what) {
-            if points.push(point).is_err() {
-                return points;
-            }
+/// Adds the point that an effect tells of, if it does, where there are fewer than `EPOCH_LIMIT`; else, or
+/// where memory is short, it is let go.
+fn add_point(points: &mut Vec<Shared<Point>>, what: What)
+    requires { length points.old.items ≤ EPOCH_LIMIT }
+    ensures { length points.new.items ≤ EPOCH_LIMIT }
+{
+    if points.len() < EPOCH_LIMIT {
+        if let Some(point) = logged_point(what) {
+            let _added = points.push(point);
         }
+    }
+}
+
+/// As many of the points that the effects tell of as an epoch has at most.
+fn logged_points(alloc: Global, effects: Effects) -> Vec<Shared<Point>>
+    ensures { length result.items ≤ EPOCH_LIMIT }
+{
+    let mut points = Vec::new(alloc);
+    'taking: for effect in effects.into_items() {
+        add_point(&mut points, effect.what);
     }
     points
 }
 
+/// The points that were held; where none were, some of those that the effects tell of. Nobody needs them any
+/// more.
+fn spent_points(
+    alloc: Global,
+    effects: Effects,
+    held: Vec<Shared<Point>>,
+    hold: bool,
+) -> Vec<Shared<Point>>
+    ensures { length result.items ≤ max (length held.items) EPOCH_LIMIT }
+{
+    if hold {
+        held
+    } else {
+        logged_points(alloc, effects)
+    }
+}
+
 impl<N: NumberingNode + Send> Telling<N> {
-    /// Before the first point. Each edge has room for so many messages. Points of an epoch may be held until it is told.
+    /// Before the first point. Each edge has room for so many messages. Points of an epoch may be held until
+    /// it is told.
     pub(crate) fn new(
         alloc: Global,
         capacity: u32,
@@ -85,11 +113,12 @@ impl<N: NumberingNode + Send> Telling<N> {
             run: NetRun::new(alloc, plans, capacity)?,
             topics: Topics::new(alloc),
             hold,
+            pace: Pace::new(),
         })
     }
 
-    /// Runs the nodes on the next points in this way, and appends the text of what they do. It gives back points that nobody needs any
-    /// more. After NoMemory the run can't go on.
+    /// Runs the nodes on the next points in this way, and appends the text of what they do. It gives back
+    /// points that nobody needs any more. After NoMemory the run can't go on.
     pub(crate) fn tell<R: Threads + Sync, G: Gate + Sync>(
         &mut self,
         alloc: Global,
@@ -99,6 +128,7 @@ impl<N: NumberingNode + Send> Telling<N> {
         text: &mut Bytes,
     ) -> Result<Vec<Shared<Point>>, NoMemory>
         requires spent { self.old.run.spent ≡ false }
+        requires few { length points.items ≤ EPOCH_LIMIT }
         requires topics { StandsFor
             (events_of (effects_of N.answer
             self.old.run.lives self.old.run.points))
@@ -115,13 +145,20 @@ impl<N: NumberingNode + Send> Telling<N> {
         ensures text { OnOk result (AddsText
             (run_text N.answer names.now self.old.run.lives)
             self.old.run.points points.items text.old text.new) }
+        ensures pace { OnOk result (Paces N.answer self.old.run.lives
+            self.old.run.points points.items text.old text.new
+            self.old.pace.limit self.new.pace.limit) }
     {
         if points.is_empty() {
             return Ok(points);
         }
+        let count = points.len();
+        let due = text.len();
         let ran = self.run.run(alloc, points, self.hold, way)?;
         put_effects(alloc, names, &mut self.topics, ran.0.as_slice(), text)?;
-        Ok(spent_points(ran.0, ran.1, self.hold))
+        self.pace
+            .follow(count, ran.0.len(), text.len().saturating_sub(due));
+        Ok(spent_points(alloc, ran.0, ran.1, self.hold))
     }
 
     /// Appends the lines of what the nodes dropped, where they are wanted.

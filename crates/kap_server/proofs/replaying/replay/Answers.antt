@@ -5,7 +5,7 @@ use Rattle.recording_file.proofs.ReadLaws.{read_more}
 use Rattle.task_run.specs.Graphs.{Placed}
 use Rattle.task_run.specs.PointLaws.{effects_more}
 use Rattle.task_run.specs.Plans.{graph_of}
-use Rattle.kap_server.specs.Gathering.{GoesOn, StopsBehind}
+use Rattle.kap_server.specs.Epochs.{GoesOn, StopsBehind}
 use Rattle.kap_server.specs.Nets.{HoldsNet}
 use Rattle.kap_server.specs.Runs.{EndsWritten, run_rest, run_text}
 use Rattle.kap_server.proofs.ReplayLaws.{cut_off, ended_so, ends_badly, ends_cut, ends_well, ends_with_net, finished, nothing_more, written_none, written_points, written_some}
@@ -41,17 +41,17 @@ replaying-preserved g c =
     let rest = run_rest node.answer c.args.options.counts names lives in
     let before = c.replaying.invariant in
     let due = c.write_piece.new.text in
-    let new = c.in-Ok-gather.epoch.points.items in
+    let new = c.in-Ok-read_epoch.epoch.points.items in
     let on = written_some text rest none more _ _ _ _ c.replaying.text c.replaying.reader before.written due _ c.in-Ok-write_piece.ensures.ok in
-    let goes : GoesOn c.replaying.reader c.gather.new.reader _ _ new = rw c.in-More.is at c.in-Ok-gather.ensures.pauses in
+    let goes : GoesOn c.replaying.reader c.read_epoch.new.reader _ _ new = rw c.in-More.is at c.in-Ok-read_epoch.ensures.pauses in
     rw c.reuse.ensures (record {
       kept = before.kept;
       not_spent = goes.unspent;
       alive = c.in-Ok-tell.ensures.spent;
       lives = c.in-Ok-tell.ensures.lives ∙ before.lives;
-      fed = c.in-Ok-tell.ensures.points ∙ ap (λ (l : List PointValue). l ++ new) before.fed ∙ sym goes.gathers.given;
+      fed = c.in-Ok-tell.ensures.points ∙ ap (λ (l : List PointValue). l ++ new) before.fed ∙ sym goes.gave.given;
       topics = c.in-Ok-tell.ensures.topics;
-      written = written_points text rest none more _ _ _ _ due c.replaying.reader on c.gather.new.reader _ new _ goes.gathers (rw (before.lives, before.fed) at c.in-Ok-tell.ensures.text);
+      written = written_points text rest none more _ _ _ _ due c.replaying.reader on c.read_epoch.new.reader _ new _ goes.gave (rw (before.lives, before.fed) at c.in-Ok-tell.ensures.text);
       reads_later = grind arith;
       writes_later = grind arith;
     })
@@ -65,8 +65,8 @@ returns-in-Err-write_piece-clause-replayed g c =
     cut_off (run_text node.answer names lives) (run_rest node.answer c.args.options.counts names lives) (text_none node.answer names lives) more _ _ _ _
     c.replaying.text c.replaying.reader c.replaying.invariant.written _ c.in-Err-write_piece.ensures.err
 
-pub returns-in-Err-gather-clause-replayed : goal.returns-in-Err-gather-clause-replayed
-returns-in-Err-gather-clause-replayed g c =
+pub returns-in-Err-read_epoch-clause-replayed : goal.returns-in-Err-read_epoch-clause-replayed
+returns-in-Err-read_epoch-clause-replayed g c =
     let node = g.N.Node in
     let names = c.args.names.now in
     let lives = map (graph_of node.spec) c.args.plans.items in
@@ -102,27 +102,27 @@ returns-in-End-clause-replayed g c =
     let rest = run_rest node.answer c.args.options.counts names lives in
     let before = c.replaying.invariant in
     let due = c.write_piece.new.text in
-    let new = c.in-Ok-gather.epoch.points.items in
+    let new = c.in-Ok-read_epoch.epoch.points.items in
     let on = written_some text rest none more _ _ _ _ c.replaying.text c.replaying.reader before.written due _ c.in-Ok-write_piece.ensures.ok in
-    let stops : StopsBehind c.replaying.reader c.gather.new.reader _ _ new GaveAll = rw c.in-End.is at c.in-Ok-gather.ensures.pauses in
+    let stops : StopsBehind c.replaying.reader c.read_epoch.new.reader _ _ new GaveAll = rw c.in-End.is at c.in-Ok-read_epoch.ensures.pauses in
     let last = stops.last in
     let told = c.tell.new.text in
-    let now = written_points text rest none more _ _ _ _ due c.replaying.reader on last stops.left new told stops.gathers (rw (before.lives, before.fed) at c.in-Ok-tell.ensures.text) in
+    let now = written_points text rest none more _ _ _ _ due c.replaying.reader on last stops.left new told stops.gave (rw (before.lives, before.fed) at c.in-Ok-tell.ensures.text) in
     let sink = g.K.Sink in
     let run = c.tell.new.self.run in
     let lives_are : run.lives ≡ lives = c.in-Ok-tell.ensures.lives ∙ before.lives in
-    let fed : run.points ≡ last.given = c.in-Ok-tell.ensures.points ∙ ap (λ (l : List PointValue). l ++ new) before.fed ∙ sym stops.gathers.given in
+    let fed : run.points ≡ last.given = c.in-Ok-tell.ensures.points ∙ ap (λ (l : List PointValue). l ++ new) before.fed ∙ sym stops.gave.given in
     let rest_is : run_rest node.answer c.args.options.counts names run.lives run.points ≡ rest last.given =
     ap (λ (ls : List (List (Placed g.row.N-Spec.Denot))). run_rest node.answer c.args.options.counts names ls run.points) lives_are ∙ ap rest fed in
     ended_so text rest none more c.finish.result _ _ _ _ _ told (rest last.given) _ _
     (subst (λ (r : List ℕ). EndsWritten c.finish.result (sink.written c.write_piece.new.out) (sink.written c.finish.new.out) told r (sink.faults c.write_piece.new.out) (sink.faults c.finish.new.out)) rest_is c.finish.ensures.written)
-    (λ q. ends_well text rest none more _ _ _ _ told last now c.gather.new.reader _ stops.reads _ stops.stops q)
-    (λ q. ends_cut text rest none more _ _ _ _ told last now c.gather.new.reader _ stops.reads _ stops.stops q)
+    (λ q. ends_well text rest none more _ _ _ _ told last now c.read_epoch.new.reader _ stops.reads _ stops.stops q)
+    (λ q. ends_cut text rest none more _ _ _ _ told last now c.read_epoch.new.reader _ stops.reads _ stops.stops q)
 
 pub returns-in-End-clause-read : goal.returns-in-End-clause-read
 returns-in-End-clause-read g c = λ _.
-    let stops : StopsBehind c.replaying.reader c.gather.new.reader _ _ c.in-Ok-gather.epoch.points.items GaveAll = rw c.in-End.is at c.in-Ok-gather.ensures.pauses in
-    (read_more stops.last c.gather.new.reader _ stops.left _ (stops.gathers.read _ c.replaying.invariant.written.read) stops.reads).ends stops.stops.ended
+    let stops : StopsBehind c.replaying.reader c.read_epoch.new.reader _ _ c.in-Ok-read_epoch.epoch.points.items GaveAll = rw c.in-End.is at c.in-Ok-read_epoch.ensures.pauses in
+    (read_more stops.last c.read_epoch.new.reader _ stops.left _ (stops.gave.read _ c.replaying.invariant.written.read) stops.reads).ends stops.stops.ended
 
 pub returns-in-End-clause-net : goal.returns-in-End-clause-net
 returns-in-End-clause-net g c = λ ok.
@@ -135,16 +135,16 @@ returns-in-End-clause-net g c = λ ok.
     let rest = run_rest node.answer c.args.options.counts names lives in
     let before = c.replaying.invariant in
     let due = c.write_piece.new.text in
-    let new = c.in-Ok-gather.epoch.points.items in
+    let new = c.in-Ok-read_epoch.epoch.points.items in
     let on = written_some text rest none more _ _ _ _ c.replaying.text c.replaying.reader before.written due _ c.in-Ok-write_piece.ensures.ok in
-    let stops : StopsBehind c.replaying.reader c.gather.new.reader _ _ new GaveAll = rw c.in-End.is at c.in-Ok-gather.ensures.pauses in
+    let stops : StopsBehind c.replaying.reader c.read_epoch.new.reader _ _ new GaveAll = rw c.in-End.is at c.in-Ok-read_epoch.ensures.pauses in
     let last = stops.last in
     let told = c.tell.new.text in
-    let now = written_points text rest none more _ _ _ _ due c.replaying.reader on last stops.left new told stops.gathers (rw (before.lives, before.fed) at c.in-Ok-tell.ensures.text) in
+    let now = written_points text rest none more _ _ _ _ due c.replaying.reader on last stops.left new told stops.gave (rw (before.lives, before.fed) at c.in-Ok-tell.ensures.text) in
     let run = c.tell.new.self.run in
     let lives_are : run.lives ≡ lives = c.in-Ok-tell.ensures.lives ∙ before.lives in
-    let fed : run.points ≡ last.given = c.in-Ok-tell.ensures.points ∙ ap (λ (l : List PointValue). l ++ new) before.fed ∙ sym stops.gathers.given in
-    ends_with_net text rest none more _ _ _ _ told last now c.gather.new.reader _ stops.reads node lives c.finish.new.ran stops.stops
+    let fed : run.points ≡ last.given = c.in-Ok-tell.ensures.points ∙ ap (λ (l : List PointValue). l ++ new) before.fed ∙ sym stops.gave.given in
+    ends_with_net text rest none more _ _ _ _ told last now c.read_epoch.new.reader _ stops.reads node lives c.finish.new.ran stops.stops
     (subst (λ (ls : List (List (Placed g.row.N-Spec.Denot))). HoldsNet node ls last.given c.finish.new.ran) lives_are
     (subst (λ (ps : List PointValue). HoldsNet node run.lives ps c.finish.new.ran) fed (c.finish.ensures.net ok)))
 
@@ -159,21 +159,21 @@ returns-in-Fault-clause-replayed g c =
     let rest = run_rest node.answer c.args.options.counts names lives in
     let before = c.replaying.invariant in
     let due = c.write_piece.new.text in
-    let new = c.in-Ok-gather.epoch.points.items in
+    let new = c.in-Ok-read_epoch.epoch.points.items in
     let on = written_some text rest none more _ _ _ _ c.replaying.text c.replaying.reader before.written due _ c.in-Ok-write_piece.ensures.ok in
-    let stops : StopsBehind c.replaying.reader c.gather.new.reader _ _ new (λ last after. Fails last after c.in-Fault.fault) = rw c.in-Fault.is at c.in-Ok-gather.ensures.pauses in
+    let stops : StopsBehind c.replaying.reader c.read_epoch.new.reader _ _ new (λ last after. Fails last after c.in-Fault.fault) = rw c.in-Fault.is at c.in-Ok-read_epoch.ensures.pauses in
     let last = stops.last in
     let told = c.tell.new.text in
-    let now = written_points text rest none more _ _ _ _ due c.replaying.reader on last stops.left new told stops.gathers (rw (before.lives, before.fed) at c.in-Ok-tell.ensures.text) in
+    let now = written_points text rest none more _ _ _ _ due c.replaying.reader on last stops.left new told stops.gave (rw (before.lives, before.fed) at c.in-Ok-tell.ensures.text) in
     finished text rest none more c.from.result c.write_rest.result _ _ _ _ _ told _ _ c.write_rest.ensures.written
-    (λ q. rw c.from.ensures (ends_badly text rest none more _ _ _ _ told last now c.gather.new.reader _ stops.reads c.in-Fault.fault _ stops.stops q))
+    (λ q. rw c.from.ensures (ends_badly text rest none more _ _ _ _ told last now c.read_epoch.new.reader _ stops.reads c.in-Fault.fault _ stops.stops q))
     (λ q. cut_off text rest none more _ _ _ _ told last now _ q)
 
 pub returns-in-Err-write_piece-clause-none : goal.returns-in-Err-write_piece-clause-none
 returns-in-Err-write_piece-clause-none g c = λ no. c.replaying.invariant.kept
 
-pub returns-in-Err-gather-clause-none : goal.returns-in-Err-gather-clause-none
-returns-in-Err-gather-clause-none g c = λ no. c.replaying.invariant.kept
+pub returns-in-Err-read_epoch-clause-none : goal.returns-in-Err-read_epoch-clause-none
+returns-in-Err-read_epoch-clause-none g c = λ no. c.replaying.invariant.kept
 
 pub returns-in-Err-tell-clause-none : goal.returns-in-Err-tell-clause-none
 returns-in-Err-tell-clause-none g c = λ no. c.replaying.invariant.kept

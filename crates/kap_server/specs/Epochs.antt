@@ -3,22 +3,22 @@ use Rattle.std.specs.Prelude.{◌≡◌, ◌<◌, ◌≤◌, ◌++◌, false, �
 use Rattle.kap_base.specs.Points.{PointValue}
 use Rattle.recording_file.specs.declared.lines.TheConstants.{RECORDING_LIMIT}
 use Rattle.recording_file.specs.Reading.{BeginsWith, Fails, GaveAll, HasRead, ReaderReads, ReaderState}
-use Rattle.kap_server.specs.declared.gathering.Pause.{Pause}
-use Rattle.kap_server.specs.declared.gathering.Pause.TheVariants.{More, End, Fault}
+use Rattle.kap_server.specs.declared.reading.Pause.{Pause}
+use Rattle.kap_server.specs.declared.reading.Pause.TheVariants.{More, End, Fault}
 
 -- whatever may follow the bytes that were read, reading them all gives these points first
 abbrev pub GaveFirst : ReaderState → Type 0
 GaveFirst reader = (more : List ℕ) → (IsTrue reader.ended → more ≡ []) → BeginsWith reader reader.given more
 
 -- a reader gave these points, one after the other, while it read its source on
-pub record Gathers (a b : ReaderState) (t u : Option (List ℕ)) (points : List PointValue) : Type 0 where
+pub record GavePoints (a b : ReaderState) (t u : Option (List ℕ)) (points : List PointValue) : Type 0 where
   pub read : (s : Option (List ℕ)) → HasRead a s t → HasRead b s u
   pub given : b.given ≡ a.given ++ points
   pub first : GaveFirst a → GaveFirst b
 
 -- the reader can go on
 pub record GoesOn (a b : ReaderState) (t u : Option (List ℕ)) (points : List PointValue) : Type 0 where
-  pub gathers : Gathers a b t u points
+  pub gave : GavePoints a b t u points
   pub unspent : b.spent ≡ false
   pub some : 0 < length points
   pub few : length b.given ≤ RECORDING_LIMIT
@@ -27,7 +27,7 @@ pub record GoesOn (a b : ReaderState) (t u : Option (List ℕ)) (points : List P
 pub record StopsBehind (a b : ReaderState) (t u : Option (List ℕ)) (points : List PointValue) (why : ReaderState → ReaderState → Type 0) : Type 0 where
   pub last : ReaderState
   pub left : Option (List ℕ)
-  pub gathers : Gathers a last t left points
+  pub gave : GavePoints a last t left points
   pub reads : ReaderReads last b left u
   pub stops : why last b
 

@@ -1,12 +1,21 @@
 //! The way in which the net of a replay comes to rest.
 
+ghost use Rattle.std.specs.Prelude.{◌≡◌, IfSome};
+ghost use Rattle.net_run.specs.declared.moving.Way.{Way};
 ghost use Rattle.kap_server.specs.Options.{AreWithinLimits};
 
 use crate::options::{ReplayOptions, workers_of};
 use net_run::{Way, Workers};
 
-/// How many points of an epoch are worth the making of threads, where no option says how many workers there are.
+/// How many points of an epoch of one task are worth the making of threads, where no option says how many
+/// workers there are.
 const FEW_POINTS: usize = 512;
+
+/// How many points of an epoch are worth it for so many tasks, each of which has work of its own at each
+/// point.
+fn few_points(tasks: usize) -> usize {
+    FEW_POINTS / tasks.max(1)
+}
 
 /// The way that the options say for so many tasks: by workers, unless they give an order.
 pub(crate) fn way_of<'a, R, G>(
@@ -16,6 +25,7 @@ pub(crate) fn way_of<'a, R, G>(
     tasks: usize,
 ) -> Way<'a, R, G>
     requires { AreWithinLimits options }
+    ensures schedule { IfSome options.schedule (λ number. result ≡ Way.Schedule number) }
 {
     if let Some(number) = options.schedule {
         return Way::Schedule(number);
@@ -23,7 +33,7 @@ pub(crate) fn way_of<'a, R, G>(
     let least = if options.workers.is_some() {
         0
     } else {
-        FEW_POINTS
+        few_points(tasks)
     };
     Way::Workers(Workers::new(rt, workers_of(options, tasks), gate, least))
 }
