@@ -19,11 +19,6 @@ abbrev plan_count : {S : Type 0} → List (List (Plan S)) → ℕ
 plan_count [] = 0
 plan_count (ps ∷ pss) = length ps + plan_count pss
 
--- the cells of a life behind others are added to theirs
-pub added_cells : {N : Type 0} (lives : List (NumberedLife N)) (l : NumberedLife N) → cell_count (lives ++ l ∷ []) ≡ cell_count lives + length l.life.cells
-added_cells [] l = omega arith
-added_cells (m ∷ lives) l = let e : cell_count (lives ++ l ∷ []) ≡ cell_count lives + length l.life.cells = added_cells lives l in omega arith
-
 numbers-append : {N : Type 0} (xs ys : List (NumberedLife N)) → numbers_of (xs ++ ys) ≡ numbers_of xs ++ numbers_of ys
 numbers-append [] ys = refl
 numbers-append (x ∷ xs) ys = ap (λ (ns : List ℕ). x.number ∷ ns) (numbers-append xs ys)

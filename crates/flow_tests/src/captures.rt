@@ -31,7 +31,7 @@ use std::test::Fail;
 use task_run::LifePlan;
 
 /// What the tap that isn't quiet does with the three points.
-const ALL: &str = "1 3.1.0 10 plain\n1 3.1.1 10 plain\n2 3.1.0 20 plain\n2 3.1.1 20 plain\n\
+pub const ALL: &str = "1 3.1.0 10 plain\n1 3.1.1 10 plain\n2 3.1.0 20 plain\n2 3.1.1 20 plain\n\
      3 3.1.0 30 plain\n3 3.1.1 30 plain\n";
 
 /// Up to the second one.

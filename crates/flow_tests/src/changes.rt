@@ -6,8 +6,8 @@ ghost use Rattle.flow_core.specs.Making.{HasFewParents};
 ghost use Rattle.flow_core.specs.Nets.{IsResting, numbers_of};
 
 use crate::nets::{load, net_of_plan};
+use crate::plans::plan_of_two;
 use crate::points::{check_effects, three_points};
-use crate::sides::plan_of_two;
 use flow_core::Net;
 use kap_base::{NoMemory, Stamp};
 use node_core::Node;

@@ -1,9 +1,9 @@
-//! Four nodes, the first of which feeds two that feed the last, by several orders of steps and with edges of several sizes.
+//! Four nodes, the first of which feeds two that feed the last, step by step and with edges of several sizes.
 //!
 //! A load of three points with a barrier behind the second has five messages with the last barrier, and each node gives as
-//! many out; there are four edges, and each message is put and taken once: 40 steps. Without the inner barrier they are 32.
+//! many out; there are four edges, and each message is put and taken once: 40 steps.
 
-ghost use Rattle.std.specs.Prelude.{◌≡◌, ◌+◌, ◌<◌, ◌≤◌, false, IfOk, OnOk};
+ghost use Rattle.std.specs.Prelude.{◌≡◌, ◌<◌, ◌≤◌, false, IfOk, OnOk};
 ghost use Rattle.std.specs.List.{AllByRecursion as Each};
 ghost use Rattle.flow_core.specs.Nets.{IsResting, cell_count};
 
@@ -13,7 +13,7 @@ use crate::relay::{RelayNode, diamond};
 use edge_queue::CAPACITY_LIMIT;
 use flow_core::Net;
 use flow_life::Step;
-use kap_base::{NoMemory, Point, Shared, Stamp};
+use kap_base::{NoMemory, Stamp};
 use node_core::Node;
 use std::alloc::Global;
 use std::process::Abort;
@@ -26,14 +26,6 @@ pub const FIRST: &str = "1 1.0.0 10 plain\n1 1.1.0 10 plain\n1 1.2.0 10 plain\n\
      2 1.3.0 20 marked\n2 1.3.1 20 plain\n\
      3 1.0.0 30 plain\n3 1.1.0 30 plain\n3 1.2.0 30 plain\n\
      3 1.3.0 30 marked\n3 1.3.1 30 plain\n";
-
-/// And of the second.
-pub const SECOND: &str = "4 1.0.0 10 plain\n4 1.1.0 10 plain\n4 1.2.0 10 plain\n\
-     4 1.3.0 10 marked\n4 1.3.1 10 plain\n\
-     5 1.0.0 20 plain\n5 1.1.0 20 plain\n5 1.2.0 20 plain\n\
-     5 1.3.0 20 marked\n5 1.3.1 20 plain\n\
-     6 1.0.0 30 plain\n6 1.1.0 30 plain\n6 1.2.0 30 plain\n\
-     6 1.3.0 30 marked\n6 1.3.1 30 plain\n";
 
 /// All steps, those of earlier cells first.
 pub fn downwards() -> [Step; 8] {
@@ -49,23 +41,6 @@ pub fn downwards() -> [Step; 8] {
     ]
 }
 
-/// All steps, those of later cells first.
-fn upwards() -> [Step; 8] {
-    let mut steps = downwards();
-    steps.reverse();
-    steps
-}
-
-/// The steps of the two edges by the second cell.
-fn left() -> [Step; 4] {
-    [put(0, 0), take(1, 0), put(1, 0), take(3, 0)]
-}
-
-/// And of those by the third.
-fn right() -> [Step; 4] {
-    [take(3, 1), put(2, 0), take(2, 0), put(0, 1)]
-}
-
 /// A diamond as a net of life 1, with room for so many messages on each edge.
 pub fn diamond_net(alloc: Global, capacity: u32) -> Result<Net<RelayNode>, NoMemory>
     requires some { 0 < capacity }
@@ -76,121 +51,6 @@ pub fn diamond_net(alloc: Global, capacity: u32) -> Result<Net<RelayNode>, NoMem
     ensures cells { IfOk result (λ net. cell_count net.lives ≡ 4) }
 {
     net_of(alloc, 1, diamond(alloc, 1, capacity)?)
-}
-
-/// Two loads, of each of which the first steps make so many, and the others the rest.
-fn check_loads<N: Node>(
-    rt: &(impl AllocGlobal + Abort),
-    net: &mut Net<N>,
-    points: &[Shared<Point>],
-    steps: (&[Step], &[Step]),
-    made: (u64, u64),
-) -> Result<(), Fail>
-    requires unspent { net.old.spent ≡ false }
-    requires rest { Each IsResting net.old.lives }
-    requires last { net.old.last.0 ≡ 0 }
-    requires cells { cell_count net.old.lives ≡ 4 }
-{
-    let (first, others) = steps;
-    load(rt.alloc(), net, points, 3, &[Stamp(2)])?;
-    check_play(rt, net, first, made.0)?;
-    check_play(rt, net, others, 40u64.saturating_sub(made.0))?;
-    check_rest(rt, net, FIRST, 3, 3)?;
-    load(rt.alloc(), net, points, 6, &[])?;
-    check_play(rt, net, first, made.1)?;
-    check_play(rt, net, others, 32u64.saturating_sub(made.1))?;
-    check_rest(rt, net, SECOND, 3, 6)
-}
-
-/// Two loads on a diamond, whose edges have room for so many messages.
-fn check_orders(
-    rt: &(impl AllocGlobal + Abort),
-    capacity: u32,
-    steps: (&[Step], &[Step]),
-    made: (u64, u64),
-) -> Result<(), Fail>
-    requires some { 0 < capacity }
-    requires limit { capacity ≤ CAPACITY_LIMIT }
-{
-    let mut net = diamond_net(rt.alloc(), capacity)?;
-    check_loads(rt, &mut net, &three_points(rt)?, steps, made)
-}
-
-/// The same by each order, on edges with room for so many messages.
-fn check_capacity(rt: &(impl AllocGlobal + Abort), capacity: u32) -> Result<(), Fail>
-    requires some { 0 < capacity }
-    requires limit { capacity ≤ CAPACITY_LIMIT }
-{
-    check_orders(rt, capacity, (&downwards(), &[]), (40, 32))?;
-    check_orders(rt, capacity, (&upwards(), &[]), (40, 32))?;
-    check_orders(rt, capacity, (&left(), &right()), (20, 16))?;
-    check_orders(rt, capacity, (&right(), &left()), (20, 16))
-}
-
-#[test]
-fn all_orders_of_steps_have_the_same_effects(rt: HostRuntime) -> Result<(), Fail> {
-    check_capacity(&rt, 1)?;
-    check_capacity(&rt, 2)?;
-    check_capacity(&rt, 64)
-}
-
-/// The steps whose bits are one.
-fn picked(alloc: Global, bits: u32) -> Result<Vec<Step>, NoMemory> {
-    let mut steps = Vec::new(alloc);
-    let mut left = bits;
-    for next in downwards() {
-        if left % 2 == 1 {
-            steps.push(next)?;
-        }
-        left /= 2;
-    }
-    Ok(steps)
-}
-
-/// Plays lists of steps, each with those that it leaves out, and says how many were made.
-#[tactic(auto, using(crate::proofs::CellLaws::same_cells))]
-fn play_mixed<N: Node>(
-    alloc: Global,
-    net: &mut Net<N>,
-    bits: u32,
-    rounds: u32,
-) -> Result<u64, NoMemory>
-    requires { net.old.spent ≡ false }
-    ensures unspent { OnOk result (net.new.spent ≡ false) }
-    ensures last { OnOk result (net.new.last ≡ net.old.last) }
-    ensures cells { OnOk result (cell_count net.new.lives ≡ cell_count net.old.lives) }
-{
-    if rounds == 0 {
-        return Ok(0);
-    }
-    let some = net.play(alloc, &picked(alloc, bits)?)?;
-    let others = net.play(alloc, &picked(alloc, !bits)?)?;
-    let next = bits
-        .wrapping_mul(1_664_525)
-        .wrapping_add(1_013_904_223)
-        .rotate_left(7);
-    let more = play_mixed(alloc, net, next, rounds - 1)?;
-    Ok(some.saturating_add(others).saturating_add(more))
-}
-
-/// A load whose steps are made in lists, each with its complement.
-fn check_mixed(rt: &(impl AllocGlobal + Abort), capacity: u32, bits: u32) -> Result<(), Fail>
-    requires some { 0 < capacity }
-    requires limit { capacity ≤ CAPACITY_LIMIT }
-{
-    let mut net = diamond_net(rt.alloc(), capacity)?;
-    load(rt.alloc(), &mut net, &three_points(rt)?, 3, &[Stamp(2)])?;
-    let made = play_mixed(rt.alloc(), &mut net, bits, 40)?;
-    assert_eq!(rt; made, 40);
-    check_rest(rt, &mut net, FIRST, 3, 3)
-}
-
-#[test]
-fn a_list_of_steps_and_its_complement_do_all(rt: HostRuntime) -> Result<(), Fail> {
-    check_mixed(&rt, 1, 0x0f)?;
-    check_mixed(&rt, 1, 0x5a)?;
-    check_mixed(&rt, 2, 0xc3)?;
-    check_mixed(&rt, 64, 0x36)
 }
 
 /// So many steps of one out are made before its edge is full, or nothing waits any more.

@@ -1,7 +1,9 @@
-//! Tests of lives and nets: steps counted by hand, effects that are the same for all orders of steps, and workers beside each
+//! Tests of nets: steps counted by hand, runs to rest, nets that go on from what was captured of others, and workers beside each
 //! other.
 #![tactic(auto)]
 
+#[cfg(test)]
+mod alone;
 #[cfg(test)]
 mod captures;
 #[cfg(test)]
@@ -9,17 +11,15 @@ mod changes;
 #[cfg(test)]
 mod diamonds;
 #[cfg(test)]
-mod lives;
-#[cfg(test)]
 mod nets;
+#[cfg(test)]
+mod plans;
 #[cfg(test)]
 mod points;
 #[cfg(test)]
 mod relay;
 #[cfg(test)]
 mod schedules;
-#[cfg(test)]
-mod sides;
 #[cfg(test)]
 mod taps;
 #[cfg(test)]

@@ -68,21 +68,6 @@ pub fn add_node<N: Node>(
     life.add(alloc, node, parents, capacity, Stamp(0))
 }
 
-/// Adds a life to a net.
-#[tactic(auto, using(crate::proofs::CellLaws::added_cells))]
-pub fn add_life<N: Node>(net: &mut Net<N>, number: u32, life: Life<N>) -> Result<(), NoMemory>
-    requires unspent { net.old.spent ≡ false }
-    requires sound { life.spent ≡ false }
-    requires gathered { Each IsGathered life.cells }
-    ensures unspent { OnOk result (net.new.spent ≡ false) }
-    ensures last { OnOk result (net.new.last ≡ net.old.last) }
-    ensures cells { OnOk result (cell_count net.new.lives
-        ≡ cell_count net.old.lives + length life.cells) }
-{
-    net.add(number, life)?;
-    Ok(())
-}
-
 /// A net of the life of a plan.
 #[tactic(auto, using(crate::proofs::CellLaws::plan_cells, crate::proofs::CellLaws::plan_there))]
 pub fn net_of_plan<N: Node>(

@@ -17,7 +17,7 @@ fn has_feed(bytes: &[u8]) -> bool
 }
 
 /// The point of a line, of database and policy `d`.
-fn point(rt: &(impl AllocGlobal + Abort), line: &str) -> Result<Point, Fail> {
+pub fn point(rt: &(impl AllocGlobal + Abort), line: &str) -> Result<Point, Fail> {
     let name = Text::from_str(rt.alloc(), "d")?;
     assert!(rt; !has_feed(line.as_bytes()) && !has_feed(name.bytes()));
     Ok(read_stored(rt.alloc(), line.as_bytes(), &name, &name).map_err(|_| "no point")?)

@@ -4,7 +4,7 @@ ghost use Rattle.std.specs.Prelude.{◌≡◌, ◌<◌, ◌≤◌, false, OnOk};
 ghost use Rattle.std.specs.List.{AllByRecursion as Each};
 ghost use Rattle.flow_core.specs.Nets.{IsResting, cell_count};
 
-use crate::diamonds::{FIRST, SECOND, diamond_net, downwards};
+use crate::diamonds::{FIRST, diamond_net, downwards};
 use crate::nets::{check_rest, load};
 use crate::points::three_points;
 use edge_queue::CAPACITY_LIMIT;
@@ -32,7 +32,7 @@ fn settle<N: Node>(alloc: Global, net: &mut Net<N>, number: Option<u32>) -> Resu
     Ok(())
 }
 
-/// Two loads of a diamond, whose edges have room for so many messages, each run to rest.
+/// A load of a diamond, whose edges have room for so many messages, runs to rest.
 fn check_run(
     rt: &(impl AllocGlobal + Abort),
     capacity: u32,
@@ -41,32 +41,17 @@ fn check_run(
     requires some { 0 < capacity }
     requires limit { capacity ≤ CAPACITY_LIMIT }
 {
-    let points = three_points(rt)?;
     let mut net = diamond_net(rt.alloc(), capacity)?;
-    load(rt.alloc(), &mut net, &points, 3, &[Stamp(2)])?;
+    load(rt.alloc(), &mut net, &three_points(rt)?, 3, &[Stamp(2)])?;
     settle(rt.alloc(), &mut net, number)?;
-    check_rest(rt, &mut net, FIRST, 3, 3)?;
-    load(rt.alloc(), &mut net, &points, 6, &[])?;
-    settle(rt.alloc(), &mut net, number)?;
-    check_rest(rt, &mut net, SECOND, 3, 6)
-}
-
-/// The same in several orders, on edges with room for so many messages.
-fn check_capacity(rt: &(impl AllocGlobal + Abort), capacity: u32) -> Result<(), Fail>
-    requires some { 0 < capacity }
-    requires limit { capacity ≤ CAPACITY_LIMIT }
-{
-    check_run(rt, capacity, None)?;
-    check_run(rt, capacity, Some(0))?;
-    check_run(rt, capacity, Some(5))?;
-    check_run(rt, capacity, Some(u32::MAX))
+    check_rest(rt, &mut net, FIRST, 3, 3)
 }
 
 #[test]
 fn nets_run_to_rest(rt: HostRuntime) -> Result<(), Fail> {
-    check_capacity(&rt, 1)?;
-    check_capacity(&rt, 2)?;
-    check_capacity(&rt, 64)
+    check_run(&rt, 1, None)?;
+    check_run(&rt, 1, Some(5))?;
+    check_run(&rt, 64, Some(u32::MAX))
 }
 
 #[test]

@@ -5,9 +5,9 @@ ghost use Rattle.std.specs.List.{AllByRecursion as Each};
 ghost use Rattle.flow_core.specs.Nets.{IsResting};
 
 use crate::diamonds::diamond_net;
+use crate::plans::plan_of_two;
 use crate::points::{hundred_points, text_of};
 use crate::relay::RelayNode;
-use crate::sides::plan_of_two;
 use flow_core::Net;
 use kap_base::{Bytes, NoMemory, Stamp};
 use kap_io::{Gate, NoGate};
@@ -22,22 +22,26 @@ use std::thread::Threads;
 /// How often a held worker looks at most.
 const LOOKS: u64 = 20_000_000;
 
-/// A gate that holds the second turn of worker 0 until worker 1 has had one.
+/// A gate that counts the turns of two workers, and holds the second turn of worker 0 until worker 1 has had one.
 #[derive(Drop)]
 struct Holding {
-    // How often worker 1 came to a second or later turn, and so has had one.
-    had: AtomicU64,
+    // The turns of worker 0, and those of worker 1.
+    first: AtomicU64,
+    second: AtomicU64,
     // How often the limit of looks was met.
     missed: AtomicU64,
 }
 
 impl Gate for Holding {
     fn pass(&self, worker: u32, turn: u64) {
-        if worker == 1 && turn > 0 {
-            self.had.fetch_add(1, Ordering::SeqCst);
+        if worker == 0 {
+            self.first.fetch_add(1, Ordering::SeqCst);
+            if turn == 1 {
+                self.wait();
+            }
         }
-        if worker == 0 && turn == 1 {
-            self.wait();
+        if worker == 1 {
+            self.second.fetch_add(1, Ordering::SeqCst);
         }
     }
 }
@@ -45,7 +49,7 @@ impl Gate for Holding {
 impl Holding {
     fn wait(&self) {
         for _ in 0..LOOKS {
-            if self.had.load(Ordering::SeqCst) > 0 {
+            if self.second.load(Ordering::SeqCst) > 1 {
                 return;
             }
             thread::yield_now();
@@ -54,14 +58,14 @@ impl Holding {
     }
 }
 
-/// Two chains of two relays, the lives 3 and 5.
+/// Two chains of two relays, the lives 3 and 5, on edges with room for one message. So each point takes a turn of its worker.
 fn two_chains(alloc: Global) -> Result<Net<RelayNode>, NoMemory>
     ensures unspent { IfOk result (λ net. net.spent ≡ false) }
     ensures rest { IfOk result (λ net. Each IsResting net.lives) }
     ensures last { IfOk result (λ net. net.last.0 ≡ 0) }
 {
     let plans = Vec::from_array(alloc, [plan_of_two(alloc, 3)?, plan_of_two(alloc, 5)?])?;
-    let net = Net::make(alloc, plans, 4)?;
+    let net = Net::make(alloc, plans, 1)?;
     Ok(net)
 }
 
@@ -109,16 +113,24 @@ fn run_by<R: AllocGlobal + Abort + Threads + Sync>(
     text_of(rt.alloc(), &effects)
 }
 
+/// Each worker had as many turns as there are points, beside the other one; one that moves nothing ends long before.
+fn check_turns(rt: &impl Abort, gate: &Holding) {
+    assert_eq!(rt; gate.missed.load(Ordering::SeqCst), 0);
+    assert!(rt; gate.first.load(Ordering::SeqCst) >= 100);
+    assert!(rt; gate.second.load(Ordering::SeqCst) >= 100);
+}
+
 #[test]
-fn two_workers_have_their_turns_beside_each_other(rt: HostRuntime) -> Result<(), Fail> {
+fn two_workers_move_beside_each_other(rt: HostRuntime) -> Result<(), Fail> {
     let gate = Holding {
-        had: AtomicU64::new(0),
+        first: AtomicU64::new(0),
+        second: AtomicU64::new(0),
         missed: AtomicU64::new(0),
     };
     let due = run_alone(&rt, two_chains(rt.alloc())?)?;
     let text = run_by(&rt, two_chains(rt.alloc())?, 2, &gate)?;
     assert_eq!(rt; text.as_slice(), due.as_slice());
-    assert_eq!(rt; gate.missed.load(Ordering::SeqCst), 0);
+    check_turns(&rt, &gate);
     Ok(())
 }
 

@@ -1,17 +1,9 @@
-//! Tests of the store over the log: what no clause says.
+//! Tests of what an engine asks of the store: topics behind some of the transitions, and points in pieces.
 #![tactic(auto)]
 
 #[cfg(test)]
 mod behind;
 #[cfg(test)]
-mod broken;
-#[cfg(test)]
 mod calls;
 #[cfg(test)]
 mod items;
-#[cfg(test)]
-mod making;
-#[cfg(test)]
-mod pieces;
-#[cfg(test)]
-mod records;
