@@ -12,3 +12,5 @@ pub mod PointKinds
 pub mod GroupKinds
 -- the node of what a script hands to one
 pub mod Nodes
+-- examples
+pub mod Rows

@@ -1,5 +1,5 @@
 -- The node of what a script hands to one.
-use Rattle.std.specs.Prelude.{◌≡◌, ℕ, Bool, List, [], ◌∷◌, refl}
+use Rattle.std.specs.Prelude.{ℕ, List, [], ◌∷◌}
 use Rattle.std.specs.List.{flat_map}
 use Rattle.lambda_types.specs.declared.lambda.Lambda.{Lambda}
 use Rattle.node_core.specs.declared.alone.Alone.{Alone}
@@ -7,11 +7,7 @@ use Rattle.node_core.specs.declared.both.Both.{Both}
 use Rattle.node_core.specs.declared.both.Both.TheVariants.{One, Other}
 use Rattle.node_core.specs.declared.grouped.Grouped.{Grouped}
 use Rattle.node_core.specs.declared.numbered.Seat.{Seat}
-use Rattle.node_core.specs.Both.{either, of_both}
-use Rattle.node_core.specs.Groups.{in_groups, is_point}
-use Rattle.node_core.specs.Meaning.{Answer, Saying}
-use Rattle.node_core.specs.Numbering.{stamped}
-use Rattle.kap_base.specs.declared.items.Body.{Body}
+use Rattle.node_core.specs.Both.{of_both}
 use Rattle.task_graph.specs.declared.spec.DeleteSetting.{DeleteSetting}
 use Rattle.task_graph.specs.declared.spec.DeleteSetting.TheVariants as deletes
 use Rattle.task_graph.specs.declared.spec.Dims.{Dims}
@@ -30,8 +26,6 @@ use Rattle.basic_nodes.specs.declared.selection.Selection.{Selection}
 use Rattle.basic_nodes.specs.declared.spec.BasicSpec.{BasicSpec}
 use Rattle.basic_nodes.specs.declared.spec.BasicSpec.TheVariants.{Stream, From, Where, GroupBy, Log, Default, Delete, Shift, Sample}
 use Rattle.basic_nodes.specs.Dimensions.{in_order}
-use Rattle.basic_nodes.specs.GroupKinds.{group_says}
-use Rattle.basic_nodes.specs.PointKinds.{point_says}
 
 -- dimensions as a point needs them
 abbrev pub grouping_of : Dims → Grouping
@@ -64,11 +58,6 @@ deletion_of settings = record { fields = flat_map field_named settings; tags = f
 abbrev pub BasicKind : Type 0
 BasicKind = Both PointKind GroupKind
 
--- what it says of an arrival, by the arrivals before it
-abbrev pub saying_of : BasicKind → Saying
-saying_of (One kind) = λ before x. point_says kind x.0 x.1
-saying_of (Other kind) = in_groups (group_says kind)
-
 -- what it does, by what it is given
 abbrev pub kind_of : BasicSpec → BasicKind
 kind_of (Stream dbrps) = One (points.Stream dbrps)
@@ -88,34 +77,3 @@ BasicSeat = Both (Seat (Alone PointKind)) (Seat (Grouped GroupKind))
 -- a node of this kind, in this life and with this number
 abbrev pub seat_of : ℕ → ℕ → BasicKind → BasicSeat
 seat_of life node = of_both (λ kind. record { life = life; node = node; kind = record { plain = kind } }) (λ kind. record { life = life; node = node; kind = record { rule = kind } })
-
--- ---- what is seen of a node
-
--- the seat answers what the kind says
-pub answers : (life node : ℕ) (kind : BasicKind)
-    → ◌≡◌ {A = Answer} (either (λ s. stamped s.life s.node (λ before x. point_says s.kind.plain x.0 x.1)) (λ s. stamped s.life s.node (in_groups (group_says s.kind.rule))) (seat_of life node kind)) (stamped life node (saying_of kind))
-answers life node (One kind) = refl
-answers life node (Other kind) = refl
-
--- it has this life
-pub lives : (life node : ℕ) (kind : BasicKind) → either (λ s. s.life) (λ s. s.life) (seat_of life node kind) ≡ life
-lives life node (One kind) = refl
-lives life node (Other kind) = refl
-
--- and this number
-pub numbers : (life node : ℕ) (kind : BasicKind) → either (λ s. s.node) (λ s. s.node) (seat_of life node kind) ≡ node
-numbers life node (One kind) = refl
-numbers life node (Other kind) = refl
-
--- it has one port
-pub port : (life node : ℕ) (kind : BasicKind) → either {C = ℕ} (λ s. 1) (λ s. 1) (seat_of life node kind) ≡ 1
-port life node (One kind) = refl
-port life node (Other kind) = refl
-
--- it takes points
-pub takes_points : (life node : ℕ) (kind : BasicKind) → ◌≡◌ {A = Body → Bool} (either (λ s. is_point) (λ s. is_point) (seat_of life node kind)) is_point
-takes_points life node (One kind) = refl
-takes_points life node (Other kind) = refl
-
--- what is seen of a seat
-pub ruleset seen = (answers, lives, numbers, port, takes_points)

@@ -20,7 +20,7 @@ pub use build::{BasicNode, basic_node};
 pub use deletions::Deletion;
 pub use dimensions::{Dimensions, Grouping, Regrouping};
 pub use group_kind::GroupKind;
-pub use laws::{dimensions_are_the_names, nodes_say_what_kinds_say};
+pub use laws::{dimensions_are_the_names, examples_of_points};
 pub use point_kind::PointKind;
 pub use selection::{Conditions, Selection};
 pub use sends::send_basic_node;

@@ -1,3 +1,4 @@
 pub mod Evaluations
 pub mod Evals
 pub mod EvalLaws
+pub mod Rows

@@ -10,5 +10,5 @@ mod sends;
 
 pub use counts::Counts;
 pub use eval::{Eval, EvalNode, build};
-pub use laws::{counts_are_evaluations, evals_answer_by_groups};
+pub use laws::{counts_are_evaluations, examples_of_evals};
 pub use sends::send_eval_node;

@@ -14,8 +14,8 @@ mod unions;
 pub use groups::{JoinCell, JoinGroup};
 pub use joins::Join;
 pub use laws::{
-    examples_of_joins, nodes_say_what_kinds_say, points_are_in_their_sets,
-    renamed_points_change_groups, sets_wait_at_the_greatest_time, states_are_read_again,
+    examples_of_joins, points_are_in_their_sets, renamed_points_change_groups,
+    sets_wait_at_the_greatest_time,
 };
 pub use nodes::{GatherNode, build};
 pub use sends::send_gather_node;

@@ -1,2 +1,3 @@
 pub mod DraftLaws
 pub mod Crossing
+pub mod SaysLaws

@@ -3,4 +3,5 @@ pub mod Tasks
 pub mod Behaviours
 pub mod Kinds
 pub mod Seats
+pub mod Says
 pub mod Drafts

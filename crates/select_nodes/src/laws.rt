@@ -1,40 +1,17 @@
-//! What selects answer: laws, and no code.
+//! What selects choose: laws, and no code.
 
 ghost use Rattle.std.specs.Prelude.{◌≡◌, ◌++◌, [], ◌∷◌, if◌then◌else◌, ℕ, List, Some};
 ghost use Rattle.std.specs.List.{list_any};
 ghost use Rattle.std.specs.List.Sorted.{IsSortedBy, IsStableBy};
 ghost use Rattle.kap_base.specs.Groups.{GroupValue, IsGroup, group_of};
 ghost use Rattle.kap_base.specs.declared.value.Value.{Value};
-ghost use Rattle.node_core.specs.Numbering.{stamped};
 ghost use Rattle.select_nodes.specs.Choices.{distinct};
 ghost use Rattle.kap_base.specs.Values.{is_same_value};
-ghost use Rattle.select_nodes.specs.Nodes.{saying_of, seat_of};
 ghost use Rattle.select_nodes.specs.Picks.{PickValue, ReadingValue, first};
 ghost use Rattle.select_nodes.specs.Ranks.{IsFirst, by_rank, goes_before};
-ghost use Rattle.select_nodes.specs.Results.{IsNamed, is_batch, result_of};
+ghost use Rattle.select_nodes.specs.Results.{IsNamed, result_of};
 ghost use Rattle.select_nodes.specs.Rows.{BottomNine, Greatest, Kinds, Least, NoSum, TopThree, WrappedSpread, WrappedSum};
 ghost use Rattle.select_nodes.specs.declared.readings.Rank.{Rank};
-ghost use Rattle.task_graph.specs.declared.spec.SelectSpec.{SelectSpec};
-
-use crate::nodes::SelectNode;
-use node_core::Node;
-
-/// Of a select, in a life and with a number: what it answers is what it says of each batch by itself, stamped and
-/// numbered; that life and that number are its own; it has one port; and batches are for it.
-#[tactic(auto, using(crate::specs::Nodes::seen))]
-pub fn selects_answer_by_batches()
-    ensures answer { (life node : ℕ) (spec : SelectSpec)
-        → ⟦<SelectNode as Node>⟧.answer (seat_of life node spec)
-        ≡ stamped life node (saying_of spec) }
-    ensures life { (life node : ℕ) (spec : SelectSpec)
-        → ⟦<SelectNode as Node>⟧.life (seat_of life node spec) ≡ life }
-    ensures number { (life node : ℕ) (spec : SelectSpec)
-        → ⟦<SelectNode as Node>⟧.number (seat_of life node spec) ≡ node }
-    ensures ports { (life node : ℕ) (spec : SelectSpec)
-        → ⟦<SelectNode as Node>⟧.ports (seat_of life node spec) ≡ 1 }
-    ensures takes { (life node : ℕ) (spec : SelectSpec)
-        → ⟦<SelectNode as Node>⟧.takes (seat_of life node spec) ≡ is_batch }
-{}
 
 /// Readings by rank are sorted, and those of one number stand as they came; and they are the only list of which both
 /// hold.

@@ -13,7 +13,7 @@ mod sends;
 
 pub use laws::{
     examples_of_selects, first_goes_before_all, ranks_are_sorted, results_are_of_their_group,
-    selects_answer_by_batches, values_are_told_once,
+    values_are_told_once,
 };
 pub use nodes::{SelectNode, Selection, build};
 pub use sends::send_select_node;

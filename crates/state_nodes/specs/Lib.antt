@@ -8,3 +8,5 @@ pub mod CumulativeSums
 pub mod ElapsedTimes
 -- the node of what a script hands to one
 pub mod Nodes
+-- examples
+pub mod Rows

@@ -17,7 +17,7 @@ pub use change_detect::{ChangeDetect, LastValues};
 pub use cumulative_sum::CumulativeSum;
 pub use difference::Difference;
 pub use elapsed::Elapsed;
-pub use laws::{fields_are_told_apart, nodes_say_what_kinds_say, states_are_read_again};
+pub use laws::{examples_of_states, fields_are_told_apart};
 pub use sends::send_state_node;
 pub use spec::StateSpec;
 pub use state_count::{Counts, StateCount};

@@ -12,7 +12,7 @@ mod spans;
 
 pub use counted::{CountedGroup, CountedWindow};
 pub use edges::{EdgeCell, EdgeGroup, EdgeWindow};
-pub use laws::{edges_are_set_by_points, examples_of_windows, windows_answer_by_groups};
+pub use laws::{edges_are_set_by_points, examples_of_windows};
 pub use nodes::{WindowNode, build};
 pub use sends::send_window_node;
 pub use sliding::{SlidingCell, SlidingGroup, SlidingWindow};
