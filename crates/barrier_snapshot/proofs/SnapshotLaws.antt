@@ -1,25 +1,43 @@
--- Lives that are restored from a snapshot are where their points have brought them.
-use Rattle.std.proofs.Common.{◌≡◌, ℕ, suc, ◌+◌, ◌-◌, List, [], ◌∷◌, ◌++◌, drop, length, map, zip, refl, sym, ap, subst, ◌∙◌, arith}
-use Rattle.std.specs.List.{AllZip}
+-- What is restored from a snapshot, and what is captured at rest: lives that are where their points have brought them.
+use Rattle.std.proofs.Common.{◌≡◌, ℕ, suc, ◌+◌, ◌-◌, ◌≤◌, ◌<◌, List, [], ◌∷◌, ◌++◌, Some, drop, length, map, zip, refl, sym, ap, subst, ◌∙◌, arith}
+use Rattle.std.specs.Prelude.{slice_get}
+use Rattle.std.specs.List.{AllByRecursion as Each, AllZip}
+use Rattle.std.proofs.lemmas.List.{map-append}
+use Rattle.kap_base.specs.Points.{PointValue}
+use Rattle.kap_base.specs.declared.items.Stamp.{Stamp}
 use Rattle.state_code.specs.Spelling.{IsSpelling}
 use Rattle.node_core.specs.declared.node.Node.{Ghosts}
+use Rattle.node_core.specs.Cut.{IsStamped}
+use Rattle.node_core.specs.Meaning.{Input, fold, given}
+use Rattle.merge_node.specs.ClosingLaws.{IsClosedBy}
 use Rattle.flow_cells.specs.declared.parts.CellParts.{CellParts}
+use Rattle.flow_life.specs.Loads.{plan_now}
 use Rattle.flow_life.specs.Making.{nodes_of}
+use Rattle.flow_life.specs.Nodes.{specs_of}
+use Rattle.flow_life.specs.PlaceLaws.{each-get, each-of}
+use Rattle.flow_life.specs.Streams.{plans_of}
 use Rattle.task_run.specs.Active.{Active, placed}
 use Rattle.task_run.specs.Courses.{Course, IsWhere}
 use Rattle.task_run.specs.Graphs.{Placed}
 use Rattle.task_run.specs.Plans.{PlanValue, graph_of}
 use Rattle.flow_core.specs.LifeLoads.{acts_of}
 use Rattle.flow_core.specs.Making.{AreLivesOf, IsLifeOf}
-use Rattle.flow_core.specs.Nets.{NetValue, NumberedLife}
+use Rattle.flow_core.specs.MessageLaws.{messages_barriers, messages_closed, messages_rise}
+use Rattle.flow_core.specs.Messages.{AreMarksOf, load_messages}
+use Rattle.flow_core.specs.Nets.{IsLifeIn, IsResting, NetValue, NumberedLife}
 use Rattle.flow_core.specs.PortLaws.{head_same}
 use Rattle.net_epochs.specs.Epochs.{IsOnCourse, nodes_in}
 use Rattle.net_epochs.proofs.StandLaws.{graph_behind}
+use Rattle.barrier_snapshot.specs.Barriers.{IsCaptureAt, WasAt, cells_in}
 use Rattle.barrier_snapshot.specs.Captures.{IsCapture, in_lives}
 use Rattle.barrier_snapshot.specs.Loading.{IsSameLife}
 use Rattle.barrier_snapshot.specs.Restoring.{Restores}
+use Rattle.barrier_snapshot.specs.Resuming.{AreLoadedWith, StandsBehind}
 use Rattle.barrier_snapshot.specs.Snapshots.{IsSnapshot, specs_all, states_all}
+use Rattle.barrier_snapshot.proofs.MessageCutLaws.{none-below}
+use Rattle.barrier_snapshot.proofs.PlaceLaws.{other_at, same_at}
 use Rattle.barrier_snapshot.proofs.ReadLaws.{one_capture}
+use Rattle.barrier_snapshot.proofs.StandLaws.{rested_state}
 
 -- ---- lists
 
@@ -131,10 +149,92 @@ module _ {N P S : Type 0} (g : Ghosts N P S) where
       let acts_are : acts_of g cells ≡ ax = acts-same (acts_of g cells) ax placed_is (states_are ∙ states) in
       (subst (IsWhere g.answer g.first g.step c) (sym acts_are) wh.0, lives-at plans loaded lives courses acts same.1 are.1 (ap (drop 1) gs) wh.1 others)
 
-  pub restored_lives : (spelled : (p : P) → IsSpelling (g.fits p) (g.spell p) (g.read p)) (plans : List (PlanValue N)) (bytes : List ℕ) (net : NetValue N) (courses : List (Course P)) → Restores g plans bytes net
+  pub lives_are_restored : (spelled : (p : P) → IsSpelling (g.fits p) (g.spell p) (g.read p)) (plans : List (PlanValue N)) (bytes : List ℕ) (net : NetValue N) (courses : List (Course P)) → Restores g plans bytes net
       → map (graph_of g.spec) plans ≡ nodes_in courses → IsSnapshot g courses bytes → AllZip (IsOnCourse g) courses net.lives
-  restored_lives spelled plans bytes net courses r gs snap =
+  lives_are_restored spelled plans bytes net courses r gs snap =
       let specs = specs-at plans r.loaded net.lives courses snap.acts r.are.same r.lives gs snap.are in
       let same : in_lives g.state r.loaded ≡ states_all snap.acts = one_capture spelled (in_lives g.spec plans) (in_lives g.state r.loaded) (states_all snap.acts) bytes r.are.states
       (subst (λ (ps : List P). IsCapture g.fits g.spell ps (states_all snap.acts) bytes) specs snap.capture) in
       lives-at plans r.loaded net.lives courses snap.acts r.are.same r.lives gs snap.are same
+
+  -- ---- lives that are captured
+
+  abbrev state-of : CellParts N → S
+  state-of c = g.state c.core.node
+
+  -- what was captured of the cells of lives is in order what they are in, where each was so
+  states-both : (R : CellParts N → S → Type 0) (cells others : List (CellParts N)) (states : List S) → AllZip R (cells ++ others) states
+      → ((j : ℕ) (c : CellParts N) (s : S) → slice_get cells j ≡ Some c → R c s → s ≡ state-of c)
+      → ((rest : List S) → AllZip R others rest → rest ≡ map state-of others) → states ≡ map state-of (cells ++ others)
+  states-both R [] others states z at rest = rest states z
+  states-both R (c ∷ cells) others [] z at rest = absurd z
+  states-both R (c ∷ cells) others (s ∷ states) z at rest =
+      ap (λ (x : S). x ∷ states) (at 0 c s refl z.0) ∙ ap (λ (ss : List S). state-of c ∷ ss) (states-both R cells others states z.1 (λ j. at (suc j)) rest)
+
+  -- the states that a relation tells of the cells of a life are those in which they are
+  abbrev TellsStates : (CellParts N → S → Type 0) → NumberedLife N → Type 0
+  TellsStates R l = (j : ℕ) (c : CellParts N) (s : S) → slice_get l.life.cells j ≡ Some c → R c s → s ≡ state-of c
+
+  states-were : (R : CellParts N → S → Type 0) (lives : List (NumberedLife N)) (states : List S) → AllZip R (cells_in lives) states → Each (TellsStates R) lives → states ≡ map state-of (cells_in lives)
+  states-were R [] [] z at = refl
+  states-were R [] (s ∷ states) z at = absurd z
+  states-were R (l ∷ lives) states z at = states-both R l.life.cells (cells_in lives) states z at.0 (λ rest w. states-were R lives rest w at.1)
+
+  acts-states : (cells : List (CellParts N)) → map (λ a. a.state) (acts_of g cells) ≡ map state-of cells
+  acts-states [] = refl
+  acts-states (c ∷ cells) = ap (λ (ss : List S). state-of c ∷ ss) (acts-states cells)
+
+  acts-specs : (cells : List (CellParts N)) → map (λ a. a.spec) (acts_of g cells) ≡ map (λ c. g.spec c.core.node) cells
+  acts-specs [] = refl
+  acts-specs (c ∷ cells) = ap (λ (ps : List P). g.spec c.core.node ∷ ps) (acts-specs cells)
+
+  abbrev acts-in : List (NumberedLife N) → List (List (Active P S))
+  acts-in lives = map (λ l. acts_of g l.life.cells) lives
+
+  all-states : (lives : List (NumberedLife N)) → states_all (acts-in lives) ≡ map state-of (cells_in lives)
+  all-states [] = refl
+  all-states (l ∷ lives) =
+      ap (λ (ss : List S). ss ++ states_all (acts-in lives)) (acts-states l.life.cells)
+      ∙ ap (λ (ss : List S). map state-of l.life.cells ++ ss) (all-states lives)
+      ∙ sym (map-append state-of l.life.cells (cells_in lives))
+
+  all-specs : (lives : List (NumberedLife N)) → specs_all (acts-in lives) ≡ map (λ c. g.spec c.core.node) (cells_in lives)
+  all-specs [] = refl
+  all-specs (l ∷ lives) =
+      ap (λ (ps : List P). ps ++ specs_all (acts-in lives)) (acts-specs l.life.cells)
+      ∙ ap (λ (ps : List P). map (λ c. g.spec c.core.node) l.life.cells ++ ps) (all-specs lives)
+      ∙ sym (map-append (λ c. g.spec c.core.node) l.life.cells (cells_in lives))
+
+  acts-where : (courses : List (Course P)) (lives : List (NumberedLife N)) → AllZip (IsOnCourse g) courses lives → AllZip (IsWhere g.answer g.first g.step) courses (acts-in lives)
+  acts-where [] [] z = tt
+  acts-where [] (l ∷ lives) z = absurd z
+  acts-where (c ∷ courses) [] z = absurd z
+  acts-where (c ∷ courses) (l ∷ lives) z = (z.0, acts-where courses lives z.1)
+
+  pub lives_are_captured : (folds : (p : P) (xs : List Input) → (fold (g.step p) (g.first p) xs).given ≡ given (g.answer p) xs)
+      (stamped : (p : P) (before : List Input) (x : Input) → IsStamped (g.life p) (g.number p) x.1.stamp.0 (g.answer p before x))
+      (stamp : ℕ) (points : List PointValue) (upto : Stamp) (marks : List Stamp) (courses : List (Course P)) (bytes : List ℕ) (before stopped : List (NumberedLife N))
+      → stamp < upto.0 → length points ≤ upto.0 → AreMarksOf points upto marks → Each (StandsBehind g stamp) before → AreLoadedWith g (load_messages points upto marks) before stopped → Each IsResting stopped
+      → AllZip (IsOnCourse g) courses stopped → IsCaptureAt g upto (cells_in stopped) bytes → IsSnapshot g courses bytes
+  lives_are_captured folds stamped stamp points upto marks courses bytes before stopped above fits marked stands go quiet on capture =
+      let msgs = load_messages points upto marks in
+      let now = λ (l : NumberedLife N). map (plan_now g msgs) l.life.cells in
+      let then = λ (l : NumberedLife N). plans_of g l.life.cells in
+      let specs = λ (l : NumberedLife N). specs_of g l.life.cells in
+      let closed : IsClosedBy (marks ++ upto ∷ []) msgs = record { barriers = messages_barriers points upto marks fits marked; closed = messages_closed points upto marks } in
+      let rises = messages_rise points upto marks fits in
+      let tells : Each (TellsStates (WasAt g upto)) stopped = each-of (TellsStates (WasAt g upto)) stopped (λ i l at.
+      let b = other_at then now stopped before go.plans i l at in
+      let stand = each-get (StandsBehind g stamp) before i b.x b.at stands in
+      let life = each-get (IsLifeIn g) stopped i l at go.lives in
+      let still = each-get IsResting stopped i l at quiet in
+      λ j c s here was.
+      rested_state g folds stamped msgs marks upto closed rises b.x.life.cells l.life.cells stand.reached (same_at specs specs stopped before go.specs i l b.x at b.at) (sym b.is) life still
+      (none-below (upto.0 - length points) marks upto marked) stamp above stand.passed j c s here was) in
+      let states : capture.states ≡ states_all (acts-in stopped) = states-were (WasAt g upto) stopped capture.states capture.were tells ∙ sym (all-states stopped) in
+      record {
+        acts = acts-in stopped;
+        are = acts-where courses stopped on;
+        capture = subst (λ (ps : List P). IsCapture g.fits g.spell ps (states_all (acts-in stopped)) bytes) (sym (all-specs stopped))
+            (subst (λ (ss : List S). IsCapture g.fits g.spell (map (λ c. g.spec c.core.node) (cells_in stopped)) ss bytes) states capture.capture);
+      }

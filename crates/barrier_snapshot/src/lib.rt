@@ -20,4 +20,4 @@ pub use laws::{
 };
 pub use passing::{has_passed, has_passed_inside};
 pub use restoring::restore;
-pub use snapshots::lives_are_restored;
+pub use snapshots::snapshots_are_whole;
