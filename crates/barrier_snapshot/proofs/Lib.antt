@@ -17,3 +17,4 @@ pub mod AlikeLaws
 pub mod StandLaws
 pub mod StandNetLaws
 pub mod CollectLaws
+pub mod SnapshotLaws

@@ -14,3 +14,5 @@ pub mod Passing
 pub mod Steady
 -- lives that were stopped, and lives that go on
 pub mod Resuming
+-- snapshots of lives on their courses
+pub mod Snapshots

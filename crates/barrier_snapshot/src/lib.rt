@@ -9,6 +9,7 @@ mod laws;
 mod loading;
 mod passing;
 mod restoring;
+mod snapshots;
 
 pub use capturing::capture;
 pub use fault::SnapFault;
@@ -19,3 +20,4 @@ pub use laws::{
 };
 pub use passing::{has_passed, has_passed_inside};
 pub use restoring::restore;
+pub use snapshots::lives_are_restored;

@@ -1,14 +1,15 @@
 -- Texts of effects, one behind the other.
-use Rattle.std.proofs.Common.{◌≡◌, ℕ, ◌+◌, ◌<◌, List, [], ◌∷◌, ◌++◌, Result, Ok, Err, OnOk, drop, get_or, length, take, refl, sym, ap, ◌∙◌, append-nil, append_assoc}
+use Rattle.std.proofs.Common.{◌≡◌, ℕ, ◌+◌, ◌<◌, List, [], ◌∷◌, ◌++◌, Option, drop, get_or, length, take, refl, sym, ap, ◌∙◌, append-nil, append_assoc}
 use Rattle.std.proofs.lemmas.List.{take_more}
 use Rattle.std.proofs.lemmas.List.Concat.{flat_map-append}
-use Rattle.std.specs.List.{flat_map}
+use Rattle.std.specs.List.{AllByRecursion as Each, flat_map, slice_get}
+use Rattle.std.specs.Option.{option_map_or}
 use Rattle.kap_base.specs.declared.items.Effect.{Effect}
 use Rattle.kap_base.specs.declared.items.Event.{Event}
 use Rattle.topic_core.specs.Print.{transition_line}
 use Rattle.topic_core.specs.Topics.{Trans}
 use Rattle.topic_core.specs.declared.transition.Transition.{Transition}
-use Rattle.effect_text.specs.Lines.{effect_lines, event_in, events_of, new_transitions, text_behind}
+use Rattle.effect_text.specs.Lines.{effect_lines, event_in, events_of, new_transitions, task_of, text_behind, what_lines}
 use Rattle.effect_text.specs.declared.names.TaskNames.{TaskNames}
 
 pub text_more : (tasks : List TaskNames) (events : List Event) (xs ys : List Effect) → text_behind tasks events (xs ++ ys) ≡ text_behind tasks events xs ++ text_behind tasks (events ++ events_of xs) ys
@@ -24,6 +25,20 @@ pub text_one_more : (tasks : List TaskNames) (events : List Event) (xs : List Ef
 unfolding text_behind
 text_one_more tasks events xs x =
     text_more tasks events xs (x ∷ []) ∙ ap (λ l. text_behind tasks events xs ++ l) (append-nil (effect_lines tasks (events ++ events_of xs) x))
+
+-- the lines of an effect are those by any names that are the same for its life
+lines_by_names : (some others : List TaskNames) (events : List Event) (e : Effect) → task_of others e.life ≡ task_of some e.life → effect_lines others events e ≡ effect_lines some events e
+lines_by_names some others events e same =
+    ap (λ (task : Option TaskNames). what_lines (option_map_or (λ t. t.id) task []) (option_map_or (λ t. option_map_or (λ name. name) (slice_get t.nodes e.node) []) task []) events e.what) same
+
+-- and so is the text of effects
+pub text_by_names : (some others : List TaskNames) (events : List Event) (effects : List Effect) → Each (λ e. task_of others e.life ≡ task_of some e.life) effects
+    → text_behind others events effects ≡ text_behind some events effects
+unfolding text_behind
+text_by_names some others events [] same = refl
+text_by_names some others events (e ∷ effects) same =
+    ap (λ l. l ++ text_behind others (events ++ event_in e.what) effects) (lines_by_names some others events e same.0)
+    ∙ ap (λ l. effect_lines some events e ++ l) (text_by_names some others (events ++ event_in e.what) effects same.1)
 
 drop_behind : {A : Type 0} (xs ys : List A) → drop (length xs) (xs ++ ys) ≡ ys
 drop_behind [] ys = refl
@@ -41,10 +56,6 @@ line_of_one events e t text more is added =
 -- no new transition has no line
 pub line_of_none : (events : List Event) (e : Event) (text : List ℕ) → Trans (events ++ e ∷ []) ≡ Trans events ++ [] → text ≡ text ++ flat_map transition_line (new_transitions events e)
 line_of_none events e text is = sym (append-nil text) ∙ ap (λ ts. text ++ flat_map transition_line ts) (sym (new_are events e [] is))
-
-pub on_ok : {A E P Q : Type 0} (r : Result A E) → (P → Q) → OnOk r P → OnOk r Q
-on_ok (Ok x) f p = f p
-on_ok (Err e) f p = tt
 
 -- ---- effects, one after the other
 

@@ -4,15 +4,16 @@ ghost use Rattle.std.specs.Prelude.{◌≡◌, ◌++◌, ◌∷◌, [], List, On
 ghost use Rattle.std.specs.List.{flat_map};
 ghost use Rattle.kap_base.specs.declared.items.Event.{Event};
 ghost use Rattle.topic_core.specs.Print.{transition_line};
-ghost use Rattle.topic_core.specs.Topics.{StandsFor};
+ghost use Rattle.topic_core.specs.Topics.{StandsFor, Trans};
+ghost use Rattle.topic_core.specs.declared.transition.Transition.{Transition};
 ghost use Rattle.effect_text.specs.Lines.{effect_lines, event_in, events_of, id_of, new_transitions};
-ghost use Rattle.effect_text.specs.Lines.{node_of, out_line, task_of, text_behind, what_lines};
+ghost use Rattle.effect_text.specs.Lines.{node_of, out_line, task_of, text_behind};
 
 use crate::names::TaskNames;
 use kap_base::{Bytes, Effect, Event, NoMemory, Point, What};
 use line_points::put_line;
 use std::alloc::Global;
-use topic_core::{Topics, print_transition};
+use topic_core::{Topics, Transition, print_transition};
 
 /// The task of a life.
 fn task_of(tasks: &[TaskNames], life: u32) -> Option<&TaskNames>
@@ -57,39 +58,49 @@ fn put_out_line(id: &[u8], node: &[u8], point: &Point, text: &mut Bytes) -> Resu
     text.push(b'\n')
 }
 
-/// Adds the line of the transition that an event makes, where it makes one.
-fn put_event(
+/// Adds the line of the transition that an event makes, where it makes one, and the transition itself.
+fn tell_event(
     alloc: Global,
     topics: &mut Topics,
     event: &Event,
     text: &mut Bytes,
+    told: &mut Vec<Transition>,
 ) -> Result<(), NoMemory>
     ensures lines { (events : List Event) → StandsFor events topics.old → OnOk result
         (text.new ≡ text.old ++ flat_map transition_line (new_transitions events event.now)) }
     ensures topics { (events : List Event) → StandsFor events topics.old → OnOk result
         (StandsFor (events ++ event.now ∷ []) topics.new) }
+    ensures told { (events : List Event) (before : List Transition) → StandsFor events topics.old
+        → Trans events ≡ before ++ told.old.items
+        → OnOk result (Trans (events ++ event.now ∷ []) ≡ before ++ told.new.items) }
 {
     match topics.accept(alloc, event)? {
         Some(transition) => {
             let line = print_transition(alloc, &transition)?;
-            text.append(line.as_slice())
+            text.append(line.as_slice())?;
+            told.push(transition)?;
+            Ok(())
         }
         None => Ok(()),
     }
 }
 
-/// Adds the lines of an effect.
-fn put_effect(
+/// Adds the lines of an effect, and the transition of its event, where that makes one.
+fn tell_effect(
     alloc: Global,
     tasks: &[TaskNames],
     topics: &mut Topics,
     effect: &Effect,
     text: &mut Bytes,
+    told: &mut Vec<Transition>,
 ) -> Result<(), NoMemory>
     ensures lines { (events : List Event) → StandsFor events topics.old → OnOk result
         (text.new ≡ text.old ++ effect_lines tasks.now events effect.now) }
     ensures topics { (events : List Event) → StandsFor events topics.old → OnOk result
         (StandsFor (events ++ event_in effect.now.what) topics.new) }
+    ensures told { (events : List Event) (before : List Transition) → StandsFor events topics.old
+        → Trans events ≡ before ++ told.old.items
+        → OnOk result (Trans (events ++ event_in effect.now.what) ≡ before ++ told.new.items) }
 {
     match &effect.what {
         What::Line(point) => {
@@ -101,13 +112,37 @@ fn put_effect(
                 text,
             )
         }
-        What::Event(event) => put_event(alloc, topics, event.value(), text),
+        What::Event(event) => tell_event(alloc, topics, event.value(), text, told),
     }
 }
 
 /// Adds the text of effects that come behind the events that `topics` has taken, and lets it take theirs: a line
 /// `out ID NODE POINT` for each logged point, with the point in canonical line protocol, and one `alert ..` for each transition, as
-/// `print_transition` has it. After `NoMemory` the text and the topics are any.
+/// `print_transition` has it. The transitions themselves are appended to `told`, which so goes on to be the last transitions of the
+/// events. After `NoMemory` the text, the topics and what was told are any.
+pub fn tell_effects(
+    alloc: Global,
+    tasks: &[TaskNames],
+    topics: &mut Topics,
+    effects: &[Effect],
+    text: &mut Bytes,
+    told: &mut Vec<Transition>,
+) -> Result<(), NoMemory>
+    ensures text { (events : List Event) → StandsFor events topics.old → OnOk result
+        (text.new ≡ text.old ++ text_behind tasks.now events effects.now) }
+    ensures topics { (events : List Event) → StandsFor events topics.old → OnOk result
+        (StandsFor (events ++ events_of effects.now) topics.new) }
+    ensures told { (events : List Event) (before : List Transition) → StandsFor events topics.old
+        → Trans events ≡ before ++ told.old.items
+        → OnOk result (Trans (events ++ events_of effects.now) ≡ before ++ told.new.items) }
+{
+    'putting: for effect in effects {
+        tell_effect(alloc, tasks, topics, effect, text, told)?;
+    }
+    Ok(())
+}
+
+/// Adds the text of effects as `tell_effects` does, for a caller that doesn't want the transitions.
 pub fn put_effects(
     alloc: Global,
     tasks: &[TaskNames],
@@ -120,8 +155,6 @@ pub fn put_effects(
     ensures topics { (events : List Event) → StandsFor events topics.old → OnOk result
         (StandsFor (events ++ events_of effects.now) topics.new) }
 {
-    'putting: for effect in effects {
-        put_effect(alloc, tasks, topics, effect, text)?;
-    }
-    Ok(())
+    let mut told = Vec::new(alloc);
+    tell_effects(alloc, tasks, topics, effects, text, &mut told)
 }

@@ -7,6 +7,6 @@ mod law;
 mod names;
 
 pub use dropped::put_dropped;
-pub use effects::put_effects;
-pub use law::text_goes_on;
+pub use effects::{put_effects, tell_effects};
+pub use law::{text_goes_on, text_has_names_by_life};
 pub use names::TaskNames;

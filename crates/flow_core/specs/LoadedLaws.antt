@@ -27,7 +27,7 @@ use Rattle.flow_life.specs.Streams.{AreStreams, Plan}
 
 -- ---- points with their stamps
 
-from-low : (s t : ℕ) (ps : List PointValue) → s ≤ t → StampsFrom of_item s (stamped_from t ps)
+pub from-low : (s t : ℕ) (ps : List PointValue) → s ≤ t → StampsFrom of_item s (stamped_from t ps)
 from-low s t [] le = tt
 from-low s t (p ∷ ps) le = (le, from-low s (t + 1) ps (omega arith))
 
@@ -35,11 +35,11 @@ from-high : (t : ℕ) (ps : List PointValue) (n : ℕ) → t + length ps ≤ n +
 from-high t [] n le = tt
 from-high t (p ∷ ps) n le = (omega arith, from-high (t + 1) ps n (omega arith))
 
-from-rises : (t : ℕ) (ps : List PointValue) → StampsRise of_item (stamped_from t ps)
+pub from-rises : (t : ℕ) (ps : List PointValue) → StampsRise of_item (stamped_from t ps)
 from-rises t [] = tt
 from-rises t (p ∷ ps) = (from-low t (t + 1) ps (omega arith), from-rises (t + 1) ps)
 
-from-append : (t : ℕ) (ps qs : List PointValue) → stamped_from t (ps ++ qs) ≡ stamped_from t ps ++ stamped_from (t + length ps) qs
+pub from-append : (t : ℕ) (ps qs : List PointValue) → stamped_from t (ps ++ qs) ≡ stamped_from t ps ++ stamped_from (t + length ps) qs
 from-append t [] qs = let same : t ≡ t + 0 = omega arith in ap (λ (k : ℕ). stamped_from k qs) same
 from-append t (p ∷ ps) qs =
     let same : t + 1 + length ps ≡ t + suc (length ps) = omega arith in

@@ -25,10 +25,10 @@ before-append a [] ys h k = k
 before-append a (x ∷ xs) ys h k = (h.0, before-append a xs ys h.1 k)
 
 -- each of the first goes before each of the second
-abbrev AllBefore : List Effect → List Effect → Type 0
+abbrev pub AllBefore : List Effect → List Effect → Type 0
 AllBefore xs ys = Each (λ x. GoesBefore x ys) xs
 
-rising-append : (xs ys : List Effect) → AreRising xs → AreRising ys → AllBefore xs ys → AreRising (xs ++ ys)
+pub rising-append : (xs ys : List Effect) → AreRising xs → AreRising ys → AllBefore xs ys → AreRising (xs ++ ys)
 rising-append [] ys a b h = b
 rising-append (x ∷ xs) ys a b h = (before-append x xs ys a.0 h.0, rising-append xs ys a.1 b h.1)
 
@@ -44,7 +44,7 @@ each-with P s (x ∷ xs) h = elim (x.stamp.0 == s) as (λ b. Each P (cond b (x �
   | false ↦ each-with P s xs h.1
 ]
 
-each-map : (P Q : Effect → Type 0) (xs : List Effect) → ((x : Effect) → P x → Q x) → Each P xs → Each Q xs
+pub each-map : (P Q : Effect → Type 0) (xs : List Effect) → ((x : Effect) → P x → Q x) → Each P xs → Each Q xs
 each-map P Q [] f h = tt
 each-map P Q (x ∷ xs) f h = (f x h.0, each-map P Q xs f h.1)
 
@@ -62,15 +62,15 @@ have-stamp s (x ∷ xs) = elim (x.stamp.0 == s) as (λ b. (x.stamp.0 == s) ≡ b
 -- ---- where effects stand
 
 -- an effect of this life and this node
-abbrev IsOf : ℕ → ℕ → Effect → Type 0
+abbrev pub IsOf : ℕ → ℕ → Effect → Type 0
 IsOf which node e = (e.life ≡ which) × (e.node ≡ node)
 
 -- one with this stamp, of this life and of a node from here on
-abbrev IsFrom : ℕ → ℕ → ℕ → Effect → Type 0
+abbrev pub IsFrom : ℕ → ℕ → ℕ → Effect → Type 0
 IsFrom s which low e = (e.stamp.0 ≡ s) × (e.life ≡ which) × (low ≤ e.node)
 
 -- one with this stamp, of a life from here on
-abbrev IsLater : ℕ → ℕ → Effect → Type 0
+abbrev pub IsLater : ℕ → ℕ → Effect → Type 0
 IsLater s low e = (e.stamp.0 ≡ s) × (low ≤ e.life)
 
 of-given : (which node s : ℕ) (effects : List Effect) → AreEffectsOf which node s effects → Each (IsOf which node) effects
@@ -120,13 +120,13 @@ node-before s which node (e ∷ xs) rest are from = elim (e.stamp.0 == s) as (λ
   | false ↦ λ t. node-before s which node xs rest are.1 from
 ] refl
 
-life-before : (s which : ℕ) (xs rest : List Effect) → Each (IsFrom s which 0) xs → Each (IsLater s (which + 1)) rest → AllBefore xs rest
+pub life-before : (s which : ℕ) (xs rest : List Effect) → Each (IsFrom s which 0) xs → Each (IsLater s (which + 1)) rest → AllBefore xs rest
 life-before s which [] rest from later = tt
 life-before s which (e ∷ xs) rest from later =
     let at : e.life ≡ which = from.0.1 in
     (before-each (IsLater s (which + 1)) e rest (λ y f. let low : which + 1 ≤ y.life = f.1 in (inr (from.0.0 ∙ sym f.0, inl (omega arith)), tt)) later, life-before s which xs rest from.1 later)
 
-stamp-before : (n : ℕ) (xs rest : List Effect) → Each (λ e. e.stamp.0 ≤ n) xs → Each (λ e. e.stamp.0 ≡ suc n) rest → AllBefore xs rest
+pub stamp-before : (n : ℕ) (xs rest : List Effect) → Each (λ e. e.stamp.0 ≤ n) xs → Each (λ e. e.stamp.0 ≡ suc n) rest → AllBefore xs rest
 stamp-before n [] rest low high = tt
 stamp-before n (e ∷ xs) rest low high =
     let le : e.stamp.0 ≤ n = low.0 in
@@ -145,7 +145,7 @@ module _ {P : Type 0} (answer : P → Answer) (life number : P → ℕ) (stamped
       let xs = merged n (lists_of points (outs_of earlier) d.parents) in
       numbers d.spec xs (ordered_rises xs (merged_ordered n (lists_of points (outs_of earlier) d.parents)))
 
-  nodes-from : (s which node low n : ℕ) (points : List Item) (earlier : List Given) (nodes : List (Placed P)) → low ≤ node → NodesNumbered life number which node nodes → Each (IsFrom s which low) (node_effects_with s (gives_behind answer n points earlier nodes))
+  pub nodes-from : (s which node low n : ℕ) (points : List Item) (earlier : List Given) (nodes : List (Placed P)) → low ≤ node → NodesNumbered life number which node nodes → Each (IsFrom s which low) (node_effects_with s (gives_behind answer n points earlier nodes))
   nodes-from s which node low n points earlier [] le are = tt
   nodes-from s which node low n points earlier (d ∷ nodes) le are =
       let g = node_gives answer n points earlier d in
@@ -153,7 +153,7 @@ module _ {P : Type 0} (answer : P → Answer) (life number : P → ℕ) (stamped
       (from-of s which node low g.effects le (gives-of which node n points earlier d are.0.0 are.0.1))
       (nodes-from s which (node + 1) low n points (earlier ++ g ∷ []) nodes (omega arith) are.1)
 
-  nodes-rising : (s which node n : ℕ) (points : List Item) (earlier : List Given) (nodes : List (Placed P)) → NodesNumbered life number which node nodes → AreRising (node_effects_with s (gives_behind answer n points earlier nodes))
+  pub nodes-rising : (s which node n : ℕ) (points : List Item) (earlier : List Given) (nodes : List (Placed P)) → NodesNumbered life number which node nodes → AreRising (node_effects_with s (gives_behind answer n points earlier nodes))
   nodes-rising s which node n points earlier [] are = tt
   nodes-rising s which node n points earlier (d ∷ nodes) are =
       let g = node_gives answer n points earlier d in

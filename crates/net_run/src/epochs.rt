@@ -1,19 +1,22 @@
 //! One epoch through a net.
 
-ghost use Rattle.std.specs.Prelude.{◌≡◌, ◌+◌, ◌++◌, [], false, IfOk, IsFalse, IsTrue, List, OnOk, length, map};
-ghost use Rattle.std.specs.List.{AllByRecursion as Each};
+ghost use Rattle.std.specs.Prelude.{◌≡◌, ℕ, ◌+◌, ◌++◌, ◌≤◌, [], false, true, IfOk, IsFalse, IsTrue, List, OnErr, OnOk, length, map};
+ghost use Rattle.std.specs.List.{AllByRecursion as Each, AllZip};
 ghost use Rattle.kap_base.specs.Points.{PointValue};
+ghost use Rattle.task_run.specs.Courses.{Course, end_of, grown, later_effects};
 ghost use Rattle.task_run.specs.Lives.{effects_of};
 ghost use Rattle.task_run.specs.Plans.{PlanValue, graph_of};
-ghost use Rattle.flow_core.specs.Nets.{IsResting};
+ghost use Rattle.flow_core.specs.Gathering.{LivesRise};
+ghost use Rattle.flow_core.specs.Nets.{HasStreamsCarried, IsLifeIn, IsResting, numbers_of};
+ghost use Rattle.net_epochs.specs.Epochs.{IsOnCourse, StandsAt, nodes_in};
 ghost use Rattle.net_run.specs.Epochs.{Stands};
 
 use crate::moving::{Way, move_to_rest};
 use crate::numbering::NumberingNode;
-use flow_core::Net;
+use flow_core::{Net, keep_lives};
 use kap_base::{NoMemory, Point, Shared, Stamp};
 use kap_io::Gate;
-use node_core::Effects;
+use node_core::{Effects, Node};
 use std::alloc::Global;
 use std::thread::Threads;
 
@@ -30,9 +33,62 @@ fn held_points(alloc: Global, points: Vec<Shared<Point>>, hold: bool) -> Vec<Sha
     }
 }
 
-/// Loads an epoch of points, with stamps that end at `upto`, and answers its effects at rest, and the points, where they are held.
+/// What the lives of a net keep, of which no call failed.
+fn keep_net<N: Node>(net: &Net<N>)
+    requires { net.now.spent ≡ false }
+    ensures { Each (IsLifeIn N.Node) net.now.lives }
+{
+    keep_lives(net.lives());
+}
+
+/// Loads an epoch of points, with stamps that end at `upto`, into a net whose lives may have begun behind different points, has it
+/// come to rest in this way, and answers the effects with these stamps: by stamp, then by life, then by node, then in the order in
+/// which the node gives them. At rest each edge has carried its stream, and each life is where its points have brought it. After
+/// NoMemory the net is spent.
+pub fn run_epoch<N: NumberingNode + Send, R: Threads + Sync, G: Gate + Sync>(
+    alloc: Global,
+    net: &mut Net<N>,
+    points: &[Shared<Point>],
+    upto: Stamp,
+    way: &Way<'_, R, G>,
+) -> Result<Effects, NoMemory>
+    requires unspent { net.old.spent ≡ false }
+    requires rest { Each IsResting net.old.lives }
+    requires none { net.old.gathered ≡ [] }
+    requires upto { net.old.last.0 + length points.now ≤ upto.0 }
+    ensures rest { OnOk result (Each IsResting net.new.lives) }
+    ensures streams { OnOk result (Each (HasStreamsCarried N.Node) net.new.lives) }
+    ensures none { OnOk result (net.new.gathered ≡ []) }
+    ensures numbers { OnOk result (numbers_of net.new.lives ≡ numbers_of net.old.lives) }
+    ensures last { OnOk result (net.new.last ≡ upto) }
+    ensures unspent { OnOk result (net.new.spent ≡ false) }
+    ensures spent { OnErr result (net.new.spent ≡ true) }
+    ensures lives { OnOk result ((n : ℕ) (courses : List (Course N.Spec))
+        → upto.0 ≡ n + length points.now → Each (λ c. end_of c ≡ n) courses
+        → AllZip (IsOnCourse N.Node) courses net.old.lives
+        → AllZip (IsOnCourse N.Node) (map (grown points.now) courses) net.new.lives) }
+    ensures stands { OnOk result ((n : ℕ) (courses : List (Course N.Spec))
+        → upto.0 ≡ n + length points.now → StandsAt N.Node n courses net.old
+        → StandsAt N.Node (n + length points.now) (map (grown points.now) courses) net.new) }
+    ensures effects { IfOk result (λ effects. (n low : ℕ) (courses : List (Course N.Spec))
+        → upto.0 ≡ n + length points.now → Each (λ c. end_of c ≡ n) courses
+        → AllZip (IsOnCourse N.Node) courses net.old.lives
+        → LivesRise N.life N.number low (nodes_in courses)
+        → effects ≡ later_effects N.answer n (length points.now)
+        (map (grown points.now) courses)) }
+{
+    net.load(alloc, points, upto, &[])?;
+    move_to_rest(alloc, net, points.len(), way)?;
+    // At rest each edge has carried its stream, and the net has gathered all that its nodes give for the points.
+    let _rests = net.at_rest();
+    keep_net(net);
+    Ok(net.collect(alloc))
+}
+
+/// Loads an epoch of points into lives that all began at the first one, with stamps that end at `upto`, and answers its effects at
+/// rest, and the points, where they are held. Else they are let go before the net moves, so that whoever has them has them alone.
 /// After NoMemory the net can't go on.
-pub(crate) fn run_epoch<N: NumberingNode + Send, R: Threads + Sync, G: Gate + Sync>(
+pub(crate) fn run_held<N: NumberingNode + Send, R: Threads + Sync, G: Gate + Sync>(
     alloc: Global,
     net: &mut Net<N>,
     points: Vec<Shared<Point>>,

@@ -8,6 +8,7 @@ mod numbering;
 mod runs;
 mod trail;
 
+pub use epochs::run_epoch;
 pub use moving::{Way, Workers};
 pub use numbering::NumberingNode;
 pub use runs::NetRun;

@@ -6,7 +6,7 @@ ghost use Rattle.kap_base.specs.Points.{PointValue};
 ghost use Rattle.kap_base.specs.declared.items.Effect.{Effect};
 ghost use Rattle.task_run.specs.Graphs.{Placed};
 ghost use Rattle.flow_core.specs.Nets.{IsResting, numbers_of, plans_in, specs_in};
-ghost use Rattle.flow_core.specs.Ran.{HasRun};
+ghost use Rattle.flow_core.specs.Ran.{GathersAll, HasRun, effects_in};
 ghost use Rattle.node_workers.specs.declared.TheConstants.{WORKER_LIMIT};
 
 use flow_core::Net;
@@ -77,6 +77,8 @@ pub(crate) fn move_to_rest<N: Node + Send, R: Threads + Sync, G: Gate + Sync>(
         (points : List PointValue) (collected : List Effect)
         → HasRun N.Node lives points collected net.old
         → HasRun N.Node lives points collected net.new) }
+    ensures gathers { OnOk result (GathersAll (effects_in net.old.lives) (effects_in net.new.lives)
+        net.old.gathered net.new.gathered) }
     ensures last { OnOk result (net.new.last ≡ net.old.last) }
     ensures unspent { OnOk result (net.new.spent ≡ false) }
     ensures spent { OnErr result (net.new.spent ≡ true) }

@@ -1,6 +1,6 @@
 //! Lives that run through a net.
 
-use crate::epochs::run_epoch;
+use crate::epochs::run_held;
 use crate::moving::Way;
 use crate::numbering::NumberingNode;
 use crate::trail::Trail;
@@ -114,7 +114,7 @@ impl<N: NumberingNode + Send> NetRun<N> {
             return Err(NoMemory);
         };
         let trail = Trail::More(Snapshot::of(&self.trail), Snapshot::of(&points));
-        let ran = run_epoch(alloc, &mut self.net, points, hold, Stamp(upto), way)?;
+        let ran = run_held(alloc, &mut self.net, points, hold, Stamp(upto), way)?;
         self.trail = trail;
         self.given = upto;
         self.spent = false;

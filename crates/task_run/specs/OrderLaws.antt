@@ -160,7 +160,8 @@ merged-from (suc n) lists =
     rw (flat_map-append, append-nil) (from_append of_input 1 (merged n lists) _ (merged-from n lists) (are-from-all 1 (suc n) 0 _ (omega arith) (from-ports (suc n) 0 0 lists (omega arith))))
 
 module _ (life node : ℕ) (answer : Answer) (stamped : (before : List Input) (x : Input) → IsStamped life node x.1.stamp.0 (answer before x)) where
-  given-stream : (n : ℕ) (lists : List (List Item)) → GivenStream n (given answer (merged n lists))
+  -- what a node gives for merged lists
+  pub given-stream : (n : ℕ) (lists : List (List Item)) → GivenStream n (given answer (merged n lists))
   given-stream n lists =
       let from = after_from life node answer stamped 1 [] (merged n lists) (merged-from n lists) in
       let up_to = after_up_to life node answer stamped n [] (merged n lists) (merged_up_to n lists) in

@@ -19,11 +19,13 @@ use Rattle.task_run.specs.MoreLaws.{Source, Part, AreParts, olds, wholes, parts_
 abbrev pub stamped_point : ℕ → PointValue → Item
 stamped_point stamp p = record { stamp = record { 0 = stamp }; body = bodies.Point p }
 
-from-more : (s : ℕ) (ps : List PointValue) (p : PointValue) (n : ℕ) → n ≡ s + length ps → stamped_from s (ps ++ p ∷ []) ≡ stamped_from s ps ++ stamped_point n p ∷ []
+-- one point more with the next stamp
+pub from-more : (s : ℕ) (ps : List PointValue) (p : PointValue) (n : ℕ) → n ≡ s + length ps → stamped_from s (ps ++ p ∷ []) ≡ stamped_from s ps ++ stamped_point n p ∷ []
 from-more s [] p n e = let same : s ≡ n = omega arith in ap (λ (t : ℕ). stamped_point t p ∷ []) same
 from-more s (q ∷ ps) p n e = ap (λ (l : List Item). stamped_point s q ∷ l) (from-more (s + 1) ps p n (omega arith))
 
-from-up_to : (s : ℕ) (ps : List PointValue) (n : ℕ) → s + length ps ≤ n + 1 → StampsUpTo of_item n (stamped_from s ps)
+-- none of the points has a higher stamp
+pub from-up_to : (s : ℕ) (ps : List PointValue) (n : ℕ) → s + length ps ≤ n + 1 → StampsUpTo of_item n (stamped_from s ps)
 from-up_to s [] n le = tt
 from-up_to s (q ∷ ps) n le = ((omega arith), from-up_to (s + 1) ps n (omega arith))
 
@@ -40,7 +42,7 @@ source_of ps p = record {
   };
 }
 
-length-more : {A : Type 0} (xs : List A) (x : A) → length (xs ++ x ∷ []) ≡ suc (length xs)
+pub length-more : {A : Type 0} (xs : List A) (x : A) → length (xs ++ x ∷ []) ≡ suc (length xs)
 length-more [] x = refl
 length-more (y ∷ xs) x = ap suc (length-more xs x)
 

@@ -1,9 +1,11 @@
 //! Laws of whole lists, and no code.
 
-ghost use Rattle.std.specs.Prelude.{◌≡◌, ℕ, suc, ◌<◌, List, [], ◌∷◌, ◌++◌, flat_map, length, slice_index_or};
+ghost use Rattle.std.specs.List.{AllZip};
+ghost use Rattle.std.specs.Prelude.{◌≡◌, ℕ, suc, ◌+◌, ◌<◌, List, [], ◌∷◌, ◌++◌, flat_map, length, slice_index_or};
 ghost use Rattle.kap_base.specs.Points.{PointValue};
 ghost use Rattle.kap_base.specs.declared.items.Item.{Item};
 ghost use Rattle.node_core.specs.Meaning.{nothing};
+ghost use Rattle.task_run.specs.Courses.{Course, Goes, begun, course_effects, from_first, later_effects};
 ghost use Rattle.task_run.specs.EffectOrder.{AreInOrder, LivesNumbered};
 ghost use Rattle.task_run.specs.Graphs.{Placed, graph_gives, node_gives, outs_of, stamped_from};
 ghost use Rattle.task_run.specs.Lives.{effects_of, effects_with, life_effects_with};
@@ -52,4 +54,20 @@ pub fn effects_go_on<N: Node>()
         (λ s. effects_with s (slice_index_or (graph_gives N.answer points nodes) i nothing).effects)
         (stamps (length points))
         ≡ (slice_index_or (graph_gives N.answer points nodes) i nothing).effects }
+{}
+
+/// Behind so many points lives have given effects. Where more points come, which the open lives see, the effects of all are those
+/// before, and then those with the later stamps. A life that begins has given none. And the effects of lives that all begin at the
+/// first point are those of the lives on all points.
+pub fn courses_go_on<N: Node>()
+    ensures more { (n : ℕ) (new : List PointValue) (before after : List (Course N.Spec))
+        → AllZip (Goes n new) before after
+        → course_effects N.answer (n + length new) after
+        ≡ course_effects N.answer n before ++ later_effects N.answer n (length new) after }
+    ensures begin { (n base : ℕ) (nodes : List (Placed N.Spec)) (courses : List (Course N.Spec))
+        → course_effects N.answer n (courses ++ begun base nodes ∷ [])
+        ≡ course_effects N.answer n courses }
+    ensures first { (lives : List (List (Placed N.Spec))) (points : List PointValue)
+        → course_effects N.answer (length points) (from_first points lives)
+        ≡ effects_of N.answer lives points }
 {}

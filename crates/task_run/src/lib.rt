@@ -12,7 +12,7 @@ mod tasks;
 mod trail;
 
 use kap_base::ItemList;
-pub use laws::{effects_go_on, merging_orders, nodes_give_by_parents};
+pub use laws::{courses_go_on, effects_go_on, merging_orders, nodes_give_by_parents};
 pub use plans::LifePlan;
 pub use tasks::TaskRun;
 

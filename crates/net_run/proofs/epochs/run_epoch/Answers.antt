@@ -1,45 +1,45 @@
-use Rattle.std.proofs.Common.{◌≡◌, ◌+◌, ◌++◌, List, inr, length, sym, ap, subst, ◌∙◌, arith, length-append}
-use Rattle.std.specs.List.{AllByRecursion as Each}
-use Rattle.kap_base.specs.declared.items.Effect.{Effect}
+use Rattle.std.proofs.Common.{[], ap, length, map, subst, sym, ◌∙◌}
+use Rattle.std.specs.List.{AllByRecursion as Each, AllZip}
+use Rattle.std.proofs.lemmas.List.Sorted.{IsPermutation-sym, IsPermutation-trans}
 use Rattle.kap_base.specs.declared.items.Stamp.{Stamp}
-use Rattle.flow_core.specs.Nets.{IsResting}
-use Rattle.flow_core.specs.Ran.{HasRun}
-use Rattle.net_run.proofs.EpochLaws.{all_are, is_so, loaded, nodes_in, whole_of}
+use Rattle.task_run.specs.Courses.{grown, later_effects}
+use Rattle.flow_core.specs.Gathering.{LivesRise}
+use Rattle.flow_core.specs.GatheredLaws.{gathered_loaded, gathered_moved}
+use Rattle.flow_core.specs.Nets.{IsResting, numbers_of}
+use Rattle.flow_core.specs.Ran.{effects_in}
+use Rattle.flow_core.specs.UniqueLaws.{sorted_is}
+use Rattle.net_epochs.specs.Epochs.{IsOnCourse}
+use Rattle.net_epochs.proofs.NetLaws.{grown_nodes, net_went}
+use Rattle.net_epochs.proofs.RiseLaws.{later_rise}
+use Rattle.net_epochs.proofs.StandLaws.{net_ran}
 use Rattle.net_run.proofs.epochs.run_epoch.Goals as goal
 
-pub returns-clause-effects : goal.returns-clause-effects
-returns-clause-effects g c = λ plans before s.
-    let node = g.N.Node in
-    let new = c.args.points.items in
-    let nodes = nodes_in node plans in
-    let old = whole_of node plans before in
-    let first = loaded node plans before new c.args.upto c.args.net.now c.load.new.self s.come s.last c.requires.upto (rw c.deref.ensures.value at (c.in_ok-load.ensures.first plans)) (rw c.deref.ensures.value at (c.in_ok-load.ensures.again nodes before old)) in
-    let then = c.in_ok-move_to_rest.ensures.runs nodes (before ++ new) old first in
-    let rests = is_so c.at_rest-rests.result (λ no. c.at_rest-rests.ensures.busy no c.in_ok-move_to_rest.ensures.rest) in
-    c.collect.ensures.whole (g.met.N.NumberingNode g.world.𝓛 g.world.𝓜 g.world.𝓡 (λ s x. x, λ x. x, λ x. x, λ x. x)).numbers nodes before new 1 old s.rise s.all (c.at_rest-rests.ensures.all rests nodes (before ++ new) old then)
+pub returns-clause-lives : goal.returns-clause-lives
+returns-clause-lives g c = λ n courses last ends z.
+    subst (λ ls. AllZip (IsOnCourse g.N.Node) (map (grown c.args.points.now) courses) ls) (sym c.collect.ensures.lives)
+    (net_went g.N.Node g.met.N.Node.stamped g.met.N.Node.folds n c.args.points.now c.args.upto [] courses c.args.net.now.lives c.move_to_rest.new.net.lives last tt ends z
+    (c.in_ok-move_to_rest.ensures.plans ∙ c.in_ok-load.ensures.plans) (c.in_ok-move_to_rest.ensures.specs ∙ c.in_ok-load.ensures.specs) c.keep_net.ensures c.in_ok-move_to_rest.ensures.rest).stands
 
 pub returns-clause-stands : goal.returns-clause-stands
-returns-clause-stands g c = λ plans before s.
-    let node = g.N.Node in
-    let new = c.args.points.items in
-    let nodes = nodes_in node plans in
-    let old = whole_of node plans before in
-    let whole = whole_of node plans (before ++ new) in
-    let first = loaded node plans before new c.args.upto c.args.net.now c.load.new.self s.come s.last c.requires.upto (rw c.deref.ensures.value at (c.in_ok-load.ensures.first plans)) (rw c.deref.ensures.value at (c.in_ok-load.ensures.again nodes before old)) in
-    let then = c.in_ok-move_to_rest.ensures.runs nodes (before ++ new) old first in
-    let rests = is_so c.at_rest-rests.result (λ no. c.at_rest-rests.ensures.busy no c.in_ok-move_to_rest.ensures.rest) in
-    let all = c.at_rest-rests.ensures.all rests nodes (before ++ new) old then in
-    let given : whole ≡ old ++ c.collect.result = returns-clause-effects g c plans before s in
-    let last = ap (λ (t : Stamp). t.0) (c.collect.ensures.last ∙ c.in_ok-move_to_rest.ensures.last ∙ c.in_ok-load.ensures.last) in
-    let long : length (before ++ new) ≡ length before + length new = length-append before new in
-    let was = s.last in
-    let upto = c.requires.upto in
-    record {
-      unspent = c.collect.ensures.spent ∙ c.in_ok-move_to_rest.ensures.unspent;
-      last = omega (arith, last, long, was, upto);
-      rest = subst (Each IsResting) (sym c.collect.ensures.lives) c.in_ok-move_to_rest.ensures.rest;
-      come = inr (subst (λ (es : List Effect). HasRun node nodes (before ++ new) es c.collect.new.self) (sym given) (c.collect.ensures.runs nodes (before ++ new) old then));
-      none = c.collect.ensures.none;
-      all = all_are node nodes (before ++ new) old whole _ c.collect.result all c.collect.ensures.same given;
-      rise = s.rise;
-    }
+returns-clause-stands g c = λ n courses last s.
+    net_ran g.N.Node n c.args.points.now courses c.args.net.now c.collect.new.self s
+    (subst (Each IsResting) (sym c.collect.ensures.lives) c.in_ok-move_to_rest.ensures.rest)
+    c.collect.ensures.none
+    (ap numbers_of c.collect.ensures.lives ∙ c.in_ok-move_to_rest.ensures.numbers ∙ c.in_ok-load.ensures.numbers)
+    (ap (λ (t : Stamp). t.0) (c.collect.ensures.last ∙ c.in_ok-move_to_rest.ensures.last ∙ c.in_ok-load.ensures.last) ∙ last)
+    (c.collect.ensures.spent ∙ c.in_ok-move_to_rest.ensures.unspent)
+    (returns-clause-lives g c n courses last s.ends s.lives)
+
+pub returns-clause-effects : goal.returns-clause-effects
+returns-clause-effects g c = λ n low courses last ends z rise.
+    let numbers = (g.met.N.NumberingNode g.world.𝓛 g.world.𝓜 g.world.𝓡 (λ s x. x, λ x. x, λ x. x, λ x. x)).numbers in
+    let new = c.args.points.now in
+    let due = later_effects g.N.Node.answer n (length new) (map (grown new) courses) in
+    let did = (net_went g.N.Node g.met.N.Node.stamped g.met.N.Node.folds n new c.args.upto [] courses c.args.net.now.lives c.move_to_rest.new.net.lives last tt ends z
+    (c.in_ok-move_to_rest.ensures.plans ∙ c.in_ok-load.ensures.plans) (c.in_ok-move_to_rest.ensures.specs ∙ c.in_ok-load.ensures.specs) c.keep_net.ensures c.in_ok-move_to_rest.ensures.rest).did in
+    let loaded = gathered_loaded c.args.net.now c.load.new.self c.requires.none c.in_ok-load.ensures.gathers in
+    let moved = gathered_moved [] c.load.new.self c.move_to_rest.new.net loaded c.in_ok-move_to_rest.ensures.gathers in
+    sorted_is due c.collect.result (later_rise g.N.Node.answer g.N.Node.life g.N.Node.number g.met.N.Node.stamped numbers n (length new) low (map (grown new) courses) (subst (λ ns. LivesRise g.N.Node.life g.N.Node.number low ns) (sym (grown_nodes new courses)) rise))
+    (IsPermutation-trans due (effects_in c.move_to_rest.new.net.lives) c.collect.result (IsPermutation-sym (effects_in c.move_to_rest.new.net.lives) due did)
+    (IsPermutation-trans (effects_in c.move_to_rest.new.net.lives) c.move_to_rest.new.net.gathered c.collect.result moved c.collect.ensures.same))
+    c.collect.ensures.sorted

@@ -15,5 +15,5 @@ invariant_of-self-2 g c = λ e.
     let stood = (c.self.invariant fresh).1 in
     let all : points_of c.of.result.value ++ c.of-2.result.value.items ≡ before ++ c.args.points.items = rw (c.of.ensures, c.of-2.ensures) refl in (
       ap (λ (t : Stamp). t.0) (sym c.in_ok-ran.ensures.last),
-      subst (λ (ps : List PointValue). Stands node plans ps c.run_epoch.new.net) (sym all) (c.in_ok-ran.ensures.stands plans before stood),
+      subst (λ (ps : List PointValue). Stands node plans ps c.run_held.new.net) (sym all) (c.in_ok-ran.ensures.stands plans before stood),
     )

@@ -1,0 +1,140 @@
+-- Lives that are restored from a snapshot are where their points have brought them.
+use Rattle.std.proofs.Common.{◌≡◌, ℕ, suc, ◌+◌, ◌-◌, List, [], ◌∷◌, ◌++◌, drop, length, map, zip, refl, sym, ap, subst, ◌∙◌, arith}
+use Rattle.std.specs.List.{AllZip}
+use Rattle.state_code.specs.Spelling.{IsSpelling}
+use Rattle.node_core.specs.declared.node.Node.{Ghosts}
+use Rattle.flow_cells.specs.declared.parts.CellParts.{CellParts}
+use Rattle.flow_life.specs.Making.{nodes_of}
+use Rattle.task_run.specs.Active.{Active, placed}
+use Rattle.task_run.specs.Courses.{Course, IsWhere}
+use Rattle.task_run.specs.Graphs.{Placed}
+use Rattle.task_run.specs.Plans.{PlanValue, graph_of}
+use Rattle.flow_core.specs.LifeLoads.{acts_of}
+use Rattle.flow_core.specs.Making.{AreLivesOf, IsLifeOf}
+use Rattle.flow_core.specs.Nets.{NetValue, NumberedLife}
+use Rattle.flow_core.specs.PortLaws.{head_same}
+use Rattle.net_epochs.specs.Epochs.{IsOnCourse, nodes_in}
+use Rattle.net_epochs.proofs.StandLaws.{graph_behind}
+use Rattle.barrier_snapshot.specs.Captures.{IsCapture, in_lives}
+use Rattle.barrier_snapshot.specs.Loading.{IsSameLife}
+use Rattle.barrier_snapshot.specs.Restoring.{Restores}
+use Rattle.barrier_snapshot.specs.Snapshots.{IsSnapshot, specs_all, states_all}
+use Rattle.barrier_snapshot.proofs.ReadLaws.{one_capture}
+
+-- ---- lists
+
+split-first : {A : Type 0} (xs us ys vs : List A) → length xs ≡ length us → xs ++ ys ≡ us ++ vs → xs ≡ us
+split-first [] [] ys vs n e = refl
+split-first [] (u ∷ us) ys vs n e = absurd (omega (arith, n))
+split-first (x ∷ xs) [] ys vs n e = absurd (omega (arith, n))
+split-first (x ∷ xs) (u ∷ us) ys vs n e =
+    let first : x ≡ u = head_same x u (xs ++ ys) (us ++ vs) e in
+    let rest : xs ++ ys ≡ us ++ vs = ap (drop 1) e in
+    ap (λ z. z ∷ xs) first ∙ ap (λ l. u ∷ l) (split-first xs us ys vs (omega (arith, n)) rest)
+
+split-rest : {A : Type 0} (xs us ys vs : List A) → length xs ≡ length us → xs ++ ys ≡ us ++ vs → ys ≡ vs
+split-rest [] [] ys vs n e = e
+split-rest [] (u ∷ us) ys vs n e = absurd (omega (arith, n))
+split-rest (x ∷ xs) [] ys vs n e = absurd (omega (arith, n))
+split-rest (x ∷ xs) (u ∷ us) ys vs n e = split-rest xs us ys vs (omega (arith, n)) (ap (drop 1) e)
+
+length-map : {A B : Type 0} (f : A → B) (xs : List A) → length (map f xs) ≡ length xs
+length-map f [] = refl
+length-map f (x ∷ xs) = ap suc (length-map f xs)
+
+none-more : {A : Type 0} (x : A) (xs : List A) → x ∷ xs ≡ [] → ⊥
+none-more x xs e = absurd cc
+
+module _ {P S : Type 0} where
+  acts-same : (xs ys : List (Active P S)) → map placed xs ≡ map placed ys → map (λ a. a.state) xs ≡ map (λ a. a.state) ys → xs ≡ ys
+  acts-same [] [] p s = refl
+  acts-same [] (y ∷ ys) p s = absurd (none-more (placed y) (map placed ys) (sym p))
+  acts-same (x ∷ xs) [] p s = absurd (none-more (placed x) (map placed xs) p)
+  acts-same (x ∷ xs) (y ∷ ys) p s =
+      let one : placed x ≡ placed y = head_same (placed x) (placed y) (map placed xs) (map placed ys) p in
+      let state : x.state ≡ y.state = head_same x.state y.state (map (λ a. a.state) xs) (map (λ a. a.state) ys) s in
+      ap (λ (d : Placed P). record { spec = d.spec; state = x.state; parents = d.parents } ∷ xs) one
+      ∙ ap (λ (t : S). record { spec = y.spec; state = t; parents = y.parents } ∷ xs) state
+      ∙ ap (λ (l : List (Active P S)). y ∷ l) (acts-same xs ys (ap (drop 1) p) (ap (drop 1) s))
+
+  specs-placed : (xs : List (Active P S)) → map (λ a. a.spec) xs ≡ map (λ d. d.spec) (map placed xs)
+  specs-placed [] = refl
+  specs-placed (x ∷ xs) = ap (λ (l : List P). x.spec ∷ l) (specs-placed xs)
+
+module _ {N P S : Type 0} (g : Ghosts N P S) where
+  -- ---- lives that are restored
+
+  states-cells : (cells : List (CellParts N)) → map (λ a. a.state) (acts_of g cells) ≡ map g.state (nodes_of cells)
+  states-cells [] = refl
+  states-cells (c ∷ cells) = ap (λ (l : List S). g.state c.core.node ∷ l) (states-cells cells)
+
+  abbrev graph-of : List N → List (List ℕ) → List (Placed P)
+  graph-of ns ps = map (λ p. record { spec = g.spec p.0; parents = p.1 }) (zip ns ps)
+
+  graph-same : (ns ms : List N) (ps : List (List ℕ)) → map g.spec ms ≡ map g.spec ns → graph-of ms ps ≡ graph-of ns ps
+  graph-same [] [] ps e = refl
+  graph-same [] (m ∷ ms) ps e = absurd (none-more (g.spec m) (map g.spec ms) e)
+  graph-same (n ∷ ns) [] ps e = absurd (none-more (g.spec n) (map g.spec ns) (sym e))
+  graph-same (n ∷ ns) (m ∷ ms) [] e = refl
+  graph-same (n ∷ ns) (m ∷ ms) (p ∷ ps) e =
+      ap (λ (q : P). record { spec = q; parents = p } ∷ graph-of ms ps) (head_same (g.spec m) (g.spec n) (map g.spec ms) (map g.spec ns) e)
+      ∙ ap (λ (ds : List (Placed P)). record { spec = g.spec n; parents = p } ∷ ds) (graph-same ns ms ps (ap (drop 1) e))
+
+  graph-loaded : (plan other : PlanValue N) → IsSameLife g.spec plan other → graph_of g.spec other ≡ graph_of g.spec plan
+  graph-loaded plan other same = ap (graph-of other.nodes) same.parents ∙ graph-same plan.nodes other.nodes plan.parents same.specs
+
+  specs-cells : (cells : List (CellParts N)) → map (λ a. a.spec) (acts_of g cells) ≡ map g.spec (nodes_of cells)
+  specs-cells [] = refl
+  specs-cells (c ∷ cells) = ap (λ (l : List P). g.spec c.core.node ∷ l) (specs-cells cells)
+
+  -- a life of a plan that was loaded has the nodes of a course
+  placed-are : (p o : PlanValue N) (l : NumberedLife N) (c : Course P) (ax : List (Active P S)) → IsSameLife g.spec p o → IsLifeOf g o l → graph_of g.spec p ≡ c.nodes → IsWhere g.answer g.first g.step c ax → map placed (acts_of g l.life.cells) ≡ map placed ax
+  placed-are p o l c ax same is graph wh = graph_behind g 0 o l is ∙ graph-loaded p o same ∙ graph ∙ sym wh.nodes
+
+  specs-at : (plans loaded : List (PlanValue N)) (lives : List (NumberedLife N)) (courses : List (Course P)) (acts : List (List (Active P S))) → AllZip (IsSameLife g.spec) plans loaded → AreLivesOf g loaded lives → map (graph_of g.spec) plans ≡ nodes_in courses
+      → AllZip (IsWhere g.answer g.first g.step) courses acts → specs_all acts ≡ in_lives g.spec plans
+  specs-at [] [] [] [] [] same are gs wh = refl
+  specs-at [] [] [] [] (a ∷ acts) same are gs wh = absurd wh
+  specs-at [] [] [] (c ∷ courses) acts same are gs wh = absurd (none-more c.nodes (nodes_in courses) (sym gs))
+  specs-at [] [] (l ∷ lives) courses acts same are gs wh = absurd are
+  specs-at [] (o ∷ loaded) lives courses acts same are gs wh = absurd same
+  specs-at (p ∷ plans) [] lives courses acts same are gs wh = absurd same
+  specs-at (p ∷ plans) (o ∷ loaded) [] courses acts same are gs wh = absurd are
+  specs-at (p ∷ plans) (o ∷ loaded) (l ∷ lives) [] acts same are gs wh = absurd (none-more (graph_of g.spec p) (map (graph_of g.spec) plans) gs)
+  specs-at (p ∷ plans) (o ∷ loaded) (l ∷ lives) (c ∷ courses) [] same are gs wh = absurd wh
+  specs-at (p ∷ plans) (o ∷ loaded) (l ∷ lives) (c ∷ courses) (ax ∷ acts) same are gs wh =
+      let cells = l.life.cells in
+      let placed_is = placed-are p o l c ax same.0 are.0 (head_same (graph_of g.spec p) c.nodes (map (graph_of g.spec) plans) (nodes_in courses) gs) wh.0 in
+      let one : map (λ a. a.spec) ax ≡ map g.spec p.nodes =
+      specs-placed ax ∙ ap (map (λ (d : Placed P). d.spec)) (sym placed_is) ∙ sym (specs-placed (acts_of g cells)) ∙ specs-cells cells ∙ ap (map g.spec) are.0.nodes ∙ same.0.specs in
+      rw (one, specs-at plans loaded lives courses acts same.1 are.1 (ap (drop 1) gs) wh.1) refl
+
+  lives-at : (plans loaded : List (PlanValue N)) (lives : List (NumberedLife N)) (courses : List (Course P)) (acts : List (List (Active P S))) → AllZip (IsSameLife g.spec) plans loaded → AreLivesOf g loaded lives → map (graph_of g.spec) plans ≡ nodes_in courses
+      → AllZip (IsWhere g.answer g.first g.step) courses acts → in_lives g.state loaded ≡ states_all acts → AllZip (IsOnCourse g) courses lives
+  lives-at [] [] [] [] [] same are gs wh e = tt
+  lives-at [] [] [] [] (a ∷ acts) same are gs wh e = absurd wh
+  lives-at [] [] [] (c ∷ courses) acts same are gs wh e = absurd (none-more c.nodes (nodes_in courses) (sym gs))
+  lives-at [] [] (l ∷ lives) courses acts same are gs wh e = absurd are
+  lives-at [] (o ∷ loaded) lives courses acts same are gs wh e = absurd same
+  lives-at (p ∷ plans) [] lives courses acts same are gs wh e = absurd same
+  lives-at (p ∷ plans) (o ∷ loaded) [] courses acts same are gs wh e = absurd are
+  lives-at (p ∷ plans) (o ∷ loaded) (l ∷ lives) [] acts same are gs wh e = absurd (none-more (graph_of g.spec p) (map (graph_of g.spec) plans) gs)
+  lives-at (p ∷ plans) (o ∷ loaded) (l ∷ lives) (c ∷ courses) [] same are gs wh e = absurd wh
+  lives-at (p ∷ plans) (o ∷ loaded) (l ∷ lives) (c ∷ courses) (ax ∷ acts) same are gs wh e =
+      let cells = l.life.cells in
+      let placed_is = placed-are p o l c ax same.0 are.0 (head_same (graph_of g.spec p) c.nodes (map (graph_of g.spec) plans) (nodes_in courses) gs) wh.0 in
+      let states_are : map (λ a. a.state) (acts_of g cells) ≡ map g.state o.nodes = states-cells cells ∙ ap (map g.state) are.0.nodes in
+      let long : length (map g.state o.nodes) ≡ length (map (λ a. a.state) ax) =
+      ap (λ (ss : List S). length ss) (sym states_are) ∙ length-map (λ a. a.state) (acts_of g cells) ∙ sym (length-map placed (acts_of g cells)) ∙ ap (λ (ds : List (Placed P)). length ds) placed_is ∙ length-map placed ax ∙ sym (length-map (λ a. a.state) ax) in
+      let states : map g.state o.nodes ≡ map (λ a. a.state) ax = split-first (map g.state o.nodes) (map (λ a. a.state) ax) (in_lives g.state loaded) (states_all acts) long e in
+      let others : in_lives g.state loaded ≡ states_all acts = split-rest (map g.state o.nodes) (map (λ a. a.state) ax) (in_lives g.state loaded) (states_all acts) long e in
+      let acts_are : acts_of g cells ≡ ax = acts-same (acts_of g cells) ax placed_is (states_are ∙ states) in
+      (subst (IsWhere g.answer g.first g.step c) (sym acts_are) wh.0, lives-at plans loaded lives courses acts same.1 are.1 (ap (drop 1) gs) wh.1 others)
+
+  pub restored_lives : (spelled : (p : P) → IsSpelling (g.fits p) (g.spell p) (g.read p)) (plans : List (PlanValue N)) (bytes : List ℕ) (net : NetValue N) (courses : List (Course P)) → Restores g plans bytes net
+      → map (graph_of g.spec) plans ≡ nodes_in courses → IsSnapshot g courses bytes → AllZip (IsOnCourse g) courses net.lives
+  restored_lives spelled plans bytes net courses r gs snap =
+      let specs = specs-at plans r.loaded net.lives courses snap.acts r.are.same r.lives gs snap.are in
+      let same : in_lives g.state r.loaded ≡ states_all snap.acts = one_capture spelled (in_lives g.spec plans) (in_lives g.state r.loaded) (states_all snap.acts) bytes r.are.states
+      (subst (λ (ps : List P). IsCapture g.fits g.spell ps (states_all snap.acts) bytes) specs snap.capture) in
+      lives-at plans r.loaded net.lives courses snap.acts r.are.same r.lives gs snap.are same

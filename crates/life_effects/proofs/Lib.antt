@@ -1,0 +1,4 @@
+pub mod FitLaws
+pub mod EffectLaws
+pub mod EndLaws
+pub mod TransLaws

@@ -1,0 +1,6 @@
+//! What the lives of a store have done: definitions and laws, and no code.
+#![tactic(auto)]
+
+mod laws;
+
+pub use laws::{open_lives_come_and_go, stores_go_on, transitions_go_on};

@@ -1,0 +1,4 @@
+pub mod LifeLaws
+pub mod NetLaws
+pub mod RiseLaws
+pub mod StandLaws

@@ -1,0 +1,12 @@
+use Rattle.net_epochs.proofs.NetLaws.{net_went}
+use Rattle.net_epochs.proofs.RiseLaws.{later_rise}
+use Rattle.net_epochs.proofs.laws.epochs_go_on.Goals as goal
+
+pub returns-clause-stands : goal.returns-clause-stands
+returns-clause-stands g c = λ n new upto marks courses before after last are ends z plans specs kept rest. (net_went g.N.Node g.met.N.Node.stamped g.met.N.Node.folds n new upto marks courses before after last are ends z plans specs kept rest).stands
+
+pub returns-clause-did : goal.returns-clause-did
+returns-clause-did g c = λ n new upto marks courses before after last are ends z plans specs kept rest. (net_went g.N.Node g.met.N.Node.stamped g.met.N.Node.folds n new upto marks courses before after last are ends z plans specs kept rest).did
+
+pub returns-clause-rises : goal.returns-clause-rises
+returns-clause-rises g c = λ n k low courses numbers are. later_rise g.N.Node.answer g.N.Node.life g.N.Node.number g.met.N.Node.stamped numbers n k low courses are

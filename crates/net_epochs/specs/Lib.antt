@@ -1,0 +1,2 @@
+-- lives of nets on their courses
+pub mod Epochs
