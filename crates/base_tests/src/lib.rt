@@ -4,8 +4,6 @@
 #[cfg(test)]
 mod devices;
 #[cfg(test)]
-mod limits;
-#[cfg(test)]
 mod locks;
 #[cfg(test)]
 mod sends;

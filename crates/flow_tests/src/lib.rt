@@ -11,6 +11,8 @@ mod changes;
 #[cfg(test)]
 mod diamonds;
 #[cfg(test)]
+mod ends;
+#[cfg(test)]
 mod nets;
 #[cfg(test)]
 mod plans;

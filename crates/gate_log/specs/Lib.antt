@@ -7,4 +7,3 @@ pub mod Readers
 pub mod Unique
 pub mod Head
 pub mod Quietly
-pub mod Beside

@@ -4,7 +4,5 @@ pub mod Found
 pub mod Latest
 pub mod Made
 pub mod PieceLaws
-pub mod PointLaws
 pub mod Reading
 pub mod Rereading
-pub mod TransitionLaws

@@ -6,6 +6,3 @@ pub mod Making
 pub mod Stored
 pub mod Snapshots
 pub mod Pieces
-pub mod Quietly
-pub mod Behind
-pub mod Points
