@@ -17,8 +17,9 @@ use Rattle.net_run.proofs.epochs.run_epoch.Goals as goal
 
 pub returns-clause-lives : goal.returns-clause-lives
 returns-clause-lives g c = λ n courses last ends z.
+    let met = g.met.N.Node g.world.𝓛 g.world.𝓜 g.world.𝓡 (λ s x. x, λ x. x, λ x. x, λ x. x) in
     subst (λ ls. AllZip (IsOnCourse g.N.Node) (map (grown c.args.points.now) courses) ls) (sym c.collect.ensures.lives)
-    (net_went g.N.Node g.met.N.Node.stamped g.met.N.Node.folds n c.args.points.now c.args.upto [] courses c.args.net.now.lives c.move_to_rest.new.net.lives last tt ends z
+    (net_went g.N.Node met.stamped met.folds n c.args.points.now c.args.upto [] courses c.args.net.now.lives c.move_to_rest.new.net.lives last tt ends z
     (c.in_ok-move_to_rest.ensures.goes.plans ∙ c.in_ok-load.ensures.plans) (c.in_ok-move_to_rest.ensures.goes.specs ∙ c.in_ok-load.ensures.specs) c.in_ok-move_to_rest.ensures.whole.kept c.in_ok-move_to_rest.ensures.rest).stands
 
 pub returns-clause-stands : goal.returns-clause-stands
@@ -33,14 +34,15 @@ returns-clause-stands g c = λ n courses last s.
 
 pub returns-clause-effects : goal.returns-clause-effects
 returns-clause-effects g c = λ n low courses last ends z rise.
+    let met = g.met.N.Node g.world.𝓛 g.world.𝓜 g.world.𝓡 (λ s x. x, λ x. x, λ x. x, λ x. x) in
     let numbers = (g.met.N.NumberingNode g.world.𝓛 g.world.𝓜 g.world.𝓡 (λ s x. x, λ x. x, λ x. x, λ x. x)).numbers in
     let new = c.args.points.now in
     let due = later_effects g.N.Node.answer n (length new) (map (grown new) courses) in
-    let did = (net_went g.N.Node g.met.N.Node.stamped g.met.N.Node.folds n new c.args.upto [] courses c.args.net.now.lives c.move_to_rest.new.net.lives last tt ends z
+    let did = (net_went g.N.Node met.stamped met.folds n new c.args.upto [] courses c.args.net.now.lives c.move_to_rest.new.net.lives last tt ends z
     (c.in_ok-move_to_rest.ensures.goes.plans ∙ c.in_ok-load.ensures.plans) (c.in_ok-move_to_rest.ensures.goes.specs ∙ c.in_ok-load.ensures.specs) c.in_ok-move_to_rest.ensures.whole.kept c.in_ok-move_to_rest.ensures.rest).did in
     let loaded = gathered_loaded c.args.net.now c.load.new.self c.requires.none c.in_ok-load.ensures.gathers in
     let moved = gathered_moved [] c.load.new.self c.move_to_rest.new.net loaded c.in_ok-move_to_rest.ensures.goes.gathers in
-    sorted_is due c.collect.result (later_rise g.N.Node.answer g.N.Node.life g.N.Node.number g.met.N.Node.stamped numbers n (length new) low (map (grown new) courses) (subst (λ ns. LivesRise g.N.Node.life g.N.Node.number low ns) (sym (grown_nodes new courses)) rise))
+    sorted_is due c.collect.result (later_rise g.N.Node.answer g.N.Node.life g.N.Node.number met.stamped numbers n (length new) low (map (grown new) courses) (subst (λ ns. LivesRise g.N.Node.life g.N.Node.number low ns) (sym (grown_nodes new courses)) rise))
     (IsPermutation-trans due (effects_in c.move_to_rest.new.net.lives) c.collect.result (IsPermutation-sym (effects_in c.move_to_rest.new.net.lives) due did)
     (IsPermutation-trans (effects_in c.move_to_rest.new.net.lives) c.move_to_rest.new.net.gathered c.collect.result moved c.collect.ensures.same))
     c.collect.ensures.sorted
