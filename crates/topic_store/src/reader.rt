@@ -42,9 +42,13 @@ pub struct PointsReader {
 }
 
 impl Model for PointsReader {
+    ghost use Rattle.std.specs.Coded.{codes};
+    ghost use Rattle.kap_base.specs.Maps.{key_map_code};
     ghost use Rattle.topic_store.specs.Points.{PointsState, state_of};
 
     ghost Value = { PointsState };
+
+    ghost coded = { Prim.hlevel (codes, key_map_code) };
 
     ghost view = { λ r. state_of r.ahead };
 }
