@@ -1,9 +1,9 @@
-//! Tests of what no text shows: files in a folder, clocks, and values that go to another thread.
+//! Tests of the crates of values and of their bytes: what no clause says.
 #![tactic(auto)]
 
 #[cfg(test)]
-mod devices;
+mod codes;
 #[cfg(test)]
-mod locks;
+mod topics;
 #[cfg(test)]
-mod sends;
+mod values;
