@@ -1,4 +1,6 @@
-use Rattle.std.proofs.Common.{rules}
+use Rattle.std.proofs.Common.{◌∙◌, rules, sym}
+use Rattle.std.proofs.lemmas.Bool.{eqb-true}
+use Rattle.std.proofs.lemmas.List.{nil_from_length}
 use Rattle.effect_text.specs.Lines.{events_of}
 use Rattle.task_run.specs.Lives.{effects_of}
 use Rattle.kap_server.proofs.PaceLaws.{paces_none, paces_on}
@@ -35,4 +37,5 @@ returns-clause-pace g c =
 pub returns-then-is_empty-clause-pace : goal.returns-then-is_empty-clause-pace
 returns-then-is_empty-clause-pace g c =
     let node = g.N.Node in
-    paces_none node.answer c.args.self.now.run.lives c.args.self.now.run.points c.args.points.items c.args.text.now c.args.self.now.pace.limit (search rules) c.args.self.now.pace.some
+    let none = nil_from_length c.args.points.items (sym c.args.points.ok.0 ∙ eqb-true _ _ (sym c.if-is_empty.ensures)) in
+    paces_none node.answer c.args.self.now.run.lives c.args.self.now.run.points c.args.points.items c.args.text.now c.args.self.now.pace.limit none c.args.self.now.pace.some
