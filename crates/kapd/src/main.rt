@@ -81,8 +81,7 @@ The exit status, and what standard error says behind `kapd: `:
 BYTE is a byte of the script, counted from 0; of a Graph fault it is the node's number. Exists: an id was given to two
 tasks, or init found a store's head in the folder. Not a store: the folder has no head of a store (head at 0: no init
 was done there, or the head was damaged, and init would then empty the logs), or a log is none at this offset. Disk
-fault: PLACE isn't there, is no folder, or its files can't be read or written; or another process uses the store,
-which a second line says then: `kapd: another process uses the store`.
+fault: PLACE isn't there, is no folder, or its files can't be read or written.
 
   kapd --help        prints this
   kapd --version     prints the version
@@ -133,47 +132,27 @@ fn run_on<
     )
 }
 
-/// How a command ended.
-#[derive(Drop)]
-struct Outcome {
-    status: Status,
-    /// Whether another process uses the store.
-    in_use: bool,
-}
-
-/// What ended with this status, and has nothing to do with other processes.
-fn alone(status: Status) -> Outcome {
-    Outcome {
-        status,
-        in_use: false,
-    }
-}
-
 /// Does what the words behind the place ask for.
 fn run<
     R: Files + time::Clock + Threads + Sync + Input + Print + AllocGlobal,
     N: ScriptNode + NumberingNode + Send,
->(rt: &R, place: Place<'_>, words: &[String]) -> Outcome
+>(rt: &R, place: Place<'_>, words: &[String]) -> Status
 where
     R::File: FileExt + LockFile,
 {
     let alloc = rt.alloc();
     match place {
-        Place::Memory => alone(run_on::<R, MemDisk, N>(
+        Place::Memory => run_on::<R, MemDisk, N>(
             rt,
             words,
             &mut MemDisk::new(alloc, Vec::new(alloc)),
-        )),
+        ),
         Place::Folder(path) => match PathBuf::from_str(alloc, path) {
             Ok(folder) => {
                 let mut disk = DirDisk::new(alloc, rt, folder);
-                let status = run_on::<R, _, N>(rt, words, &mut disk);
-                Outcome {
-                    status,
-                    in_use: disk.is_in_use(),
-                }
+                run_on::<R, _, N>(rt, words, &mut disk)
             }
-            Err(_) => alone(Status::NoMemory),
+            Err(_) => Status::NoMemory,
         },
     }
 }
@@ -189,20 +168,20 @@ fn show<R: Print>(rt: &R, text: &str) -> Status {
 fn answer<
     R: Env + Files + time::Clock + Threads + Sync + Input + Print + AllocGlobal,
     N: ScriptNode + NumberingNode + Send,
->(rt: &R) -> Outcome
+>(rt: &R) -> Status
 where
     R::File: FileExt + LockFile,
 {
     let words = match words_of(rt) {
         Ok(words) => words,
-        Err(status) => return alone(status),
+        Err(status) => return status,
     };
     match words.as_slice() {
-        [word] if word.as_str() == "--help" => alone(show(rt, HELP)),
-        [word] if word.as_str() == "--version" => alone(show(rt, VERSION)),
+        [word] if word.as_str() == "--help" => show(rt, HELP),
+        [word] if word.as_str() == "--version" => show(rt, VERSION),
         _ => match place_in(&words) {
             Some((place, rest)) => run::<R, N>(rt, place, rest),
-            None => alone(Status::Usage),
+            None => Status::Usage,
         },
     }
 }
@@ -218,19 +197,10 @@ fn tell<R: Eprint + AllocGlobal>(rt: &R, status: &Status) -> io::Result<()> {
     }
 }
 
-/// Says behind a disk fault that another process uses the store, where one does.
-fn tell_use<R: Eprint>(rt: &R, outcome: &Outcome) -> io::Result<()> {
-    if outcome.in_use && outcome.status == Status::DiskFault {
-        eprintln!(rt; "kapd: another process uses the store")?;
-    }
-    Ok(())
-}
-
 fn main(rt: HostRuntime) -> ExitCode {
-    let outcome = answer::<HostRuntime, AnyNode>(&rt);
-    if outcome.status != Status::Ok {
-        let _ = tell(&rt, &outcome.status);
-        let _ = tell_use(&rt, &outcome);
+    let status = answer::<HostRuntime, AnyNode>(&rt);
+    if status != Status::Ok {
+        let _ = tell(&rt, &status);
     }
-    ExitCode::from(outcome.status.number())
+    ExitCode::from(status.number())
 }
