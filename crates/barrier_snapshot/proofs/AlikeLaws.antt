@@ -17,11 +17,11 @@ use Rattle.flow_life.specs.Graphs.{HasStreams}
 use Rattle.flow_life.specs.Lives.{IsLife}
 use Rattle.flow_life.specs.Loads.{own_of, plan_now}
 use Rattle.flow_life.specs.Nodes.{specs_of}
-use Rattle.flow_life.specs.PlaceLaws.{cell-of_in, each-get, found-same}
+use Rattle.flow_life.proofs.PlaceLaws.{cell-of_in, each-get, found-same}
 use Rattle.flow_life.specs.Places.{in_of}
-use Rattle.flow_life.specs.RestLaws.{carries_streams}
+use Rattle.flow_life.proofs.RestLaws.{carries_streams}
 use Rattle.flow_life.specs.Steps.{AreQuiet}
-use Rattle.flow_life.specs.StreamLaws.{beside, get-map}
+use Rattle.flow_life.proofs.StreamLaws.{beside, get-map}
 use Rattle.flow_life.specs.Streams.{AreStreams, IsStream, Plan, StandsAt, plan_of, plans_of, run_from, streams_into}
 use Rattle.flow_life.specs.Wired.{parents_of}
 use Rattle.flow_core.specs.LifeLoads.{effects_since}

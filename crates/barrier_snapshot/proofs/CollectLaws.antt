@@ -9,7 +9,7 @@ use Rattle.flow_core.specs.LifeLoads.{effects_since}
 use Rattle.flow_core.specs.Nets.{NetValue, NumberedLife}
 use Rattle.flow_core.specs.Ran.{HasGathered, effects_in, together}
 use Rattle.flow_core.specs.Sorting.{AreRising, AreSorted, GoesBefore}
-use Rattle.flow_core.specs.UniqueLaws.{sorted_is}
+use Rattle.flow_core.proofs.UniqueLaws.{sorted_is}
 use Rattle.barrier_snapshot.specs.Resuming.{DidTheRestOf, DidTheSame, effects_behind}
 
 -- ---- some of them, in any order

@@ -7,13 +7,13 @@ use Rattle.kap_base.specs.declared.items.Stamp.{Stamp}
 use Rattle.node_core.specs.declared.node.Node.{Ghosts}
 use Rattle.node_core.specs.Meaning.{Input, Move}
 use Rattle.merge_node.specs.Merge.{Entry}
-use Rattle.merge_node.specs.BufferLaws.{merges-same}
+use Rattle.merge_node.proofs.BufferLaws.{merges-same}
 use Rattle.flow_cells.specs.declared.parts.CellParts.{CellParts}
 use Rattle.flow_cells.specs.HandledLaws.{run-append}
 use Rattle.flow_cells.specs.Kept.{IsGiven, Keeps, run_of}
 use Rattle.flow_cells.specs.Promises.{run_effects, run_state}
 use Rattle.flow_cells.specs.Runs.{Run, begun, run}
-use Rattle.flow_core.specs.RunLaws.{run_said}
+use Rattle.flow_core.proofs.RunLaws.{run_said}
 use Rattle.barrier_snapshot.specs.Barriers.{WasAt}
 use Rattle.barrier_snapshot.specs.GoingOn.{HasGoneOn, run_on}
 

@@ -6,11 +6,11 @@ use Rattle.kap_base.specs.declared.items.Msg.TheVariants as messages
 use Rattle.kap_base.specs.declared.items.Stamp.{Stamp}
 use Rattle.merge_node.specs.Merge.{AreClosed, AreMergeable, AreOrdered, Entry, IsClosed, Lists, RisesFrom, barriers}
 use Rattle.merge_node.specs.Buffers.{Merges, next}
-use Rattle.merge_node.specs.BufferLaws.{Ahead, join, merges-ahead, merges-join, merges-length, merges-same}
-use Rattle.merge_node.specs.CallLaws.{AreEmpty, merges-whole}
-use Rattle.merge_node.specs.ClosingLaws.{AllClosedBy, EntriesClosed, IsClosedBy, entry_barriers, merged-closed}
-use Rattle.merge_node.specs.OrderLaws.{merge_ordered}
-use Rattle.flow_core.specs.MessageLaws.{barriers-append}
+use Rattle.merge_node.proofs.BufferLaws.{Ahead, join, merges-ahead, merges-join, merges-length, merges-same}
+use Rattle.merge_node.proofs.CallLaws.{AreEmpty, merges-whole}
+use Rattle.merge_node.proofs.ClosingLaws.{AllClosedBy, EntriesClosed, IsClosedBy, entry_barriers, merged-closed}
+use Rattle.merge_node.proofs.OrderLaws.{merge_ordered}
+use Rattle.flow_core.proofs.MessageLaws.{barriers-append}
 use Rattle.flow_life.specs.GraphLaws.{merge-all}
 
 -- ---- one list

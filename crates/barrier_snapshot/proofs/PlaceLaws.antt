@@ -2,8 +2,8 @@
 use Rattle.std.proofs.Common.{◌≡◌, ℕ, zero, suc, List, [], ◌∷◌, ◌++◌, length, map, Some, refl, ap, subst, ◌∙◌, arith}
 use Rattle.std.specs.Prelude.{slice_get}
 use Rattle.std.specs.List.{AllZip}
-use Rattle.flow_life.specs.PlaceLaws.{found-same}
-use Rattle.flow_life.specs.StreamLaws.{get-map}
+use Rattle.flow_life.proofs.PlaceLaws.{found-same}
+use Rattle.flow_life.proofs.StreamLaws.{get-map}
 
 -- what a value at a place was made of
 pub record MadeOf {A B : Type 0} (f : A → B) (xs : List A) (j : ℕ) (y : B) : Type 0 where

@@ -5,14 +5,14 @@ use Rattle.node_core.specs.declared.node.Node.{Ghosts}
 use Rattle.node_core.specs.Cut.{IsStamped}
 use Rattle.node_core.specs.Meaning.{Given, Input, Move, fold, given, given_after}
 use Rattle.merge_node.specs.Merge.{AreOrdered, Entry, RisesFrom}
-use Rattle.merge_node.specs.RankLaws.{AllAbove}
+use Rattle.merge_node.proofs.RankLaws.{AllAbove}
 use Rattle.flow_cells.specs.Promises.{run_effects, run_state}
 use Rattle.flow_cells.specs.Runs.{begun, inputs, run}
 use Rattle.task_run.specs.GivenLaws.{after_from, after_up_to}
 use Rattle.task_run.specs.MoreLaws.{fold-append}
 use Rattle.task_run.specs.Stamps.{StampsFrom, StampsUpTo, of_effect, of_input}
 use Rattle.flow_life.specs.Streams.{Plan, run_from}
-use Rattle.flow_core.specs.RunLaws.{given_behind, run_said, said_rises}
+use Rattle.flow_core.proofs.RunLaws.{given_behind, run_said, said_rises}
 use Rattle.barrier_snapshot.specs.Resuming.{IsReached}
 
 above-zero : (es : List Entry) → AllAbove 0 es

@@ -9,8 +9,8 @@ use Rattle.kap_base.specs.declared.items.Stamp.{Stamp}
 use Rattle.node_core.specs.declared.node.Node.{Ghosts}
 use Rattle.node_core.specs.Cut.{IsStamped}
 use Rattle.node_core.specs.Meaning.{Input, fold, given}
-use Rattle.merge_node.specs.BufferLaws.{merges-same}
-use Rattle.merge_node.specs.ClosingLaws.{EntriesClosed, entry_barriers}
+use Rattle.merge_node.proofs.BufferLaws.{merges-same}
+use Rattle.merge_node.proofs.ClosingLaws.{EntriesClosed, entry_barriers}
 use Rattle.merge_node.specs.Merge.{AreOrdered, Entry, RisesFrom}
 use Rattle.edge_queue.specs.Edges.{received}
 use Rattle.flow_cells.specs.declared.parts.CellParts.{CellParts}
@@ -23,11 +23,11 @@ use Rattle.flow_life.specs.Lives.{IsLife}
 use Rattle.flow_life.specs.Loads.{own_of, plan_now}
 use Rattle.flow_life.specs.Making.{passed_of}
 use Rattle.flow_life.specs.Nodes.{specs_of}
-use Rattle.flow_life.specs.PlaceLaws.{cell-of_in, each-get, found-same, get-within}
+use Rattle.flow_life.proofs.PlaceLaws.{cell-of_in, each-get, found-same, get-within}
 use Rattle.flow_life.specs.Places.{in_of}
-use Rattle.flow_life.specs.RestLaws.{carries_streams}
+use Rattle.flow_life.proofs.RestLaws.{carries_streams}
 use Rattle.flow_life.specs.Steps.{AreQuiet}
-use Rattle.flow_life.specs.StreamLaws.{beside, get-map, handled_prefix}
+use Rattle.flow_life.proofs.StreamLaws.{beside, get-map, handled_prefix}
 use Rattle.flow_life.specs.Streams.{AreStreams, IsStream, Plan, StandsAt, plan_of, plans_of, run_from}
 use Rattle.flow_life.specs.Wired.{parents_of}
 use Rattle.task_run.specs.Stamps.{StampsUpTo, of_input}

@@ -15,8 +15,8 @@ use Rattle.flow_cells.specs.declared.parts.CellParts.{CellParts}
 use Rattle.flow_life.specs.Loads.{plan_now}
 use Rattle.flow_life.specs.Making.{nodes_of}
 use Rattle.flow_life.specs.Nodes.{specs_of}
-use Rattle.flow_life.specs.PlaceLaws.{each-get, found-same}
-use Rattle.flow_life.specs.StreamLaws.{beside}
+use Rattle.flow_life.proofs.PlaceLaws.{each-get, found-same}
+use Rattle.flow_life.proofs.StreamLaws.{beside}
 use Rattle.flow_life.specs.Streams.{plans_of}
 use Rattle.flow_life.specs.Wired.{parents_of}
 use Rattle.flow_core.specs.LifeLoads.{effects_since}

@@ -9,12 +9,12 @@ use Rattle.state_code.specs.Spelling.{IsSpelling}
 use Rattle.node_core.specs.declared.node.Node.{Ghosts}
 use Rattle.node_core.specs.Cut.{IsStamped}
 use Rattle.node_core.specs.Meaning.{Input, fold, given}
-use Rattle.merge_node.specs.ClosingLaws.{IsClosedBy}
+use Rattle.merge_node.proofs.ClosingLaws.{IsClosedBy}
 use Rattle.flow_cells.specs.declared.parts.CellParts.{CellParts}
 use Rattle.flow_life.specs.Loads.{plan_now}
 use Rattle.flow_life.specs.Making.{nodes_of}
 use Rattle.flow_life.specs.Nodes.{specs_of}
-use Rattle.flow_life.specs.PlaceLaws.{each-get, each-of}
+use Rattle.flow_life.proofs.PlaceLaws.{each-get, each-of}
 use Rattle.flow_life.specs.Streams.{plans_of}
 use Rattle.task_run.specs.Active.{Active, placed}
 use Rattle.task_run.specs.Courses.{Course, IsWhere}
@@ -22,10 +22,10 @@ use Rattle.task_run.specs.Graphs.{Placed}
 use Rattle.task_run.specs.Plans.{PlanValue, graph_of}
 use Rattle.flow_core.specs.LifeLoads.{acts_of}
 use Rattle.flow_core.specs.Making.{AreLivesOf, IsLifeOf}
-use Rattle.flow_core.specs.MessageLaws.{messages_barriers, messages_closed, messages_rise}
+use Rattle.flow_core.proofs.MessageLaws.{messages_barriers, messages_closed, messages_rise}
 use Rattle.flow_core.specs.Messages.{AreMarksOf, load_messages}
 use Rattle.flow_core.specs.Nets.{IsLifeIn, IsResting, NetValue, NumberedLife}
-use Rattle.flow_core.specs.PortLaws.{head_same}
+use Rattle.flow_core.proofs.PortLaws.{head_same}
 use Rattle.net_epochs.specs.Epochs.{IsOnCourse, nodes_in}
 use Rattle.net_epochs.proofs.StandLaws.{graph_behind}
 use Rattle.barrier_snapshot.specs.Barriers.{IsCaptureAt, WasAt, cells_in}

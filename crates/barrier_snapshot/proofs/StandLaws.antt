@@ -9,8 +9,8 @@ use Rattle.kap_base.specs.declared.items.Stamp.{Stamp}
 use Rattle.node_core.specs.declared.node.Node.{Ghosts}
 use Rattle.node_core.specs.Cut.{IsStamped}
 use Rattle.node_core.specs.Meaning.{Input, Move, fold, given}
-use Rattle.merge_node.specs.BufferLaws.{merges-same}
-use Rattle.merge_node.specs.ClosingLaws.{EntriesClosed, IsClosedBy, entry_barriers}
+use Rattle.merge_node.proofs.BufferLaws.{merges-same}
+use Rattle.merge_node.proofs.ClosingLaws.{EntriesClosed, IsClosedBy, entry_barriers}
 use Rattle.merge_node.specs.Merge.{Entry, RisesFrom}
 use Rattle.flow_cells.specs.declared.parts.CellParts.{CellParts}
 use Rattle.flow_cells.specs.HandledLaws.{run-append}
@@ -21,10 +21,10 @@ use Rattle.flow_life.specs.Lives.{IsLife}
 use Rattle.flow_life.specs.Loads.{plan_now}
 use Rattle.flow_life.specs.Making.{nodes_of, passed_of}
 use Rattle.flow_life.specs.Nodes.{specs_of}
-use Rattle.flow_life.specs.PlaceLaws.{each-get, each-of, found-same}
-use Rattle.flow_life.specs.RestLaws.{carries_streams}
+use Rattle.flow_life.proofs.PlaceLaws.{each-get, each-of, found-same}
+use Rattle.flow_life.proofs.RestLaws.{carries_streams}
 use Rattle.flow_life.specs.Steps.{AreQuiet}
-use Rattle.flow_life.specs.StreamLaws.{beside, get-map, handled_prefix}
+use Rattle.flow_life.proofs.StreamLaws.{beside, get-map, handled_prefix}
 use Rattle.flow_life.specs.Streams.{IsStream, Plan, StandsAt, plan_of, plans_of, run_from}
 use Rattle.flow_core.specs.Making.{AreLivesOf, IsLifeBehind}
 use Rattle.flow_core.specs.Nets.{NumberedLife}

@@ -10,16 +10,16 @@ use Rattle.node_core.specs.declared.node.Node.{Ghosts}
 use Rattle.node_core.specs.Cut.{IsStamped}
 use Rattle.node_core.specs.Meaning.{Input, fold, given}
 use Rattle.state_code.specs.Spelling.{IsSpelling}
-use Rattle.merge_node.specs.ClosingLaws.{IsClosedBy}
+use Rattle.merge_node.proofs.ClosingLaws.{IsClosedBy}
 use Rattle.merge_node.specs.Merge.{barriers}
 use Rattle.flow_cells.specs.declared.parts.CellParts.{CellParts}
 use Rattle.flow_life.specs.Loads.{plan_now}
 use Rattle.flow_life.specs.Nodes.{specs_of}
-use Rattle.flow_life.specs.PlaceLaws.{each-get, each-of, found-same}
-use Rattle.flow_life.specs.StreamLaws.{beside, get-map}
+use Rattle.flow_life.proofs.PlaceLaws.{each-get, each-of, found-same}
+use Rattle.flow_life.proofs.StreamLaws.{beside, get-map}
 use Rattle.flow_life.specs.Streams.{plans_of}
 use Rattle.flow_core.specs.Making.{AreLivesOf, IsLifeBehind, IsLifeOf}
-use Rattle.flow_core.specs.MessageLaws.{barriers-append, messages_barriers, messages_closed, messages_rise}
+use Rattle.flow_core.proofs.MessageLaws.{barriers-append, messages_barriers, messages_closed, messages_rise}
 use Rattle.flow_core.specs.Messages.{AreMarksOf, load_messages, marked, stamped_up_to}
 use Rattle.flow_core.specs.Nets.{IsLifeIn, IsResting, NetValue, NumberedLife}
 use Rattle.task_run.specs.Plans.{PlanValue}

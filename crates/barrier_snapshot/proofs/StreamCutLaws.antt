@@ -7,13 +7,13 @@ use Rattle.kap_base.specs.declared.items.Stamp.{Stamp}
 use Rattle.node_core.specs.Meaning.{Input, Move}
 use Rattle.merge_node.specs.Merge.{AreOrdered, Entry, Lists, RisesFrom}
 use Rattle.merge_node.specs.Buffers.{Merges}
-use Rattle.merge_node.specs.ClosingLaws.{EntriesClosed, IsClosedBy, entry_barriers}
+use Rattle.merge_node.proofs.ClosingLaws.{EntriesClosed, IsClosedBy, entry_barriers}
 use Rattle.flow_cells.specs.HandledLaws.{run-append}
 use Rattle.flow_cells.specs.Runs.{Run, begun, run}
 use Rattle.flow_life.specs.Graphs.{IsGraph, IsGraphFrom}
-use Rattle.flow_life.specs.PlaceLaws.{found-same, get-within}
-use Rattle.flow_life.specs.RestLaws.{stream-closed}
-use Rattle.flow_life.specs.StreamLaws.{beside, get-or}
+use Rattle.flow_life.proofs.PlaceLaws.{found-same, get-within}
+use Rattle.flow_life.proofs.RestLaws.{stream-closed}
+use Rattle.flow_life.proofs.StreamLaws.{beside, get-or}
 use Rattle.flow_life.specs.Streams.{AreStreams, IsStream, Plan, run_from, streams_at, streams_into}
 use Rattle.barrier_snapshot.proofs.GoingOnLaws.{effects-on, outs-on, state-on}
 use Rattle.barrier_snapshot.proofs.MergeCutLaws.{IsCut, MergedCut, merged_cut}

@@ -2,5 +2,3 @@
 pub mod Edges
 -- what calls do to the ends
 pub mod Moves
--- proofs, no definitions: what stays of an edge, and what a settled one tells
-pub mod EdgeLaws

@@ -2,6 +2,8 @@
 //! load.
 #![tactic(auto)]
 
+ghost use Rattle.std.specs.Prelude.{◌≡◌, ◌^◌};
+
 mod edges;
 mod ends;
 mod laws;
@@ -14,3 +16,8 @@ pub use sends::{send_head, send_tail};
 
 /// How many messages an edge has room for at most.
 pub const CAPACITY_LIMIT: u32 = 65_536;
+
+/// The limit as a number of messages.
+pub fn limit_is_a_number()
+    ensures { CAPACITY_LIMIT ≡ 2 ^ 16 }
+{}

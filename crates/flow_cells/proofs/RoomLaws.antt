@@ -2,7 +2,7 @@
 use Rattle.std.proofs.Common.{◌≡◌, ℕ, List, [], ◌∷◌, ap, map, refl, ◌∙◌}
 use Rattle.std.specs.List.{AllZip}
 use Rattle.kap_base.specs.declared.items.Msg.{Msg}
-use Rattle.edge_queue.specs.EdgeLaws.{SameTail-capacity, TailLoads-capacity}
+use Rattle.edge_queue.proofs.EdgeLaws.{SameTail-capacity, TailLoads-capacity}
 use Rattle.edge_queue.specs.Edges.{edge_capacity}
 use Rattle.flow_cells.specs.declared.parts.CellParts.{CellParts}
 use Rattle.flow_cells.specs.declared.parts.OutEdge.{OutEdge}

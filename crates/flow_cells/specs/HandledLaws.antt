@@ -5,7 +5,7 @@ use Rattle.node_core.specs.declared.node.Node.{Ghosts}
 use Rattle.node_core.specs.Meaning.{Input, Move}
 use Rattle.merge_node.specs.Merge.{Lists, Entry}
 use Rattle.merge_node.specs.Buffers.{done, more, next, put}
-use Rattle.merge_node.specs.BufferLaws.{next-alone, merges-trans, merges-put}
+use Rattle.merge_node.proofs.BufferLaws.{next-alone, merges-trans, merges-put}
 use Rattle.flow_cells.specs.declared.parts.Core.{Core}
 use Rattle.flow_cells.specs.Runs.{Run, run, reacted}
 use Rattle.flow_cells.specs.Kept.{IsAt}

@@ -16,15 +16,9 @@ pub mod Settles
 pub mod Looks
 pub mod Gathers
 -- proofs, no definitions
-pub mod OutLaws
 pub mod HandledLaws
-pub mod MoveLaws
 pub mod Promises
 -- what is made, and that it keeps what a cell keeps
 pub mod Made
-pub mod MadeLaws
 -- what beginning a load does
 pub mod Loads
-pub mod LoadLaws
-pub mod SettleLaws
-pub mod MovedLaws

@@ -3,11 +3,11 @@ use Rattle.std.proofs.Common.{◌≡◌, List, [], ◌∷◌, ap, refl, ◌∙�
 use Rattle.std.specs.List.{AllByRecursion as Each}
 use Rattle.kap_base.specs.declared.items.Effect.{Effect}
 use Rattle.node_core.specs.declared.node.Node.{Ghosts}
-use Rattle.flow_life.specs.RestLaws.{carries_streams}
-use Rattle.flow_core.specs.DoneLaws.{gathers_none, gathers_stepped, gathers_then}
+use Rattle.flow_life.proofs.RestLaws.{carries_streams}
+use Rattle.flow_core.proofs.DoneLaws.{gathers_none, gathers_stepped, gathers_then}
 use Rattle.flow_core.specs.Nets.{HasStreamsCarried, IsLifeIn, IsResting, NetValue, NumberedLife, numbers_of, plans_in, specs_in}
 use Rattle.flow_core.specs.Ran.{GathersAll, effects_in}
-use Rattle.flow_core.specs.RanLaws.{run_stepped}
+use Rattle.flow_core.proofs.RanLaws.{run_stepped}
 use Rattle.flow_core.specs.Rooms.{rooms_in}
 use Rattle.flow_core.specs.Running.{NetGoesOn, ends_in, steps_of, steps_onward}
 

@@ -28,28 +28,3 @@ pub mod Running
 pub mod Wholes
 -- steps, one after the other
 pub mod Playing
--- proofs, no definitions
-pub mod MessageLaws
-pub mod PortLaws
-pub mod MergedLaws
-pub mod RunLaws
-pub mod SpanLaws
-pub mod GraphLaws
-pub mod LoadedLaws
-pub mod SortLaws
-pub mod UniqueLaws
-pub mod RisingLaws
-pub mod GatherLaws
-pub mod NumberLaws
-pub mod LifeLaws
-pub mod NetLaws
-pub mod PlanLaws
-pub mod DoneLaws
-pub mod GatheredLaws
-pub mod ReceivedLaws
-pub mod RanLaws
-pub mod CarriedLaws
-pub mod AwayLaws
-pub mod CountLaws
-pub mod RunningLaws
-pub mod EndLaws

@@ -4,13 +4,13 @@ use Rattle.std.specs.List.{AllByRecursion as Each, AllZip}
 use Rattle.kap_base.specs.declared.items.Msg.{Msg}
 use Rattle.merge_node.specs.Merge.{AreClosed, AreMergeable, Entry, Lists, merge}
 use Rattle.merge_node.specs.Buffers.{Merges, Taken, done, more, next}
-use Rattle.merge_node.specs.BufferLaws.{merges-same, next-less, total}
+use Rattle.merge_node.proofs.BufferLaws.{merges-same, next-less, total}
 use Rattle.flow_cells.specs.declared.parts.InEdge.{InEdge}
 use Rattle.flow_cells.specs.declared.parts.CellParts.{CellParts}
 use Rattle.node_core.specs.declared.node.Node.{Ghosts}
 use Rattle.std.specs.Prelude.{slice_get}
 use Rattle.kap_base.specs.declared.items.Stamp.{Stamp}
-use Rattle.merge_node.specs.CallLaws.{merges-whole}
+use Rattle.merge_node.proofs.CallLaws.{merges-whole}
 use Rattle.flow_life.specs.Places.{in_of}
 use Rattle.flow_life.specs.Wired.{IsWired}
 use Rattle.flow_life.specs.Lives.{IsLife}

@@ -33,25 +33,4 @@ pub mod Lives
 -- cells that move by themselves
 pub mod Loose
 -- proofs, no definitions
-pub mod PlaceLaws
-pub mod BeforeLaws
-pub mod ChangeLaws
-pub mod StreamLaws
 pub mod GraphLaws
-pub mod RestLaws
-pub mod CountLaws
-pub mod AliveLaws
-pub mod StepLaws
-pub mod PutLaws
-pub mod LoadLaws
-pub mod GatherLaws
-pub mod SplitLaws
-pub mod MakingLaws
-pub mod StartLaws
-pub mod NodeLaws
-pub mod LooseLaws
-pub mod TryLaws
-pub mod OneLaws
-pub mod LeftLaws
-pub mod PlayLaws
-pub mod ListingLaws

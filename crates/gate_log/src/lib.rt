@@ -17,7 +17,7 @@ mod switching;
 
 pub use fault::LogFault;
 pub use head::{make_head, read_head};
-pub use log::{BODY_LIMIT, Log};
+pub use log::{BODY_LIMIT, Log, limit_is_a_number};
 pub use open::open_log;
 pub use reader::{LogReader, read_log};
 pub use start::make;

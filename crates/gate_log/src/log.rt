@@ -1,4 +1,4 @@
-ghost use Rattle.std.specs.Prelude.{◌≡◌, ◌↔◌, ◌<◌, ◌++◌, ◌∷◌, [], false, List, ℕ, length, OnOk, IsTrue};
+ghost use Rattle.std.specs.Prelude.{◌≡◌, ◌↔◌, ◌<◌, ◌++◌, ◌∷◌, [], false, List, ℕ, length, OnOk, IsTrue, ◌^◌, ◌*◌};
 ghost use Rattle.kap_base.specs.Words.{HasRisen};
 ghost use Rattle.kap_io.specs.Disk.{Elsewhere, On};
 ghost use Rattle.kap_io.specs.Moments.{Moments};
@@ -110,3 +110,8 @@ impl Log {
         }
     }
 }
+
+/// The longest body, as a number of bytes.
+pub fn limit_is_a_number()
+    ensures { BODY_LIMIT ≡ 64 * 2 ^ 20 }
+{}

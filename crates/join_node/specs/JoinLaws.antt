@@ -7,6 +7,7 @@ use Rattle.std.specs.Cmp.{signed_Decides}
 use Rattle.std.proofs.lemmas.Int.{ints}
 use Rattle.std.proofs.lemmas.List.Folds.{list_any-append}
 use Rattle.std.proofs.lemmas.Bool.Decides.{nat_tests}
+use Rattle.kap_base.proofs.LastLaws.{last_or-push}
 use Rattle.kap_base.proofs.TestLaws.{first_false, first_of, second_false}
 use Rattle.kap_base.specs.Points.{PointValue, is_time}
 use Rattle.kap_base.specs.declared.items.Body.{Body}
@@ -50,10 +51,6 @@ itself a = (signed_Decides a a).1 refl
 both_false : (a b : Bool) → a ≡ false → b ≡ false → (a || b) ≡ false
 both_false true b e f = e
 both_false false b e f = f
-
-last_or-push : {A : Type 0} (o : Option A) (xs : List A) (x : A) → last_or o (xs ++ x ∷ []) ≡ Some x
-last_or-push o [] x = refl
-last_or-push o (y ∷ xs) x = last_or-push (Some y) xs x
 
 -- the time lies below this one, if there is one
 abbrev pub is_below : ℤ → Option ℤ → Bool

@@ -11,3 +11,7 @@ pub mod EntryLaws
 pub mod RetainLaws
 pub mod LoopLaws
 pub mod ValueLaws
+pub mod ResultLaws
+pub mod PositionLaws
+pub mod DigitLaws
+pub mod LastLaws

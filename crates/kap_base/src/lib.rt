@@ -33,7 +33,7 @@ pub use groups::{Batch, Group, group_of};
 pub use item_list::ItemList;
 pub use items::{Body, Effect, Event, Item, Level, Msg, Stamp, What};
 pub use key_map::KeyMap;
-pub use limits::{ID_LIMIT, SCRIPT_LIMIT, TASK_LIMIT, TIME_LIMIT};
+pub use limits::{ID_LIMIT, SCRIPT_LIMIT, TASK_LIMIT, TIME_LIMIT, limits_are_numbers};
 pub use memory::NoMemory;
 pub use point::Point;
 pub use point_dims::PointDims;

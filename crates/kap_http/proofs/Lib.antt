@@ -1,6 +1,4 @@
-pub mod PlaceLaws
 pub mod WalkLaws
-pub mod NumberLaws
 pub mod FieldLaws
 pub mod LineLaws
 pub mod CutLaws

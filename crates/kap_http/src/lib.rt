@@ -23,7 +23,7 @@ pub use ask::{Ask, DefineAsk, Precision, TaskAct, TaskAsk, TopicAsk, WriteAsk};
 pub use fault::HttpFault;
 pub use head::Head;
 pub use laws::{head_first, in_pieces, one_answer};
-pub use limits::{BODY_LIMIT, FIELD_LIMIT, HEAD_LIMIT, WRITE_LIMIT};
+pub use limits::{BODY_LIMIT, FIELD_LIMIT, HEAD_LIMIT, WRITE_LIMIT, limits_are_numbers};
 pub use lines::has_empty_line;
 pub use reading::{read_head, read_request};
 pub use refusal::{Refusal, error_reply};

@@ -59,7 +59,7 @@ fn has_slash(bytes: &[u8]) -> bool
 }
 
 /// Where the first part of a path ends.
-#[tactic(auto, using(crate::proofs::PlaceLaws::place_le, crate::proofs::PlaceLaws::none_place))]
+#[tactic(auto, using(kap_base::proofs::PositionLaws::place_le, kap_base::proofs::PositionLaws::none_place))]
 fn part_len(path: &[u8]) -> usize
     ensures place { result ≡ position_or_len is_slash path.now }
     ensures within { result ≤ length path.now }
@@ -171,7 +171,7 @@ pub(crate) fn way_of(path: &[u8]) -> Option<(Place, &[u8])>
 }
 
 /// The path of a target: what stands before its first question mark.
-#[tactic(auto, using(crate::proofs::PlaceLaws::none_place))]
+#[tactic(auto, using(kap_base::proofs::PositionLaws::none_place))]
 pub(crate) fn path_of(target: &[u8]) -> &[u8]
     ensures path { result.now ≡ path_of target.now }
     ensures len { length result.now ≤ length target.now }
@@ -183,7 +183,7 @@ pub(crate) fn path_of(target: &[u8]) -> &[u8]
 }
 
 /// The query of a target: what stands behind its first question mark.
-#[tactic(auto, using(crate::proofs::PlaceLaws::none_place))]
+#[tactic(auto, using(kap_base::proofs::PositionLaws::none_place))]
 pub(crate) fn query_of(target: &[u8]) -> &[u8]
     ensures query { result.now ≡ query_of target.now }
     ensures len { length result.now ≤ length target.now }

@@ -12,5 +12,5 @@ mod time;
 pub use calls::call;
 pub use fault::EvalFault;
 pub use laws::{calls_are_typed, first_places_are_first, pieces_are_pieces};
-pub use replace::TEXT_LIMIT;
+pub use replace::{TEXT_LIMIT, limit_is_a_number};
 pub use time::{parts_are_a_date, time_part};

@@ -1,6 +1,6 @@
 //! `strReplace`.
 
-ghost use Rattle.std.specs.Prelude.{◌≡◌, ◌<◌, ◌-◌, ◌++◌, IfOk, IfSome, IsTrue, OnOk, length, string_bytes};
+ghost use Rattle.std.specs.Prelude.{◌≡◌, ◌<◌, ◌-◌, ◌++◌, IfOk, IfSome, IsTrue, OnOk, length, string_bytes, ◌^◌};
 ghost use Rattle.std.specs.Str.{chars};
 ghost use Rattle.kap_base.specs.Texts.{is_line};
 ghost use Rattle.lambda_fns.specs.Texts.{IsGiven, text_of_pieces, piece, pieces, pieces_between, replaced};
@@ -126,3 +126,8 @@ pub(crate) fn replace(
         None => Ok(None),
     }
 }
+
+/// The limit as a number of bytes.
+pub fn limit_is_a_number()
+    ensures { TEXT_LIMIT ≡ 2 ^ 16 }
+{}

@@ -13,8 +13,8 @@ use Rattle.task_run.specs.Lives.{node_effects_with}
 use Rattle.task_run.specs.StampLaws.{none_above}
 use Rattle.task_run.specs.Stamps.{IsStream, of_effect}
 use Rattle.task_run.specs.Courses.{Course, Goes, begun, course_effects, course_effects_with, course_gives, end_of, grown, items_of, later_effects}
-use Rattle.task_run.specs.CourseLaws.{effects_begin, effects_more}
-use Rattle.task_run.specs.LaterLaws.{gives_streams}
+use Rattle.task_run.proofs.CourseLaws.{effects_begin, effects_more}
+use Rattle.task_run.proofs.LaterLaws.{gives_streams}
 use Rattle.store_records.specs.Held.{end_life, is_open, is_open_of, life_from}
 use Rattle.store_records.specs.declared.task.Life.{Life}
 use Rattle.store_records.specs.declared.task.StoredTask.{StoredTask}

@@ -9,19 +9,8 @@ use Rattle.std.proofs.lemmas.List.Sums.{passes_at_first}
 use Rattle.std.proofs.lemmas.Str.{IsCharBoundary-end, IsCharBoundary-before_ascii, IsCharBoundary-after_ascii}
 use Rattle.kap_base.specs.Texts.{begins_with}
 use Rattle.line_points.specs.Parts.{is_separator}
+use Rattle.kap_base.proofs.PositionLaws.{place_le}
 use Rattle.kap_base.proofs.TestLaws.{first_of, second_of}
-
-pub place_le : (p : ℕ → Bool) (xs : List ℕ) → position_or_len p xs ≤ length xs
-place_le p [] = omega arith
-place_le p (x ∷ xs) = elim (p x) as (λ b. cond (not b) (1 + position_or_len p xs) 0 ≤ length (x ∷ xs)) [ true ↦ omega arith | false ↦ omega (arith, place_le p xs) ]
-
--- where none was found, it is the length
-pub none_place : (p : ℕ → Bool) (xs : List ℕ) → None ≡ position p xs → position_or_len p xs ≡ length xs
-none_place p xs e =
-    elim (ltb (position_or_len p xs) (length xs)) as (λ t. ltb (position_or_len p xs) (length xs) ≡ t → ◌≡◌ {A = Option ℕ} None (cond t (Some (position_or_len p xs)) None) → position_or_len p xs ≡ length xs) [
-      | true ↦ λ _ e. absurd cc
-      | false ↦ λ t _. let le : length xs ≤ position_or_len p xs = ltb-false _ _ t in omega (arith, place_le p xs)
-    ] refl e
 
 -- a text may be cut before the first byte that passes a test of ASCII bytes, or at its end
 pub place_boundary : (p : ℕ → Bool) (xs : List ℕ) → ((b : ℕ) → p b ≡ true → b < 128) → IsCharBoundary xs (position_or_len p xs)

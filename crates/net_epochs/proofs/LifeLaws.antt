@@ -19,17 +19,17 @@ use Rattle.flow_life.specs.Graphs.{HasStreams}
 use Rattle.flow_life.specs.Lives.{IsLife}
 use Rattle.flow_life.specs.Loads.{plan_now}
 use Rattle.flow_life.specs.Nodes.{specs_of}
-use Rattle.flow_life.specs.RestLaws.{carries_streams}
+use Rattle.flow_life.proofs.RestLaws.{carries_streams}
 use Rattle.flow_life.specs.Steps.{AreQuiet}
 use Rattle.flow_life.specs.Streams.{CarriesStreams, Plan, plan_of, plans_of}
-use Rattle.flow_core.specs.GraphLaws.{graph_ran}
-use Rattle.flow_core.specs.LifeLaws.{nodes_loaded, planned}
+use Rattle.flow_core.proofs.GraphLaws.{graph_ran}
+use Rattle.flow_core.proofs.LifeLaws.{nodes_loaded, planned}
 use Rattle.flow_core.specs.LifeLoads.{acts_of, effects_since}
-use Rattle.flow_core.specs.LoadedLaws.{from-append, from-low, from-rises}
+use Rattle.flow_core.proofs.LoadedLaws.{from-append, from-low, from-rises}
 use Rattle.flow_core.specs.Loads.{Does, EndsIn, IsPlanOf}
-use Rattle.flow_core.specs.MessageLaws.{messages_barriers, messages_closed, messages_items, messages_rise}
+use Rattle.flow_core.proofs.MessageLaws.{messages_barriers, messages_closed, messages_items, messages_rise}
 use Rattle.flow_core.specs.Messages.{AreMarksOf, load_messages, stamped_up_to}
-use Rattle.flow_core.specs.SpanLaws.{Carries}
+use Rattle.flow_core.proofs.SpanLaws.{Carries}
 use Rattle.task_run.specs.Courses.{Course, IsWhere, course_gives, end_of, grown, items_of}
 
 -- what holds at each place holds of two lists, place by place

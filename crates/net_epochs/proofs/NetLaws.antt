@@ -17,14 +17,14 @@ use Rattle.flow_cells.specs.declared.parts.CellParts.{CellParts}
 use Rattle.flow_life.specs.Loads.{plan_now}
 use Rattle.flow_life.specs.Nodes.{specs_of}
 use Rattle.flow_life.specs.Streams.{plans_of}
-use Rattle.flow_core.specs.DoneLaws.{paired}
+use Rattle.flow_core.proofs.DoneLaws.{paired}
 use Rattle.flow_core.specs.LifeLoads.{effects_since}
 use Rattle.flow_core.specs.Messages.{AreMarksOf, load_messages}
 use Rattle.flow_core.specs.Nets.{IsLifeIn, IsResting, NumberedLife, plans_from, plans_in, specs_in}
-use Rattle.flow_core.specs.PortLaws.{head_same}
+use Rattle.flow_core.proofs.PortLaws.{head_same}
 use Rattle.flow_core.specs.Ran.{effects_in, together}
 use Rattle.task_run.specs.Courses.{Course, course_effects_with, course_gives, end_of, grown, items_of, later_effects, laters}
-use Rattle.task_run.specs.LaterLaws.{each_kept, each_with, gives_streams, high-same, later_is, later_of}
+use Rattle.task_run.proofs.LaterLaws.{each_kept, each_with, gives_streams, high-same, later_is, later_of}
 use Rattle.net_epochs.specs.Epochs.{IsOnCourse, nodes_in}
 use Rattle.net_epochs.proofs.LifeLaws.{LifeWent, life_went}
 

@@ -9,7 +9,7 @@ use Rattle.flow_core.specs.Gathering.{LivesRise, NumbersEffects}
 use Rattle.flow_core.specs.Sorting.{AreRising}
 use Rattle.task_run.specs.Courses.{Course, course_effects_with, course_gives, end_of, items_of, later_effects}
 use Rattle.net_epochs.specs.Epochs.{nodes_in}
-use Rattle.flow_core.specs.RisingLaws.{IsFrom, IsLater, each-map, each_append, life-before, nodes-from, nodes-rising, rising-append, stamp-before}
+use Rattle.flow_core.proofs.RisingLaws.{IsFrom, IsLater, each-map, each_append, life-before, nodes-from, nodes-rising, rising-append, stamp-before}
 
 module _ {P : Type 0} (answer : P → Answer) (life number : P → ℕ) (stamped : (p : P) (before : List Input) (x : Input) → IsStamped (life p) (number p) x.1.stamp.0 (answer p before x)) (numbers : (p : P) → NumbersEffects (answer p)) where
   courses-later : (s low : ℕ) (courses : List (Course P)) → LivesRise life number low (nodes_in courses) → Each (IsLater s low) (course_effects_with answer s courses)

@@ -10,20 +10,20 @@ use Rattle.node_core.specs.Meaning.{Answer, Given, Input, Move, fold}
 use Rattle.flow_cells.specs.declared.parts.CellParts.{CellParts}
 use Rattle.flow_cells.specs.declared.parts.InEdge.{InEdge}
 use Rattle.flow_life.specs.Making.{nodes_of}
-use Rattle.flow_life.specs.PlaceLaws.{found-same}
+use Rattle.flow_life.proofs.PlaceLaws.{found-same}
 use Rattle.flow_life.specs.Wired.{parents_of}
 use Rattle.task_run.specs.Active.{Active, AreAt, AreFirst, placed}
-use Rattle.task_run.specs.CourseLaws.{AllEmpty, gives-nothing, lists-empty, merged-empty, outs-more}
+use Rattle.task_run.proofs.CourseLaws.{AllEmpty, gives-nothing, lists-empty, merged-empty, outs-more}
 use Rattle.task_run.specs.Courses.{Course, begun, end_of, grown}
 use Rattle.task_run.specs.EffectOrder.{NodesNumbered}
 use Rattle.task_run.specs.Graphs.{Placed, lists_of, node_gives, outs_of}
 use Rattle.task_run.specs.Plans.{AreFirstNodes, AreFirstStates, AreNodesFrom, IsPlan, PlanValue, graph_of}
-use Rattle.flow_core.specs.EndLaws.{each_remove}
+use Rattle.flow_core.proofs.EndLaws.{each_remove}
 use Rattle.flow_core.specs.Gathering.{LivesRise}
 use Rattle.flow_core.specs.LifeLoads.{acts_of}
 use Rattle.flow_core.specs.Making.{AreLivesOf, Begins, Ends, IsLifeBehind}
 use Rattle.flow_core.specs.Nets.{IsResting, NetValue, NumberedLife, numbers_of}
-use Rattle.flow_core.specs.RanLaws.{first-acts}
+use Rattle.flow_core.proofs.RanLaws.{first-acts}
 use Rattle.net_epochs.specs.Epochs.{AreNumberedBy, IsNumbered, IsOnCourse, NumbersRise, StandsAt, nodes_in}
 
 -- ---- lists

@@ -14,7 +14,7 @@ use Rattle.flow_core.specs.Gathering.{effects_by_node}
 use Rattle.flow_core.specs.Messages.{AreMarksOf}
 use Rattle.flow_core.specs.Nets.{IsResting, NetValue}
 use Rattle.flow_core.specs.Ran.{HasRun, IsNew}
-use Rattle.flow_core.specs.RanLaws.{none_given}
+use Rattle.flow_core.proofs.RanLaws.{none_given}
 use Rattle.net_run.specs.Epochs.{HasCome}
 
 module _ {N P S : Type 0} (g : Ghosts N P S) where

@@ -2,7 +2,7 @@
 use Rattle.std.proofs.Common.{subst, sym}
 use Rattle.node_core.specs.Meaning.{Answer}
 use Rattle.flow_core.specs.Gathering.{NumbersEffects}
-use Rattle.flow_core.specs.NumberLaws.{stamped_numbers}
+use Rattle.flow_core.proofs.NumberLaws.{stamped_numbers}
 use Rattle.node_set.specs.Kinds.{any}
 use Rattle.node_set.specs.Nodes.{AnySpec}
 

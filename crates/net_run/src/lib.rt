@@ -2,6 +2,8 @@
 //! lists.
 #![tactic(auto)]
 
+ghost use Rattle.std.specs.Prelude.{◌≡◌};
+
 mod epochs;
 mod moving;
 mod numbering;
@@ -16,3 +18,8 @@ pub use runs::NetRun;
 /// How many points an epoch has at most: so few that they stay in a processor's cache from their reading to their end, and so many
 /// that what each epoch costs besides, as the states that are saved at its end, is little a point.
 pub const EPOCH_LIMIT: usize = 1_280;
+
+/// The limit as a number of points.
+pub fn limit_is_a_number()
+    ensures { EPOCH_LIMIT ≡ 1280 }
+{}

@@ -18,10 +18,6 @@ effects_from-more life node stamp seq next [] what is = ap (λ (n : ℕ). effect
 effects_from-more life node stamp seq next (w ∷ whats) what is =
     ap (λ l. effect_at life node stamp seq w ∷ l) (effects_from-more life node stamp (seq + 1) next whats what (omega arith))
 
-pub on_ok : {A E : Type 0} {P Q : Type 0} (r : Result A E) → (P → Q) → OnOk r P → OnOk r Q
-on_ok (Ok x) f p = f p
-on_ok (Err e) f p = p
-
 same_test : (n next more : ℕ) → next ≡ n + more → (next == n) ≡ (more == 0)
 same_test n next more e = elim (more == 0) as (λ b. (more == 0) ≡ b → (next == n) ≡ b) [
   | true ↦ λ z. grind (arith, nat_tests)

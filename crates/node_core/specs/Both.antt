@@ -7,6 +7,7 @@ use Rattle.node_core.specs.Meaning.{Input, Answer, Move, stay, also, given, fold
 use Rattle.std.specs.Prelude.{Bool, false}
 use Rattle.kap_base.specs.declared.items.Body.{Body}
 use Rattle.node_core.specs.Cut.{IsStamped}
+use Rattle.kap_base.proofs.ResultLaws.{same_pair}
 
 -- what is seen of either
 abbrev pub of_both : {A B C D : Type 0} → (A → C) → (B → D) → Both A B → Both C D
@@ -94,9 +95,6 @@ stays_both takes_one takes_other one other h k (Other q) (One s) x e = refl
 stays_both takes_one takes_other one other h k (Other q) (Other s) x e = ap move_other (k q s x e)
 
 -- ---- spellings
-
-same_pair : {A : Type 0} (p q : A × List ℕ) → Some p ≡ Some q → p ≡ q
-same_pair p q e = cc
 
 module _ {A C : Type 0} {Fits : A → Type 0} {spell : A → List ℕ} {read : Reading A} (is : IsSpelling Fits spell read) (made : A → C) (FitsC : C → Type 0) (spell_c : C → List ℕ) (fits : (a : A) → Fits a → FitsC (made a)) (spells : (a : A) → spell_c (made a) ≡ spell a) where
   -- what is read is of this kind

@@ -18,6 +18,3 @@ pub mod Loads
 pub mod Laws
 pub mod GroupLaws
 pub mod NumberLaws
-pub mod CutLaws
-pub mod SeqLaws
-pub mod KeyLaws

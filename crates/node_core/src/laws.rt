@@ -9,7 +9,7 @@ ghost use Rattle.node_core.specs.Meaning.{Saying, Input};
 ghost use Rattle.node_core.specs.Numbering.{given_with, number_at, tally};
 
 /// Where stamps don't fall, the next effect's number is the number of all effects that were given before with its stamp.
-#[tactic(auto, using(crate::specs::SeqLaws::numbers_count))]
+#[tactic(auto, using(crate::proofs::SeqLaws::numbers_count))]
 pub fn numbers_count_effects()
     ensures { (saying : Saying) (before : List Input) (stamp : ℕ)
         → InOrder before → AllUpTo stamp before
@@ -17,7 +17,7 @@ pub fn numbers_count_effects()
 {}
 
 /// Points are of one group exactly where they have one key.
-#[tactic(auto, using(crate::specs::KeyLaws::same_group_same_key, crate::specs::KeyLaws::same_key_same_group))]
+#[tactic(auto, using(crate::proofs::KeyLaws::same_group_same_key, crate::proofs::KeyLaws::same_key_same_group))]
 pub fn one_key_one_group()
     ensures one_group { (p q : PointValue) → IsPoint p → IsPoint q
         → group_key p ≡ group_key q → group_of p ≡ group_of q }

@@ -1,6 +1,8 @@
 //! A net's moves, made by threads beside each other.
 #![tactic(auto)]
 
+ghost use Rattle.std.specs.Prelude.{◌≡◌, ◌^◌};
+
 mod epochs;
 mod sharing;
 mod turns;
@@ -19,3 +21,11 @@ pub const IDLE_LIMIT: u32 = 4;
 
 /// How often a cell puts and takes in one turn at most.
 pub const MOVE_LIMIT: u32 = 64;
+
+/// The limits as numbers: workers, turns, turns that moved nothing, and moves of a turn.
+pub fn limits_are_numbers()
+    ensures workers { WORKER_LIMIT ≡ 64 }
+    ensures turns { TURN_LIMIT ≡ 10 ^ 6 }
+    ensures idle { IDLE_LIMIT ≡ 4 }
+    ensures moves { MOVE_LIMIT ≡ 64 }
+{}

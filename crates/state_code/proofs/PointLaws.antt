@@ -52,6 +52,3 @@ group_of_tests name dims values e =
       values = second_of (are_dimensions dims) (are_tag_values dims values) rest;
     }
 
-pub on_ok : {A E : Type 0} {P Q : Type 0} (r : Result A E) → (P → Q) → OnOk r P → OnOk r Q
-on_ok (Ok x) f p = f p
-on_ok (Err e) f p = p

@@ -5,6 +5,7 @@ use Rattle.kap_base.specs.declared.items.Level.{Level}
 use Rattle.kap_base.specs.declared.items.Level.TheVariants.{Fine, Info, Warning, Critical}
 use Rattle.state_code.specs.Spelling.{IsBytes, Reading, Stands, IsSpelling, value_then, read_as}
 use Rattle.state_code.specs.Laws.{variant}
+use Rattle.kap_base.proofs.ResultLaws.{same_pair}
 
 -- no bytes
 abbrev pub spell_unit : Unit {0} → List ℕ
@@ -17,9 +18,6 @@ read_unit bytes = value_then tt bytes
 -- it can always be spelled
 abbrev pub FitsUnit : Unit {0} → Type 0
 FitsUnit x = ⊤
-
-same_pair : (p q : Unit {0} × List ℕ) → Some p ≡ Some q → p ≡ q
-same_pair p q e = cc
 
 unit_only : (bytes : List ℕ) (x : Unit {0}) (rest : List ℕ) → IsBytes bytes → read_unit bytes ≡ value_then x rest → Stands FitsUnit spell_unit bytes x rest
 unit_only bytes x rest fits e =

@@ -8,6 +8,7 @@ use Rattle.kap_base.specs.Points.{PointValue}
 use Rattle.kap_base.specs.declared.value.Value.{Value}
 use Rattle.kap_base.specs.declared.value.Value.TheVariants.{Int}
 use Rattle.node_core.specs.Groups.{Came}
+use Rattle.kap_base.proofs.LastLaws.{last_or-push}
 
 -- the name of a result: the one that is given, or else the node's own
 abbrev pub result_name : List ℕ → Option (List ℕ) → List ℕ
@@ -45,10 +46,6 @@ latest before None = before
 latest before (Some x) = Some x
 
 -- ---- laws
-
-last_or-push : {A : Type 0} (o : Option A) (xs : List A) (x : A) → last_or o (xs ++ x ∷ []) ≡ Some x
-last_or-push o [] x = refl
-last_or-push o (y ∷ xs) x = last_or-push (Some y) xs x
 
 -- the last of a list with one item more
 pub last_push : {A : Type 0} (xs : List A) (x : A) → last (xs ++ x ∷ []) ≡ Some x

@@ -7,6 +7,7 @@ use Rattle.state_code.specs.Spelling.{IsBytes, value_then}
 use Rattle.store_records.proofs.FollowLaws.{nil_of}
 use Rattle.store_records.specs.Records.{IsBodyOf, IsNoBody, read_record, record_spelled, spell_record}
 use Rattle.store_records.specs.declared.rec.Rec.{Rec}
+use Rattle.kap_base.proofs.ResultLaws.{same_pair}
 
 -- what is read of the body of a record
 pub body_reads : (r : Rec) (body : List ℕ) → IsBodyOf r body → read_record body ≡ value_then r []
@@ -18,9 +19,6 @@ is_body body r rest bytes reads done =
     let stands = record_spelled.only body r rest bytes reads in
     let none : rest ≡ [] = nil_of rest (eqb-true _ _ (sym done)) in
     record { fits = stands.fits; is = stands.parts ∙ ap (λ (t : List ℕ). spell_record r ++ t) none ∙ append-nil (spell_record r) }
-
-same_pair : (p q : Rec × List ℕ) → Some p ≡ Some q → p ≡ q
-same_pair p q e = cc
 
 -- bytes behind a record make no body
 pub more_is_none : (body : List ℕ) (r : Rec) (rest : List ℕ) → read_record body ≡ value_then r rest → false ≡ (length rest == 0) → IsNoBody body

@@ -1,6 +1,7 @@
 -- Spellings whose second part depends on the first, and of values that only some spellings stand for.
 use Rattle.std.proofs.Common.{◌≡◌, ℕ, List, ◌++◌, Option, Some, None, refl, sym, ap, subst, ◌∙◌, append_assoc}
 use Rattle.state_code.specs.Spelling.{IsBytes, IsSpelling, Reading, Stands, read_then, value_then}
+use Rattle.kap_base.proofs.ResultLaws.{same_pair}
 
 -- a value, and behind it one that is read by the first
 abbrev pub read_behind : {A B : Type 0} → Reading A → (A → Reading B) → Reading (A × B)
@@ -26,9 +27,6 @@ pub record Parted {A B : Type 0} (r : Option (A × List ℕ)) (f : A → List �
 pub parted : {A B : Type 0} (r : Option (A × List ℕ)) (f : A → List ℕ → Option (B × List ℕ)) (y : B × List ℕ) → read_then r f ≡ Some y → Parted r f y
 parted None f y e = absurd cc
 parted (Some r) f y e = record { value = r.0; rest = r.1; first = refl; second = e }
-
-same_pair : {A : Type 0} (p q : A × List ℕ) → Some p ≡ Some q → p ≡ q
-same_pair p q e = cc
 
 -- values that are read with the same bytes behind them stand at the same place
 pub stands_at : {A : Type 0} {Fits : A → Type 0} {spell : A → List ℕ} (bytes : List ℕ) (x y : A) (r t : List ℕ) → value_then x r ≡ value_then y t → Stands Fits spell bytes x r → Stands Fits spell bytes y t

@@ -13,14 +13,6 @@ use Rattle.task_run.specs.Plans.{AreBelow}
 use Rattle.task_run.specs.Laid.{readers_at}
 use Rattle.task_run.specs.Feeding.{Fed, Due, due_more, due_none, Holds, NodeRan, NodeRunning, picked, taken_items, holds_rest}
 
-pub on_ok : {A E : Type 0} {P Q : Type 0} (r : Result A E) → (P → Q) → OnOk r P → OnOk r Q
-on_ok (Ok x) f p = f p
-on_ok (Err e) f p = p
-
-pub on_both : {A E : Type 0} {P Q R : Type 0} (r : Result A E) → (P → Q → R) → OnOk r P → OnOk r Q → OnOk r R
-on_both (Ok x) f p q = f p q
-on_both (Err e) f p q = p
-
 pub below_at : (n : ℕ) (ps : List ℕ) (i d : ℕ) → i < length ps → AreBelow n ps → get_or ps i d < n
 below_at n [] i d lt below = absurd (omega arith)
 below_at n (p ∷ ps) zero d lt below = below.0

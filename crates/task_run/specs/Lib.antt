@@ -12,9 +12,5 @@ pub mod Active
 pub mod Courses
 pub mod MoreLaws
 pub mod PointLaws
-pub mod OrderLaws
-pub mod EffectLaws
-pub mod CourseLaws
-pub mod LaterLaws
 pub mod Feeding
 pub mod Laid

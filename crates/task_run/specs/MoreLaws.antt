@@ -161,7 +161,7 @@ module _ {S : Type 0} (step : S → Input → Move S) where
       let t = step s x in
       rw (fold-append t.state xs ys) (ap (λ (g : Given). record { state = (fold step (fold step t.state xs).state ys).state; given = g }) (sym (also_assoc t.given (fold step t.state xs).given (fold step (fold step t.state xs).state ys).given)))
 
-same-given : (b c : Given) → b.items ≡ c.items → b.effects ≡ c.effects → b.drops ≡ c.drops → b ≡ c
+pub same-given : (b c : Given) → b.items ≡ c.items → b.effects ≡ c.effects → b.drops ≡ c.drops → b ≡ c
 same-given b c i e d =
     ap (λ (x : List Item). record { items = x; effects = b.effects; drops = b.drops }) i
     ∙ ap (λ (x : List Effect). record { items = c.items; effects = x; drops = b.drops }) e

@@ -18,7 +18,7 @@ use node_core::Node;
 
 /// Merged lists stand by stamp, then by port, and each list is what came at its port, in order, where its stamps are those of n
 /// points and don't fall.
-#[tactic(auto, using(crate::specs::OrderLaws::merged_ordered, crate::specs::OrderLaws::merged_has))]
+#[tactic(auto, using(crate::proofs::OrderLaws::merged_ordered, crate::proofs::OrderLaws::merged_has))]
 pub fn merging_orders()
     ensures ordered { (n : ℕ) (lists : List (List Item)) → AreOrdered (merged n lists) }
     ensures has { (n port : ℕ) (lists : List (List Item))

@@ -10,6 +10,6 @@ mod token;
 mod unit;
 
 pub use lexer::{lex, text_reads_in_one_way};
-pub use limits::DURATION_LIMIT;
+pub use limits::{DURATION_LIMIT, limit_is_a_number};
 pub use token::{Kind, LexFault, Token, Tokens};
 pub use unit::Unit;

@@ -13,6 +13,6 @@ mod statements;
 mod values;
 
 pub use fault::{ParseFault, Want};
-pub use limits::{DEPTH_LIMIT, OPERATOR_LIMIT, STATEMENT_LIMIT};
+pub use limits::{DEPTH_LIMIT, OPERATOR_LIMIT, STATEMENT_LIMIT, limits_are_numbers};
 pub use parser::{always_one, not_both, one_fault, one_tree, parse};
 pub use script::{Chain, Joint, Links, Stmt, Tree, Val, Vals};

@@ -1,7 +1,7 @@
 use Rattle.std.proofs.Common.{◌∙◌, ◌++◌, List, refl, ap, append-nil}
 use Rattle.kap_base.specs.declared.items.Effect.{Effect}
 use Rattle.flow_cells.specs.Kept.{gathered, received_of}
-use Rattle.flow_cells.specs.SettleLaws.{kept-gathered}
+use Rattle.flow_cells.proofs.SettleLaws.{kept-gathered}
 use Rattle.flow_cells.proofs.gathering.gather.Goals as goal
 
 pub returns-clause-keeps : goal.returns-clause-keeps

@@ -1,10 +1,10 @@
 use Rattle.std.proofs.Common.{◌≡◌, ◌∙◌, ◌≤◌, List, [], ◌∷◌, length, reverse, refl, sym, ap, subst, arith}
 use Rattle.std.proofs.lemmas.List.{reverse-append, reverse-reverse}
 use Rattle.kap_base.specs.declared.items.Msg.{Msg}
-use Rattle.merge_node.specs.BufferLaws.{merges-length, put-length}
+use Rattle.merge_node.proofs.BufferLaws.{merges-length, put-length}
 use Rattle.flow_cells.specs.Handled.{Waits}
-use Rattle.flow_cells.specs.LoadLaws.{Loading, Loading-none, Loading-more}
-use Rattle.flow_cells.specs.OutLaws.{Waits-refl, Waits-trans, zip-refl, zip-trans}
+use Rattle.flow_cells.proofs.LoadLaws.{Loading, Loading-none, Loading-more}
+use Rattle.flow_cells.proofs.OutLaws.{Waits-refl, Waits-trans, zip-refl, zip-trans}
 use Rattle.flow_cells.proofs.loads.handle_source.Goals as goal
 
 pub handling-init : goal.handling-init

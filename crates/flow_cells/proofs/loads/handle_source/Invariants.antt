@@ -2,7 +2,7 @@ use Rattle.std.proofs.Common.{◌≡◌, ◌≤◌, length, None, reverse, vec_l
 use Rattle.std.specs.List.{AllZip}
 use Rattle.merge_node.specs.Buffers.{next}
 use Rattle.flow_cells.specs.Handled.{Waits}
-use Rattle.flow_cells.specs.LoadLaws.{Loading}
+use Rattle.flow_cells.proofs.LoadLaws.{Loading}
 use Rattle.flow_cells.proofs.loads.handle_source.Given as goal
 
 -- what came so far was handled

@@ -4,8 +4,8 @@ use Rattle.flow_cells.specs.Runs.{begun}
 use Rattle.flow_cells.specs.Kept.{IsAt, gathered, received_of}
 use Rattle.flow_cells.specs.Handled.{Handles}
 use Rattle.flow_cells.specs.Loads.{with_source}
-use Rattle.flow_cells.specs.MoveLaws.{buffer-length, ports-of}
-use Rattle.flow_cells.specs.LoadLaws.{load-keeps, loaded-lists, loads-waits, some-received, with_source-length}
+use Rattle.flow_cells.proofs.MoveLaws.{buffer-length, ports-of}
+use Rattle.flow_cells.proofs.LoadLaws.{load-keeps, loaded-lists, loads-waits, some-received, with_source-length}
 use Rattle.flow_cells.proofs.loads.load.Goals as goal
 
 pub handle_source-requires-clause-some : goal.handle_source-requires-clause-some

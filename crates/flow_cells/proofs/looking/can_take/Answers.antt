@@ -3,9 +3,9 @@ use Rattle.std.specs.Prelude.{slice_get}
 use Rattle.flow_cells.specs.declared.parts.InEdge.{InEdge}
 use Rattle.flow_cells.specs.Outs.{has_unsent}
 use Rattle.flow_cells.specs.Looks.{knows_some}
-use Rattle.flow_cells.specs.OutLaws.{get-here}
-use Rattle.flow_cells.specs.MoveLaws.{some-value}
-use Rattle.flow_cells.specs.SettleLaws.{is-false, is-true}
+use Rattle.flow_cells.proofs.OutLaws.{get-here}
+use Rattle.flow_cells.proofs.MoveLaws.{some-value}
+use Rattle.flow_cells.proofs.SettleLaws.{is-false, is-true}
 use Rattle.flow_cells.proofs.looking.can_take.Goals as goal
 
 pub returns-clause-yes : goal.returns-clause-yes

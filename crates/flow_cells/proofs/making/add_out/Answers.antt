@@ -1,5 +1,5 @@
 use Rattle.std.proofs.Common.{refl}
-use Rattle.flow_cells.specs.MadeLaws.{out-keeps}
+use Rattle.flow_cells.proofs.MadeLaws.{out-keeps}
 use Rattle.flow_cells.proofs.making.add_out.Goals as goal
 
 pub returns-clause-keeps : goal.returns-clause-keeps

@@ -4,7 +4,7 @@ use Rattle.flow_cells.specs.Made.{one_or_more}
 use Rattle.merge_node.specs.Merge.{Lists}
 use Rattle.std.specs.List.{AllByRecursion as Each}
 use Rattle.flow_cells.specs.Made.{IsNothing}
-use Rattle.flow_cells.specs.MadeLaws.{made-keeps, nothing-buffered, nothing-received}
+use Rattle.flow_cells.proofs.MadeLaws.{made-keeps, nothing-buffered, nothing-received}
 use Rattle.flow_cells.proofs.making.make.Goals as goal
 
 pub returns-clause-keeps : goal.returns-clause-keeps

@@ -5,8 +5,8 @@ use Rattle.flow_cells.specs.declared.parts.OutEdge.{OutEdge}
 use Rattle.flow_cells.specs.Outs.{LooksOn}
 use Rattle.flow_cells.specs.Kept.{IsGiven}
 use Rattle.flow_cells.specs.Moves.{Eases}
-use Rattle.flow_cells.specs.OutLaws.{zip-refl, zip-set, each-set, each-at, get-here}
-use Rattle.flow_cells.specs.MoveLaws.{Eases-refl, at-set, kept-outs}
+use Rattle.flow_cells.proofs.OutLaws.{zip-refl, zip-set, each-set, each-at, get-here}
+use Rattle.flow_cells.proofs.MoveLaws.{Eases-refl, at-set, kept-outs}
 use Rattle.flow_cells.proofs.moves.put.Goals as goal
 
 pub returns-then-out-len-clause-none : goal.returns-then-out-len-clause-none

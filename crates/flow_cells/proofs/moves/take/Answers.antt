@@ -5,8 +5,8 @@ use Rattle.flow_cells.specs.declared.parts.InEdge.{InEdge}
 use Rattle.flow_cells.specs.Outs.{has_unsent}
 use Rattle.flow_cells.specs.Kept.{KeptBy, received_of}
 use Rattle.flow_cells.specs.Moves.{Still}
-use Rattle.flow_cells.specs.OutLaws.{zip-refl, zip-set, get-here}
-use Rattle.flow_cells.specs.MoveLaws.{received_of-took, received_of-same, input-within, ports-of, kept-take, Still-refl, at-set}
+use Rattle.flow_cells.proofs.OutLaws.{zip-refl, zip-set, get-here}
+use Rattle.flow_cells.proofs.MoveLaws.{received_of-took, received_of-same, input-within, ports-of, kept-take, Still-refl, at-set}
 use Rattle.flow_cells.proofs.moves.take.Goals as goal
 
 pub returns-then-input-len-clause-none : goal.returns-then-input-len-clause-none

@@ -2,7 +2,7 @@ use Rattle.std.proofs.Common.{◌≡◌, ◌∙◌, List, [], map, length, rever
 use Rattle.std.proofs.lemmas.List.{nil_from_length}
 use Rattle.kap_base.specs.declared.items.Item.{Item}
 use Rattle.flow_cells.specs.Outs.{item_msgs, with_unsent}
-use Rattle.flow_cells.specs.OutLaws.{items_more, with_unsent-none}
+use Rattle.flow_cells.proofs.OutLaws.{items_more, with_unsent-none}
 use Rattle.flow_cells.proofs.outs.push_items.Goals as goal
 
 pub pushing-preserved : goal.pushing-preserved

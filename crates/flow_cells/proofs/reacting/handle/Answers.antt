@@ -1,7 +1,7 @@
 use Rattle.std.proofs.Common.{◌≡◌, [], ◌∷◌, sym, ap}
 use Rattle.std.proofs.lemmas.Result.{on_ok_weaker}
 use Rattle.merge_node.specs.Looking.{looked}
-use Rattle.merge_node.specs.FrontLaws.{looked_empty}
+use Rattle.merge_node.proofs.FrontLaws.{looked_empty}
 use Rattle.flow_cells.specs.HandledLaws.{Handles-alone}
 use Rattle.flow_cells.proofs.reacting.handle.Goals as goal
 

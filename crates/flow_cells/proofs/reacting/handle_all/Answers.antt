@@ -1,8 +1,8 @@
 use Rattle.std.proofs.Common.{◌≡◌, ◌<◌, ◌≤◌, ◌∙◌, length, refl, arith}
-use Rattle.merge_node.specs.BufferLaws.{next-some, next-less}
+use Rattle.merge_node.proofs.BufferLaws.{next-some, next-less}
 use Rattle.flow_cells.specs.Handled.{Waits}
 use Rattle.flow_cells.specs.HandledLaws.{Handles-none, Handles-more}
-use Rattle.flow_cells.specs.OutLaws.{Waits-refl, Waits-trans, zip-refl, zip-trans}
+use Rattle.flow_cells.proofs.OutLaws.{Waits-refl, Waits-trans, zip-refl, zip-trans}
 use Rattle.flow_cells.proofs.reacting.handle_all.Goals as goal
 
 pub handling-init : goal.handling-init

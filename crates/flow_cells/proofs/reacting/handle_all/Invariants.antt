@@ -1,6 +1,6 @@
 use Rattle.std.proofs.Common.{◌≡◌, length}
 use Rattle.std.specs.List.{AllZip}
-use Rattle.merge_node.specs.BufferLaws.{total}
+use Rattle.merge_node.proofs.BufferLaws.{total}
 use Rattle.flow_cells.specs.Handled.{Handles, Waits}
 use Rattle.flow_cells.proofs.reacting.handle_all.Given as goal
 

@@ -6,9 +6,9 @@ use Rattle.flow_cells.specs.declared.parts.InEdge.{InEdge}
 use Rattle.flow_cells.specs.declared.parts.OutEdge.{OutEdge}
 use Rattle.flow_cells.specs.Kept.{KeptBy}
 use Rattle.flow_cells.specs.Moves.{Eases}
-use Rattle.flow_cells.specs.OutLaws.{get-within}
-use Rattle.flow_cells.specs.MoveLaws.{kept-outs, received_of-same}
-use Rattle.flow_cells.specs.SettleLaws.{given-set, got}
+use Rattle.flow_cells.proofs.OutLaws.{get-within}
+use Rattle.flow_cells.proofs.MoveLaws.{kept-outs, received_of-same}
+use Rattle.flow_cells.proofs.SettleLaws.{given-set, got}
 use Rattle.flow_cells.proofs.settling.settle.Goals as goal
 
 pub index_mut-edge-requires : goal.index_mut-edge-requires

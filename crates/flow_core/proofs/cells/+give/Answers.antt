@@ -1,4 +1,4 @@
-use Rattle.flow_core.specs.AwayLaws.{more_back, none_back}
+use Rattle.flow_core.proofs.AwayLaws.{more_back, none_back}
 use Rattle.flow_core.proofs.cells.+give.Goals as goal
 
 pub returns-in_ok-give-clause-back : goal.returns-in_ok-give-clause-back

@@ -1,5 +1,5 @@
 use Rattle.std.proofs.Common.{refl}
-use Rattle.flow_core.specs.AwayLaws.{life_back}
+use Rattle.flow_core.proofs.AwayLaws.{life_back}
 use Rattle.flow_core.proofs.cells.give_life.Goals as goal
 
 pub returns-clause-back : goal.returns-clause-back

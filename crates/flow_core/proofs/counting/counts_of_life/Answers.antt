@@ -1,5 +1,5 @@
 use Rattle.std.proofs.Common.{◌≡◌, ◌<◌, ℕ, suc, List, [], ◌∷◌, ◌++◌, length, take, ap, ◌∙◌, arith}
-use Rattle.flow_core.specs.CountLaws.{counted_more}
+use Rattle.flow_core.proofs.CountLaws.{counted_more}
 use Rattle.flow_core.specs.Drops.{drops_of}
 use Rattle.flow_core.proofs.counting.counts_of_life.Goals as goal
 

@@ -2,7 +2,7 @@ use Rattle.std.proofs.Common.{rules, List, subst, sym}
 use Rattle.std.proofs.lemmas.Fn.{always_returns_same}
 use Rattle.kap_base.specs.declared.items.Effect.{Effect}
 use Rattle.flow_core.specs.Sorting.{AreSorted, place_of}
-use Rattle.flow_core.specs.SortLaws.{sorted_by_places}
+use Rattle.flow_core.proofs.SortLaws.{sorted_by_places}
 use Rattle.flow_core.proofs.gathering.sort_effects.Goals as goal
 
 pub returns-clause-sorted : goal.returns-clause-sorted

@@ -1,4 +1,4 @@
-use Rattle.flow_core.specs.GatheredLaws.{gathered_loaded, gathered_moved}
+use Rattle.flow_core.proofs.GatheredLaws.{gathered_loaded, gathered_moved}
 use Rattle.flow_core.proofs.laws.effects_are_gathered.Goals as goal
 
 pub returns-clause-loaded : goal.returns-clause-loaded

@@ -1,4 +1,4 @@
-use Rattle.flow_core.specs.LifeLaws.{rests_loaded}
+use Rattle.flow_core.proofs.LifeLaws.{rests_loaded}
 use Rattle.flow_core.proofs.laws.lives_go_on.Goals as goal
 
 pub returns : goal.returns

@@ -1,4 +1,4 @@
-use Rattle.flow_core.specs.LoadedLaws.{loaded_drops, loaded_stands}
+use Rattle.flow_core.proofs.LoadedLaws.{loaded_drops, loaded_stands}
 use Rattle.flow_core.proofs.laws.loads_go_on.Goals as goal
 
 pub returns-clause-outs : goal.returns-clause-outs

@@ -1,4 +1,4 @@
-use Rattle.flow_core.specs.MessageLaws.{messages_barriers, messages_closed, messages_items, messages_rise}
+use Rattle.flow_core.proofs.MessageLaws.{messages_barriers, messages_closed, messages_items, messages_rise}
 use Rattle.flow_core.proofs.laws.loads_have_messages.Goals as goal
 
 pub returns-clause-items : goal.returns-clause-items

@@ -1,5 +1,5 @@
-use Rattle.flow_core.specs.GatherLaws.{rising_more, sorted_all, sorted_more}
-use Rattle.flow_core.specs.NumberLaws.{stamped_numbers}
+use Rattle.flow_core.proofs.GatherLaws.{rising_more, sorted_all, sorted_more}
+use Rattle.flow_core.proofs.NumberLaws.{stamped_numbers}
 use Rattle.flow_core.proofs.laws.sorted_effects_are_whole.Goals as goal
 
 pub returns-clause-all : goal.returns-clause-all

@@ -1,4 +1,4 @@
-use Rattle.flow_core.specs.NetLaws.{some_here, some_later}
+use Rattle.flow_core.proofs.LivesLaws.{some_here, some_later}
 use Rattle.flow_core.proofs.lives.+at_rest.Goals as goal
 
 pub returns-then-not-at_rest-clause-alive : goal.returns-then-not-at_rest-clause-alive

@@ -1,5 +1,5 @@
 use Rattle.std.proofs.Common.{◌<◌, ◌≤◌, length, arith}
-use Rattle.flow_core.specs.NetLaws.{cell_after, cell_own}
+use Rattle.flow_core.proofs.LivesLaws.{cell_after, cell_own}
 use Rattle.flow_core.proofs.lives.+dropped.Goals as goal
 
 pub returns-then-cell-cells : goal.returns-then-cell-cells

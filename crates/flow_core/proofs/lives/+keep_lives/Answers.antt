@@ -1,4 +1,4 @@
-use Rattle.flow_core.specs.NetLaws.{lives_more, prefixes_more}
+use Rattle.flow_core.proofs.LivesLaws.{lives_more, prefixes_more}
 use Rattle.flow_core.proofs.lives.+keep_lives.Goals as goal
 
 pub returns-in-Some-clause-lives : goal.returns-in-Some-clause-lives

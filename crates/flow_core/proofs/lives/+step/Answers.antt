@@ -1,8 +1,9 @@
 use Rattle.std.proofs.Common.{◌<◌, ◌≤◌, length, arith}
-use Rattle.flow_core.specs.DoneLaws.{gathers_none, lives_behind, lives_here, on_ok}
+use Rattle.flow_core.proofs.DoneLaws.{gathers_none, lives_behind, lives_here}
+use Rattle.kap_base.proofs.ResultLaws.{on_ok}
 use Rattle.flow_core.specs.Nets.{cell_of}
-use Rattle.flow_core.specs.NetLaws.{enabled_behind, enabled_here, grows_behind, grows_here, if_ok, if_ok_with, never_here}
-use Rattle.flow_core.specs.RunningLaws.{same_behind, same_here}
+use Rattle.flow_core.proofs.LivesLaws.{enabled_behind, enabled_here, grows_behind, grows_here, if_ok, if_ok_with, never_here}
+use Rattle.flow_core.proofs.RunningLaws.{same_behind, same_here}
 use Rattle.flow_core.proofs.lives.+step.Goals as goal
 
 pub returns-then-cell_of-cells-clause-yes : goal.returns-then-cell_of-cells-clause-yes

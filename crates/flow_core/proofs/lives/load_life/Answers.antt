@@ -1,7 +1,7 @@
 use Rattle.std.proofs.Common.{◌∙◌}
-use Rattle.flow_life.specs.ListingLaws.{ends-gathered}
+use Rattle.flow_life.proofs.ListingLaws.{ends-gathered}
 use Rattle.flow_life.proofs.RoomLaws.{rooms_gathered, rooms_loaded}
-use Rattle.flow_core.specs.DoneLaws.{load_gathers}
+use Rattle.flow_core.proofs.DoneLaws.{load_gathers}
 use Rattle.flow_core.proofs.lives.load_life.Goals as goal
 
 pub returns-clause-given : goal.returns-clause-given

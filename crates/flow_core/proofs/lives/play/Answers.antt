@@ -1,8 +1,8 @@
 use Rattle.std.proofs.Common.{◌≡◌, ◌+◌, refl, ap, sym, ◌∙◌, arith}
-use Rattle.flow_life.specs.PlayLaws.{plays_more}
+use Rattle.flow_life.proofs.PlayLaws.{plays_more}
 use Rattle.flow_life.specs.Playing.{played}
 use Rattle.flow_life.specs.Steps.{one_if}
-use Rattle.flow_core.specs.DoneLaws.{gathers_none, gathers_then}
+use Rattle.flow_core.proofs.DoneLaws.{gathers_none, gathers_then}
 use Rattle.flow_core.specs.Nets.{EnabledIn, GrowsIn}
 use Rattle.flow_core.specs.Running.{SameEnabledIn}
 use Rattle.flow_core.proofs.lives.play.Goals as goal

@@ -1,11 +1,11 @@
 use Rattle.std.proofs.Common.{◌≡◌, ◌+◌, ℕ, sym, ap, ◌∙◌}
 use Rattle.flow_life.specs.Left.{left_of}
-use Rattle.flow_life.specs.LeftLaws.{left-same}
-use Rattle.flow_life.specs.ListingLaws.{ends-gathered}
+use Rattle.flow_life.proofs.LeftLaws.{left-same}
+use Rattle.flow_life.proofs.ListingLaws.{ends-gathered}
 use Rattle.flow_life.specs.Steps.{one_if}
 use Rattle.flow_life.proofs.RoomLaws.{rooms_gathered}
-use Rattle.flow_core.specs.DoneLaws.{idle_gathers, step_gathers}
-use Rattle.flow_core.specs.NetLaws.{grows_gathered}
+use Rattle.flow_core.proofs.DoneLaws.{idle_gathers, step_gathers}
+use Rattle.flow_core.proofs.LivesLaws.{grows_gathered}
 use Rattle.flow_core.proofs.lives.step_life.Goals as goal
 
 pub returns-then-not-made-clause-gathers : goal.returns-then-not-made-clause-gathers

@@ -2,7 +2,7 @@ use Rattle.std.proofs.Common.{◌<◌, ◌++◌, [], ◌∷◌, ℕ, List, lengt
 use Rattle.std.specs.List.{AllByRecursion as Each}
 use Rattle.std.proofs.lemmas.List.{reverse-append}
 use Rattle.flow_life.specs.Making.{nodes_of}
-use Rattle.flow_core.specs.PlanLaws.{can_first, none_left}
+use Rattle.flow_core.proofs.PlanLaws.{can_first, none_left}
 use Rattle.flow_core.proofs.making.+add_cells.Goals as goal
 
 pub returns-in_default-clause-nodes : goal.returns-in_default-clause-nodes

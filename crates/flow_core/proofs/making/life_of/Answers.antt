@@ -1,7 +1,7 @@
 use Rattle.std.proofs.Common.{reverse, ap, subst, sym, ◌∙◌}
 use Rattle.std.proofs.lemmas.List.{reverse-reverse}
 use Rattle.flow_core.specs.Making.{HasFewParents}
-use Rattle.flow_core.specs.PlanLaws.{plan_can}
+use Rattle.flow_core.proofs.PlanLaws.{plan_can}
 use Rattle.flow_core.proofs.making.life_of.Goals as goal
 
 pub add_cells-requires-clause-can : goal.add_cells-requires-clause-can

@@ -1,6 +1,6 @@
 use Rattle.std.proofs.Common.{[], ◌∷◌}
-use Rattle.flow_life.specs.SplitLaws.{each-append}
-use Rattle.flow_core.specs.PlanLaws.{zip_push}
+use Rattle.flow_life.proofs.SplitLaws.{each-append}
+use Rattle.flow_core.proofs.PlanLaws.{zip_push}
 use Rattle.flow_core.specs.Making.{IsLifeOf}
 use Rattle.flow_core.specs.Rooms.{HasRoomIn}
 use Rattle.flow_core.proofs.making.lives_of.Goals as goal

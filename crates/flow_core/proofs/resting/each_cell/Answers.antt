@@ -1,4 +1,4 @@
-use Rattle.flow_core.specs.RunningLaws.{goes_then}
+use Rattle.flow_core.proofs.RunningLaws.{goes_then}
 use Rattle.flow_core.proofs.resting.each_cell.Goals as goal
 
 pub cells-preserved : goal.cells-preserved

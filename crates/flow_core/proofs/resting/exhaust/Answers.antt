@@ -1,4 +1,4 @@
-use Rattle.flow_core.specs.RunningLaws.{goes_then}
+use Rattle.flow_core.proofs.RunningLaws.{goes_then}
 use Rattle.flow_core.proofs.resting.exhaust.Goals as goal
 
 pub making-preserved : goal.making-preserved

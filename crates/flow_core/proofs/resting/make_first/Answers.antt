@@ -1,5 +1,5 @@
 use Rattle.std.proofs.Common.{refl}
-use Rattle.flow_core.specs.RunningLaws.{goes_then, off_more, same_then}
+use Rattle.flow_core.proofs.RunningLaws.{goes_then, off_more, same_then}
 use Rattle.flow_core.proofs.resting.make_first.Goals as goal
 
 pub returns-then-branch-clause-goes : goal.returns-then-branch-clause-goes

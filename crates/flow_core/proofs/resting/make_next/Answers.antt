@@ -1,6 +1,6 @@
-use Rattle.flow_core.specs.DoneLaws.{on_ok}
-use Rattle.flow_core.specs.NetLaws.{if_ok_both}
-use Rattle.flow_core.specs.RunningLaws.{goes_then, off_both}
+use Rattle.kap_base.proofs.ResultLaws.{on_ok}
+use Rattle.flow_core.proofs.LivesLaws.{if_ok_both}
+use Rattle.flow_core.proofs.RunningLaws.{goes_then, off_both}
 use Rattle.flow_core.proofs.resting.make_next.Goals as goal
 
 pub returns-clause-goes : goal.returns-clause-goes

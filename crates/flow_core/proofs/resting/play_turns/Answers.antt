@@ -1,5 +1,5 @@
 use Rattle.std.proofs.Common.{rules}
-use Rattle.flow_core.specs.RunningLaws.{goes_then}
+use Rattle.flow_core.proofs.RunningLaws.{goes_then}
 use Rattle.flow_core.proofs.resting.play_turns.Goals as goal
 
 pub turning-preserved : goal.turning-preserved

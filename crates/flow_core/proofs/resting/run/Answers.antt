@@ -1,5 +1,5 @@
 use Rattle.std.proofs.Common.{◌∙◌}
-use Rattle.flow_core.specs.RunningLaws.{rests}
+use Rattle.flow_core.proofs.RunningLaws.{rests}
 use Rattle.flow_core.proofs.resting.run.Goals as goal
 
 pub returns-clause-rest : goal.returns-clause-rest

@@ -1,4 +1,4 @@
-use Rattle.flow_core.specs.RunningLaws.{goes_then}
+use Rattle.flow_core.proofs.RunningLaws.{goes_then}
 use Rattle.flow_core.proofs.resting.run_passes.Goals as goal
 
 pub passing-preserved : goal.passing-preserved

@@ -1,7 +1,7 @@
 use Rattle.std.proofs.Common.{sym, subst}
 use Rattle.flow_life.specs.Graphs.{IsLoaded}
-use Rattle.flow_life.specs.GatherLaws.{all-gathered, moves-gathered, plans-gathered, ready-gathered}
-use Rattle.flow_life.specs.NodeLaws.{specs-gathered}
+use Rattle.flow_life.proofs.GatherLaws.{all-gathered, moves-gathered, plans-gathered, ready-gathered}
+use Rattle.flow_life.proofs.NodeLaws.{specs-gathered}
 use Rattle.flow_life.proofs.gathering.gather.Goals as goal
 
 pub gather_cells-requires : goal.gather_cells-requires

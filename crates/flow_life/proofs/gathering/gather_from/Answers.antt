@@ -2,12 +2,12 @@ use Rattle.std.proofs.Common.{List, ◌++◌, get_or, set, ap, subst, sym, ◌�
 use Rattle.std.specs.List.{AllZip}
 use Rattle.kap_base.specs.declared.items.Effect.{Effect}
 use Rattle.flow_cells.specs.Gathers.{Gathers}
-use Rattle.flow_cells.specs.OutLaws.{each-set, get-here}
-use Rattle.flow_life.specs.GatherLaws.{all-gathered, moves-gathered, plans-gathered, ready-gathered}
+use Rattle.flow_cells.proofs.OutLaws.{each-set, get-here}
+use Rattle.flow_life.proofs.GatherLaws.{all-gathered, moves-gathered, plans-gathered, ready-gathered}
 use Rattle.flow_life.specs.Graphs.{IsLoaded}
-use Rattle.flow_life.specs.NodeLaws.{specs-gathered}
-use Rattle.flow_life.specs.OneLaws.{effects-one, gathers-one}
-use Rattle.flow_life.specs.PlaceLaws.{each-get}
+use Rattle.flow_life.proofs.NodeLaws.{specs-gathered}
+use Rattle.flow_life.proofs.OneLaws.{effects-one, gathers-one}
+use Rattle.flow_life.proofs.PlaceLaws.{each-get}
 use Rattle.flow_life.specs.Wired.{IsUnspent}
 use Rattle.flow_life.proofs.gathering.gather_from.Given as given
 use Rattle.flow_life.proofs.gathering.gather_from.Goals as goal

@@ -4,7 +4,7 @@ use Rattle.std.proofs.lemmas.Result.{on_ok_weaker}
 use Rattle.kap_base.specs.declared.items.Msg.{Msg}
 use Rattle.flow_cells.specs.declared.parts.CellParts.{CellParts}
 use Rattle.flow_life.specs.Loads.{LoadsFrom, SeesSame}
-use Rattle.flow_life.specs.LoadLaws.{loads-same}
+use Rattle.flow_life.proofs.LoadLaws.{loads-same}
 use Rattle.flow_life.proofs.loads.+load_cells.Goals as goal
 
 pub returns-clause-loads : goal.returns-clause-loads

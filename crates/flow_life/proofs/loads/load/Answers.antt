@@ -1,7 +1,7 @@
-use Rattle.flow_life.specs.ListingLaws.{ends-loaded}
-use Rattle.flow_life.specs.LoadLaws.{can-load, loaded-closed, moves-loaded, plans-loaded, ready-loaded}
-use Rattle.flow_life.specs.NodeLaws.{specs-loaded}
-use Rattle.flow_life.specs.StreamLaws.{carries_prefixes}
+use Rattle.flow_life.proofs.ListingLaws.{ends-loaded}
+use Rattle.flow_life.proofs.LoadLaws.{can-load, loaded-closed, moves-loaded, plans-loaded, ready-loaded}
+use Rattle.flow_life.proofs.NodeLaws.{specs-loaded}
+use Rattle.flow_life.proofs.StreamLaws.{carries_prefixes}
 use Rattle.flow_life.proofs.loads.load.Goals as goal
 
 pub load_cells-requires : goal.load_cells-requires

@@ -2,7 +2,7 @@ use Rattle.std.proofs.Common.{List, subst, sym}
 use Rattle.std.proofs.lemmas.Result.{on_ok_weaker}
 use Rattle.kap_base.specs.declared.items.Msg.{Msg}
 use Rattle.flow_cells.specs.Loads.{Begins, IsOwn}
-use Rattle.flow_life.specs.LoadLaws.{loads-child, none-own}
+use Rattle.flow_life.proofs.LoadLaws.{loads-child, none-own}
 use Rattle.flow_life.proofs.loads.load_child.Goals as goal
 
 pub load-requires-clause-own : goal.load-requires-clause-own

@@ -1,5 +1,5 @@
 use Rattle.std.proofs.lemmas.Result.{on_ok_weaker}
-use Rattle.flow_life.specs.LoadLaws.{all-own, loads-stream}
+use Rattle.flow_life.proofs.LoadLaws.{all-own, loads-stream}
 use Rattle.flow_life.proofs.loads.load_stream.Goals as goal
 
 pub load-requires-clause-own : goal.load-requires-clause-own

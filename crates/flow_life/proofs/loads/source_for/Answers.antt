@@ -1,6 +1,6 @@
 use Rattle.std.proofs.Common.{refl}
 use Rattle.std.proofs.lemmas.Result.{IfOk-weaker}
-use Rattle.flow_life.specs.LoadLaws.{sees-equal, sees-none}
+use Rattle.flow_life.proofs.LoadLaws.{sees-equal, sees-none}
 use Rattle.flow_life.proofs.loads.source_for.Goals as goal
 
 pub returns-then-not-has_stream : goal.returns-then-not-has_stream

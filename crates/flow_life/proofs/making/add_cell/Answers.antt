@@ -11,9 +11,9 @@ use Rattle.flow_cells.specs.declared.parts.InEdge.{InEdge}
 use Rattle.flow_cells.specs.declared.parts.OutEdge.{OutEdge}
 use Rattle.flow_cells.specs.Made.{HasNothing}
 use Rattle.flow_cells.specs.Rooms.{HasRoom}
-use Rattle.flow_life.specs.MakingLaws.{blank-first, holds-of, life-cell, map-push}
-use Rattle.flow_life.specs.SplitLaws.{each-append}
-use Rattle.flow_life.specs.StartLaws.{nothing-gathered, nothing-quiet, nothing-saved}
+use Rattle.flow_life.proofs.MakingLaws.{blank-first, holds-of, life-cell, map-push}
+use Rattle.flow_life.proofs.SplitLaws.{each-append}
+use Rattle.flow_life.proofs.StartLaws.{nothing-gathered, nothing-quiet, nothing-saved}
 use Rattle.flow_life.proofs.making.add_cell.Given as given
 use Rattle.flow_life.proofs.making.add_cell.Goals as goal
 use Rattle.flow_life.proofs.making.add_cell.Goals.{In_ok-push}

@@ -6,13 +6,13 @@ use Rattle.flow_cells.specs.declared.parts.CellParts.{CellParts}
 use Rattle.flow_cells.specs.declared.parts.InEdge.{InEdge}
 use Rattle.flow_cells.specs.declared.parts.OutEdge.{OutEdge}
 use Rattle.flow_cells.specs.Made.{HasNothing}
-use Rattle.flow_cells.specs.OutLaws.{each-set, get-here}
+use Rattle.flow_cells.proofs.OutLaws.{each-set, get-here}
 use Rattle.flow_cells.specs.Rooms.{HasRoom}
 use Rattle.flow_life.specs.Making.{AreBlank, HasCarriedNothing, IsUntouched}
-use Rattle.flow_life.specs.PlaceLaws.{each-get, map-set}
+use Rattle.flow_life.proofs.PlaceLaws.{each-get, map-set}
 use Rattle.flow_life.specs.Wired.{IsUnspent}
-use Rattle.flow_life.specs.MakingLaws.{blank-edge, fresh-head, holds-of, unused-tail}
-use Rattle.flow_life.specs.SplitLaws.{each-append}
+use Rattle.flow_life.proofs.MakingLaws.{blank-edge, fresh-head, holds-of, unused-tail}
+use Rattle.flow_life.proofs.SplitLaws.{each-append}
 use Rattle.flow_life.proofs.making.add_edge.Goals as goal
 
 pub add_out-requires-clause-unspent : goal.add_out-requires-clause-unspent

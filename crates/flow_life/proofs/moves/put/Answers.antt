@@ -2,19 +2,19 @@ use Rattle.std.proofs.Common.{◌≡◌, ℕ, ◌<◌, List, length, get_or, set
 use Rattle.std.specs.Prelude.{slice_get}
 use Rattle.std.specs.List.{AllByRecursion as Each}
 use Rattle.flow_cells.specs.declared.parts.CellParts.{CellParts}
-use Rattle.flow_cells.specs.OutLaws.{get-here}
+use Rattle.flow_cells.proofs.OutLaws.{get-here}
 use Rattle.flow_cells.specs.Moves.{PutsOne}
 use Rattle.node_core.specs.declared.node.Node.{Ghosts}
 use Rattle.flow_life.specs.Loads.{IsGathered}
-use Rattle.flow_life.specs.OneLaws.{held-left, put-left}
+use Rattle.flow_life.proofs.OneLaws.{held-left, put-left}
 use Rattle.flow_life.specs.Settling.{HasEdge, Sends, SettlesIn}
-use Rattle.flow_life.specs.PlaceLaws.{each-get, get-within, in-within, out-within}
+use Rattle.flow_life.proofs.PlaceLaws.{each-get, get-within, in-within, out-within}
 use Rattle.flow_life.specs.Steps.{CanPutAt}
 use Rattle.flow_life.specs.Wired.{IsUnspent}
-use Rattle.flow_life.specs.NodeLaws.{Stays, held-stays, put-stays}
-use Rattle.flow_life.specs.StepLaws.{Made}
-use Rattle.flow_life.specs.TryLaws.{same-held, same-refl}
-use Rattle.flow_life.specs.PutLaws.{Held, could-put, edge-as, put-edge, put-held, put-made, put-sends, put-there, settles-as, stuck-put}
+use Rattle.flow_life.proofs.NodeLaws.{Stays, held-stays, put-stays}
+use Rattle.flow_life.proofs.StepLaws.{Made}
+use Rattle.flow_life.proofs.TryLaws.{same-held, same-refl}
+use Rattle.flow_life.proofs.PutLaws.{Held, could-put, edge-as, put-edge, put-held, put-made, put-sends, put-there, settles-as, stuck-put}
 use Rattle.flow_life.proofs.moves.put.Given as given
 use Rattle.flow_life.proofs.moves.put.Goals as goal
 use Rattle.flow_life.proofs.moves.put.Goals.{After-child_input-input, After-settle_input, Then-not-put}

@@ -4,19 +4,19 @@ use Rattle.std.specs.Prelude.{IsFalse, slice_get}
 use Rattle.std.specs.List.{AllByRecursion as Each}
 use Rattle.node_core.specs.declared.node.Node.{Ghosts}
 use Rattle.flow_cells.specs.declared.parts.CellParts.{CellParts}
-use Rattle.flow_cells.specs.OutLaws.{get-here}
+use Rattle.flow_cells.proofs.OutLaws.{get-here}
 use Rattle.flow_cells.specs.Looks.{CanTake}
 use Rattle.flow_cells.specs.Moves.{TakesOne}
 use Rattle.flow_life.specs.Loads.{IsGathered}
-use Rattle.flow_life.specs.OneLaws.{all-but, take-left}
+use Rattle.flow_life.proofs.OneLaws.{all-but, take-left}
 use Rattle.flow_life.specs.Settling.{HasEdge, Receives}
 use Rattle.flow_life.specs.Steps.{CanTakeAt, moves_of, one_if}
 use Rattle.flow_life.specs.Wired.{IsUnspent}
-use Rattle.flow_life.specs.PlaceLaws.{each-get, found-same, get-within, in-within}
-use Rattle.flow_life.specs.NodeLaws.{Stays, take-stays}
+use Rattle.flow_life.proofs.PlaceLaws.{each-get, found-same, get-within, in-within}
+use Rattle.flow_life.proofs.NodeLaws.{Stays, take-stays}
 use Rattle.flow_life.specs.Trying.{IsGatheredBut, SameEnabled}
-use Rattle.flow_life.specs.TryLaws.{same-refl}
-use Rattle.flow_life.specs.StepLaws.{Made, take-edge, take-made, take-receives, take-sure}
+use Rattle.flow_life.proofs.TryLaws.{same-refl}
+use Rattle.flow_life.proofs.StepLaws.{Made, take-edge, take-made, take-receives, take-sure}
 use Rattle.flow_life.proofs.moves.take.Given as given
 use Rattle.flow_life.proofs.moves.take.Goals as goal
 use Rattle.flow_life.proofs.moves.take.Goals.{After-settle_input, In_ok-took}

@@ -1,7 +1,7 @@
-use Rattle.flow_life.specs.AliveLaws.{alive}
-use Rattle.flow_life.specs.CountLaws.{moves-twice}
-use Rattle.flow_life.specs.LeftLaws.{left-none}
-use Rattle.flow_life.specs.RestLaws.{buffers_empty, carries_streams}
+use Rattle.flow_life.proofs.AliveLaws.{alive}
+use Rattle.flow_life.proofs.CountLaws.{moves-twice}
+use Rattle.flow_life.proofs.LeftLaws.{left-none}
+use Rattle.flow_life.proofs.RestLaws.{buffers_empty, carries_streams}
 use Rattle.flow_life.proofs.playing.at_rest.Goals as goal
 
 pub returns-clause-empty : goal.returns-clause-empty

@@ -1,10 +1,10 @@
 use Rattle.std.proofs.Common.{◌≡◌, ◌+◌, refl, subst, ap, sym, ◌∙◌, arith}
 use Rattle.std.proofs.lemmas.List.{take_all}
-use Rattle.flow_life.specs.PlayLaws.{plays_more}
+use Rattle.flow_life.proofs.PlayLaws.{plays_more}
 use Rattle.flow_life.specs.Playing.{Plays, played}
 use Rattle.flow_life.specs.Settling.{Grows}
 use Rattle.flow_life.specs.Steps.{IsEnabled, one_if}
-use Rattle.flow_life.specs.StreamLaws.{carries_prefixes}
+use Rattle.flow_life.proofs.StreamLaws.{carries_prefixes}
 use Rattle.flow_life.specs.Trying.{SameEnabled}
 use Rattle.flow_life.proofs.playing.play.Goals as goal
 use Rattle.flow_life.proofs.playing.play.Goals.{else-branch, then-branch}

@@ -1,5 +1,5 @@
 use Rattle.std.proofs.Common.{Some, ap, sym, ◌∙◌}
-use Rattle.flow_cells.specs.OutLaws.{get-here}
+use Rattle.flow_cells.proofs.OutLaws.{get-here}
 use Rattle.flow_life.proofs.settling.inputs_of.Goals as goal
 
 pub returns : goal.returns

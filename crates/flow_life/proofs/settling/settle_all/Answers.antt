@@ -1,4 +1,4 @@
-use Rattle.flow_life.specs.LooseLaws.{looked_gathered, looked_plans, looked_specs, looked_unspent, wired_life}
+use Rattle.flow_life.proofs.LooseLaws.{looked_gathered, looked_plans, looked_specs, looked_unspent, wired_life}
 use Rattle.flow_life.proofs.settling.settle_all.Goals as goal
 
 pub keep_cells-requires : goal.keep_cells-requires

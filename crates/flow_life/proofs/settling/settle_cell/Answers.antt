@@ -1,6 +1,6 @@
 use Rattle.std.proofs.Common.{ℕ, ◌≡◌, arith, subst}
 use Rattle.flow_life.specs.Loose.{AreSettledTo}
-use Rattle.flow_life.specs.LooseLaws.{input_there, looked_inputs, looked_joined, looked_more, looked_none, settled_cell}
+use Rattle.flow_life.proofs.LooseLaws.{input_there, looked_inputs, looked_joined, looked_more, looked_none, settled_cell}
 use Rattle.flow_life.proofs.settling.settle_cell.Goals as goal
 
 pub settling-init : goal.settling-init

@@ -1,5 +1,5 @@
 use Rattle.std.proofs.Common.{◌≡◌, ◌≤◌, length, arith}
-use Rattle.flow_life.specs.LooseLaws.{looked_joined, looked_more, looked_none, settled_none, settled_wired}
+use Rattle.flow_life.proofs.LooseLaws.{looked_joined, looked_more, looked_none, settled_none, settled_wired}
 use Rattle.flow_life.proofs.settling.settle_cells.Goals as goal
 
 pub settling-init : goal.settling-init

@@ -1,8 +1,8 @@
 use Rattle.std.proofs.Common.{◌<◌, length, set, subst}
 use Rattle.std.specs.List.{AllByRecursion as Each}
 use Rattle.flow_cells.specs.Kept.{Keeps}
-use Rattle.flow_cells.specs.OutLaws.{each-at, each-set}
-use Rattle.flow_life.specs.SplitLaws.{IsSplit, each-append, each-behind, each-front, split-bound, split-fed, split-settles, split-some}
+use Rattle.flow_cells.proofs.OutLaws.{each-at, each-set}
+use Rattle.flow_life.proofs.SplitLaws.{IsSplit, each-append, each-behind, each-front, split-bound, split-fed, split-settles, split-some}
 use Rattle.flow_life.proofs.settling.settle_input.Goals as goal
 
 pub settle-requires : goal.settle-requires

@@ -1,8 +1,8 @@
 use Rattle.std.proofs.Common.{◌≡◌, get_or, Some, sym, ◌∙◌}
 use Rattle.std.specs.Prelude.{slice_get}
-use Rattle.flow_cells.specs.OutLaws.{get-here}
-use Rattle.flow_life.specs.LooseLaws.{settled_one, settles-looked, tied_edge}
-use Rattle.flow_life.specs.PlaceLaws.{get-within, in-at}
+use Rattle.flow_cells.proofs.OutLaws.{get-here}
+use Rattle.flow_life.proofs.LooseLaws.{settled_one, settles-looked, tied_edge}
+use Rattle.flow_life.proofs.PlaceLaws.{get-within, in-at}
 use Rattle.flow_life.proofs.settling.settle_one.Given as given
 use Rattle.flow_life.proofs.settling.settle_one.Goals as goal
 use Rattle.flow_life.proofs.settling.settle_one.Goals.{After-index-cells-child}

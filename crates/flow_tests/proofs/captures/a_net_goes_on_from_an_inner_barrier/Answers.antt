@@ -1,5 +1,5 @@
 use Rattle.std.proofs.Common.{refl}
-use Rattle.flow_core.specs.NumberLaws.{stamped_numbers}
+use Rattle.flow_core.proofs.NumberLaws.{stamped_numbers}
 use Rattle.flow_tests.specs.Taps.{tap_says}
 use Rattle.flow_tests.proofs.TapLaws.{seats_rise}
 use Rattle.flow_tests.proofs.captures.a_net_goes_on_from_an_inner_barrier.Goals as goal

@@ -1,7 +1,7 @@
 use Rattle.std.proofs.Common.{Bool, true, false, IsFalse, IsTrue, IsPermutation, [], append-nil, ◌++◌, ◌∙◌, ap, refl, subst, sym}
 use Rattle.std.proofs.lemmas.List.Sorted.{IsPermutation-refl}
 use Rattle.flow_core.specs.Gathering.{effects_by_node}
-use Rattle.flow_core.specs.RanLaws.{none_given}
+use Rattle.flow_core.proofs.RanLaws.{none_given}
 use Rattle.barrier_snapshot.specs.Resuming.{DidTheRestOf, effects_behind}
 use Rattle.flow_tests.proofs.captures.collect_both.Goals as goal
 

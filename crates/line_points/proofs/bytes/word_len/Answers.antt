@@ -1,6 +1,6 @@
 use Rattle.line_points.specs.Parts.{is_separator}
 use Rattle.std.proofs.Common.{sym}
-use Rattle.line_points.proofs.PlaceLaws.{none_place}
+use Rattle.kap_base.proofs.PositionLaws.{none_place}
 use Rattle.line_points.proofs.bytes.word_len.Goals as goal
 
 pub returns-in-None : goal.returns-in-None

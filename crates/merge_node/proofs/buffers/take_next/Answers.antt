@@ -1,6 +1,6 @@
 use Rattle.std.proofs.Common.{◌∙◌, sym, ap}
 use Rattle.merge_node.specs.Buffers.{left_of, said}
-use Rattle.merge_node.specs.FrontLaws.{looked_empty, looked_full}
+use Rattle.merge_node.proofs.FrontLaws.{looked_empty, looked_full}
 use Rattle.merge_node.proofs.buffers.take_next.Goals as goal
 
 pub returns-in_default-clause-gives : goal.returns-in_default-clause-gives

@@ -4,11 +4,11 @@ use Rattle.std.proofs.lemmas.List.Sorted.{IsPermutation-sym, IsPermutation-trans
 use Rattle.kap_base.specs.declared.items.Stamp.{Stamp}
 use Rattle.task_run.specs.Courses.{grown, later_effects}
 use Rattle.flow_core.specs.Gathering.{LivesRise}
-use Rattle.flow_core.specs.GatheredLaws.{gathered_loaded, gathered_moved}
+use Rattle.flow_core.proofs.GatheredLaws.{gathered_loaded, gathered_moved}
 use Rattle.flow_core.specs.Nets.{HasStreamsCarried, IsResting, numbers_of}
 use Rattle.flow_core.specs.Ran.{effects_in}
 use Rattle.flow_core.specs.Rooms.{rooms_in}
-use Rattle.flow_core.specs.UniqueLaws.{sorted_is}
+use Rattle.flow_core.proofs.UniqueLaws.{sorted_is}
 use Rattle.net_epochs.specs.Epochs.{IsOnCourse}
 use Rattle.net_epochs.proofs.NetLaws.{grown_nodes, net_went}
 use Rattle.net_epochs.proofs.RiseLaws.{later_rise}

@@ -1,5 +1,5 @@
 use Rattle.std.proofs.Common.{◌∙◌, []}
-use Rattle.node_core.specs.CutLaws.{after_up_to}
+use Rattle.node_core.proofs.CutLaws.{after_up_to}
 use Rattle.node_core.proofs.RunLaws.{ran_more, later_ports}
 use Rattle.node_core.proofs.runs.run.Goals as goal
 

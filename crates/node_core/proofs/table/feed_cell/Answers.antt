@@ -1,6 +1,6 @@
 use Rattle.std.proofs.Common.{ap, ◌∙◌}
 use Rattle.std.specs.FinMap as map
-use Rattle.node_core.proofs.Loops.{on_ok}
+use Rattle.kap_base.proofs.ResultLaws.{on_ok}
 use Rattle.node_core.proofs.CellLaws.{cell_is}
 use Rattle.node_core.proofs.table.feed_cell.Goals as goal
 

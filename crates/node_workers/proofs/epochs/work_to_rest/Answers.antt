@@ -1,6 +1,6 @@
 use Rattle.std.proofs.lemmas.Result.{on_ok_weaker}
 use Rattle.flow_core.proofs.NetLaws.{net_goes_then}
-use Rattle.node_workers.specs.WorkerLaws.{stood_back}
+use Rattle.node_workers.proofs.WorkerLaws.{stood_back}
 use Rattle.node_workers.proofs.epochs.work_to_rest.Goals as goal
 
 pub give_cells-requires-clause-back : goal.give_cells-requires-clause-back

@@ -4,7 +4,7 @@ use denote.Param.Send.{param_send, arg_send}
 use Rattle.std.specs.List.{AllZip}
 use Rattle.flow_cells.proofs.Crossing.{Cell_send}
 use Rattle.node_workers.specs.Workers.{HasStood}
-use Rattle.node_workers.specs.WorkerLaws.{zip_at, zip_by}
+use Rattle.node_workers.proofs.WorkerLaws.{zip_at, zip_by}
 use Rattle.node_workers.proofs.sharing.deal_cells.Goals as goal
 
 pub for_each_chunk_mut-requires-send-T : goal.for_each_chunk_mut-requires-send-T

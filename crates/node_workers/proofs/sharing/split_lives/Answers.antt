@@ -5,7 +5,7 @@ use Rattle.std.specs.List.{AllZip}
 use Rattle.flow_life.proofs.Crossing.{Life_send}
 use Rattle.node_workers.proofs.Crossing.{Numbered_send}
 use Rattle.node_workers.specs.Workers.{HasStoodLife}
-use Rattle.node_workers.specs.WorkerLaws.{zip_at, zip_by}
+use Rattle.node_workers.proofs.WorkerLaws.{zip_at, zip_by}
 use Rattle.node_workers.proofs.sharing.split_lives.Goals as goal
 
 pub for_each_chunk_mut-requires-send-T : goal.for_each_chunk_mut-requires-send-T

@@ -1,4 +1,4 @@
-use Rattle.node_workers.specs.WorkerLaws.{stood_first}
+use Rattle.node_workers.proofs.WorkerLaws.{stood_first}
 use Rattle.node_workers.proofs.turns.+turn.Goals as goal
 
 pub returns-in_err-moved : goal.returns-in_err-moved

@@ -1,6 +1,6 @@
 use Rattle.std.proofs.Common.{sym, ◌∙◌}
 use Rattle.flow_cells.specs.Moved.{HasMoved}
-use Rattle.flow_cells.specs.MovedLaws.{HasMoved-refl, HasMoved-trans}
+use Rattle.flow_cells.proofs.MovedLaws.{HasMoved-refl, HasMoved-trans}
 use Rattle.node_workers.proofs.turns.move_cell.Given as given
 use Rattle.node_workers.proofs.turns.move_cell.Goals as goal
 use Rattle.node_workers.proofs.turns.move_cell.Goals.{In_ok-took}

@@ -1,5 +1,5 @@
 use Rattle.std.proofs.Common.{◌∙◌}
-use Rattle.flow_cells.specs.MovedLaws.{HasMoved-refl, HasMoved-trans}
+use Rattle.flow_cells.proofs.MovedLaws.{HasMoved-refl, HasMoved-trans}
 use Rattle.node_workers.proofs.turns.take_each.Goals as goal
 
 pub taking-init : goal.taking-init

@@ -1,4 +1,4 @@
-use Rattle.node_workers.specs.WorkerLaws.{stood_more, stood_none}
+use Rattle.node_workers.proofs.WorkerLaws.{stood_more, stood_none}
 use Rattle.node_workers.proofs.turns.work.Goals as goal
 
 pub turning-init : goal.turning-init

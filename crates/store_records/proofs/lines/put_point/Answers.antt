@@ -1,6 +1,6 @@
 use Rattle.std.proofs.Common.{subst}
 use Rattle.state_code.specs.Spelling.{FitsBytes}
-use Rattle.state_code.proofs.PointLaws.{on_ok}
+use Rattle.kap_base.proofs.ResultLaws.{on_ok}
 use Rattle.store_records.proofs.LineLaws.{line_fits}
 use Rattle.store_records.proofs.lines.put_point.Goals as goal
 

@@ -1,4 +1,4 @@
-use Rattle.task_run.specs.CourseLaws.{effects_begin, effects_from_first, effects_more}
+use Rattle.task_run.proofs.CourseLaws.{effects_begin, effects_from_first, effects_more}
 use Rattle.task_run.proofs.laws.courses_go_on.Goals as goal
 
 pub returns-clause-more : goal.returns-clause-more

@@ -1,6 +1,6 @@
 use Rattle.task_run.specs.PointLaws.{effects_more}
-use Rattle.task_run.specs.OrderLaws.{effects_by_stamp}
-use Rattle.task_run.specs.EffectLaws.{effects_in_order}
+use Rattle.task_run.proofs.OrderLaws.{effects_by_stamp}
+use Rattle.task_run.proofs.EffectLaws.{effects_in_order}
 use Rattle.task_run.proofs.laws.effects_go_on.Goals as goal
 
 pub returns-clause-more : goal.returns-clause-more

@@ -1,4 +1,4 @@
-use Rattle.task_run.specs.OrderLaws.{gives_by_parents, outs_are_streams}
+use Rattle.task_run.proofs.OrderLaws.{gives_by_parents, outs_are_streams}
 use Rattle.task_run.proofs.laws.nodes_give_by_parents.Goals as goal
 
 pub returns-clause-parents : goal.returns-clause-parents

@@ -1,7 +1,7 @@
 use Rattle.std.proofs.Common.{List, [], ◌∷◌, ◌++◌, sym, subst}
 use Rattle.task_run.specs.declared.lives.Life.{Life}
 use Rattle.task_run.specs.Laid.{AreLives, LivesRan, item_of}
-use Rattle.task_run.proofs.Steps.{on_both}
+use Rattle.kap_base.proofs.ResultLaws.{on_both}
 use Rattle.task_run.proofs.LifeSteps.{one_ran, both_ran, lives_front, lives_last}
 use Rattle.task_run.proofs.running.run_lives.Goals as goal
 

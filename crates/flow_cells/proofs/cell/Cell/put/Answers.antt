@@ -1,7 +1,7 @@
 use Rattle.std.proofs.Common.{subst}
 use Rattle.flow_cells.specs.declared.parts.CellParts.{CellParts}
 use Rattle.flow_cells.specs.Moved.{HasMoved}
-use Rattle.flow_cells.specs.MovedLaws.{put_moved}
+use Rattle.flow_cells.proofs.MovedLaws.{put_moved}
 use Rattle.flow_cells.specs.Moves.{PutsOne}
 use Rattle.flow_cells.proofs.cell.Cell.put.Goals as goal
 

@@ -1,7 +1,7 @@
 use Rattle.std.proofs.Common.{subst}
 use Rattle.flow_cells.specs.declared.parts.CellParts.{CellParts}
 use Rattle.flow_cells.specs.Moved.{HasMoved}
-use Rattle.flow_cells.specs.MovedLaws.{take_moved}
+use Rattle.flow_cells.proofs.MovedLaws.{take_moved}
 use Rattle.flow_cells.proofs.cell.Cell.take.Goals as goal
 
 pub returns-in-Ok-clause-moved : goal.returns-in-Ok-clause-moved

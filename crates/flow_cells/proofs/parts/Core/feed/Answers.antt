@@ -3,7 +3,7 @@ use Rattle.std.specs.List.{AllByRecursion as Each}
 use Rattle.kap_base.specs.declared.items.Item.{Item}
 use Rattle.flow_cells.specs.Outs.{item_msgs}
 use Rattle.flow_cells.specs.Kept.{IsGiven, gathered}
-use Rattle.flow_cells.specs.OutLaws.{given_by, waits_by}
+use Rattle.flow_cells.proofs.OutLaws.{given_by, waits_by}
 use Rattle.flow_cells.proofs.parts.Core.feed.Goals as goal
 
 pub returns-clause-outs : goal.returns-clause-outs

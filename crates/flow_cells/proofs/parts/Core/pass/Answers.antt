@@ -1,6 +1,6 @@
 use Rattle.std.proofs.Common.{◌∙◌, ◌++◌, [], ◌∷◌, refl, ap, subst}
 use Rattle.kap_base.specs.declared.items.Msg.TheVariants as messages
-use Rattle.flow_cells.specs.OutLaws.{given_by, waits_by}
+use Rattle.flow_cells.proofs.OutLaws.{given_by, waits_by}
 use Rattle.flow_cells.proofs.parts.Core.pass.Goals as goal
 
 pub returns-clause-outs : goal.returns-clause-outs

@@ -1,9 +1,9 @@
 use Rattle.std.proofs.Common.{ap, subst, ◌∙◌}
 use Rattle.std.specs.List.{AllByRecursion as Each}
-use Rattle.flow_core.specs.CarriedLaws.{run_carried}
-use Rattle.flow_core.specs.NetLaws.{moved_twice}
+use Rattle.flow_core.proofs.CarriedLaws.{run_carried}
+use Rattle.flow_core.proofs.LivesLaws.{moved_twice}
 use Rattle.flow_core.specs.Nets.{HaveMovedTwice, IsLifeIn, IsResting}
-use Rattle.flow_core.specs.RanLaws.{run_rests}
+use Rattle.flow_core.proofs.RanLaws.{run_rests}
 use Rattle.flow_core.proofs.NetLaws.{streams_rest}
 use Rattle.flow_core.proofs.net.Net.at_rest.Goals as goal
 

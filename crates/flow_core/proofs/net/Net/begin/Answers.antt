@@ -1,6 +1,6 @@
 use Rattle.std.proofs.Common.{[], ◌∷◌, ap, subst, sym}
 use Rattle.std.specs.List.{AllByRecursion as Each}
-use Rattle.flow_life.specs.SplitLaws.{each-append}
+use Rattle.flow_life.proofs.SplitLaws.{each-append}
 use Rattle.flow_core.specs.Rooms.{HasRoomIn}
 use Rattle.flow_core.proofs.net.Net.begin.Goals as goal
 

@@ -1,8 +1,8 @@
 use Rattle.std.proofs.Common.{List, ◌++◌, IsPermutation, ap, refl, subst, sym, ◌∙◌}
 use Rattle.kap_base.specs.declared.items.Effect.{Effect}
-use Rattle.flow_core.specs.GatheredLaws.{gathered_collected}
+use Rattle.flow_core.proofs.GatheredLaws.{gathered_collected}
 use Rattle.flow_core.specs.Ran.{HasRun, effects_in}
-use Rattle.flow_core.specs.RanLaws.{collected_whole, run_collected}
+use Rattle.flow_core.proofs.RanLaws.{collected_whole, run_collected}
 use Rattle.flow_core.proofs.net.Net.collect.Goals as goal
 
 pub returns-clause-runs : goal.returns-clause-runs

@@ -1,9 +1,9 @@
 use Rattle.std.proofs.Common.{ap, subst, ◌∙◌}
 use Rattle.std.specs.List.{AllByRecursion as Each}
 use Rattle.flow_core.specs.Drops.{drops_in}
-use Rattle.flow_core.specs.NetLaws.{if_ok}
+use Rattle.flow_core.proofs.LivesLaws.{if_ok}
 use Rattle.flow_core.specs.Nets.{IsLifeIn}
-use Rattle.flow_core.specs.RanLaws.{new_drops, run_drops}
+use Rattle.flow_core.proofs.RanLaws.{new_drops, run_drops}
 use Rattle.flow_core.proofs.net.Net.counts.Goals as goal
 
 pub returns-clause-new : goal.returns-clause-new

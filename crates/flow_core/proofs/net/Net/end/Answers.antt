@@ -1,6 +1,6 @@
 use Rattle.std.proofs.Common.{ap, subst, sym}
 use Rattle.std.specs.List.{AllByRecursion as Each}
-use Rattle.flow_core.specs.EndLaws.{each_remove}
+use Rattle.flow_core.proofs.EndLaws.{each_remove}
 use Rattle.flow_core.specs.Nets.{IsResting, IsSound}
 use Rattle.flow_core.proofs.net.Net.end.Goals as goal
 

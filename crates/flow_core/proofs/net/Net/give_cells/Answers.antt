@@ -3,7 +3,7 @@ use Rattle.std.specs.List.{AllByRecursion as Each}
 use Rattle.std.specs.Vec.{with_items}
 use Rattle.std.proofs.lemmas.List.{places, with_items_is}
 use Rattle.flow_core.specs.Away.{AreGivenBack, IsBack, IsLooseLife, with_lives}
-use Rattle.flow_core.specs.AwayLaws.{back_loose}
+use Rattle.flow_core.proofs.AwayLaws.{back_loose}
 use Rattle.flow_core.specs.Nets.{NumberedLife}
 use Rattle.flow_core.proofs.NetLaws.{net_goes}
 use Rattle.flow_core.proofs.net.Net.give_cells.Given as given

@@ -4,11 +4,11 @@ use Rattle.std.specs.Vec.{with_items}
 use Rattle.std.proofs.lemmas.List.{places, with_items_is}
 use Rattle.kap_base.specs.declared.items.Msg.{Msg}
 use Rattle.merge_node.specs.Merge.{IsClosed}
-use Rattle.flow_core.specs.MessageLaws.{messages_closed}
+use Rattle.flow_core.proofs.MessageLaws.{messages_closed}
 use Rattle.flow_core.specs.Messages.{load_messages}
 use Rattle.flow_core.specs.Nets.{IsLifeIn, plans_from, plans_in, specs_in}
 use Rattle.flow_core.specs.Ran.{effects_in}
-use Rattle.flow_core.specs.RanLaws.{run_again, run_first}
+use Rattle.flow_core.proofs.RanLaws.{run_again, run_first}
 use Rattle.flow_core.specs.Rooms.{rooms_in}
 use Rattle.flow_core.proofs.net.Net.load.Given as given
 use Rattle.flow_core.proofs.net.Net.load.Goals as goal

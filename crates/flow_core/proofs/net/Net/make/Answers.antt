@@ -1,6 +1,6 @@
 use Rattle.std.proofs.Common.{refl}
-use Rattle.flow_core.specs.CarriedLaws.{new_carried}
-use Rattle.flow_core.specs.PlanLaws.{lives_rest, lives_sound}
+use Rattle.flow_core.proofs.CarriedLaws.{new_carried}
+use Rattle.flow_core.proofs.PlanLaws.{lives_rest, lives_sound}
 use Rattle.flow_core.proofs.net.Net.make.Goals as goal
 
 pub invariant_of-result : goal.invariant_of-result

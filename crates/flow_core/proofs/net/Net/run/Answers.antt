@@ -2,9 +2,9 @@ use Rattle.std.proofs.Common.{◌≡◌, ap, refl, rules, subst, sym, ◌∙◌}
 use Rattle.std.specs.List.{AllByRecursion as Each}
 use Rattle.std.specs.Vec.{with_items}
 use Rattle.std.proofs.lemmas.List.{places, with_items_is}
-use Rattle.flow_core.specs.CarriedLaws.{run_carried}
+use Rattle.flow_core.proofs.CarriedLaws.{run_carried}
 use Rattle.flow_core.specs.Nets.{IsLifeIn, IsResting}
-use Rattle.flow_core.specs.RanLaws.{run_rests}
+use Rattle.flow_core.proofs.RanLaws.{run_rests}
 use Rattle.flow_core.proofs.NetLaws.{net_goes, streams_rest}
 use Rattle.flow_core.proofs.net.Net.run.Goals as goal
 

@@ -1,9 +1,9 @@
 use Rattle.std.proofs.Common.{List, ap, subst, sym, ◌∙◌}
 use Rattle.std.specs.Prelude.{Contains}
 use Rattle.flow_life.specs.declared.steps.Step.{Step}
-use Rattle.flow_core.specs.NetLaws.{if_ok}
+use Rattle.flow_core.proofs.LivesLaws.{if_ok}
 use Rattle.flow_core.specs.Running.{steps_of}
-use Rattle.flow_core.specs.RunningLaws.{step_listed}
+use Rattle.flow_core.proofs.RunningLaws.{step_listed}
 use Rattle.flow_core.proofs.net.Net.steps.Goals as goal
 
 pub returns-clause-all : goal.returns-clause-all

@@ -1,6 +1,6 @@
 use Rattle.std.proofs.Common.{sym}
 use Rattle.line_points.specs.Parts.{marks}
-use Rattle.line_points.proofs.PlaceLaws.{none_place}
+use Rattle.kap_base.proofs.PositionLaws.{none_place}
 use Rattle.line_points.proofs.part.Part.plain_len.Goals as goal
 
 pub returns-in-None : goal.returns-in-None

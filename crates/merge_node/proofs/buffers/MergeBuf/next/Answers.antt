@@ -2,7 +2,7 @@ use Rattle.std.proofs.Common.{◌≡◌, ◌∙◌, ◌<◌, length, Option, ap,
 use Rattle.std.specs.Prelude.{◌↔◌, IsNone, IsTrue}
 use Rattle.merge_node.specs.Merge.{Lists, Entry}
 use Rattle.merge_node.specs.Buffers.{has_empty, next, said}
-use Rattle.merge_node.specs.FrontLaws.{none_where_empty}
+use Rattle.merge_node.proofs.FrontLaws.{none_where_empty}
 use Rattle.merge_node.proofs.buffers.MergeBuf.next.Goals as goal
 
 pub returns-clause-none : goal.returns-clause-none

@@ -1,6 +1,7 @@
 use Rattle.std.proofs.Common.{subst}
 use Rattle.kap_base.specs.Points.{IsPoint}
-use Rattle.state_code.proofs.PointLaws.{on_ok, tests_of_point}
+use Rattle.state_code.proofs.PointLaws.{tests_of_point}
+use Rattle.kap_base.proofs.ResultLaws.{on_ok}
 use Rattle.state_code.proofs.points.PointSpelled.append_spelling.Goals as goal
 
 pub returns-clause-fits : goal.returns-clause-fits
