@@ -64,6 +64,12 @@ An example:
   printf 'd\\nr\\ncpu,host=a idle=7i 5\\n' |
     kapd - replay t \"stream|from().measurement('cpu')|alert().crit(lambda: \\\"idle\\\" < 10)\"
 
+A script that stands in a file, on a recording that Kapacitor made (those are gzipped):
+
+  zcat day.srpl | kapd - replay t \"$(cat cpu_alert.tick)\"
+
+A measurement or a field that no point has is no fault: what asks for it says nothing.
+
 A line of the output is `out ID NODE POINT` for a point that a log passes, `alert NUMBER TOPIC EVENT OLD->NEW TIME
 MESSAGE` for a change of level, or with --counts `dropped ID NODE NUMBER`. NODE is a kind and the node's number in its
 task; changes are numbered from 1 over all tasks. An alert's topic is `main:ID:NODE` unless its script names one.
@@ -81,7 +87,8 @@ The exit status, and what standard error says behind `kapd: `:
 BYTE is a byte of the script, counted from 0; of a Graph fault it is the node's number. Exists: an id was given to two
 tasks, or init found a store's head in the folder. Not a store: the folder has no head of a store (head at 0: no init
 was done there, or the head was damaged, and init would then empty the logs), or a log is none at this offset. Disk
-fault: PLACE isn't there, is no folder, or its files can't be read or written.
+fault: PLACE isn't there, is no folder, or its files can't be read or written; or another process uses the store,
+which a second line says then: `kapd: another process uses the store`.
 
   kapd --help        prints this
   kapd --version     prints the version
@@ -132,27 +139,47 @@ fn run_on<
     )
 }
 
+/// How a command ended.
+#[derive(Drop)]
+struct Outcome {
+    status: Status,
+    /// Whether another process uses the store.
+    in_use: bool,
+}
+
+/// What ended with this status, and has nothing to do with other processes.
+fn alone(status: Status) -> Outcome {
+    Outcome {
+        status,
+        in_use: false,
+    }
+}
+
 /// Does what the words behind the place ask for.
 fn run<
     R: Files + time::Clock + Threads + Sync + Input + Print + AllocGlobal,
     N: ScriptNode + NumberingNode + Send,
->(rt: &R, place: Place<'_>, words: &[String]) -> Status
+>(rt: &R, place: Place<'_>, words: &[String]) -> Outcome
 where
     R::File: FileExt + LockFile,
 {
     let alloc = rt.alloc();
     match place {
-        Place::Memory => run_on::<R, MemDisk, N>(
+        Place::Memory => alone(run_on::<R, MemDisk, N>(
             rt,
             words,
             &mut MemDisk::new(alloc, Vec::new(alloc)),
-        ),
+        )),
         Place::Folder(path) => match PathBuf::from_str(alloc, path) {
             Ok(folder) => {
                 let mut disk = DirDisk::new(alloc, rt, folder);
-                run_on::<R, _, N>(rt, words, &mut disk)
+                let status = run_on::<R, _, N>(rt, words, &mut disk);
+                Outcome {
+                    status,
+                    in_use: disk.is_in_use(),
+                }
             }
-            Err(_) => Status::NoMemory,
+            Err(_) => alone(Status::NoMemory),
         },
     }
 }
@@ -168,20 +195,20 @@ fn show<R: Print>(rt: &R, text: &str) -> Status {
 fn answer<
     R: Env + Files + time::Clock + Threads + Sync + Input + Print + AllocGlobal,
     N: ScriptNode + NumberingNode + Send,
->(rt: &R) -> Status
+>(rt: &R) -> Outcome
 where
     R::File: FileExt + LockFile,
 {
     let words = match words_of(rt) {
         Ok(words) => words,
-        Err(status) => return status,
+        Err(status) => return alone(status),
     };
     match words.as_slice() {
-        [word] if word.as_str() == "--help" => show(rt, HELP),
-        [word] if word.as_str() == "--version" => show(rt, VERSION),
+        [word] if word.as_str() == "--help" => alone(show(rt, HELP)),
+        [word] if word.as_str() == "--version" => alone(show(rt, VERSION)),
         _ => match place_in(&words) {
             Some((place, rest)) => run::<R, N>(rt, place, rest),
-            None => Status::Usage,
+            None => alone(Status::Usage),
         },
     }
 }
@@ -197,10 +224,19 @@ fn tell<R: Eprint + AllocGlobal>(rt: &R, status: &Status) -> io::Result<()> {
     }
 }
 
-fn main(rt: HostRuntime) -> ExitCode {
-    let status = answer::<HostRuntime, AnyNode>(&rt);
-    if status != Status::Ok {
-        let _ = tell(&rt, &status);
+/// Says behind a disk fault that another process uses the store, where one does.
+fn tell_use<R: Eprint>(rt: &R, outcome: &Outcome) -> io::Result<()> {
+    if outcome.in_use && outcome.status == Status::DiskFault {
+        eprintln!(rt; "kapd: another process uses the store")?;
     }
-    ExitCode::from(status.number())
+    Ok(())
+}
+
+fn main(rt: HostRuntime) -> ExitCode {
+    let outcome = answer::<HostRuntime, AnyNode>(&rt);
+    if outcome.status != Status::Ok {
+        let _ = tell(&rt, &outcome.status);
+        let _ = tell_use(&rt, &outcome);
+    }
+    ExitCode::from(outcome.status.number())
 }
