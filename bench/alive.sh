@@ -1,12 +1,13 @@
 #!/bin/sh
-# Which names in backquotes in README.md and docs/*.md are dead: files and folders, crates, crate::item, definitions
-# behind the file that they stand in, cases of kap_cases, and any other word with an underscore or an inner capital.
-# Prints each with its place, and last their number. Run by hand: sh bench/alive.sh [PAGE..]
+# Which names in backquotes in README.md, docs/*.md and the crates' README.md are dead: files and folders, crates,
+# crate::item, definitions behind the file that they stand in, cases of kap_cases, and any other word with an underscore
+# or an inner capital; of a crate's page also the modules of `specs/` that it lists. Prints each with its place, and last
+# their number. Run by hand: sh bench/alive.sh [PAGE..]
 cd "$(dirname "$0")/.." || exit 1
 exec python3 - "$@" <<'PYTHON'
 import glob, os, re, subprocess, sys
 
-pages = sys.argv[1:] or ["README.md"] + sorted(glob.glob("docs/*.md"))
+pages = sys.argv[1:] or ["README.md"] + sorted(glob.glob("docs/*.md")) + sorted(glob.glob("crates/*/README.md"))
 listed = subprocess.run(["git", "ls-files", "-co", "--exclude-standard"], capture_output=True, text=True).stdout
 files = [f for f in listed.split("\n") if f and os.path.exists(f)]
 folders = {"/".join(f.split("/")[:n]) for f in files for n in range(1, f.count("/") + 1)}
@@ -65,6 +66,17 @@ def is_dead(token, stands_in):
     return bool(named) and token not in words and token not in kit
 
 
+def modules_of(page, text):
+    """Of a crate's page the places and names of modules of `specs/`: in the table's first column, and words in Laws."""
+    if re.fullmatch(r"crates/\w+/README.md", page) is None or "| `specs/` |" not in text:
+        return
+    for number, line in enumerate(text.split("\n"), 1):
+        if line.startswith("| `") and not line.startswith("| `specs/` |"):
+            yield from ((number, name) for name in re.findall(r"`(\w+)`", line.split("|")[1]))
+        elif not line.startswith("|"):
+            yield from ((number, name) for name in re.findall(r"`(\w+Laws)`", line))
+
+
 # names of Kapacitor's that pages name as left out
 foreign = {"movingAverage", "holtWinters", "stateDuration", "httpPost", "httpOut", "influxDBOut"}
 token_of = re.compile(r"(?<!`)`([^`\n]+)`(?!`)|(?<![\w/`])((?:[\w-]+/)+[\w.-]+\.(?:rt|antt|md|sh))")
@@ -72,6 +84,10 @@ dead = 0
 for page in pages:
     text = open(page, encoding="utf-8").read()
     text = re.sub(r"^```.*?^```", lambda block: re.sub(r"[^\n]", " ", block.group()), text, flags=re.M | re.S)
+    for number, name in modules_of(page, text):
+        if not os.path.exists("%s/specs/%s.antt" % (os.path.dirname(page), name)):
+            dead += 1
+            print("%s:%d: %s is no module of specs/" % (page, number, name))
     stands_in, end = [], 0
     for span in token_of.finditer(text):
         token = span.group(1) or span.group(2)
