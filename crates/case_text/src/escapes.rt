@@ -1,4 +1,5 @@
-//! Bytes that are written as text: `\\` is a backslash, `\n`, `\r` and `\t` are themselves, and `\xHH` is any byte.
+//! Bytes that are written as text: `\\` is a backslash, `\n`, `\r` and `\t` are themselves, and `\xHH` is any
+//! byte.
 
 ghost use Rattle.std.specs.Prelude.{◌<◌, IfSome, length};
 

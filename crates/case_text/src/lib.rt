@@ -1,5 +1,5 @@
-//! What the batch programs are made of: the loop over their lines; what stands in a line, as bytes that are written with escapes,
-//! numbers, names and points; and a gate that counts the turns of workers.
+//! What the batch programs are made of: the loop over their lines; what stands in a line, as bytes that are
+//! written with escapes, numbers, names and points; and a gate that counts the turns of workers.
 #![tactic(auto)]
 
 mod escapes;

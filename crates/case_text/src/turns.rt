@@ -25,7 +25,8 @@ impl Turns {
     }
 }
 
-/// A gate that counts the turns of at most five workers, and holds the second turn of worker 0 until each other one has had one.
+/// A gate that counts the turns of at most five workers, and holds the second turn of worker 0 until each
+/// other one has had one.
 #[derive(Drop)]
 pub struct Holding {
     workers: u32,

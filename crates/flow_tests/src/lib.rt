@@ -1,5 +1,5 @@
-//! Tests of nets: steps counted by hand, runs to rest, nets that go on from what was captured of others, and workers beside each
-//! other.
+//! Tests of nets: steps counted by hand, runs to rest, nets that go on from what was captured of others, and
+//! workers beside each other.
 #![tactic(auto)]
 
 #[cfg(test)]

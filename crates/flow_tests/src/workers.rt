@@ -1,4 +1,5 @@
-//! Nets that workers run: the effects are those of one thread, and the workers have their turns beside each other.
+//! Nets that workers run: the effects are those of one thread, and the workers have their turns beside each
+//! other.
 
 ghost use Rattle.std.specs.Prelude.{◌≡◌, ◌<◌, ◌≤◌, false, IfOk};
 ghost use Rattle.std.specs.List.{AllByRecursion as Each};
@@ -18,7 +19,8 @@ use std::process::Abort;
 use std::test::Fail;
 use std::thread::Threads;
 
-/// Five chains of two relays, the lives 1 to 5, on edges with room for one message. So each point takes a turn of its worker.
+/// Five chains of two relays, the lives 1 to 5, on edges with room for one message. So each point takes a
+/// turn of its worker.
 fn five_chains(alloc: Global) -> Result<Net<RelayNode>, NoMemory>
     ensures unspent { IfOk result (λ net. net.spent ≡ false) }
     ensures rest { IfOk result (λ net. Each IsResting net.lives) }
@@ -78,8 +80,8 @@ fn run_by<R: AllocGlobal + Abort + Threads + Sync>(
     text_of(rt.alloc(), &effects)
 }
 
-/// So many workers move the chains beside each other, and do what one thread does. Each has as many turns as there are points; one
-/// that moves nothing ends long before.
+/// So many workers move the chains beside each other, and do what one thread does. Each has as many turns as
+/// there are points; one that moves nothing ends long before.
 fn check_beside<R: AllocGlobal + Abort + Threads + Sync>(rt: &R, workers: u32) -> Result<(), Fail>
     requires some { 0 < workers }
     requires limit { workers ≤ WORKER_LIMIT }

@@ -1,5 +1,6 @@
-//! `reply print STATUS LAST BODY`: the bytes of a reply, `LAST` being `last` or `more`; `reply error CAUSE`: those of a refusal with
-//! status 400; `reply fault NAME`: those that need no memory; `reply write STEP CALLS BYTES`: bytes written to a connection.
+//! `reply print STATUS LAST BODY`: the bytes of a reply, `LAST` being `last` or `more`; `reply error CAUSE`:
+//! those of a refusal with status 400; `reply fault NAME`: those that need no memory; `reply write STEP CALLS
+//! BYTES`: bytes written to a connection.
 
 ghost use Rattle.std.specs.Prelude.{◌<◌, ◌||◌, IsTrue, not};
 ghost use Rattle.kap_base.specs.Texts.{is_empty};

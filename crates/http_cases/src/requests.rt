@@ -1,6 +1,6 @@
-//! `request head BYTES`: the head that bytes begin with; `request come STEP CALLS BYTES`: bytes that come over a connection, so many a
-//! read, whose calls with these numbers fail, and what the requests in them ask, each with the number of bytes that were held when it
-//! was whole.
+//! `request head BYTES`: the head that bytes begin with; `request come STEP CALLS BYTES`: bytes that come
+//! over a connection, so many a read, whose calls with these numbers fail, and what the requests in them ask,
+//! each with the number of bytes that were held when it was whole.
 
 ghost use Rattle.std.specs.Prelude.{◌<◌};
 

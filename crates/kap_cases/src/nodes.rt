@@ -1,5 +1,5 @@
-//! The nodes of a script, each fed with what the one before it gives, and another one of its kind that takes over its state on the
-//! way.
+//! The nodes of a script, each fed with what the one before it gives, and another one of its kind that takes
+//! over its state on the way.
 
 ghost use Rattle.std.specs.Prelude.{◌≡◌, ◌<◌, IfOk, OnOk, map};
 ghost use Rattle.kap_cases.specs.Ready.{AreReady};
@@ -118,8 +118,8 @@ fn put_deeds(
     Ok(())
 }
 
-/// Two nodes whose states are one go on with the same items. What the first one gives; what it does is added, and where the second
-/// one gives, does or drops anything else, that it differs.
+/// Two nodes whose states are one go on with the same items. What the first one gives; what it does is added,
+/// and where the second one gives, does or drops anything else, that it differs.
 fn go_on_both<N: Node>(
     alloc: Global,
     one: &mut N,
@@ -139,8 +139,8 @@ fn go_on_both<N: Node>(
     Ok(given)
 }
 
-/// Two nodes of one spec: the first is fed, the second takes its state, and then both go on. What the first one gave, before and
-/// behind.
+/// Two nodes of one spec: the first is fed, the second takes its state, and then both go on. What the first
+/// one gave, before and behind.
 fn hand_over<N: Node>(
     alloc: Global,
     mut one: N,

@@ -1,5 +1,5 @@
-//! `lambda value EARLIER LINE LAMBDA`: the value of a lambda at the point of a line, behind so many evaluations, twice;
-//! `lambda all COUNT LINE LAMBDA`: that of so many copies joined by `AND`.
+//! `lambda value EARLIER LINE LAMBDA`: the value of a lambda at the point of a line, behind so many
+//! evaluations, twice; `lambda all COUNT LINE LAMBDA`: that of so many copies joined by `AND`.
 
 ghost use Rattle.std.specs.Prelude.{◌<◌, ◌^◌};
 

@@ -1,4 +1,5 @@
-//! Asks for the values of lambdas and the matches of patterns that the lines of standard input say, and prints a line for each.
+//! Asks for the values of lambdas and the matches of patterns that the lines of standard input say, and
+//! prints a line for each.
 #![tactic(auto)]
 
 mod lambdas;

@@ -1,5 +1,5 @@
-//! `pattern match TEXT PATTERN`: whether a pattern finds a match in a text, and whether a copy of it does; `pattern refused TEXT PATTERN`:
-//! that of a pattern whose making is to fail.
+//! `pattern match TEXT PATTERN`: whether a pattern finds a match in a text, and whether a copy of it does;
+//! `pattern refused TEXT PATTERN`: that of a pattern whose making is to fail.
 
 use case_text::{LineFault, first_of, string, text};
 use kap_base::{Bytes, Duplicate};

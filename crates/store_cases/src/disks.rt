@@ -1,6 +1,6 @@
-//! `disk new CALLS`: an empty disk, whose calls with these numbers fail; `disk stop COUNT`: after so many more calls all fail;
-//! `disk file FILE`: what a file holds; `disk write FILE OFFSET BYTES`; `disk mark` and `disk changes`: the calls since the
-//! mark that change or sync a file.
+//! `disk new CALLS`: an empty disk, whose calls with these numbers fail; `disk stop COUNT`: after so many
+//! more calls all fail; `disk file FILE`: what a file holds; `disk write FILE OFFSET BYTES`; `disk mark` and
+//! `disk changes`: the calls since the mark that change or sync a file.
 
 use crate::stored::Stored;
 use case_text::{LineFault, bytes, calls, first_of, name_of, number, part, put_shown};

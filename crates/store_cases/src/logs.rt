@@ -1,6 +1,6 @@
-//! `log make FILE`; `log append FILE COUNT BYTES`: opened, and a body added, of whose calls of the disk so many are done, or all where
-//! the count is `all`; `log bodies FILE`: opened, and each body with its gate; `log next FILE`: the same by the reader;
-//! `log crashes FILE`: what a crash may leave of it.
+//! `log make FILE`; `log append FILE COUNT BYTES`: opened, and a body added, of whose calls of the disk so
+//! many are done, or all where the count is `all`; `log bodies FILE`: opened, and each body with its gate;
+//! `log next FILE`: the same by the reader; `log crashes FILE`: what a crash may leave of it.
 
 use crate::disks::{PICKS, stop_behind};
 use case_text::{LineFault, bytes, first_of, part, put_shown};

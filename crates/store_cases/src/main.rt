@@ -1,4 +1,5 @@
-//! Asks for stored values, topics, logs and stores what the lines of standard input say, and prints what they answer, a line for each.
+//! Asks for stored values, topics, logs and stores what the lines of standard input say, and prints what they
+//! answer, a line for each.
 #![tactic(auto)]
 
 mod codes;

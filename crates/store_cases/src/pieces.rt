@@ -1,5 +1,6 @@
-//! `store points NUMBERS` and `store transitions NUMBERS`: those behind each number, by their count, the first and the last, and whether
-//! they follow one another; `store calls NUMBERS`: the calls of the disk that these points take.
+//! `store points NUMBERS` and `store transitions NUMBERS`: those behind each number, by their count, the
+//! first and the last, and whether they follow one another; `store calls NUMBERS`: the calls of the disk that
+//! these points take.
 
 use case_text::put_shown;
 use kap_base::{Bytes, Point};
@@ -66,7 +67,8 @@ fn count_before(calls: &[DiskCall], offset: u64) -> usize {
     count
 }
 
-/// Adds how many calls it takes to give the points behind a number, and how many of them read in the first half of the log.
+/// Adds how many calls it takes to give the points behind a number, and how many of them read in the first
+/// half of the log.
 fn put_calls(
     alloc: Global,
     disk: &mut MemDisk,

@@ -10,7 +10,8 @@ use kap_io::MemDisk;
 use std::alloc::Global;
 use topic_core::Topics;
 
-/// What lines go on from: a disk, how many of its calls were made before those that are asked for, and topics.
+/// What lines go on from: a disk, how many of its calls were made before those that are asked for, and
+/// topics.
 #[derive(Drop)]
 pub struct Stored {
     pub disk: MemDisk,

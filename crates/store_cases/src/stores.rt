@@ -1,6 +1,7 @@
-//! `store make`; `store add RECORD`; `store fill points SIZE COUNT` and `store fill many SIZE COUNT`: so many records of so many;
-//! `store open`: what it holds in numbers; `store tasks`, `store lives`, `store snap`; `store points`, `store transitions`,
-//! `store calls` (see `pieces.rt`); `store topics TOPIC`: the topic's level; `store crashes`: what a crash may leave.
+//! `store make`; `store add RECORD`; `store fill points SIZE COUNT` and `store fill many SIZE COUNT`: so many
+//! records of so many; `store open`: what it holds in numbers; `store tasks`, `store lives`, `store snap`;
+//! `store points`, `store transitions`, `store calls` (see `pieces.rt`); `store topics TOPIC`: the topic's
+//! level; `store crashes`: what a crash may leave.
 
 use crate::disks::PICKS;
 use crate::pieces::put_pieces;
@@ -177,7 +178,8 @@ fn put_held(
     }
 }
 
-/// Adds so many records to a store that was opened, the first of which begins with this number, and each of which has so many.
+/// Adds so many records to a store that was opened, the first of which begins with this number, and each of
+/// which has so many.
 fn fill(
     alloc: Global,
     disk: &mut MemDisk,

@@ -1,4 +1,5 @@
-//! `topic event TOPIC ID LEVEL TIME MESSAGE`: what is told of an event, and `topic level TOPIC`: the worst level.
+//! `topic event TOPIC ID LEVEL TIME MESSAGE`: what is told of an event, and `topic level TOPIC`: the worst
+//! level.
 
 use case_text::{LineFault, first_of, level, put_shown, signed, text};
 use kap_base::{Bytes, Event};
