@@ -6,6 +6,7 @@
 use crate::disks::PICKS;
 use crate::pieces::put_pieces;
 use crate::records::{has_form, record_of};
+use crate::topics::put_level;
 use case_text::{LineFault, first_of, name_of, number, numbers, put_shown, text};
 use kap_base::{Bytes, NoMemory, Text};
 use kap_io::MemDisk;
@@ -149,17 +150,14 @@ fn put_snap(
 }
 
 /// Adds the level of a topic, as a store's opening gives it.
-fn put_level(
+fn put_told(
     alloc: Global,
     disk: &mut MemDisk,
     topic: &Text,
     to: &mut Bytes,
 ) -> Result<(), StoreFault> {
     let (_, topics) = open_with_topics(alloc, disk)?;
-    match topics.level(topic) {
-        Some(level) => to.append(level.name().as_bytes())?,
-        None => to.append(b"no topic")?,
-    }
+    put_level(&topics, topic, to)?;
     Ok(())
 }
 
@@ -240,7 +238,7 @@ pub fn answer_store(
         "open" => put_opened(alloc, disk, to)?,
         "crashes" => put_crashes(alloc, disk, to)?,
         "topics" => {
-            let outcome = put_level(alloc, disk, &text(alloc, rest)?, to);
+            let outcome = put_told(alloc, disk, &text(alloc, rest)?, to);
             put_outcome(alloc, outcome, to)?
         }
         "tasks" | "lives" | "snap" => {

@@ -2,7 +2,7 @@
 //! level.
 
 use case_text::{LineFault, first_of, level, put_shown, signed, text};
-use kap_base::{Bytes, Event};
+use kap_base::{Bytes, Event, NoMemory, Text};
 use std::alloc::Global;
 use topic_core::{Topics, print_transition};
 
@@ -36,12 +36,11 @@ fn put_told(
 }
 
 /// Adds the level of a topic.
-fn put_level(alloc: Global, topics: &Topics, topic: &str, to: &mut Bytes) -> Result<(), LineFault> {
-    match topics.level(&text(alloc, topic)?) {
-        Some(level) => to.append(level.name().as_bytes())?,
-        None => to.append(b"no topic")?,
+pub fn put_level(topics: &Topics, topic: &Text, to: &mut Bytes) -> Result<(), NoMemory> {
+    match topics.level(topic) {
+        Some(level) => to.append(level.name().as_bytes()),
+        None => to.append(b"no topic"),
     }
-    Ok(())
 }
 
 /// Adds the answer of a line `topic`.
@@ -54,7 +53,7 @@ pub fn answer_topic(
     let (kind, rest) = first_of(line);
     match kind {
         "event" => put_told(alloc, topics, rest, to),
-        "level" => put_level(alloc, topics, rest, to),
+        "level" => Ok(put_level(topics, &text(alloc, rest)?, to)?),
         _ => Err(LineFault::NoForm),
     }
 }
