@@ -2,8 +2,6 @@
 #![tactic(auto)]
 
 #[cfg(test)]
-mod one_thread;
-#[cfg(test)]
 mod replays;
 #[cfg(test)]
 mod workers;
