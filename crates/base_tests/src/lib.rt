@@ -1,9 +1,9 @@
-//! Tests of the crates of values and of their bytes: what no clause says.
+//! Tests of what no text shows: files in a folder, clocks, and values that go to another thread.
 #![tactic(auto)]
 
 #[cfg(test)]
-mod codes;
+mod devices;
 #[cfg(test)]
-mod topics;
+mod locks;
 #[cfg(test)]
-mod values;
+mod sends;

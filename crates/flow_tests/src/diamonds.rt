@@ -1,7 +1,7 @@
 //! Four nodes, the first of which feeds two that feed the last, step by step and with edges of several sizes.
 //!
-//! A load of three points with a barrier behind the second has five messages with the last barrier, and each node gives as
-//! many out; there are four edges, and each message is put and taken once: 40 steps.
+//! A load of three points with a barrier behind the second has five messages with the last barrier, and each
+//! node gives as many out; there are four edges, and each message is put and taken once: 40 steps.
 
 ghost use Rattle.std.specs.Prelude.{◌≡◌, ◌<◌, ◌≤◌, false, IfOk, OnOk};
 ghost use Rattle.std.specs.List.{AllByRecursion as Each};

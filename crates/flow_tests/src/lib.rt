@@ -1,9 +1,7 @@
-//! Tests of nets: steps counted by hand, runs to rest, nets that go on from what was captured of others, and workers beside each
-//! other.
+//! Tests of nets: steps counted by hand, runs to rest, nets that go on from what was captured of others, and
+//! workers beside each other.
 #![tactic(auto)]
 
-#[cfg(test)]
-mod alone;
 #[cfg(test)]
 mod captures;
 #[cfg(test)]

@@ -184,7 +184,8 @@ pub fn check_step<N: Node>(
     Ok(())
 }
 
-/// The net is at rest, and since the last such call these were the effects; and so many inputs of this cell were dropped.
+/// The net is at rest, and since the last such call these were the effects; and so many inputs of this cell
+/// were dropped.
 pub fn check_rest<N: Node>(
     rt: &(impl AllocGlobal + Abort),
     net: &mut Net<N>,

@@ -1,26 +1,16 @@
 //! Points that are read from lines, and effects as text.
 
-ghost use Rattle.std.specs.Prelude.{◌≡◌};
-ghost use Rattle.kap_base.specs.Texts.{has_line_feed};
-
+use case_text::point_of;
 use kap_base::{Bytes, Effect, NoMemory, Point, Shared, Text, What};
-use line_points::read_stored;
 use node_core::Effects;
 use std::alloc::Global;
 use std::process::Abort;
 use std::test::Fail;
 
-fn has_feed(bytes: &[u8]) -> bool
-    ensures { result ≡ has_line_feed bytes.now }
-{
-    bytes.iter().any(|b| *b == b'\n')
-}
-
 /// The point of a line, of database and policy `d`.
 pub fn point(rt: &(impl AllocGlobal + Abort), line: &str) -> Result<Point, Fail> {
     let name = Text::from_str(rt.alloc(), "d")?;
-    assert!(rt; !has_feed(line.as_bytes()) && !has_feed(name.bytes()));
-    Ok(read_stored(rt.alloc(), line.as_bytes(), &name, &name).map_err(|_| "no point")?)
+    Ok(point_of(rt.alloc(), line.as_bytes(), &name, &name).map_err(|_| "no point")?)
 }
 
 /// Three points, at the times 10, 20 and 30.

@@ -16,7 +16,8 @@ use kap_base::{Body, Duplicate, NoMemory, Point, Shared, What};
 use node_core::{Alone, Few, Numbered, Plain, Said, Seat};
 use std::alloc::Global;
 
-/// It logs each point as it came, gives it on with its own mark, and counts as many drops as the number of the port.
+/// It logs each point as it came, gives it on with its own mark, and counts as many drops as the number of
+/// the port.
 #[derive(Drop)]
 pub struct Relay {
     /// How many parents it may have.
@@ -72,7 +73,8 @@ pub fn relay_node(alloc: Global, life: u32, node: u32, ports: u32, mark: bool) -
     Numbered::new(alloc, Seat { life, node, kind })
 }
 
-/// Adds four relays: the first one feeds the second and the third, and both feed the last. The second one marks points.
+/// Adds four relays: the first one feeds the second and the third, and both feed the last. The second one
+/// marks points.
 fn add_diamond(
     alloc: Global,
     life: &mut Life<RelayNode>,

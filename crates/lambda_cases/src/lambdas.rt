@@ -1,0 +1,125 @@
+//! `lambda value EARLIER LINE LAMBDA`: the value of a lambda at the point of a line, behind so many
+//! evaluations, twice; `lambda all COUNT LINE LAMBDA`: that of so many copies joined by `AND`.
+
+ghost use Rattle.std.specs.Prelude.{◌<◌, ◌^◌};
+
+use case_text::{LineFault, bytes, first_of, number, point_of};
+use kap_base::{Bytes, Duplicate, NoMemory, Point, SCRIPT_LIMIT, SharedExpr, Text, Value};
+use lambda_eval::{EvalFault, value, value_of_all};
+use lambda_types::{Lambda, RegexPatterns, infer};
+use std::alloc::Global;
+use tick_lexer::lex;
+use tick_parser::{Stmt, Val, parse};
+
+/// What stands before a lambda's expression in these scripts.
+const BEFORE: &str = "var f = lambda: ";
+
+/// The expression of a lambda that is written so.
+fn expression(alloc: Global, written: &str) -> Result<SharedExpr, LineFault> {
+    let script = format!(in alloc; "{BEFORE}{written}")?;
+    if script.len() > SCRIPT_LIMIT {
+        return Err(LineFault::NoForm);
+    }
+    let tokens = lex(alloc, script.as_str()).map_err(|_| LineFault::NoForm)?;
+    let tree = parse(alloc, &tokens).map_err(|_| LineFault::NoForm)?;
+    match tree.as_slice() {
+        [
+            Stmt::Var {
+                value: Val::Lambda(expr, _),
+                ..
+            },
+        ] => Ok(SharedExpr::new(alloc, expr.copy(alloc)?)?),
+        _ => Err(LineFault::NoForm),
+    }
+}
+
+/// The lambda that is written so.
+fn lambda_of(alloc: Global, written: &str) -> Result<Lambda, LineFault> {
+    let mut pats = RegexPatterns::new(alloc, Vec::new(alloc));
+    let expr = expression(alloc, written)?;
+    infer(alloc, &expr, &mut pats).map_err(|_| LineFault::NoForm)
+}
+
+/// Adds a fault, whose place is one in the expression.
+fn put_fault(alloc: Global, name: &str, at: u32, to: &mut Bytes) -> Result<(), NoMemory> {
+    let place = at.wrapping_sub(BEFORE.len() as u32);
+    to.append(format!(in alloc; "{name} at {place}")?.as_bytes())
+}
+
+/// Adds a value.
+fn put_value(alloc: Global, value: &Value, to: &mut Bytes) -> Result<(), NoMemory> {
+    match value {
+        Value::Int(number) => to.append(format!(in alloc; "{number}")?.as_bytes()),
+        Value::Bool(true) => to.append(b"TRUE"),
+        Value::Bool(false) => to.append(b"FALSE"),
+        Value::Str(text) => to.append(format!(in alloc; "'{text}'")?.as_bytes()),
+    }
+}
+
+/// Adds an answer.
+fn put_answer(
+    alloc: Global,
+    answer: &Result<Value, EvalFault>,
+    to: &mut Bytes,
+) -> Result<(), NoMemory> {
+    match answer {
+        Ok(value) => put_value(alloc, value, to),
+        Err(EvalFault::Missing(at)) => put_fault(alloc, "Missing", *at, to),
+        Err(EvalFault::Kind(at)) => put_fault(alloc, "Kind", *at, to),
+        Err(EvalFault::ZeroDivisor(at)) => put_fault(alloc, "ZeroDivisor", *at, to),
+        Err(EvalFault::Range(at)) => put_fault(alloc, "Range", *at, to),
+        Err(EvalFault::NoMemory) => to.append(b"no memory"),
+    }
+}
+
+/// The point of a line.
+fn point(alloc: Global, line: &str) -> Result<Point, LineFault> {
+    let name = Text::from_str(alloc, "d")?;
+    point_of(alloc, &bytes(alloc, line)?, &name, &name)
+}
+
+/// Adds the value of a lambda, asked for twice.
+fn put_values(
+    alloc: Global,
+    lambda: &mut Lambda,
+    earlier: u64,
+    point: &Point,
+    to: &mut Bytes,
+) -> Result<(), LineFault> {
+    if earlier >= 1 << 62 {
+        return Err(LineFault::NoForm);
+    }
+    put_answer(alloc, &value(alloc, lambda, earlier, point), to)?;
+    to.append(b", ")?;
+    put_answer(alloc, &value(alloc, lambda, earlier, point), to)?;
+    Ok(())
+}
+
+/// Adds the value of so many copies of a lambda, joined by `AND`.
+fn put_joined(
+    alloc: Global,
+    lambda: &Lambda,
+    count: u64,
+    point: &Point,
+    to: &mut Bytes,
+) -> Result<(), LineFault> {
+    let mut lambdas = Vec::new(alloc);
+    for _ in 0..count {
+        lambdas.push(lambda.copy(alloc)?)?;
+    }
+    put_answer(alloc, &value_of_all(alloc, &mut lambdas, 0, 0, point), to)?;
+    Ok(())
+}
+
+/// Adds the answer of a line `lambda`.
+pub fn answer_lambda(alloc: Global, line: &str, to: &mut Bytes) -> Result<(), LineFault> {
+    let (kind, rest) = first_of(line);
+    let (count, rest) = first_of(rest);
+    let (at, written) = first_of(rest);
+    let mut lambda = lambda_of(alloc, written)?;
+    match kind {
+        "value" => put_values(alloc, &mut lambda, number(count)?, &point(alloc, at)?, to),
+        "all" => put_joined(alloc, &lambda, number(count)?, &point(alloc, at)?, to),
+        _ => Err(LineFault::NoForm),
+    }
+}

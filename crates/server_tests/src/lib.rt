@@ -1,9 +1,0 @@
-//! Tests of `command`: what no clause says.
-#![tactic(auto)]
-
-#[cfg(test)]
-mod one_thread;
-#[cfg(test)]
-mod replays;
-#[cfg(test)]
-mod workers;

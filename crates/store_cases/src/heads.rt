@@ -1,0 +1,62 @@
+//! `head make`, `head read`, `head switch COUNT`, and `head crashes`: what a crash may leave of it.
+
+use crate::disks::PICKS;
+use crate::logs::put_fault;
+use case_text::{LineFault, first_of, number};
+use gate_log::{make_head, read_head, switch};
+use kap_base::{Bytes, NoMemory};
+use kap_io::MemDisk;
+use std::alloc::Global;
+
+/// Makes the head.
+fn make(alloc: Global, disk: &mut MemDisk, to: &mut Bytes) -> Result<(), NoMemory> {
+    match make_head(disk) {
+        Ok(()) => to.append(b"made"),
+        Err(fault) => put_fault(alloc, fault, to),
+    }
+}
+
+/// Adds how many gates are open.
+fn read(alloc: Global, disk: &mut MemDisk, to: &mut Bytes) -> Result<(), NoMemory> {
+    match read_head(disk) {
+        Ok(count) => to.append(format!(in alloc; "{count}")?.as_bytes()),
+        Err(fault) => put_fault(alloc, fault, to),
+    }
+}
+
+/// Opens the next gate behind so many.
+fn open_next(alloc: Global, disk: &mut MemDisk, run: u64, to: &mut Bytes) -> Result<(), NoMemory> {
+    match switch(disk, run) {
+        Ok(()) => to.append(b"switched"),
+        Err(fault) => put_fault(alloc, fault, to),
+    }
+}
+
+/// Adds what a crash may leave.
+fn put_crashes(alloc: Global, disk: &MemDisk, to: &mut Bytes) -> Result<(), NoMemory> {
+    for (name, pick) in PICKS {
+        to.append(name.as_bytes())?;
+        to.append(b" ")?;
+        read(alloc, &mut disk.crashed(pick)?, to)?;
+        to.append(b"; ")?;
+    }
+    Ok(())
+}
+
+/// Adds the answer of a line `head`.
+pub fn answer_head(
+    alloc: Global,
+    disk: &mut MemDisk,
+    text: &str,
+    to: &mut Bytes,
+) -> Result<(), LineFault> {
+    let (kind, rest) = first_of(text);
+    match kind {
+        "make" => make(alloc, disk, to)?,
+        "read" => read(alloc, disk, to)?,
+        "switch" => open_next(alloc, disk, number(rest)?, to)?,
+        "crashes" => put_crashes(alloc, disk, to)?,
+        _ => return Err(LineFault::NoForm),
+    }
+    Ok(())
+}

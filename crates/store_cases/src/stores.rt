@@ -1,0 +1,255 @@
+//! `store make`; `store add RECORD`; `store fill points SIZE COUNT` and `store fill many SIZE COUNT`: so many
+//! records of so many; `store open`: what it holds in numbers; `store tasks`, `store lives`, `store snap`;
+//! `store points`, `store transitions`, `store calls` (see `pieces.rt`); `store topics TOPIC`: the topic's
+//! level; `store crashes`: what a crash may leave.
+
+use crate::disks::PICKS;
+use crate::pieces::put_pieces;
+use crate::records::{has_form, record_of};
+use crate::topics::put_level;
+use case_text::{LineFault, first_of, name_of, number, numbers, put_shown, text};
+use kap_base::{Bytes, NoMemory, Text};
+use kap_io::MemDisk;
+use std::alloc::Global;
+use store_records::{Life, Rec, StoredTask};
+use topic_store::{Store, StoreFault, make_store, open_store, open_with_topics};
+
+/// Adds a fault.
+fn put_fault(alloc: Global, fault: StoreFault, to: &mut Bytes) -> Result<(), NoMemory> {
+    match fault {
+        StoreFault::NotStore { part, offset } => {
+            let text = format!(in alloc; "no store: {} at {offset}", name_of(part))?;
+            to.append(text.as_bytes())
+        }
+        StoreFault::DiskFault => to.append(b"disk fault"),
+        StoreFault::Long => to.append(b"long"),
+        StoreFault::NoMemory => to.append(b"no memory"),
+    }
+}
+
+/// Makes a store.
+fn make(alloc: Global, disk: &mut MemDisk, to: &mut Bytes) -> Result<(), NoMemory> {
+    match make_store(alloc, disk) {
+        Ok(()) => to.append(b"made"),
+        Err(fault) => put_fault(alloc, fault, to),
+    }
+}
+
+/// Adds a record to a store that was opened.
+fn add_to(
+    alloc: Global,
+    disk: &mut MemDisk,
+    store: &mut Store,
+    rec: &Rec,
+    to: &mut Bytes,
+) -> Result<(), NoMemory> {
+    if store.spent() {
+        return to.append(b"spent");
+    }
+    if !has_form(rec) {
+        return to.append(b"no form");
+    }
+    match store.add(disk, rec) {
+        Ok(()) => to.append(b"added"),
+        Err(fault) => put_fault(alloc, fault, to),
+    }
+}
+
+/// Adds a record.
+fn add(alloc: Global, disk: &mut MemDisk, rec: &Rec, to: &mut Bytes) -> Result<(), NoMemory> {
+    match open_store(alloc, disk) {
+        Ok(mut store) => add_to(alloc, disk, &mut store, rec, to),
+        Err(fault) => put_fault(alloc, fault, to),
+    }
+}
+
+/// Adds what a store holds, in numbers.
+fn put_numbers(alloc: Global, store: &Store, to: &mut Bytes) -> Result<(), NoMemory> {
+    let text = format!(in alloc;
+        "{}: {} tasks, {} lives, {} points, {} transitions, {} changes",
+        name_of(store.part()),
+        store.tasks().len(),
+        store.lives().len(),
+        store.count(),
+        store.trans_count(),
+        store.changes()
+    )?;
+    to.append(text.as_bytes())?;
+    match store.last_snap() {
+        Some((points, told)) => {
+            to.append(format!(in alloc; ", snapshot behind {points} and {told}")?.as_bytes())
+        }
+        None => Ok(()),
+    }
+}
+
+/// Adds what a store holds, where one stands on a disk.
+fn put_opened(alloc: Global, disk: &mut MemDisk, to: &mut Bytes) -> Result<(), NoMemory> {
+    match open_store(alloc, disk) {
+        Ok(store) => put_numbers(alloc, &store, to),
+        Err(fault) => put_fault(alloc, fault, to),
+    }
+}
+
+/// Adds what a crash may leave.
+fn put_crashes(alloc: Global, disk: &MemDisk, to: &mut Bytes) -> Result<(), NoMemory> {
+    for (name, pick) in PICKS {
+        to.append(name.as_bytes())?;
+        to.append(b": ")?;
+        put_opened(alloc, &mut disk.crashed(pick)?, to)?;
+        to.append(b". ")?;
+    }
+    Ok(())
+}
+
+/// Adds the tasks.
+fn put_tasks(alloc: Global, tasks: &[StoredTask], to: &mut Bytes) -> Result<(), NoMemory> {
+    for task in tasks {
+        let text = format!(in alloc; "{} {} at {} ", task.id, task.enabled, task.define_at)?;
+        to.append(text.as_bytes())?;
+        put_shown(task.script.bytes(), to)?;
+        to.append(b"; ")?;
+    }
+    Ok(())
+}
+
+/// Adds the lives.
+fn put_lives(alloc: Global, lives: &[Life], to: &mut Bytes) -> Result<(), NoMemory> {
+    for life in lives {
+        let text = format!(in alloc; "{} at {} from {}", life.task, life.define_at, life.first)?;
+        to.append(text.as_bytes())?;
+        match life.last {
+            Some(last) => to.append(format!(in alloc; " to {last}; ")?.as_bytes())?,
+            None => to.append(b" on; ")?,
+        }
+    }
+    Ok(())
+}
+
+/// Adds the last snapshot.
+fn put_snap(
+    alloc: Global,
+    disk: &mut MemDisk,
+    store: &Store,
+    to: &mut Bytes,
+) -> Result<(), StoreFault> {
+    if store.spent() {
+        return Err(StoreFault::DiskFault);
+    }
+    let Some((at, lives, states)) = store.snap(disk)? else {
+        to.append(b"none")?;
+        return Ok(());
+    };
+    to.append(format!(in alloc; "at {at} of lives")?.as_bytes())?;
+    for life in lives.as_slice() {
+        to.append(format!(in alloc; " {life}")?.as_bytes())?;
+    }
+    to.append(b": ")?;
+    put_shown(states.as_slice(), to)?;
+    Ok(())
+}
+
+/// Adds the level of a topic, as a store's opening gives it.
+fn put_told(
+    alloc: Global,
+    disk: &mut MemDisk,
+    topic: &Text,
+    to: &mut Bytes,
+) -> Result<(), StoreFault> {
+    let (_, topics) = open_with_topics(alloc, disk)?;
+    put_level(&topics, topic, to)?;
+    Ok(())
+}
+
+/// Adds the tasks, the lives or the last snapshot of a store.
+fn put_held(
+    alloc: Global,
+    disk: &mut MemDisk,
+    kind: &str,
+    to: &mut Bytes,
+) -> Result<(), StoreFault> {
+    let store = open_store(alloc, disk)?;
+    match kind {
+        "tasks" => Ok(put_tasks(alloc, store.tasks(), to)?),
+        "lives" => Ok(put_lives(alloc, store.lives(), to)?),
+        _ => put_snap(alloc, disk, &store, to),
+    }
+}
+
+/// Adds so many records to a store that was opened, the first of which begins with this number, and each of
+/// which has so many.
+fn fill(
+    alloc: Global,
+    disk: &mut MemDisk,
+    store: &mut Store,
+    line: &str,
+    to: &mut Bytes,
+) -> Result<(), LineFault> {
+    let (kind, rest) = first_of(line);
+    let (size, count) = first_of(rest);
+    let size = number(size)?;
+    let mut first = 1u64;
+    for _ in 0..number(count)? {
+        let rec = record_of(alloc, format!(in alloc; "{kind} {first} {size}")?.as_str())?;
+        add_to(alloc, disk, store, &rec, to)?;
+        to.append(b"; ")?;
+        first = first.saturating_add(size);
+    }
+    Ok(())
+}
+
+/// Opens a store and adds records to it.
+fn fill_opened(
+    alloc: Global,
+    disk: &mut MemDisk,
+    line: &str,
+    to: &mut Bytes,
+) -> Result<(), LineFault> {
+    match open_store(alloc, disk) {
+        Ok(mut store) => fill(alloc, disk, &mut store, line, to),
+        Err(fault) => Ok(put_fault(alloc, fault, to)?),
+    }
+}
+
+/// Adds the fault, where there is one.
+fn put_outcome(
+    alloc: Global,
+    outcome: Result<(), StoreFault>,
+    to: &mut Bytes,
+) -> Result<(), NoMemory> {
+    match outcome {
+        Ok(()) => Ok(()),
+        Err(fault) => put_fault(alloc, fault, to),
+    }
+}
+
+/// Adds the answer of a line `store`.
+pub fn answer_store(
+    alloc: Global,
+    disk: &mut MemDisk,
+    line: &str,
+    to: &mut Bytes,
+) -> Result<(), LineFault> {
+    let (kind, rest) = first_of(line);
+    match kind {
+        "make" => make(alloc, disk, to)?,
+        "add" => add(alloc, disk, &record_of(alloc, rest)?, to)?,
+        "fill" => fill_opened(alloc, disk, rest, to)?,
+        "open" => put_opened(alloc, disk, to)?,
+        "crashes" => put_crashes(alloc, disk, to)?,
+        "topics" => {
+            let outcome = put_told(alloc, disk, &text(alloc, rest)?, to);
+            put_outcome(alloc, outcome, to)?
+        }
+        "tasks" | "lives" | "snap" => {
+            let outcome = put_held(alloc, disk, kind, to);
+            put_outcome(alloc, outcome, to)?
+        }
+        "points" | "transitions" | "calls" => {
+            let outcome = put_pieces(alloc, disk, kind, &numbers(alloc, rest)?, to);
+            put_outcome(alloc, outcome, to)?
+        }
+        _ => return Err(LineFault::NoForm),
+    }
+    Ok(())
+}

@@ -1,0 +1,59 @@
+//! `topic event TOPIC ID LEVEL TIME MESSAGE`: what is told of an event, and `topic level TOPIC`: the worst
+//! level.
+
+use case_text::{LineFault, first_of, level, put_shown, signed, text};
+use kap_base::{Bytes, Event, NoMemory, Text};
+use std::alloc::Global;
+use topic_core::{Topics, print_transition};
+
+/// The event that a line tells.
+fn event(alloc: Global, line: &str) -> Result<Event, LineFault> {
+    let (topic, rest) = first_of(line);
+    let (id, rest) = first_of(rest);
+    let (word, rest) = first_of(rest);
+    let (time, message) = first_of(rest);
+    Ok(Event {
+        topic: text(alloc, topic)?,
+        id: text(alloc, id)?,
+        level: level(word)?,
+        time: signed(time)?,
+        message: text(alloc, message)?,
+    })
+}
+
+/// Adds the transition that an event makes.
+fn put_told(
+    alloc: Global,
+    topics: &mut Topics,
+    line: &str,
+    to: &mut Bytes,
+) -> Result<(), LineFault> {
+    match topics.accept(alloc, &event(alloc, line)?)? {
+        Some(transition) => put_shown(print_transition(alloc, &transition)?.as_slice(), to)?,
+        None => to.append(b"nothing")?,
+    }
+    Ok(())
+}
+
+/// Adds the level of a topic.
+pub fn put_level(topics: &Topics, topic: &Text, to: &mut Bytes) -> Result<(), NoMemory> {
+    match topics.level(topic) {
+        Some(level) => to.append(level.name().as_bytes()),
+        None => to.append(b"no topic"),
+    }
+}
+
+/// Adds the answer of a line `topic`.
+pub fn answer_topic(
+    alloc: Global,
+    topics: &mut Topics,
+    line: &str,
+    to: &mut Bytes,
+) -> Result<(), LineFault> {
+    let (kind, rest) = first_of(line);
+    match kind {
+        "event" => put_told(alloc, topics, rest, to),
+        "level" => Ok(put_level(topics, &text(alloc, rest)?, to)?),
+        _ => Err(LineFault::NoForm),
+    }
+}
