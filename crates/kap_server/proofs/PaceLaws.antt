@@ -8,7 +8,8 @@ use Rattle.kap_base.specs.declared.items.Effect.{Effect}
 use Rattle.node_core.specs.Meaning.{Answer}
 use Rattle.task_run.specs.Graphs.{Placed}
 use Rattle.task_run.specs.Lives.{effects_of}
-use Rattle.kap_server.specs.Paces.{Paces, next_limit}
+use Rattle.net_run.specs.Paces.{next_limit}
+use Rattle.kap_server.specs.Paces.{Paces}
 
 -- where nothing was done, as many as before
 idle : (limit : ℕ) → 0 < limit → limit ≡ next_limit limit 0 0 0

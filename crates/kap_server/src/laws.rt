@@ -6,6 +6,7 @@ ghost use Rattle.kap_base.specs.declared.limits.TheConstants.{ID_LIMIT, SCRIPT_L
 ghost use Rattle.lambda_types.specs.Faults.{Refusal};
 ghost use Rattle.line_points.specs.declared.line.TheConstants.{LINE_LIMIT};
 ghost use Rattle.net_run.specs.declared.TheConstants.{EPOCH_LIMIT};
+ghost use Rattle.net_run.specs.declared.pace.TheConstants.{EFFECT_LIMIT, TEXT_LIMIT};
 ghost use Rattle.node_workers.specs.declared.TheConstants.{WORKER_LIMIT};
 ghost use Rattle.recording_file.specs.declared.lines.TheConstants.{RECORDING_LIMIT};
 ghost use Rattle.sample_points.specs.declared.samples.TheConstants.{SAMPLE_LIMIT};
@@ -14,7 +15,6 @@ ghost use Rattle.kap_server.specs.Checking.{ChecksTo};
 ghost use Rattle.kap_server.specs.Pairs.{AreNoTasks, AreTasks};
 ghost use Rattle.kap_server.specs.Words.{Pair};
 ghost use Rattle.kap_server.specs.declared.options.TheConstants.{CAPACITY, WORKERS};
-ghost use Rattle.kap_server.specs.declared.pace.TheConstants.{EFFECT_LIMIT, TEXT_LIMIT};
 ghost use Rattle.kap_server.specs.declared.status.Status.{Status};
 
 /// Whichever pattern is refused, if any, a text is checked to one status.

@@ -8,7 +8,6 @@ mod laws;
 mod listing;
 mod making;
 mod options;
-mod pace;
 mod reading;
 mod readying;
 mod replaying;

@@ -14,12 +14,11 @@ ghost use Rattle.kap_server.specs.Paces.{Paces};
 ghost use Rattle.kap_server.specs.Replaying.{AddsText};
 ghost use Rattle.kap_server.specs.Runs.{run_rest, run_text};
 
-use crate::pace::Pace;
 use edge_queue::CAPACITY_LIMIT;
 use effect_text::{TaskNames, put_dropped, put_effects};
 use kap_base::{Bytes, NoMemory, Point, Shared, What};
 use kap_io::Gate;
-use net_run::{EPOCH_LIMIT, NetRun, NumberingNode, Way};
+use net_run::{EPOCH_LIMIT, NetRun, NumberingNode, Pace, Way};
 use node_core::{Effects, Node};
 use std::alloc::Global;
 use std::thread::Threads;

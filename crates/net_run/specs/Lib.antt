@@ -1,5 +1,7 @@
 -- what a run of a net keeps
 pub mod Epochs
+-- how many points an epoch has
+pub mod Paces
 -- what contracts see of a run
 pub mod Runs
 -- the points of a run

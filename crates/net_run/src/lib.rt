@@ -2,24 +2,29 @@
 //! lists.
 #![tactic(auto)]
 
-ghost use Rattle.std.specs.Prelude.{◌≡◌};
+ghost use Rattle.std.specs.Prelude.{◌≡◌, ◌^◌};
+ghost use Rattle.net_run.specs.declared.pace.TheConstants.{EFFECT_LIMIT, TEXT_LIMIT};
 
 mod epochs;
 mod moving;
 mod numbering;
+mod pace;
 mod runs;
 mod trail;
 
 pub use epochs::run_epoch;
 pub use moving::{Way, Workers};
 pub use numbering::NumberingNode;
+pub use pace::{EFFECT_LIMIT, Pace, TEXT_LIMIT};
 pub use runs::NetRun;
 
 /// How many points an epoch has at most: so few that they stay in a processor's cache from their reading to their end, and so many
 /// that what each epoch costs besides, as the states that are saved at its end, is little a point.
 pub const EPOCH_LIMIT: usize = 1_280;
 
-/// The limit as a number of points.
-pub fn limit_is_a_number()
-    ensures { EPOCH_LIMIT ≡ 1280 }
+/// The limits of an epoch as numbers: of points, of effects, and of bytes of their text.
+pub fn limits_are_numbers()
+    ensures points { EPOCH_LIMIT ≡ 1280 }
+    ensures effects { EFFECT_LIMIT ≡ 2 ^ 13 }
+    ensures text { TEXT_LIMIT ≡ 2 ^ 20 }
 {}

@@ -2,15 +2,15 @@
 
 ghost use Rattle.std.specs.Prelude.{◌≡◌, ◌<◌, ◌≤◌};
 ghost use Rattle.net_run.specs.declared.TheConstants.{EPOCH_LIMIT};
-ghost use Rattle.kap_server.specs.Paces.{is_little, is_much, next_limit};
+ghost use Rattle.net_run.specs.Paces.{is_little, is_much, next_limit};
 
-use net_run::EPOCH_LIMIT;
+use crate::EPOCH_LIMIT;
 
 /// How many effects of an epoch may stand in memory, before the next one has fewer points.
-const EFFECT_LIMIT: usize = 8_192;
+pub const EFFECT_LIMIT: usize = 8_192;
 
 /// How many bytes of text they may have.
-const TEXT_LIMIT: usize = 1 << 20;
+pub const TEXT_LIMIT: usize = 1 << 20;
 
 /// Whether so many effects, with so many bytes of text, are more than may stand in memory.
 fn is_much(effects: usize, bytes: usize) -> bool
@@ -47,22 +47,23 @@ fn next_limit(limit: usize, points: usize, effects: usize, bytes: usize) -> usiz
 /// How many points the next epoch may have: 1 to `EPOCH_LIMIT`, and the fewer, the more the nodes do at each
 /// point, since all that they do at those of an epoch stands in memory until it is written.
 #[derive(Drop)]
-pub(crate) struct Pace {
-    limit: usize,
+pub struct Pace {
+    /// How many points the next epoch may have.
+    pub limit: usize,
     ghost some: { 0 < limit },
     ghost most: { limit ≤ EPOCH_LIMIT },
 }
 
 impl Pace {
     /// Before the first epoch, which has one point: nothing is known yet of what the nodes do.
-    pub(crate) fn new() -> Pace
+    pub fn new() -> Pace
         ensures { result.limit ≡ 1 }
     {
         Pace { limit: 1 }
     }
 
     /// How many points the next epoch may have.
-    pub(crate) fn limit(&self) -> usize
+    pub fn limit(&self) -> usize
         ensures limit { result ≡ self.now.limit }
         ensures some { 0 < result }
         ensures most { result ≤ EPOCH_LIMIT }
@@ -71,7 +72,7 @@ impl Pace {
     }
 
     /// After an epoch of so many points, which had so many effects, with so many bytes of text.
-    pub(crate) fn follow(&mut self, points: usize, effects: usize, bytes: usize)
+    pub fn follow(&mut self, points: usize, effects: usize, bytes: usize)
         ensures { self.new.limit ≡ next_limit self.old.limit points effects bytes }
     {
         self.limit = next_limit(self.limit, points, effects, bytes);
