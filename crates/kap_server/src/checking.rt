@@ -15,13 +15,14 @@ use kap_base::{Bytes, SCRIPT_LIMIT, Text};
 use kap_io::{Failed, Sink, Source, write_all};
 use lambda_types::Patterns;
 use std::alloc::Global;
-use tick_compile::{ScriptFault, compile, read_tree};
+use tick_compile::{ScriptFault, compile_tree, read_tree};
 use tick_print::print;
 
 /// How many bytes are asked of the input at once.
 const PIECE: usize = 4_096;
 
-/// The canonical form of the script of a text, where it is a task's.
+/// The canonical form of the script of a text, where it is a task's. The text is read once.
+#[tactic(auto, using(tick_compile::proofs::ScriptLaws::tree_ok, tick_compile::proofs::ScriptLaws::tree_err))]
 fn form_of<P: Patterns>(alloc: Global, bytes: &[u8], pats: &mut P) -> Result<Text, ScriptFault>
     requires { length bytes.now ≤ SCRIPT_LIMIT }
     ensures form { IfOk result (λ form. HasForm bytes.now form) }
@@ -32,7 +33,7 @@ fn form_of<P: Patterns>(alloc: Global, bytes: &[u8], pats: &mut P) -> Result<Tex
     ensures kept { OnOk result (P.refusals pats.new ≡ P.refusals pats.old) }
 {
     let tree = read_tree(alloc, bytes)?;
-    compile(alloc, bytes, pats)?;
+    compile_tree(alloc, &tree, pats)?;
     let form = print(alloc, &tree)?;
     Ok(form)
 }

@@ -13,12 +13,17 @@ use Rattle.lambda_types.proofs.FirstLaws as walks
 use Rattle.task_graph.specs.declared.graph.GraphFault.{GraphFault}
 use Rattle.task_graph.specs.declared.spec.NodeSpec.{NodeSpec}
 use Rattle.task_graph.specs.Graphs.{first_graph_fault}
+use Rattle.tick_parser.specs.Trees.{StmtTree}
+use Rattle.tick_vars.specs.Binding.{bound_of}
+use Rattle.tick_vars.specs.declared.fault.VarFault.{VarFault}
 use Rattle.tick_vars.specs.Nodes.{ArgTree, LitArg, StarArg, LambdaArg, NodeArg, BoundTree, NodeTree, PropTree}
 use Rattle.tick_compile.specs.declared.node_fault.NodeFault.{NodeFault}
 use Rattle.tick_compile.specs.declared.node_fault.NodeFault.TheVariants as nodes
 use Rattle.tick_compile.specs.declared.script_fault.ScriptFault.TheVariants.{Lambda, NoFrom}
 use Rattle.tick_compile.specs.Nodes.{specs_from}
-use Rattle.tick_compile.specs.Scripts.{IsRefusedPattern, Refuses}
+use Rattle.tick_compile.specs.declared.script_fault.ScriptFault.{ScriptFault}
+use Rattle.tick_compile.specs.declared.tasks.Task.{Task}
+use Rattle.tick_compile.specs.Scripts.{IsRefusedPattern, Refuses, named, task_of}
 use Rattle.tick_compile.specs.Tasks.{compiled, finished, has_from, of_node, raised, typed, well_joined, with_from}
 use Rattle.tick_compile.specs.Typing.{arg_fault, firsts, lambda_fault, node_of, node_type_fault, prop_fault, takes_conditions, type_fault}
 
@@ -126,7 +131,27 @@ compiled_fault refused bind t is =
     (either_step (typed (type_fault refused bind.nodes)) (λ _. finished r.0) (Lambda t) r.1))
     (either_step read (λ specs. typed (type_fault refused bind.nodes) >>= λ _. finished specs) (Lambda t) is)
 
+-- the task of these nodes, which sees what the script names
+abbrev task_in : BoundTree → List (NodeSpec Tree) → Task
+task_in made nodes = record { graph = nodes; dbrps = made.dbrps }
+
+no_task : (task : Task) (t : TypeFault) → ◌≡◌ {A = Result Task ScriptFault} (Ok task) (Err (Lambda t)) → ⊥
+no_task task t is = absurd cc
+
+no_name : {A : Type 0} (r : Result A VarFault) (t : TypeFault) → named r ≡ Err (Lambda t) → ⊥
+no_name (Ok x) t is = absurd cc
+no_name (Err f) t is = absurd cc
+
+script_told : (refused : Option Refusal) (script : List StmtTree) (at : ℕ) → task_of refused script ≡ Err (Lambda (Pattern at)) → IsRefusedPattern refused at
+script_told refused script at is = ⊎_elim
+    (λ (l : named (bound_of script) ≡ Err (Lambda (Pattern at))). absurd (no_name (bound_of script) (Pattern at) l))
+    (λ (r : (made : BoundTree) × ((compiled refused made >>= λ nodes. Ok (task_in made nodes)) ≡ Err (Lambda (Pattern at)))). ⊎_elim
+    (λ (l : compiled refused r.0 ≡ Err (Lambda (Pattern at))). type_told refused r.0.nodes at (compiled_fault refused r.0 (Pattern at) l))
+    (λ (q : (nodes : List (NodeSpec Tree)) × (Ok (task_in r.0 nodes) ≡ Err (Lambda (Pattern at)))). absurd (no_task (task_in r.0 q.0) (Pattern at) q.1))
+    (either_step (compiled refused r.0) (λ nodes. Ok (task_in r.0 nodes)) (Lambda (Pattern at)) r.1))
+    (either_step (named (bound_of script)) (λ made. compiled refused made >>= λ nodes. Ok (task_in made nodes)) (Lambda (Pattern at)) is)
+
 -- a text is refused for a pattern only where that is the refused one
 pub pattern_is_refused : (refused : Option Refusal) (text : List ℕ) (at : ℕ) → Refuses refused text (Lambda (Pattern at)) → IsRefusedPattern refused at
 pattern_is_refused refused text at (inl misread) = elim misread [ ]
-pattern_is_refused refused text at (inr written) = type_told refused written.«bound».nodes at (compiled_fault refused written.«bound» (Pattern at) written.nodes)
+pattern_is_refused refused text at (inr written) = script_told refused written.script at written.is

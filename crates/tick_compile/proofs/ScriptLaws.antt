@@ -3,12 +3,9 @@ use Rattle.std.proofs.Common.{◌≡◌, ℕ, ◌≤◌, Bool, true, false, Opti
 use Rattle.std.specs.Prelude.{◌⊎◌, Result, Ok, Err, IsUtf8}
 use Rattle.std.specs.Str.{is_utf8}
 use Rattle.std.proofs.lemmas.Str.{IsUtf8-from_is_utf8, is_utf8-from_IsUtf8}
-use Rattle.kap_base.specs.declared.dbrp.Dbrp.{Dbrp}
-use Rattle.kap_base.specs.Tree.{Tree}
 use Rattle.kap_base.specs.Utf8.{broken_at}
 use Rattle.kap_base.proofs.Utf8Laws.{breaks_there, one_place}
 use Rattle.lambda_types.specs.Faults.{Refusal}
-use Rattle.task_graph.specs.declared.spec.NodeSpec.{NodeSpec}
 use Rattle.kap_base.specs.declared.limits.TheConstants.{SCRIPT_LIMIT}
 use Rattle.tick_lexer.specs.declared.token.LexFault.{LexFault}
 use Rattle.tick_lexer.specs.declared.token.Token.{Token}
@@ -21,14 +18,10 @@ use Rattle.tick_parser.specs.Script.{IsScriptOf, Reads}
 use Rattle.tick_parser.specs.Refusal.{IsRefused}
 use Rattle.tick_parser.proofs.Reading as readings
 use Rattle.tick_parser.proofs.OneFault as faults
-use Rattle.tick_vars.specs.declared.fault.VarFault.{VarFault}
-use Rattle.tick_vars.specs.Nodes.{BoundTree}
-use Rattle.tick_vars.specs.Binding.{bound_of}
 use Rattle.tick_compile.specs.declared.script_fault.ScriptFault.{ScriptFault}
 use Rattle.tick_compile.specs.declared.script_fault.ScriptFault.TheVariants.{NotUtf8, Lex, Parse, Name, NoKind, Property, Argument, Handler, Template, Lambda, Graph, NoFrom, NoMemory}
 use Rattle.tick_compile.specs.declared.tasks.Task.{Task}
-use Rattle.tick_compile.specs.Scripts.{Accepts, Binds, IsMisread, Parses, Refuses}
-use Rattle.tick_compile.specs.Tasks.{compiled}
+use Rattle.tick_compile.specs.Scripts.{Accepts, IsMisread, Parses, Refuses, task_of}
 
 -- a text has the tokens of one script
 pub same_script : (text : List ℕ) (a b : List StmtTree) → Parses text a → Parses text b → a ≡ b
@@ -48,45 +41,34 @@ one_err {A = A} {E = E} a b r p q = let w : ◌≡◌ {A = Result A E} (Err a) (
 one_ok : {A E : Type 0} (a b : A) (r : Result A E) → r ≡ Ok a → r ≡ Ok b → a ≡ b
 one_ok {A = A} {E = E} a b r p q = let w : ◌≡◌ {A = Result A E} (Ok a) (Ok b) = sym p ∙ q in cc
 
-same_bound : (text : List ℕ) (a b : BoundTree) → Binds text a → Binds text b → a ≡ b
-same_bound text a b p q = one_ok a b (bound_of p.script) p.binds (ap bound_of (same_script text p.script q.script p.parsed q.parsed) ∙ q.binds)
-
--- a script that is bound isn't misread
-bound_or_misread : (text : List ℕ) (made : BoundTree) (fault : ScriptFault) → Binds text made → IsMisread text fault → ⊥
-bound_or_misread text made (NotUtf8 at) p q = q.0 p.parsed.utf8
-bound_or_misread text made (Lex fault) p q = texts.not_both text p.parsed.tokens fault p.parsed.lexed q.1
-bound_or_misread text made (Parse fault) p q = refused_tokens text p.script q.1.0 fault p.parsed q.1.1 q.1.2
-bound_or_misread text made (Name fault) p q =
-    ok_or_err made fault (bound_of p.script) p.binds (ap bound_of (same_script text p.script q.0 p.parsed q.1) ∙ q.2)
-bound_or_misread text made (NoKind at) p q = q
-bound_or_misread text made (Property at) p q = q
-bound_or_misread text made (Argument at) p q = q
-bound_or_misread text made (Handler at) p q = q
-bound_or_misread text made (Template at fault) p q = q
-bound_or_misread text made (Lambda fault) p q = q
-bound_or_misread text made (Graph fault) p q = q
-bound_or_misread text made NoFrom p q = q
-bound_or_misread text made NoMemory p q = q
+-- a text of a script isn't misread
+parsed_or_misread : (text : List ℕ) (script : List StmtTree) (fault : ScriptFault) → Parses text script → IsMisread text fault → ⊥
+parsed_or_misread text script (NotUtf8 at) p q = q.0 p.utf8
+parsed_or_misread text script (Lex fault) p q = texts.not_both text p.tokens fault p.lexed q.1
+parsed_or_misread text script (Parse fault) p q = refused_tokens text script q.1.0 fault p q.1.1 q.1.2
+parsed_or_misread text script (Name fault) p q = q
+parsed_or_misread text script (NoKind at) p q = q
+parsed_or_misread text script (Property at) p q = q
+parsed_or_misread text script (Argument at) p q = q
+parsed_or_misread text script (Handler at) p q = q
+parsed_or_misread text script (Template at fault) p q = q
+parsed_or_misread text script (Lambda fault) p q = q
+parsed_or_misread text script (Graph fault) p q = q
+parsed_or_misread text script NoFrom p q = q
+parsed_or_misread text script NoMemory p q = q
 
 one_misreading : (text : List ℕ) (a b : ScriptFault) → IsMisread text a → IsMisread text b → a ≡ b
 one_misreading text (NotUtf8 at) (NotUtf8 place) p q = ap NotUtf8 (one_place text at place p.1 q.1)
 one_misreading text (NotUtf8 at) (Lex fault) p q = absurd (p.0 q.0)
 one_misreading text (NotUtf8 at) (Parse fault) p q = absurd (p.0 q.0)
-one_misreading text (NotUtf8 at) (Name fault) p q = absurd (p.0 q.1.utf8)
 one_misreading text (Lex fault) (NotUtf8 at) p q = absurd (q.0 p.0)
 one_misreading text (Lex fault) (Lex other) p q = ap Lex (texts.one_fault text fault other p.1 q.1)
 one_misreading text (Lex fault) (Parse other) p q = absurd (texts.not_both text q.1.0 fault q.1.1 p.1)
-one_misreading text (Lex fault) (Name other) p q = absurd (texts.not_both text q.1.tokens fault q.1.lexed p.1)
 one_misreading text (Parse fault) (NotUtf8 at) p q = absurd (q.0 p.0)
 one_misreading text (Parse fault) (Lex other) p q = absurd (texts.not_both text p.1.0 other p.1.1 q.1)
 one_misreading text (Parse fault) (Parse other) p q =
     ap Parse (faults.one_fault DEPTH_LIMIT OPERATOR_LIMIT STATEMENT_LIMIT p.1.0 fault other p.1.2 (subst (λ ts. IsRefused ts other) (texts.one_list text q.1.0 p.1.0 q.1.1 p.1.1) q.1.2))
-one_misreading text (Parse fault) (Name other) p q = absurd (refused_tokens text q.0 p.1.0 fault q.1 p.1.1 p.1.2)
-one_misreading text (Name fault) (NotUtf8 at) p q = absurd (q.0 p.1.utf8)
-one_misreading text (Name fault) (Lex other) p q = absurd (texts.not_both text p.1.tokens other p.1.lexed q.1)
-one_misreading text (Name fault) (Parse other) p q = absurd (refused_tokens text p.0 q.1.0 other p.1 q.1.1 q.1.2)
-one_misreading text (Name fault) (Name other) p q =
-    ap Name (one_err fault other (bound_of p.0) p.2 (ap bound_of (same_script text p.0 q.0 p.1 q.1) ∙ q.2))
+one_misreading text a (Name fault) p q = absurd q
 one_misreading text a (NoKind at) p q = absurd q
 one_misreading text a (Property at) p q = absurd q
 one_misreading text a (Argument at) p q = absurd q
@@ -96,6 +78,7 @@ one_misreading text a (Lambda fault) p q = absurd q
 one_misreading text a (Graph fault) p q = absurd q
 one_misreading text a NoFrom p q = absurd q
 one_misreading text a NoMemory p q = absurd q
+one_misreading text (Name fault) b p q = absurd p
 one_misreading text (NoKind at) b p q = absurd p
 one_misreading text (Property at) b p q = absurd p
 one_misreading text (Argument at) b p q = absurd p
@@ -108,49 +91,41 @@ one_misreading text NoMemory b p q = absurd p
 
 pub one_fault : (refused : Option Refusal) (text : List ℕ) (a b : ScriptFault) → Refuses refused text a → Refuses refused text b → a ≡ b
 one_fault refused text a b (inl p) (inl q) = one_misreading text a b p q
-one_fault refused text a b (inl p) (inr q) = absurd (bound_or_misread text q.«bound» a q.binds p)
-one_fault refused text a b (inr p) (inl q) = absurd (bound_or_misread text p.«bound» b p.binds q)
+one_fault refused text a b (inl p) (inr q) = absurd (parsed_or_misread text q.script a q.parsed p)
+one_fault refused text a b (inr p) (inl q) = absurd (parsed_or_misread text p.script b p.parsed q)
 one_fault refused text a b (inr p) (inr q) =
-    one_err a b (compiled refused p.«bound») p.nodes (ap (compiled refused) (same_bound text p.«bound» q.«bound» p.binds q.binds) ∙ q.nodes)
+    one_err a b (task_of refused p.script) p.is (ap (task_of refused) (same_script text p.script q.script p.parsed q.parsed) ∙ q.is)
 
 pub apart : (refused : Option Refusal) (text : List ℕ) (task : Task) (fault : ScriptFault) → Accepts refused text task → Refuses refused text fault → ⊥
-apart refused text task fault p (inl q) = bound_or_misread text p.«bound» fault p.binds q
+apart refused text task fault p (inl q) = parsed_or_misread text p.script fault p.parsed q
 apart refused text task fault p (inr q) =
-    ok_or_err task.graph fault (compiled refused p.«bound») p.nodes (ap (compiled refused) (same_bound text p.«bound» q.«bound» p.binds q.binds) ∙ q.nodes)
-
--- the task of these nodes, which sees this
-abbrev task_of : List (NodeSpec Tree) → List Dbrp → Task
-task_of nodes dbrps = record { graph = nodes; dbrps = dbrps }
-
-same_task : (a b : Task) → a.graph ≡ b.graph → a.dbrps ≡ b.dbrps → a ≡ b
-same_task a b graph dbrps = ap (λ (nodes : List (NodeSpec Tree)). task_of nodes a.dbrps) graph ∙ ap (task_of b.graph) dbrps
+    ok_or_err task fault (task_of refused p.script) p.is (ap (task_of refused) (same_script text p.script q.script p.parsed q.parsed) ∙ q.is)
 
 pub one_task : (refused : Option Refusal) (text : List ℕ) (a b : Task) → Accepts refused text a → Accepts refused text b → a ≡ b
 one_task refused text a b p q =
-    let same = same_bound text p.«bound» q.«bound» p.binds q.binds in
-    let graph : a.graph ≡ b.graph = one_ok a.graph b.graph (compiled refused p.«bound») p.nodes (ap (compiled refused) same ∙ q.nodes) in
-    let dbrps : a.dbrps ≡ b.dbrps = p.dbrps ∙ (ap (λ (t : BoundTree). t.dbrps) same ∙ sym q.dbrps) in
-    same_task a b graph dbrps
+    one_ok a b (task_of refused p.script) p.is (ap (task_of refused) (same_script text p.script q.script p.parsed q.parsed) ∙ q.is)
+
+-- ---- a script's task or its first fault is its text's
+
+pub tree_ok : (refused : Option Refusal) (text : List ℕ) (script : List StmtTree) (task : Task) → Parses text script → task_of refused script ≡ Ok task → Accepts refused text task
+tree_ok refused text script task parsed is = record { script = script; parsed = parsed; is = is }
+
+pub tree_err : (refused : Option Refusal) (text : List ℕ) (script : List StmtTree) (fault : ScriptFault) → Parses text script → task_of refused script ≡ Err fault → Refuses refused text fault
+tree_err refused text script fault parsed is = inr (record { script = script; parsed = parsed; is = is })
 
 -- ---- each text has an answer
 
 abbrev Answered : Option Refusal → List ℕ → Type 0
 Answered refused text = ((task : Task) × Accepts refused text task) ⊎ ((fault : ScriptFault) × Refuses refused text fault)
 
-of_nodes : (refused : Option Refusal) (text : List ℕ) (made : BoundTree) → Binds text made → (r : Result (List (NodeSpec Tree)) ScriptFault) → compiled refused made ≡ r → Answered refused text
-of_nodes refused text made binds (Ok nodes) is =
-    inl (record { graph = nodes; dbrps = made.dbrps }, record { «bound» = made; binds = binds; nodes = is; dbrps = refl })
-of_nodes refused text made binds (Err fault) is = inr (fault, inr (record { «bound» = made; binds = binds; nodes = is }))
-
-of_names : (refused : Option Refusal) (text : List ℕ) (script : List StmtTree) → Parses text script → (r : Result BoundTree VarFault) → bound_of script ≡ r → Answered refused text
-of_names refused text script parsed (Ok made) is =
-    of_nodes refused text made (record { script = script; parsed = parsed; binds = is }) (compiled refused made) refl
-of_names refused text script parsed (Err fault) is = inr (Name fault, inl (script, parsed, is))
+of_script : (refused : Option Refusal) (text : List ℕ) (script : List StmtTree) → Parses text script → (r : Result Task ScriptFault) → task_of refused script ≡ r → Answered refused text
+of_script refused text script parsed (Ok task) is = inl (task, tree_ok refused text script task parsed is)
+of_script refused text script parsed (Err fault) is = inr (fault, tree_err refused text script fault parsed is)
 
 of_tokens : (refused : Option Refusal) (text : List ℕ) → IsUtf8 text → (tokens : List Token) → HasTokens text tokens
     → ((script : List StmtTree) × IsScriptOf tokens script) ⊎ ((fault : ParseFault) × IsRefused tokens fault) → Answered refused text
 of_tokens refused text utf8 tokens has (inl read) =
-    of_names refused text read.0 (record { tokens = tokens; utf8 = utf8; lexed = has; spelled = read.1 }) (bound_of read.0) refl
+    of_script refused text read.0 (record { tokens = tokens; utf8 = utf8; lexed = has; spelled = read.1 }) (task_of refused read.0) refl
 of_tokens refused text utf8 tokens has (inr parse) = inr (Parse parse.0, inl (utf8, (tokens, has, parse.1)))
 
 of_text : (refused : Option Refusal) (text : List ℕ) → IsUtf8 text → ((tokens : List Token) × HasTokens text tokens) ⊎ ((fault : LexFault) × HasFirstFault text fault) → Answered refused text

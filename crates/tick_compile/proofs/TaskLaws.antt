@@ -1,11 +1,10 @@
 -- Compiling as its calls make it, and the shape of what a bound script's nodes are read as.
-use Rattle.std.proofs.Common.{◌≡◌, ◌&&◌, ◌<◌, ◌+◌, ℕ, zero, suc, Bool, true, false, cond, List, [], ◌∷◌, ◌++◌, length, map, Result, Ok, Err, refl, sym, ap, ◌∙◌, subst, nat_lt, arith, length-append}
+use Rattle.std.proofs.Common.{◌≡◌, ◌&&◌, ◌<◌, ◌+◌, ℕ, zero, suc, Bool, true, false, cond, List, [], ◌∷◌, ◌++◌, length, map, Result, Ok, refl, sym, ap, ◌∙◌, subst, nat_lt, arith, length-append}
 use Rattle.std.specs.Prelude.{IfOk, IsTrue, take}
 use Rattle.std.specs.List.{list_all}
 use Rattle.std.proofs.lemmas.Bool.Decides.{nat_tests}
 use Rattle.kap_base.proofs.TestLaws.{bind_ok, both, first_of, second_of}
 use Rattle.kap_base.specs.Tree.{Tree}
-use Rattle.kap_base.specs.Words.{◌>>=◌}
 use Rattle.kap_base.specs.declared.dbrp.Dbrp.{Dbrp}
 use Rattle.task_graph.specs.declared.spec.NodeSpec.{NodeSpec}
 use Rattle.task_graph.specs.declared.spec.Spec.{Spec}

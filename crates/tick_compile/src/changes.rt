@@ -3,7 +3,7 @@
 ghost use Rattle.std.specs.Prelude.{◌≡◌, IfOk};
 ghost use Rattle.kap_base.specs.Words.{Answers};
 ghost use Rattle.tick_compile.specs.Rows.{set_by};
-ghost use Rattle.tick_compile.specs.Changes.{default_rows, default_spec, delete_rows, delete_spec, eval_results, eval_rows, eval_spec, group_by_rows, group_by_spec, kept, log_rows, log_spec, no_eval, no_log, shift_spec};
+ghost use Rattle.tick_compile.specs.Changes.{default_rows, default_spec, delete_rows, delete_spec, eval_results, eval_rows, eval_spec, group_by_rows, group_by_spec, kept, log_rows, log_spec, shift_spec};
 
 use crate::given::{Node, Setting};
 use crate::node_fault::NodeFault;

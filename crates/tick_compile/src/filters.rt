@@ -1,9 +1,8 @@
 //! `from`, `where` and `sample`.
 
-ghost use Rattle.std.specs.Prelude.{◌≡◌};
 ghost use Rattle.kap_base.specs.Words.{Answers};
 ghost use Rattle.tick_compile.specs.Rows.{set_by};
-ghost use Rattle.tick_compile.specs.Filters.{from_rows, from_spec, no_from, sample_spec, where_spec};
+ghost use Rattle.tick_compile.specs.Filters.{from_rows, from_spec, sample_spec, where_spec};
 
 use crate::given::{Node, Setting};
 use crate::node_fault::NodeFault;

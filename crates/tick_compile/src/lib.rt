@@ -27,6 +27,6 @@ mod windows;
 pub use law::scripts_have_one_answer;
 pub use script_fault::ScriptFault;
 pub use script_texts::script_text;
-pub use scripts::{compile, read_tree};
+pub use scripts::{compile, compile_tree, read_tree};
 pub use tasks::Task;
 pub use templates::templates_are_read;

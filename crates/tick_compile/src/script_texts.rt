@@ -1,7 +1,7 @@
 //! What is said of texts that are no tasks.
 
-ghost use Rattle.std.specs.Prelude.{◌≡◌, ◌++◌, IfOk, codes, string_bytes};
-ghost use Rattle.tick_compile.specs.Texts.{fault_text, graph_text, lex_text, name_text, parse_text, template_text, text_of_fault, type_text, want_name, with_place};
+ghost use Rattle.std.specs.Prelude.{◌≡◌, ◌++◌, IfOk, codes};
+ghost use Rattle.tick_compile.specs.Texts.{graph_text, lex_text, name_text, parse_text, template_text, text_of_fault, type_text, want_name, with_place};
 
 use crate::script_fault::ScriptFault;
 use itoa::Buffer;
