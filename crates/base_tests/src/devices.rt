@@ -4,6 +4,7 @@ use gate_log::{Log, LogFault, make, open_log};
 use kap_io::{Clock, DirDisk, Disk, Failed, FixedClock, Part, RealClock};
 use std::alloc::Global;
 use std::fs;
+use std::os::unix::fs::symlink;
 use std::path::PathBuf;
 use std::test::Fail;
 
@@ -83,6 +84,19 @@ fn a_folder_that_is_not_there_fails(rt: HostRuntime) -> Result<(), Fail> {
     assert!(rt; each_call_fails(&mut disk));
     let opened = open_log(alloc, &mut disk, Part::Left);
     assert!(rt; matches!(opened, Err(LogFault::DiskFault)));
+    Ok(())
+}
+
+#[test]
+fn a_file_that_cannot_be_synced_fails(rt: HostRuntime) -> Result<(), Fail> {
+    let alloc = rt.alloc();
+    let _ = fs::remove_dir_all(&rt, "kap_io_sync");
+    fs::create_dir(&rt, "kap_io_sync")?;
+    symlink(&rt, "/dev/null", "kap_io_sync/left")?;
+    let mut disk = DirDisk::new(alloc, rt, PathBuf::from_str(alloc, "kap_io_sync")?);
+    assert!(rt; disk.sync(Part::Right) == Ok(()));
+    assert!(rt; disk.sync(Part::Left) == Err(Failed));
+    fs::remove_dir_all(&rt, "kap_io_sync")?;
     Ok(())
 }
 
