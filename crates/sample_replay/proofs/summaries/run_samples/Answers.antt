@@ -5,7 +5,7 @@ use Rattle.kap_base.proofs.ResultLaws.{on_ok}
 
 pub returns-clause-points : goal.returns-clause-points
 returns-clause-points g c =
-    on_ok c.count.result (λ counts. c.in_ok-ran.ensures.points ∙ ap (λ l. l ++ c.in_ok-points.points.items) c.requires.points ∙ sym c.in_ok-points.ensures) c.count.ensures.counted
+    on_ok c.count.result (λ counts. c.in_ok-ran.ensures.points ∙ ap (λ l. l ++ c.in_ok-points.points.items) c.requires.points ∙ sym c.in_ok-points.ensures) c.count.ensures
 
 pub returns-clause-counted : goal.returns-clause-counted
 returns-clause-counted g c =
@@ -15,4 +15,4 @@ returns-clause-counted g c =
     on_ok c.count.result (λ counts.
     rw (c.in_ok-ran.ensures.lives, c.in_ok-ran.ensures.points, c.in_ok-ran.ensures.effects)
     (rw c.as_slice.ensures at counts (effects_of node.answer lives points) c.requires.counted))
-    c.count.ensures.counted
+    c.count.ensures
