@@ -61,6 +61,3 @@ returns-in-Union c = rw c.in-Union.is c.union.ensures
 
 pub returns-in-Join : goal.returns-in-Join
 returns-in-Join c = rw c.in-Join.is c.join.ensures
-
-pub returns-in-Alert : goal.returns-in-Alert
-returns-in-Alert c = rw c.in-Alert.is c.alert.ensures

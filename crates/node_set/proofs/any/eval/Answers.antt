@@ -3,4 +3,4 @@ use Rattle.node_core.specs.declared.both.Both.TheVariants.{One, Other}
 use Rattle.node_set.proofs.any.eval.Goals as goal
 
 pub returns : goal.returns
-returns c = record { spec_is = ap (λ s. Other (Other (One (Other s)))) c.rule_node.ensures.spec; state_is = ap (λ s. Other (Other (One (Other s)))) c.rule_node.ensures.first }
+returns c = rw (← c.from_spec.ensures) (record { spec_is = ap (λ s. Other (Other (One (Other s)))) c.rule_node.ensures.spec; state_is = ap (λ s. Other (Other (One (Other s)))) c.rule_node.ensures.first })
