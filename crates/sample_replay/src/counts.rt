@@ -71,10 +71,11 @@ pub(crate) fn count(
     effects: &[Effect],
     text: &mut Bytes,
 ) -> Result<(), NoMemory>
-    ensures { OnOk result ((before : List Effect)
+    ensures counted { OnOk result ((before : List Effect)
         → HasCounted names.now before counts.old.points counts.old.bytes counts.old.topics
         → HasCounted names.now (before ++ effects.now)
         counts.new.points counts.new.bytes counts.new.topics) }
+    ensures bytes { OnOk result (counts.new.bytes ≡ counts.old.bytes + length text.new) }
 {
     text.clear();
     put_effects(alloc, names, &mut counts.topics, effects, text)?;

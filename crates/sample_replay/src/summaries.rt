@@ -1,12 +1,14 @@
 //! The summary of a replay of the sample recording.
 
-ghost use Rattle.std.specs.Prelude.{◌≡◌, ◌≤◌, ◌<◌, ◌^◌, ◌++◌, ◌-◌, [], IfOk, OnOk, codes, false, length, map};
+ghost use Rattle.std.specs.Prelude.{◌≡◌, ◌≤◌, ◌<◌, ◌^◌, ◌++◌, ◌-◌, [], List, IfOk, OnOk, codes, false, length, map};
 ghost use Rattle.std.specs.List.{AllByRecursion as Each};
 ghost use Rattle.std.specs.Fmt.{decimal};
 ghost use Rattle.edge_queue.specs.declared.TheConstants.{CAPACITY_LIMIT};
 ghost use Rattle.flow_core.specs.Carried.{HasCarried};
 ghost use Rattle.flow_core.specs.Gathering.{LivesRise};
 ghost use Rattle.flow_core.specs.Making.{HasFewParents};
+ghost use Rattle.kap_base.specs.declared.items.Effect.{Effect};
+ghost use Rattle.net_run.specs.Paces.{next_limit};
 ghost use Rattle.task_run.specs.Lives.{effects_of};
 ghost use Rattle.task_run.specs.Plans.{AreFirstStates, graph_of};
 ghost use Rattle.sample_points.specs.Samples.{samples};
@@ -19,7 +21,7 @@ use flow_core::Net;
 use itoa::Buffer;
 use kap_base::{Bytes, NoMemory, Point, Shared};
 use kap_io::Gate;
-use net_run::{EPOCH_LIMIT, NetRun, NumberingNode, Way};
+use net_run::{NetRun, NumberingNode, Pace, Way};
 use node_core::Node;
 use sample_points::{SAMPLE_LIMIT, sample_point};
 use std::alloc::Global;
@@ -73,7 +75,8 @@ fn samples_behind(alloc: Global, from: u64, to: u64) -> Result<Vec<Shared<Point>
     Ok(points)
 }
 
-/// Runs lives on the points of the numbers behind `from`, up to `to`, and counts what they do. After NoMemory the run can't go on.
+/// Runs lives on the points of the numbers behind `from`, up to `to`, and counts what they do, and sets the
+/// pace by it. After NoMemory the run can't go on.
 fn run_samples<N: NumberingNode + Send, R: Threads + Sync, G: Gate + Sync>(
     alloc: Global,
     from: u64,
@@ -82,6 +85,7 @@ fn run_samples<N: NumberingNode + Send, R: Threads + Sync, G: Gate + Sync>(
     run: &mut NetRun<N>,
     way: &Way<'_, R, G>,
     counts: &mut Counts,
+    pace: &mut Pace,
     text: &mut Bytes,
 ) -> Result<(), NoMemory>
     requires order { from ≤ to }
@@ -97,10 +101,18 @@ fn run_samples<N: NumberingNode + Send, R: Threads + Sync, G: Gate + Sync>(
     ensures counted { OnOk result (HasCounted names.now
         (effects_of N.answer run.new.lives run.new.points)
         counts.new.points counts.new.bytes counts.new.topics) }
+    ensures pace { OnOk result ((effects : List Effect)
+        → effects_of N.answer run.old.lives run.new.points
+        ≡ effects_of N.answer run.old.lives run.old.points ++ effects
+        → pace.new.limit ≡ next_limit pace.old.limit (to - from) (length effects)
+        (counts.new.bytes - counts.old.bytes)) }
 {
     let points = samples_behind(alloc, from, to)?;
+    let few = points.len();
     let ran = run.run(alloc, points, false, way)?;
-    count(alloc, names, counts, ran.0.as_slice(), text)
+    count(alloc, names, counts, ran.0.as_slice(), text)?;
+    pace.follow(few, ran.0.len(), text.len());
+    Ok(())
 }
 
 /// The summary of a replay of the sample recording of so many points, 1,000,000 at most, by lives of tasks that are named so, in a
@@ -128,9 +140,10 @@ pub fn summarize<N: NumberingNode + Send, R: Threads + Sync, G: Gate + Sync>(
     let mut run = NetRun::new(alloc, plans, capacity)?;
     let mut counts = Counts::new(alloc);
     let mut text = Bytes::new(alloc);
+    let mut pace = Pace::new();
     let mut done = 0;
     'running: while done < count {
-        let next = count.min(done + EPOCH_LIMIT as u64);
+        let next = count.min(done + pace.limit() as u64);
         run_samples(
             alloc,
             done,
@@ -139,6 +152,7 @@ pub fn summarize<N: NumberingNode + Send, R: Threads + Sync, G: Gate + Sync>(
             &mut run,
             way,
             &mut counts,
+            &mut pace,
             &mut text,
         )?;
         done = next;
