@@ -7,7 +7,7 @@ use Rattle.kap_io.specs.declared.disk.Part.{Part}
 use Rattle.gate_log.specs.Bodies.{IsHeaderless, IsLog, IsTorn}
 use Rattle.gate_log.specs.Head.{HasNoHead, HeadRead, IsHead, RunIs}
 use Rattle.gate_log.specs.Logs.{Finds, LogState, Opens, Refuses, Rests}
-use Rattle.gate_log.specs.Unique.{head_apart, head_unique, header_apart, log_unique, torn_apart, torn_header_apart, torn_unique}
+use Rattle.gate_log.proofs.Unique.{head_apart, head_unique, header_apart, log_unique, torn_apart, torn_header_apart, torn_unique}
 use Rattle.gate_log.specs.declared.fault.LogFault.{LogFault}
 use Rattle.gate_log.specs.declared.fault.LogFault.TheVariants.{Header, Torn, DiskFault, Long, NoMemory}
 
@@ -54,7 +54,7 @@ run_there run file (Err Header) read head = head_apart run file head read
 run_there run file (Err (Torn offset)) read head = read
 run_there run file (Err DiskFault) read head = tt
 run_there run file (Err Long) read head = read
-run_there run file (Err NoMemory) read head = tt
+run_there run file (Err NoMemory) read head = read
 
 pub no_head_there : (file : List ℕ) (result : Result ℕ LogFault) → HeadRead file result → HasNoHead file → Refuses Header result
 no_head_there file (Ok found) read none = head_apart found file read none
@@ -62,4 +62,4 @@ no_head_there file (Err Header) read none = refl
 no_head_there file (Err (Torn offset)) read none = absurd read
 no_head_there file (Err DiskFault) read none = tt
 no_head_there file (Err Long) read none = absurd read
-no_head_there file (Err NoMemory) read none = tt
+no_head_there file (Err NoMemory) read none = absurd read

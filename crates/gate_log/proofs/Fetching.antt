@@ -8,8 +8,8 @@ use Rattle.std.proofs.lemmas.List.{take_at, drop_at, drop-drop}
 use Rattle.std.proofs.lemmas.Grind.{flat_map-append}
 use Rattle.gate_log.specs.Bodies.{magic, size_bytes, record_of, bytes_of, Fit, IsLog}
 use Rattle.gate_log.specs.Marks.{IsClosed}
-use Rattle.gate_log.specs.Reading.{IsRecord, IsCutOff, StandsAt, RecordAt, BodyAt}
-use Rattle.gate_log.specs.Unique.{record_unique, size_unique, length-size_bytes}
+use Rattle.gate_log.specs.Reading.{IsRecord, IsCutOff, StandsAt, RecordAt, ShortRecordAt, BodyAt}
+use Rattle.gate_log.proofs.Unique.{record_unique, size_unique, length-size_bytes}
 use Rattle.gate_log.specs.declared.fault.LogFault.{LogFault}
 use Rattle.gate_log.specs.declared.fault.LogFault.TheVariants.{Header, Torn, DiskFault, Long, NoMemory}
 
@@ -85,6 +85,14 @@ record_fault at file (Torn offset) stands = stands
 record_fault at file DiskFault stands = tt
 record_fault at file Long stands = stands
 record_fault at file NoMemory stands = tt
+
+-- the same, where a record that is too long isn't read
+pub short_fault : (at : ℕ) (file : List ℕ) (fault : LogFault) → StandsAt at file (Err fault) → ShortRecordAt at file (Err fault)
+short_fault at file Header stands = stands
+short_fault at file (Torn offset) stands = stands
+short_fault at file DiskFault stands = tt
+short_fault at file Long stands = absurd stands
+short_fault at file NoMemory stands = tt
 
 -- the bytes behind a gate and a length are its body
 pub fetched_body : (at next : ℕ) (file bytes : List ℕ) (found : IsRecord at next file) → bytes ≡ take (next - (at + 5)) (drop (at + 5) file)

@@ -8,7 +8,7 @@ use Rattle.gate_log.specs.Bodies.{bytes_of, size_bytes, record_of}
 use Rattle.gate_log.specs.Marks.{IsClosed, IsOpen, IsWhole, IsCut}
 use Rattle.gate_log.specs.Reading.{Fills, IsRecord, IsCutOff, Reached, StandsAt, EndsAt}
 use Rattle.gate_log.proofs.Gate.{fit_push}
-use Rattle.gate_log.specs.Unique.{bytes_push, length-size_bytes, length-push}
+use Rattle.gate_log.proofs.Unique.{bytes_push, length-size_bytes, length-push}
 
 module _ (gate size : ℕ) (file head : List ℕ) (count : ℕ) (is_size : size ≡ length file) (some : gate < size) (long : length head ≡ min 5 (size - gate))
     (fills : Fills gate file head count) (all : length head ≤ count) where

@@ -3,7 +3,7 @@ use Rattle.std.proofs.Common.{◌≡◌, inl, inr, ⊎_elim, ℕ, ◌+◌, ◌<�
 use Rattle.std.proofs.lemmas.Bool.{cases_eq}
 use Rattle.std.proofs.lemmas.List.{take_at, drop_at, drop_more, take-append-le}
 use Rattle.kap_io.specs.Disk.{Torn, overwritten, padded}
-use Rattle.gate_log.specs.Unique.{bytes_push}
+use Rattle.gate_log.proofs.Unique.{bytes_push}
 use Rattle.gate_log.specs.Bodies.{size_bytes, bytes_of, Fit, IsLog, IsBeforeOrAfter}
 
 pub fit_push : (bodies : List (List ℕ)) (body : List ℕ) → Fit bodies → length body < 2 ^ 32 → Fit (bodies ++ body ∷ [])

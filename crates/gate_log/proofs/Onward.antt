@@ -8,9 +8,9 @@ use Rattle.kap_io.specs.declared.disk.Part.{Part}
 use Rattle.gate_log.specs.Bodies.{magic, bytes_of, IsHeaderless, IsLog}
 use Rattle.gate_log.specs.Logs.{Refuses, Rests}
 use Rattle.gate_log.specs.Marks.{IsClosed}
-use Rattle.gate_log.specs.Readers.{Begins, BeginsWith, HasRead, IsTornBehind, ReaderState, ReadsNext, log_at}
-use Rattle.gate_log.specs.Reading.{IsCutOff, IsRecord, RecordAt}
-use Rattle.gate_log.specs.Unique.{begins_apart, bytes_push, length-push}
+use Rattle.gate_log.specs.Readers.{Begins, BeginsWith, HasRead, IsLongBehind, IsTornBehind, ReaderState, ReadsNext, log_at}
+use Rattle.gate_log.specs.Reading.{IsCutOff, IsLongRecord, IsRecord, ShortRecordAt}
+use Rattle.gate_log.proofs.Unique.{begins_apart, bytes_push, length-push}
 use Rattle.gate_log.proofs.Gate.{fit_push}
 use Rattle.gate_log.specs.declared.fault.LogFault.{LogFault}
 use Rattle.gate_log.specs.declared.fault.LogFault.TheVariants.{Header, Torn, DiskFault, Long, NoMemory}
@@ -74,6 +74,9 @@ module _ (bodies : List (List ℕ)) (file : List ℕ) (gate : ℕ) (front : Begi
     refl,
   )
 
+  pub long_there : IsLongRecord gate file → IsLongBehind bodies file
+  long_there found = record { body = found.there.body; begins = one_more found.next found.there; long = found.long }
+
 -- the same of a reader, behind calls that change nothing
 module _ (bodies : List (List ℕ)) (seen later : Image) (images left : Image → Type 0) (r : ReaderState) (read : HasRead bodies seen images r)
     (reads : later ≡ seen) (narrows : (c : Image) → left c → images c) where
@@ -99,12 +102,12 @@ module _ (bodies : List (List ℕ)) (seen later : Image) (images left : Image �
     end = read.at;
   }
 
-  pub reads_fault : (new : ReaderState) (fault : LogFault) → RecordAt r.gate (seen r.part) (Err fault) → ReadsNext bodies later left r new (Err fault)
+  pub reads_fault : (new : ReaderState) (fault : LogFault) → ShortRecordAt r.gate (seen r.part) (Err fault) → ReadsNext bodies later left r new (Err fault)
   reads_fault new Header found = found
   reads_fault new (Torn offset) found = subst (IsTornBehind bodies offset) (sym same)
       (torn_there bodies (seen r.part) r.gate read.file read.at offset found.0 found.1)
   reads_fault new DiskFault found = tt
-  reads_fault new Long found = found
+  reads_fault new Long found = subst (IsLongBehind bodies) (sym same) (long_there bodies (seen r.part) r.gate read.file read.at found)
   reads_fault new NoMemory found = tt
 
 -- a file that isn't one of a log isn't read

@@ -28,9 +28,28 @@ pub record BodyCause {T : Type 0} (before now : ℕ) (result : Result T LogFault
   pub not_long : IsErrOf result Long → ⊥
   pub not_header : IsErrOf result Header → ⊥
 
--- what a call that only writes answers: a fault of the disk only where its count rose, or want of memory
-abbrev pub DiskCause : {T : Type 0} → ℕ → ℕ → Result T LogFault → Type 0
-DiskCause before now (Ok _) = before ≤ now
-DiskCause before now (Err DiskFault) = HasRisen before now
-DiskCause before now (Err NoMemory) = before ≤ now
-DiskCause before now (Err _) = ⊥
+-- the same of a call that reads a record for the first time, which may find it too long
+pub record NextCause {T : Type 0} (before now : ℕ) (result : Result T LogFault) : Type 0 where
+  pub later : before ≤ now
+  pub failed : IsErrOf result DiskFault → HasRisen before now
+  pub not_header : IsErrOf result Header → ⊥
+
+-- what a call that reads a head answers: a fault of the disk only where its count rose, or that there is none
+abbrev pub HeadCause : {T : Type 0} → ℕ → ℕ → Result T LogFault → Type 0
+HeadCause before now (Ok _) = before ≤ now
+HeadCause before now (Err DiskFault) = (before ≤ now) × HasRisen before now
+HeadCause before now (Err Header) = before ≤ now
+HeadCause before now (Err _) = ⊥
+
+-- what a call that only writes answers: a fault of the disk, only where its count rose
+abbrev pub WriteCause : {T : Type 0} → ℕ → ℕ → Result T LogFault → Type 0
+WriteCause before now (Ok _) = before ≤ now
+WriteCause before now (Err DiskFault) = (before ≤ now) × HasRisen before now
+WriteCause before now (Err _) = ⊥
+
+-- Want of memory changes nothing. A fault of the disk comes only where the count rose.
+abbrev pub SwitchFault : {D : Type 0} → Result (Unit {0}) LogFault → D → D → Type 0 → Type 0
+SwitchFault (Ok _) before after rose = Unit {0}
+SwitchFault (Err DiskFault) before after rose = rose
+SwitchFault (Err NoMemory) before after rose = after ≡ before
+SwitchFault (Err _) before after rose = ⊥

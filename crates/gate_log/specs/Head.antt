@@ -4,7 +4,7 @@ use Rattle.std.specs.declared.result.Result.TheVariants.{Ok, Err}
 use Rattle.kap_io.specs.Disk.{Image, OnlyIn}
 use Rattle.kap_io.specs.declared.disk.Part.TheVariants as part
 use Rattle.gate_log.specs.declared.fault.LogFault.{LogFault}
-use Rattle.gate_log.specs.declared.fault.LogFault.TheVariants.{Header, DiskFault, NoMemory}
+use Rattle.gate_log.specs.declared.fault.LogFault.TheVariants.{Header, DiskFault}
 
 -- the bytes that a head begins with, `KAPHEAD1`
 abbrev pub head_magic : List ℕ
@@ -35,7 +35,6 @@ abbrev pub StartsHead : List ℕ → Result ℕ LogFault → Type 0
 StartsHead file (Ok size) = (size ≡ length file) × (take 8 file ≡ head_magic)
 StartsHead file (Err Header) = HasNoHead file
 StartsHead file (Err DiskFault) = Unit {0}
-StartsHead file (Err NoMemory) = Unit {0}
 StartsHead file (Err _) = ⊥
 
 -- what reading the head finds
@@ -43,14 +42,12 @@ abbrev pub HeadRead : List ℕ → Result ℕ LogFault → Type 0
 HeadRead file (Ok run) = IsHead run file
 HeadRead file (Err Header) = HasNoHead file
 HeadRead file (Err DiskFault) = Unit {0}
-HeadRead file (Err NoMemory) = Unit {0}
 HeadRead file (Err _) = ⊥
 
--- the run is found, unless the disk failed or memory ran out
+-- the run is found, unless the disk failed
 abbrev pub RunIs : ℕ → Result ℕ LogFault → Type 0
 RunIs run (Ok found) = found ≡ run
 RunIs run (Err DiskFault) = Unit {0}
-RunIs run (Err NoMemory) = Unit {0}
 RunIs run (Err _) = ⊥
 
 -- this many gates are open

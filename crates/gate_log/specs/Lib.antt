@@ -4,6 +4,4 @@ pub mod Causes
 pub mod Marks
 pub mod Reading
 pub mod Readers
-pub mod Unique
 pub mod Head
-pub mod Quietly

@@ -7,6 +7,7 @@ use Rattle.kap_io.specs.declared.disk.Part.{Part}
 use Rattle.gate_log.specs.Bodies.{Fit, IsHeaderless, IsTorn, bytes_of}
 use Rattle.gate_log.specs.Logs.{LogState, Rests}
 use Rattle.gate_log.specs.declared.fault.LogFault.{LogFault}
+use Rattle.gate_log.specs.declared.log.TheConstants.{BODY_LIMIT}
 use Rattle.gate_log.specs.declared.fault.LogFault.TheVariants.{Header, Torn, DiskFault, Long, NoMemory}
 
 -- the bytes begin as those of a log do, with these bodies behind open gates; anything may stand behind them
@@ -18,6 +19,12 @@ pub record BeginsWith (bodies : List (List ℕ)) (bytes : List ℕ) : Type 0 whe
 -- the record behind these bodies, or the gate behind it, runs past the end
 abbrev pub IsTornBehind : List (List ℕ) → ℕ → List ℕ → Type 0
 IsTornBehind bodies offset bytes = (torn : IsTorn offset bytes) × (torn.bodies ≡ bodies)
+
+-- the record behind these bodies has one with more bytes than a log takes
+pub record IsLongBehind (bodies : List (List ℕ)) (bytes : List ℕ) : Type 0 where
+  pub body : List ℕ
+  pub begins : BeginsWith (bodies ++ body ∷ []) bytes
+  pub long : BODY_LIMIT < length body
 
 -- a reader of a log: its file, the length of that, and the offset of the gate that comes next
 pub record ReaderState : Type 0 where
@@ -46,14 +53,16 @@ Begins seen images part (Err DiskFault) = Unit {0}
 Begins seen images part (Err NoMemory) = Unit {0}
 Begins seen images part (Err _) = ⊥
 
--- what stands behind these bodies: one more, or the closed gate of the log that they are, or a record that runs past the end
+-- what stands behind these bodies: one more, or the closed gate of the log that they are, or a record that runs past the end or is
+-- too long
 abbrev pub ReadsNext : List (List ℕ) → Image → (Image → Type 0) → ReaderState → ReaderState → Result (Option (ℕ × List ℕ)) LogFault → Type 0
 ReadsNext bodies seen images old new (Ok None) = Rests bodies seen images (log_at old)
 ReadsNext bodies seen images old new (Ok (Some found)) = HasRead (bodies ++ found.1 ∷ []) seen images new
 ReadsNext bodies seen images old new (Err (Torn offset)) = IsTornBehind bodies offset (seen old.part)
+ReadsNext bodies seen images old new (Err Long) = IsLongBehind bodies (seen old.part)
 ReadsNext bodies seen images old new (Err DiskFault) = Unit {0}
 ReadsNext bodies seen images old new (Err NoMemory) = Unit {0}
-ReadsNext bodies seen images old new (Err _) = ⊥
+ReadsNext bodies seen images old new (Err Header) = ⊥
 
 -- it goes on in its file, from this gate
 pub record Advances (old new : ReaderState) (gate : ℕ) : Type 0 where

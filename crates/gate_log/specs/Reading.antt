@@ -5,7 +5,8 @@ use Rattle.gate_log.specs.Marks.{IsClosed}
 use Rattle.std.specs.declared.result.Result.TheVariants.{Ok, Err}
 use Rattle.std.specs.declared.option.Option.TheVariants.{Some, None}
 use Rattle.gate_log.specs.declared.fault.LogFault.{LogFault}
-use Rattle.gate_log.specs.declared.fault.LogFault.TheVariants.{Header, Torn, DiskFault, NoMemory}
+use Rattle.gate_log.specs.declared.fault.LogFault.TheVariants.{Header, Torn, DiskFault, Long, NoMemory}
+use Rattle.gate_log.specs.declared.log.TheConstants.{BODY_LIMIT}
 
 -- the next bytes of a file, as many as there are or as have room
 pub record Fills (at : ℕ) (file buf : List ℕ) (count : ℕ) : Type 0 where
@@ -82,6 +83,22 @@ RecordAt gate file (Err (Torn offset)) = (offset ≡ gate) × IsCutOff gate file
 RecordAt gate file (Err DiskFault) = Unit {0}
 RecordAt gate file (Err NoMemory) = Unit {0}
 RecordAt gate file (Err _) = ⊥
+
+-- a record behind an open gate whose body has more bytes than a log takes
+pub record IsLongRecord (gate : ℕ) (file : List ℕ) : Type 0 where
+  pub next : ℕ
+  pub there : IsRecord gate next file
+  pub long : BODY_LIMIT < length there.body
+
+-- the same as `RecordAt`, where a body that is too long isn't read
+abbrev pub ShortRecordAt : ℕ → List ℕ → Result (Option (List ℕ × ℕ)) LogFault → Type 0
+ShortRecordAt gate file (Ok None) = IsClosed (drop gate file)
+ShortRecordAt gate file (Ok (Some found)) = (is : IsRecord gate found.1 file) × (found.0 ≡ is.body)
+ShortRecordAt gate file (Err (Torn offset)) = (offset ≡ gate) × IsCutOff gate file
+ShortRecordAt gate file (Err Long) = IsLongRecord gate file
+ShortRecordAt gate file (Err DiskFault) = Unit {0}
+ShortRecordAt gate file (Err NoMemory) = Unit {0}
+ShortRecordAt gate file (Err Header) = ⊥
 
 -- the first of the bodies from a gate on, and the next gate; none at the closed gate
 abbrev pub BodyAt : Result (Option (List ℕ × ℕ)) LogFault → List (List ℕ) → ℕ → Type 0

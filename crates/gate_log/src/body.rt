@@ -3,12 +3,12 @@
 ghost use Rattle.std.specs.Prelude.{◌≡◌, ◌<◌, ◌≤◌, ◌+◌, ◌^◌, ◌++◌, false, List, ℕ, length, IfOk, IfSome, IsTrue};
 ghost use Rattle.kap_io.specs.Moments.{Quiet};
 ghost use Rattle.gate_log.specs.Bodies.{IsLog, bytes_of};
-ghost use Rattle.gate_log.specs.Causes.{BodyCause};
+ghost use Rattle.gate_log.specs.Causes.{BodyCause, NextCause};
 ghost use Rattle.gate_log.specs.Logs.{Rests};
-ghost use Rattle.gate_log.specs.Reading.{BodyAt, Fetched, RecordAt};
+ghost use Rattle.gate_log.specs.Reading.{BodyAt, Fetched, RecordAt, ShortRecordAt};
 
 use crate::fault::LogFault;
-use crate::log::Log;
+use crate::log::{BODY_LIMIT, Log};
 use crate::read::{fill, next_gate};
 use kap_base::Bytes;
 use kap_io::{Disk, Part};
@@ -25,6 +25,7 @@ fn fetch<D: Disk>(
     requires { at + count < 2 ^ 64 }
     ensures fetched { IsTrue D.tells → at + count ≤ length (D.seen disk.old part)
         → Fetched at count (D.seen disk.old part) result }
+    ensures size { IfOk result (λ bytes. length bytes ≡ count) }
     ensures quiet { IsTrue D.tells
         → Quiet D.seen D.moment D.may_leave D.left_since disk.old disk.new }
     ensures cause { BodyCause (D.faults disk.old) (D.faults disk.new) result }
@@ -65,7 +66,40 @@ pub(crate) fn record_at<D: Disk>(
     }
 }
 
-/// The same of a file whose length isn't known.
+/// The same, where the body has at most `BODY_LIMIT` bytes. `Long` comes exactly where it has more, and nothing of it is then read.
+pub(crate) fn short_record_at<D: Disk>(
+    alloc: Global,
+    disk: &mut D,
+    part: Part,
+    at: u64,
+    size: u64,
+) -> Result<Option<(Bytes, u64)>, LogFault>
+    ensures found { IsTrue D.tells → size ≡ length (D.seen disk.old part) → at < size
+        → ShortRecordAt at (D.seen disk.old part) result }
+    ensures rises { IfOk result (λ found. IfSome found
+        (λ found. (at < found.1) × (found.1 < size))) }
+    ensures short { IfOk result (λ found. IfSome found (λ found. length found.0 ≤ BODY_LIMIT)) }
+    ensures quiet { IsTrue D.tells
+        → Quiet D.seen D.moment D.may_leave D.left_since disk.old disk.new }
+    ensures cause { NextCause (D.faults disk.old) (D.faults disk.new) result }
+{
+    if size <= at {
+        return Err(LogFault::Torn(at));
+    }
+    match next_gate(disk, part, at, size)? {
+        None => Ok(None),
+        Some(next) => {
+            let count = next - (at + 5);
+            if count > BODY_LIMIT as u64 {
+                return Err(LogFault::Long);
+            }
+            let body = fetch(alloc, disk, part, at + 5, count)?;
+            Ok(Some((body, next)))
+        }
+    }
+}
+
+/// The body behind the gate at an offset of a file whose length isn't known, and the offset of the next gate.
 fn read_body<D: Disk>(
     alloc: Global,
     disk: &mut D,

@@ -4,7 +4,7 @@ ghost use Rattle.std.specs.Prelude.{◌≡◌, ◌<◌, ◌^◌, ◌+◌, ℕ, l
 ghost use Rattle.kap_io.specs.Causes.{HasCause};
 ghost use Rattle.kap_io.specs.Disk.{Elsewhere, On, OnlyIn};
 ghost use Rattle.kap_io.specs.Moments.{Moments, Quiet};
-ghost use Rattle.gate_log.specs.Causes.{DiskCause, LogCause};
+ghost use Rattle.gate_log.specs.Causes.{HeadCause, WriteCause};
 ghost use Rattle.gate_log.specs.Head.{HasNoHead, HeadRead, IsHead, RunIs, StartsHead};
 ghost use Rattle.gate_log.specs.Logs.{Refuses};
 ghost use Rattle.gate_log.specs.declared.fault.LogFault.TheVariants.{Header};
@@ -38,7 +38,7 @@ fn read_magic<D: Disk>(disk: &mut D) -> Result<u64, LogFault>
     ensures found { IsTrue D.tells → StartsHead (D.seen disk.old Part.Head) result }
     ensures quiet { IsTrue D.tells
         → Quiet D.seen D.moment D.may_leave D.left_since disk.old disk.new }
-    ensures cause { LogCause (D.faults disk.old) (D.faults disk.new) result }
+    ensures cause { HeadCause (D.faults disk.old) (D.faults disk.new) result }
 {
     let size = disk.size(Part::Head)?;
     if size < 8 {
@@ -56,7 +56,7 @@ fn count_gates<D: Disk>(disk: &mut D) -> Result<u64, LogFault>
     ensures found { IsTrue D.tells → HeadRead (D.seen disk.old Part.Head) result }
     ensures quiet { IsTrue D.tells
         → Quiet D.seen D.moment D.may_leave D.left_since disk.old disk.new }
-    ensures cause { LogCause (D.faults disk.old) (D.faults disk.new) result }
+    ensures cause { HeadCause (D.faults disk.old) (D.faults disk.new) result }
 {
     let size = read_magic(disk)?;
     let gates = size - 8;
@@ -69,7 +69,7 @@ fn count_gates<D: Disk>(disk: &mut D) -> Result<u64, LogFault>
 
 /// How many open gates the head begins with; a missing byte is a closed gate. It changes nothing. `Header` comes exactly where the
 /// head's first eight bytes aren't those of a head. `DiskFault` comes before that, only where the disk's count of faults rose in
-/// this call.
+/// this call. No other fault comes.
 pub fn read_head<D: Disk>(disk: &mut D) -> Result<u64, LogFault>
     ensures found { IsTrue D.tells → HeadRead (D.seen disk.old Part.Head) result }
     ensures run { IsTrue D.tells → (run : ℕ)
@@ -78,13 +78,13 @@ pub fn read_head<D: Disk>(disk: &mut D) -> Result<u64, LogFault>
         → HasNoHead (D.seen disk.old Part.Head) → Refuses Header result }
     ensures quiet { IsTrue D.tells
         → Quiet D.seen D.moment D.may_leave D.left_since disk.old disk.new }
-    ensures cause { LogCause (D.faults disk.old) (D.faults disk.new) result }
+    ensures cause { HeadCause (D.faults disk.old) (D.faults disk.new) result }
 {
     count_gates(disk)
 }
 
 /// Makes the head that of a new store, with no open gate, whatever it held; from `Ok` on each image has it. `DiskFault` comes only
-/// where the disk's count of faults rose in this call, and the head may then be anything; the other files stay.
+/// where the disk's count of faults rose in this call, and the head may then be anything; the other files stay. No other fault comes.
 pub fn make_head<D: Disk>(disk: &mut D) -> Result<(), LogFault>
     ensures made { IsTrue D.tells → IfOk result (λ _. IsHead 0 (D.seen disk.new Part.Head)) }
     ensures durable { IsTrue D.tells
@@ -92,7 +92,7 @@ pub fn make_head<D: Disk>(disk: &mut D) -> Result<(), LogFault>
     ensures any_moment { IsTrue D.tells → Moments D.moment D.may_leave D.left_since
         disk.old disk.new (On Part.Head (λ _ _. Unit {0})) }
     ensures elsewhere { IsTrue D.tells → Elsewhere Part.Head (D.seen disk.old) (D.seen disk.new) }
-    ensures cause { DiskCause (D.faults disk.old) (D.faults disk.new) result }
+    ensures cause { WriteCause (D.faults disk.old) (D.faults disk.new) result }
 {
     disk.cut(Part::Head, 0)?;
     write_synced(disk, Part::Head, 0, &HEAD_MAGIC)?;

@@ -1,4 +1,4 @@
-ghost use Rattle.std.specs.Prelude.{◌≡◌, ◌↔◌, ◌<◌, ◌++◌, ◌∷◌, [], false, List, ℕ, length, OnOk, IsTrue, ◌^◌, ◌*◌};
+ghost use Rattle.std.specs.Prelude.{◌≡◌, ◌↔◌, ◌<◌, ◌≤◌, ◌++◌, ◌∷◌, [], false, List, ℕ, length, OnOk, IsTrue, ◌^◌, ◌*◌};
 ghost use Rattle.kap_base.specs.Words.{HasRisen};
 ghost use Rattle.kap_io.specs.Disk.{Elsewhere, On};
 ghost use Rattle.kap_io.specs.Moments.{Moments};
@@ -85,6 +85,7 @@ impl Log {
             → Elsewhere self.old.part (D.seen disk.old) (D.seen disk.new) }
         ensures part { self.new.part ≡ self.old.part }
         ensures long { (result ≡ Err LogFault.Long) ↔ (BODY_LIMIT < length body.now) }
+        ensures later { D.faults disk.old ≤ D.faults disk.new }
         ensures cause { AppendFault result disk.old disk.new self.old self.new
             (HasRisen (D.faults disk.old) (D.faults disk.new)) }
     {

@@ -1,16 +1,16 @@
 //! Reading a log from its first record on, each record once.
 
-ghost use Rattle.std.specs.Prelude.{◌≡◌, List, ℕ, IfOk, IsTrue};
+ghost use Rattle.std.specs.Prelude.{◌≡◌, ◌≤◌, List, ℕ, length, IfOk, IfSome, IsTrue};
 ghost use Rattle.kap_io.specs.Moments.{Quiet};
 ghost use Rattle.gate_log.specs.Bodies.{IsHeaderless};
-ghost use Rattle.gate_log.specs.Causes.{BodyCause, LogCause};
+ghost use Rattle.gate_log.specs.Causes.{LogCause, NextCause};
 ghost use Rattle.gate_log.specs.Logs.{Refuses};
 ghost use Rattle.gate_log.specs.Readers.{Begins, GoesOn, HasRead, ReadsNext, log_at};
 ghost use Rattle.gate_log.specs.declared.fault.LogFault.TheVariants.{Header};
 
-use crate::body::record_at;
+use crate::body::short_record_at;
 use crate::fault::LogFault;
-use crate::log::Log;
+use crate::log::{BODY_LIMIT, Log};
 use crate::open::read_start;
 use kap_base::Bytes;
 use kap_io::{Disk, Part};
@@ -77,21 +77,30 @@ impl LogReader {
         self.part
     }
 
+    /// The offset of the gate that comes next.
+    pub fn gate(&self) -> u64
+        ensures { result ≡ self.now.gate }
+    {
+        self.gate
+    }
+
     /// The next body, with the offset of its gate; `None` at the closed gate, again and again. `Torn` comes exactly where the record
     /// behind the open gate that comes next, or the gate behind it, runs past the end, and tells the offset of that record's gate.
-    /// `DiskFault` comes only where the disk's count of faults rose in this call, and `NoMemory` where memory ran out; after these the
-    /// same body comes next.
+    /// `Long` comes exactly where its body has more than `BODY_LIMIT` bytes, before anything of the body is read. `DiskFault` comes
+    /// only where the disk's count of faults rose in this call, and `NoMemory` where memory ran out; after each of these the same body
+    /// comes next.
     pub fn next<D: Disk>(&mut self, disk: &mut D) -> Result<Option<(u64, Bytes)>, LogFault>
         ensures next { IsTrue D.tells → (bodies : List (List ℕ))
             → HasRead bodies (D.seen disk.old) (D.may_leave disk.old) self.old
             → ReadsNext bodies (D.seen disk.new) (D.may_leave disk.new) self.old self.new result }
         ensures goes_on { GoesOn self.old self.new result }
+        ensures short { IfOk result (λ found. IfSome found (λ found. length found.1 ≤ BODY_LIMIT)) }
         ensures quiet { IsTrue D.tells
             → Quiet D.seen D.moment D.may_leave D.left_since disk.old disk.new }
-        ensures cause { BodyCause (D.faults disk.old) (D.faults disk.new) result }
+        ensures cause { NextCause (D.faults disk.old) (D.faults disk.new) result }
     {
         let gate = self.gate;
-        match record_at(self.alloc, disk, self.part, gate, self.size)? {
+        match short_record_at(self.alloc, disk, self.part, gate, self.size)? {
             None => Ok(None),
             Some((body, next)) => {
                 self.gate = next;

@@ -1,9 +1,10 @@
 //! Opening one more gate of the head.
 
-ghost use Rattle.std.specs.Prelude.{◌≡◌, ◌+◌, ◌<◌, ◌^◌, OnOk, IsTrue};
+ghost use Rattle.std.specs.Prelude.{◌≡◌, ◌≤◌, ◌+◌, ◌<◌, ◌^◌, OnOk, IsTrue};
+ghost use Rattle.kap_base.specs.Words.{HasRisen};
 ghost use Rattle.kap_io.specs.Disk.{Elsewhere, On, OnlyIn};
 ghost use Rattle.kap_io.specs.Moments.{Moments};
-ghost use Rattle.gate_log.specs.Causes.{DiskCause};
+ghost use Rattle.gate_log.specs.Causes.{SwitchFault, WriteCause};
 ghost use Rattle.gate_log.specs.Head.{IsGated, IsHead, IsRunOrNext, IsSettledHead};
 
 use crate::append::write_synced;
@@ -22,7 +23,8 @@ fn close_gate<D: Disk>(disk: &mut D, run: u64) -> Result<(), LogFault>
         → Moments D.moment D.may_leave D.left_since disk.old disk.new
         (On Part.Head (λ _ file. IsRunOrNext run file)) }
     ensures elsewhere { IsTrue D.tells → Elsewhere Part.Head (D.seen disk.old) (D.seen disk.new) }
-    ensures cause { DiskCause (D.faults disk.old) (D.faults disk.new) result }
+    ensures later { D.faults disk.old ≤ D.faults disk.new }
+    ensures cause { WriteCause (D.faults disk.old) (D.faults disk.new) result }
 {
     let gate = 8 + run;
     let size = disk.size(Part::Head)?;
@@ -44,7 +46,9 @@ pub fn switch<D: Disk>(disk: &mut D, run: u64) -> Result<(), LogFault>
         → Moments D.moment D.may_leave D.left_since disk.old disk.new
         (On Part.Head (λ _ file. IsRunOrNext run file)) }
     ensures elsewhere { IsTrue D.tells → Elsewhere Part.Head (D.seen disk.old) (D.seen disk.new) }
-    ensures cause { DiskCause (D.faults disk.old) (D.faults disk.new) result }
+    ensures later { D.faults disk.old ≤ D.faults disk.new }
+    ensures cause { SwitchFault result disk.old disk.new
+        (HasRisen (D.faults disk.old) (D.faults disk.new)) }
 {
     if run >= u64::MAX - 10 {
         return Err(LogFault::NoMemory);

@@ -11,9 +11,12 @@ use Rattle.store_records.specs.declared.rec.Rec.{Rec}
 use Rattle.store_records.specs.declared.task.Life.{Life}
 use Rattle.store_records.specs.declared.task.Snapshot.{Snapshot}
 use Rattle.store_records.specs.declared.task.StoredTask.{StoredTask}
-use Rattle.store_kept.specs.Changing.{IsMarkAt, kept_with}
-use Rattle.store_kept.specs.Keeping.{AreMarks, IsMark, Keeps, KeepsRecords, KeptValue}
+use Rattle.store_records.specs.Orders.{DefinesValid}
+use Rattle.store_records.proofs.OrderLaws.{valid_lives, valid_tasks}
+use Rattle.store_kept.specs.Changing.{ArePartsFor, IsMarkAt, kept_with}
+use Rattle.store_kept.specs.Keeping.{AreMarks, AreValid, IsMark, Keeps, KeepsRecords, KeptValue}
 use Rattle.store_kept.specs.declared.kept.Mark.{Mark}
+use Rattle.store_kept.specs.declared.parts.Parts.{Parts}
 
 -- ---- records one behind the other, and one more
 
@@ -91,3 +94,16 @@ keeps_push rs r k mark keeps at = record {
   keeps = subst (λ (h : Held). Keeps h (kept_with (end_of rs) r mark k)) (sym (held_push rs r)) (keeps_after (held rs) k (end_of rs) r mark keeps.keeps);
   marks = marks_more rs r (k.marks ++ option_to_list mark) (marks_with rs k mark keeps at);
 }
+
+-- ---- valid tasks and lives
+
+-- behind one more record they are valid
+pub valid_put : (r : Rec) (at : ℕ) (k mid later : KeptValue) (parts : Parts) → mid ≡ k → ArePartsFor at r k parts
+    → ((n : ℕ) → ArePartsFor n r mid parts → later ≡ kept_with n r parts.mark mid) → DefinesValid r → AreValid k → AreValid later
+valid_put r at k mid later parts mid_is are puts defines valid =
+    let later_is : later ≡ kept_with at r parts.mark k =
+    puts at (subst (λ (m : KeptValue). ArePartsFor at r m parts) (sym mid_is) are) ∙ ap (λ (m : KeptValue). kept_with at r parts.mark m) mid_is in
+    subst AreValid (sym later_is) (record {
+      tasks = valid_tasks at r k.tasks defines valid.tasks;
+      lives = valid_lives k.points at r k.tasks k.lives defines valid.tasks valid.lives;
+    })

@@ -2,6 +2,7 @@
 use Rattle.std.specs.Prelude.{◌≡◌, ℕ, List, [], ◌∷◌, ◌++◌, length, Option, None, ⊤}
 use Rattle.store_records.specs.Held.{Held}
 use Rattle.store_records.specs.Histories.{end_of, held}
+use Rattle.store_records.specs.Orders.{AreValidLives, AreValidTasks}
 use Rattle.store_records.specs.declared.rec.Rec.{Rec}
 use Rattle.store_records.specs.declared.task.Life.{Life}
 use Rattle.store_records.specs.declared.task.Snapshot.{Snapshot}
@@ -48,6 +49,11 @@ pub record IsMark (rs : List Rec) (m : Mark) : Type 0 where
 abbrev pub AreMarks : List Rec → List Mark → Type 0
 AreMarks rs [] = ⊤
 AreMarks rs (m ∷ marks) = IsMark rs m × AreMarks rs marks
+
+-- each task and each life that is kept has a valid id, and a script that isn't too long
+pub record AreValid (k : KeptValue) : Type 0 where
+  pub tasks : AreValidTasks k.tasks
+  pub lives : AreValidLives k.lives
 
 -- What is kept is of a store that holds this: its tasks, lives and last snapshot, and how many points, transitions and changes it has.
 pub record Keeps (h : Held) (k : KeptValue) : Type 0 where

@@ -1,20 +1,31 @@
 //! Taking in the next record, by its body.
 
 ghost use Rattle.std.specs.Prelude.{◌≡◌, ◌++◌, List, IfOk, IsTrue, length, map};
-ghost use Rattle.store_records.specs.Held.{transitions_in};
+ghost use Rattle.store_records.specs.Held.{may_define, transitions_in};
 ghost use Rattle.store_records.specs.Histories.{end_of};
+ghost use Rattle.store_records.specs.Orders.{DefinesValid, IsValid};
 ghost use Rattle.store_records.specs.declared.rec.Rec.{Rec};
 ghost use Rattle.topic_core.specs.Topics.{StandsFor, event_of};
 ghost use Rattle.topic_core.specs.declared.transition.Transition.{Transition};
-ghost use Rattle.store_kept.specs.Keeping.{kept_of};
+ghost use Rattle.store_kept.specs.Keeping.{AreValid, kept_of};
 ghost use Rattle.store_kept.specs.Taking.{Holds, TakesOrNot, follows};
 
 use crate::kept::Kept;
 use crate::parts::{commit, prepare};
-use kap_base::NoMemory;
+use kap_base::{NoMemory, Text};
 use std::alloc::Global;
-use store_records::{Rec, has_task, is_batch, may_define, read_record, take_transitions};
+use store_records::{
+    Rec, StoredTask, has_task, is_batch, may_define, read_record, take_transitions,
+};
 use topic_core::Topics;
+
+/// Whether a task of this id and script may be defined beside these.
+fn is_definable(tasks: &[StoredTask], id: &Text, script: &Text) -> bool
+    ensures may { result ≡ may_define id.now script.now tasks.now }
+    ensures valid { IsTrue result → IsValid id.now script.now }
+{
+    may_define(tasks, id, script)
+}
 
 /// Whether the record may follow. Where it may, its transitions are taken into the topics.
 fn may_follow(alloc: Global, kept: &Kept, topics: &mut Topics, rec: &Rec) -> Result<bool, NoMemory>
@@ -24,9 +35,10 @@ fn may_follow(alloc: Global, kept: &Kept, topics: &mut Topics, rec: &Rec) -> Res
     ensures topics { (ts : List Transition) → StandsFor (map event_of ts) topics.old
         → IfOk result (λ may. IsTrue may
         → StandsFor (map event_of (ts ++ transitions_in rec.now)) topics.new) }
+    ensures defines { IfOk result (λ may. IsTrue may → DefinesValid rec.now) }
 {
     match rec {
-        Rec::Define { id, script, .. } => Ok(may_define(&kept.tasks, id, script)),
+        Rec::Define { id, script, .. } => Ok(is_definable(&kept.tasks, id, script)),
         Rec::Enable { id } => Ok(has_task(&kept.tasks, id)),
         Rec::Disable { id } => Ok(has_task(&kept.tasks, id)),
         Rec::Delete { id } => Ok(has_task(&kept.tasks, id)),
@@ -41,7 +53,7 @@ fn may_follow(alloc: Global, kept: &Kept, topics: &mut Topics, rec: &Rec) -> Res
 }
 
 /// Takes in the next record, whose gate stands at this offset, where the body is that of one that may follow; else `false`. The
-/// topics are those of the transitions before.
+/// topics are those of the transitions before. Whatever is kept, tasks and lives that are valid stay so.
 pub fn take_body(
     alloc: Global,
     gate: u64,
@@ -49,8 +61,9 @@ pub fn take_body(
     kept: &mut Kept,
     topics: &mut Topics,
 ) -> Result<bool, NoMemory>
-    ensures { (rs : List Rec) → Holds rs (kept_of kept.old) topics.old → gate ≡ end_of rs
+    ensures takes { (rs : List Rec) → Holds rs (kept_of kept.old) topics.old → gate ≡ end_of rs
         → IfOk result (TakesOrNot rs body.now (kept_of kept.new) topics.new) }
+    ensures valid { AreValid (kept_of kept.old) → AreValid (kept_of kept.new) }
 {
     let Some(rec) = read_record(alloc, body)? else {
         return Ok(false);

@@ -5,3 +5,4 @@ pub mod States
 pub mod Records
 pub mod Held
 pub mod Histories
+pub mod Orders

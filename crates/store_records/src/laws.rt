@@ -2,6 +2,8 @@
 
 ghost use Rattle.std.specs.Prelude.{◌≡◌, ◌++◌, ℕ, List};
 ghost use Rattle.state_code.specs.Spelling.{IsBytes, value_then};
+ghost use Rattle.store_records.specs.Histories.{Follow, held};
+ghost use Rattle.store_records.specs.Orders.{IsInOrder};
 ghost use Rattle.store_records.specs.Records.{FitsRecord, read_record, spell_record};
 ghost use Rattle.store_records.specs.declared.rec.Rec.{Rec};
 
@@ -15,4 +17,11 @@ pub fn record_laws()
         × (bytes ≡ spell_record r ++ rest) }
     ensures apart { (a b : Rec) (x y : List ℕ) → FitsRecord a → FitsRecord b
         → spell_record a ++ x ≡ spell_record b ++ y → (a ≡ b) × (x ≡ y) }
+{}
+
+/// What holds of a store with any records, each of which may follow those before it: its tasks are valid, at most 64, with ids that
+/// rise in byte order; its lives are of valid tasks, and just one is open for each enabled task and none for any other; its last
+/// snapshot lies within what is stored.
+pub fn held_laws()
+    ensures { (rs : List Rec) → Follow rs → IsInOrder (held rs) }
 {}

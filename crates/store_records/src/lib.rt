@@ -11,7 +11,7 @@ mod task;
 mod transitions;
 
 pub use following::{find_task, has_task, is_batch, may_define, take_transitions};
-pub use laws::record_laws;
+pub use laws::{held_laws, record_laws};
 pub use rec::{Rec, Transitions};
 pub use records::{read_record, record_body};
 pub use task::{Life, LifeNumbers, Snapshot, StoredTask};

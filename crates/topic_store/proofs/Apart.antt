@@ -6,7 +6,7 @@ use Rattle.kap_io.specs.Disk.{Image}
 use Rattle.kap_io.specs.declared.disk.Part.{Part}
 use Rattle.kap_io.specs.declared.disk.Part.TheVariants.{Head}
 use Rattle.gate_log.specs.Bodies.{Fit, IsHeaderless, IsLog, IsShort, bytes_of, magic, record_of, size_bytes}
-use Rattle.gate_log.specs.Unique.{begins_apart, bytes_push, head_apart, head_unique, header_apart, length-size_bytes, record_not_short, record_unique}
+use Rattle.gate_log.proofs.Unique.{begins_apart, bytes_push, head_apart, head_unique, header_apart, length-size_bytes, record_not_short, record_unique}
 use Rattle.gate_log.specs.declared.log.TheConstants.{BODY_LIMIT}
 use Rattle.store_records.specs.Held.{Held, MayFollow, after, nothing}
 use Rattle.store_records.specs.Histories.{FollowFrom, end_from, end_of, first_gate, held, held_from, next_gate}

@@ -1,8 +1,12 @@
 pub mod Adding
 pub mod Apart
+pub mod Causes
 pub mod Found
 pub mod Latest
 pub mod Made
 pub mod PieceLaws
+pub mod PointLaws
+pub mod Quietly
 pub mod Reading
 pub mod Rereading
+pub mod TransitionLaws

@@ -1,12 +1,13 @@
 -- Records that are read one after the other.
-use Rattle.std.proofs.Common.{◌≡◌, ℕ, ◌≤◌, List, [], ◌∷◌, ◌++◌, length, map, refl, sym, ap, ◌∙◌, subst, Ok, Err}
+use Rattle.std.proofs.Common.{◌≡◌, inl, inr, ⊎_elim, ℕ, ◌≤◌, arith, List, [], ◌∷◌, ◌++◌, length, map, refl, sym, ap, ◌∙◌, subst, Ok, Err}
 use Rattle.std.proofs.lemmas.List.{map-append}
 use Rattle.std.specs.Prelude.{Bool, true, false, IfOk, None, Option, Result, Some}
 use Rattle.kap_base.specs.declared.memory.NoMemory.{NoMemory as Want}
 use Rattle.kap_io.specs.Disk.{Image}
 use Rattle.kap_io.specs.declared.disk.Part.{Part}
+use Rattle.gate_log.specs.Bodies.{bytes_of}
 use Rattle.gate_log.specs.Logs.{Rests}
-use Rattle.gate_log.specs.Readers.{BeginsWith, GoesOn, HasRead, ReaderState, ReadsNext, log_at}
+use Rattle.gate_log.specs.Readers.{BeginsWith, GoesOn, HasRead, IsLongBehind, ReaderState, ReadsNext, log_at}
 use Rattle.gate_log.specs.declared.fault.LogFault.{LogFault}
 use Rattle.gate_log.specs.declared.fault.LogFault.TheVariants as log
 use Rattle.gate_log.specs.declared.log.TheConstants.{BODY_LIMIT}
@@ -16,21 +17,23 @@ use Rattle.store_records.specs.Records.{spell_record}
 use Rattle.store_records.specs.declared.rec.Rec.{Rec}
 use Rattle.store_kept.specs.Keeping.{KeepsRecords, KeptValue, kept_nothing}
 use Rattle.store_kept.specs.Taking.{Takes, TakesOrNot}
-use Rattle.topic_store.specs.Faults.{fault_in}
-use Rattle.topic_store.specs.Opening.{AddsOrNot, AreRead, NextOrNot, ReadsOrNot, SoFar}
-use Rattle.topic_store.specs.Stores.{AreShort, AreStored, IsNext, IsNoLog, bad, fails, torn}
+use Rattle.topic_store.specs.Faults.{fault_at}
+use Rattle.topic_store.specs.Opening.{AddsOrNot, AreRead, IsNoNext, NextOrNot, ReadsOrNot, SoFar}
+use Rattle.topic_store.specs.Stores.{AreShort, AreStored, FailsBehind, IsNext, IsNoLog, bad, fails, torn}
 use Rattle.topic_store.specs.declared.fault.StoreFault.{StoreFault}
 use Rattle.topic_store.specs.declared.fault.StoreFault.TheVariants.{NotStore, DiskFault, Long, NoMemory}
 use Rattle.topic_store.proofs.Apart.{gate_is}
 
 -- a fault of the log's reader
-pub next_refused : (part : Part) (bodies : List (List ℕ)) (seen : Image) (images : Image → Type 0) (old new : ReaderState) (fault : LogFault)
-    → part ≡ old.part → ReadsNext bodies seen images old new (Err fault) → NextOrNot bodies seen images old new (Err (fault_in part fault))
-next_refused part bodies seen images old new log.Header is found = absurd found
-next_refused part bodies seen images old new (log.Torn offset) is found = (is, found)
-next_refused part bodies seen images old new log.DiskFault is found = tt
-next_refused part bodies seen images old new log.Long is found = found
-next_refused part bodies seen images old new log.NoMemory is found = tt
+pub next_refused : (bodies : List (List ℕ)) (seen : Image) (images : Image → Type 0) (old new : ReaderState) (fault : LogFault)
+    → new ≡ old → old.gate ≡ length (bytes_of bodies) → ReadsNext bodies seen images old new (Err fault)
+    → NextOrNot bodies seen images old new (Err (fault_at new fault))
+next_refused bodies seen images old new log.Header is at found = absurd found
+next_refused bodies seen images old new (log.Torn offset) is at found = (ap (λ (r : ReaderState). r.part) is, inl found)
+next_refused bodies seen images old new log.DiskFault is at found = tt
+next_refused bodies seen images old new log.Long is at found =
+    (ap (λ (r : ReaderState). r.part) is, inr (ap (λ (r : ReaderState). r.gate) is ∙ at, found))
+next_refused bodies seen images old new log.NoMemory is at found = tt
 
 pub next_found : (bodies : List (List ℕ)) (seen : Image) (images : Image → Type 0) (old new : ReaderState) (found : Option (ℕ × List ℕ))
     → ReadsNext bodies seen images old new (Ok found) → NextOrNot bodies seen images old new (Ok found)
@@ -104,13 +107,18 @@ module _ (seen later : Image) (images left : Image → Type 0) (reader : ReaderS
   stops_in first part reads is_part new body gate read same at none =
       subst (λ (i : Image). IsNoLog gate (i part)) reads (subst (λ (p : Part). IsNoLog gate (later p)) is_part (stops new body gate read same at none))
 
-  -- or runs past the end, or isn't read
+  -- the next record runs past the end or is too long
+  no_next : (offset : ℕ) (file : List ℕ) → IsNoNext (map spell_record so_far.records) offset file → FailsBehind so_far.records offset file
+  no_next offset file none = ⊎_elim (λ short. torn short)
+      (λ long. bad long.1.body long.1.begins (long.0 ∙ gate_is so_far.records) (λ r next. omega (arith, next.short, long.1.long))) none
+
+  -- or isn't read
   pub next_fault : (first : Image) (part : Part) → seen ≡ first → reader.part ≡ part → (new : ReaderState) (fault : StoreFault)
       → NextOrNot (map spell_record so_far.records) later left reader new (Err fault) → later ≡ seen → ReadsOrNot part first left (Err fault)
   next_fault first part reads is_part new (NotStore there offset) next quiet = (
     next.0 ∙ is_part,
     subst (λ (i : Image). IsNoLog offset (i part)) (quiet ∙ reads)
-        (subst (λ (p : Part). IsNoLog offset (later p)) is_part (fails so_far.records stored (torn next.1))),
+        (subst (λ (p : Part). IsNoLog offset (later p)) is_part (fails so_far.records stored (no_next offset _ next.1))),
   )
   next_fault first part reads is_part new DiskFault next quiet = tt
   next_fault first part reads is_part new Long next quiet = next

@@ -1,4 +1,5 @@
 -- What a fault of a log is for the store.
+use Rattle.gate_log.specs.Readers.{ReaderState}
 use Rattle.kap_io.specs.declared.disk.Part.{Part}
 use Rattle.gate_log.specs.declared.fault.LogFault.{LogFault}
 use Rattle.gate_log.specs.declared.fault.LogFault.TheVariants as log
@@ -12,3 +13,11 @@ fault_in part (log.Torn offset) = NotStore part offset
 fault_in part log.DiskFault = DiskFault
 fault_in part log.Long = Long
 fault_in part log.NoMemory = NoMemory
+
+-- the same of a fault of a log's reader: a record that is too long is none of a store, at its gate
+abbrev pub fault_at : ReaderState → LogFault → StoreFault
+fault_at r log.Header = NotStore r.part 0
+fault_at r (log.Torn offset) = NotStore r.part offset
+fault_at r log.DiskFault = DiskFault
+fault_at r log.Long = NotStore r.part r.gate
+fault_at r log.NoMemory = NoMemory

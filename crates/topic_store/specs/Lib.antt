@@ -6,3 +6,5 @@ pub mod Making
 pub mod Stored
 pub mod Snapshots
 pub mod Pieces
+pub mod Behind
+pub mod Points

@@ -1,12 +1,13 @@
 -- What opening a store finds.
-use Rattle.std.specs.Prelude.{◌≡◌, ℕ, ◌≤◌, Bool, true, false, List, [], ◌∷◌, ◌++◌, length, map, Option, Some, None, Result, Ok, Err, IsErrOf, ⊤}
+use Rattle.std.specs.Prelude.{◌≡◌, ◌⊎◌, ℕ, ◌≤◌, Bool, true, false, List, [], ◌∷◌, ◌++◌, length, map, Option, Some, None, Result, Ok, Err, IsErrOf, ⊤}
 use Rattle.kap_base.specs.Words.{HasRisen}
 use Rattle.kap_io.specs.Disk.{Image}
 use Rattle.kap_io.specs.declared.disk.Part.{Part}
 use Rattle.kap_io.specs.declared.disk.Part.TheVariants.{Head}
 use Rattle.gate_log.specs.Head.{HasNoHead}
 use Rattle.gate_log.specs.Logs.{LogState, Rests}
-use Rattle.gate_log.specs.Readers.{HasRead, IsTornBehind, ReaderState, log_at}
+use Rattle.gate_log.specs.Bodies.{bytes_of}
+use Rattle.gate_log.specs.Readers.{HasRead, IsLongBehind, IsTornBehind, ReaderState, log_at}
 use Rattle.gate_log.specs.declared.log.TheConstants.{BODY_LIMIT}
 use Rattle.topic_core.specs.Topics.{StandsFor, TopicsValue, event_of}
 use Rattle.store_records.specs.Histories.{held}
@@ -37,11 +38,15 @@ NamesOrNot files (Err Long) = ⊥
 
 -- ---- the records of a log
 
--- what stands behind these bodies: one more, or the closed gate of the log that they are, or a record that runs past the end
+-- the record behind these bodies, with its gate at this offset, runs past the end or is too long
+abbrev pub IsNoNext : List (List ℕ) → ℕ → List ℕ → Type 0
+IsNoNext bodies offset file = IsTornBehind bodies offset file ⊎ ((offset ≡ length (bytes_of bodies)) × IsLongBehind bodies file)
+
+-- what stands behind these bodies: one more, or the closed gate of the log that they are, or none that may be read
 abbrev pub NextOrNot : List (List ℕ) → Image → (Image → Type 0) → ReaderState → ReaderState → Result (Option (ℕ × List ℕ)) StoreFault → Type 0
 NextOrNot bodies seen images old new (Ok None) = Rests bodies seen images (log_at old)
 NextOrNot bodies seen images old new (Ok (Some found)) = HasRead (bodies ++ found.1 ∷ []) seen images new
-NextOrNot bodies seen images old new (Err (NotStore there offset)) = (there ≡ old.part) × IsTornBehind bodies offset (seen old.part)
+NextOrNot bodies seen images old new (Err (NotStore there offset)) = (there ≡ old.part) × IsNoNext bodies offset (seen old.part)
 NextOrNot bodies seen images old new (Err DiskFault) = ⊤
 NextOrNot bodies seen images old new (Err NoMemory) = ⊤
 NextOrNot bodies seen images old new (Err Long) = ⊥

@@ -1,10 +1,10 @@
 //! Why a store refuses.
 
 ghost use Rattle.std.specs.Prelude.{◌≡◌};
-ghost use Rattle.topic_store.specs.Faults.{fault_in};
+ghost use Rattle.topic_store.specs.Faults.{fault_at, fault_in};
 ghost use Rattle.topic_store.specs.declared.fault.StoreFault.TheVariants.{NoMemory as no_memory, DiskFault as disk_fault};
 
-use gate_log::LogFault;
+use gate_log::{LogFault, LogReader};
 use kap_base::NoMemory;
 use kap_io::{Failed, Part};
 use std::alloc::{AllocError, AllocFailed};
@@ -61,6 +61,23 @@ pub(crate) fn fault_in(part: Part, fault: LogFault) -> StoreFault
         LogFault::Torn(offset) => StoreFault::NotStore { part, offset },
         LogFault::DiskFault => StoreFault::DiskFault,
         LogFault::Long => StoreFault::Long,
+        LogFault::NoMemory => StoreFault::NoMemory,
+    }
+}
+
+/// What a fault of a log's reader is for the store.
+pub(crate) fn fault_at(reader: &LogReader, fault: LogFault) -> StoreFault
+    ensures { result ≡ fault_at reader.now fault }
+{
+    let part = reader.part();
+    match fault {
+        LogFault::Header => StoreFault::NotStore { part, offset: 0 },
+        LogFault::Torn(offset) => StoreFault::NotStore { part, offset },
+        LogFault::DiskFault => StoreFault::DiskFault,
+        LogFault::Long => StoreFault::NotStore {
+            part,
+            offset: reader.gate(),
+        },
         LogFault::NoMemory => StoreFault::NoMemory,
     }
 }

@@ -1,16 +1,16 @@
 //! Opening a store.
 
-ghost use Rattle.std.specs.Prelude.{◌≡◌, ◌<◌, List, ℕ, [], false, IfOk, IsTrue, OnOk};
+ghost use Rattle.std.specs.Prelude.{◌≡◌, ◌≤◌, List, ℕ, [], false, length, IfOk, IfSome, IsTrue, OnOk};
 ghost use Rattle.kap_io.specs.Disk.{OnlyIn};
 ghost use Rattle.kap_io.specs.Moments.{Quiet};
 ghost use Rattle.gate_log.specs.Readers.{GoesOn, HasRead};
 ghost use Rattle.store_records.specs.Histories.{end_of};
 ghost use Rattle.store_records.specs.declared.rec.Rec.{Rec};
-ghost use Rattle.store_kept.specs.Keeping.{kept_of};
+ghost use Rattle.store_kept.specs.Keeping.{AreValid, kept_of};
 ghost use Rattle.store_kept.specs.Taking.{Holds};
 ghost use Rattle.topic_store.specs.Opening.{AddsOrNot, NamesOrNot, NextOrNot, ReadsOrNot, StoreCause};
 
-use crate::fault::{StoreFault, fault_in};
+use crate::fault::{StoreFault, fault_at, fault_in};
 use gate_log::{BODY_LIMIT, Log, LogReader, read_head, read_log};
 use kap_base::{Bytes, NoMemory};
 use kap_io::{Disk, Part};
@@ -56,7 +56,7 @@ pub(crate) fn synced_head<D: Disk>(disk: &mut D) -> Result<Part, StoreFault>
     Ok(part)
 }
 
-/// The next body of a log, with the offset of its gate.
+/// The next body of a log, with the offset of its gate. One that is too long isn't read.
 fn next_body<D: Disk>(
     reader: &mut LogReader,
     disk: &mut D,
@@ -65,17 +65,19 @@ fn next_body<D: Disk>(
         → HasRead bodies (D.seen disk.old) (D.may_leave disk.old) reader.old
         → NextOrNot bodies (D.seen disk.new) (D.may_leave disk.new) reader.old reader.new result }
     ensures goes_on { GoesOn reader.old reader.new result }
+    ensures short { IfOk result (λ found. IfSome found (λ found. length found.1 ≤ BODY_LIMIT)) }
     ensures quiet { IsTrue D.tells
         → Quiet D.seen D.moment D.may_leave D.left_since disk.old disk.new }
     ensures cause { StoreCause (D.faults disk.old) (D.faults disk.new) result }
 {
     match reader.next(disk) {
         Ok(found) => Ok(found),
-        Err(fault) => Err(fault_in(reader.part(), fault)),
+        Err(fault) => Err(fault_at(reader, fault)),
     }
 }
 
-/// Takes in the record with this body, whose gate stands at this offset, where it may stand there; else `false`.
+/// Takes in the record with this body, which isn't too long and whose gate stands at this offset, where it may stand there; else
+/// `false`.
 fn take_record(
     alloc: Global,
     gate: u64,
@@ -83,12 +85,11 @@ fn take_record(
     kept: &mut Kept,
     topics: &mut Topics,
 ) -> Result<bool, NoMemory>
-    ensures { (rs : List Rec) → Holds rs (kept_of kept.old) topics.old → gate ≡ end_of rs
+    requires { length body.now ≤ BODY_LIMIT }
+    ensures adds { (rs : List Rec) → Holds rs (kept_of kept.old) topics.old → gate ≡ end_of rs
         → IfOk result (AddsOrNot rs body.now (kept_of kept.new) topics.new) }
+    ensures valid { AreValid (kept_of kept.old) → AreValid (kept_of kept.new) }
 {
-    if body.len() > BODY_LIMIT {
-        return Ok(false);
-    }
     take_body(alloc, gate, body, kept, topics)
 }
 
@@ -102,6 +103,7 @@ fn read_records<D: Disk>(
         → ReadsOrNot begun.part (D.seen disk.old) (D.may_leave disk.new) result }
     ensures log { IfOk result (λ reached.
         (reached.log.part ≡ begun.part) × (reached.log.spent ≡ false)) }
+    ensures valid { IfOk result (λ reached. AreValid (kept_of reached.kept)) }
     ensures quiet { IsTrue D.tells
         → Quiet D.seen D.moment D.may_leave D.left_since disk.old disk.new }
     ensures cause { StoreCause (D.faults disk.old) (D.faults disk.new) result }
@@ -134,6 +136,7 @@ pub(crate) fn open_part<D: Disk>(
         → ReadsOrNot part (D.seen disk.old) (D.may_leave disk.new) result }
     ensures log { IfOk result (λ reached.
         (reached.log.part ≡ part) × (reached.log.spent ≡ false)) }
+    ensures valid { IfOk result (λ reached. AreValid (kept_of reached.kept)) }
     ensures quiet { IsTrue D.tells
         → Quiet D.seen D.moment D.may_leave D.left_since disk.old disk.new }
     ensures cause { StoreCause (D.faults disk.old) (D.faults disk.new) result }

@@ -23,7 +23,7 @@ use store_records::{Rec, Transitions};
 use topic_core::Transition;
 
 /// How many points or transitions a piece has at most.
-const PIECE_LIMIT: u64 = 4096;
+pub(crate) const PIECE_LIMIT: u64 = 4096;
 
 /// The offset of the first record's gate.
 const FIRST_GATE: u64 = 8;
@@ -128,7 +128,7 @@ pub(crate) fn piece_len(count: u64, number: u64) -> usize
 }
 
 /// Appends the first `room` of the items behind the first `skip` ones.
-fn put_behind<T: Drop>(
+pub(crate) fn put_behind<T: Drop>(
     items: ItemList<T>,
     skip: u64,
     room: usize,

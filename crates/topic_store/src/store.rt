@@ -1,22 +1,27 @@
 //! A store, and its opening.
 
-ghost use Rattle.std.specs.Prelude.{◌≡◌, ◌≤◌, ◌++◌, ◌∷◌, [], ℕ, false, length, List, IfOk, IsTrue, OnOk, option_map};
+ghost use Rattle.std.specs.Prelude.{◌≡◌, ◌≤◌, ◌+◌, ◌++◌, ◌∷◌, [], ℕ, false, length, List, IfOk, IsTrue, OnOk, drop, option_map};
 ghost use Rattle.kap_base.specs.Words.{HasRisen};
 ghost use Rattle.kap_io.specs.Moments.{Moments, Quiet};
-ghost use Rattle.store_records.specs.Held.{MayFollow};
+ghost use Rattle.store_records.specs.Held.{MayFollow, points_in};
 ghost use Rattle.store_records.specs.Histories.{held};
+ghost use Rattle.store_records.specs.Orders.{DefinesValid};
 ghost use Rattle.store_records.specs.Records.{HasForm};
 ghost use Rattle.store_records.specs.declared.rec.Rec.{Rec};
 ghost use Rattle.topic_store.specs.Adding.{AddFault, IsLongOrNot, stands_before_or_after};
-ghost use Rattle.store_kept.specs.Keeping.{kept_of};
+ghost use Rattle.store_kept.specs.Keeping.{AreValid, KeepsRecords, kept_of};
+ghost use Rattle.topic_store.specs.Behind.{TopicsOrNot};
 ghost use Rattle.topic_store.specs.Opening.{Finds, IsOnWith, Opens, Refuses, StoreCause};
 ghost use Rattle.topic_store.specs.Pieces.{PieceOrNot, piece_behind};
+ghost use Rattle.topic_store.specs.Points.{IsBefore};
 ghost use Rattle.topic_store.specs.Snapshots.{SnapOrNot};
 ghost use Rattle.topic_store.specs.Stores.{IsNoStore, IsOn, Stands, numbers_of, store_of};
 
+use crate::behind::topics_of_first;
 use crate::fault::{StoreFault, fault_in};
 use crate::opening::{open_part, synced_head};
 use crate::pieces::{piece_from, piece_len, points_start, transitions_start};
+use crate::reader::PointsReader;
 use crate::stored::states_at;
 use gate_log::{BODY_LIMIT, Log};
 use kap_base::{Bytes, Points};
@@ -32,12 +37,12 @@ use topic_core::Topics;
 #[derive(Debug, Drop)]
 pub struct Store {
     alloc: Global,
-    log: Log,
+    pub(crate) log: Log,
     kept: Kept,
 }
 
 impl Model for Store {
-    ghost use Rattle.store_kept.specs.Keeping.{kept_of};
+    ghost use Rattle.store_kept.specs.Keeping.{KeepsRecords, kept_of};
     ghost use Rattle.topic_store.specs.Stores.{StoreState};
 
     ghost Value = { StoreState };
@@ -65,6 +70,9 @@ fn add_record<D: Disk>(
         → Moments D.moment D.may_leave D.left_since disk.old disk.new
         (stands_before_or_after rs rec.now) }
     ensures long { IsLongOrNot rec.now result }
+    ensures count { OnOk result (kept.new.points ≡ kept.old.points + length (points_in rec.now)) }
+    ensures valid { DefinesValid rec.now → AreValid (kept_of kept.old) → AreValid (kept_of kept.new) }
+    ensures later { D.faults disk.old ≤ D.faults disk.new }
     ensures cause { AddFault result disk.old disk.new (store_of log.old (kept_of kept.old))
         (store_of log.new (kept_of kept.new)) (HasRisen (D.faults disk.old) (D.faults disk.new)) }
 {
@@ -87,6 +95,7 @@ fn find_store<D: Disk>(alloc: Global, disk: &mut D) -> Result<(Store, Topics), S
     ensures found { IsTrue D.tells
         → Finds (IsOnWith (D.seen disk.old) (D.may_leave disk.new)) (D.seen disk.old) result }
     ensures usable { IfOk result (λ opened. opened.0.log.spent ≡ false) }
+    ensures valid { IfOk result (λ opened. AreValid opened.0.kept) }
     ensures quiet { IsTrue D.tells
         → Quiet D.seen D.moment D.may_leave D.left_since disk.old disk.new }
     ensures cause { StoreCause (D.faults disk.old) (D.faults disk.new) result }
@@ -111,6 +120,7 @@ pub fn open_with_topics<D: Disk>(alloc: Global, disk: &mut D) -> Result<(Store, 
     ensures refused { IsTrue D.tells → (part : Part) (offset : ℕ)
         → IsNoStore (D.seen disk.old) part offset → Refuses part offset result }
     ensures usable { IfOk result (λ opened. opened.0.log.spent ≡ false) }
+    ensures valid { IfOk result (λ opened. AreValid opened.0.kept) }
     ensures quiet { IsTrue D.tells
         → Quiet D.seen D.moment D.may_leave D.left_since disk.old disk.new }
     ensures cause { StoreCause (D.faults disk.old) (D.faults disk.new) result }
@@ -122,7 +132,8 @@ pub fn open_with_topics<D: Disk>(alloc: Global, disk: &mut D) -> Result<(Store, 
 /// `NotStore` comes exactly where the files stand for none, and tells the file and the place: the head at 0 where its first bytes
 /// aren't those of a head; the log that the head names at 0 where its first bytes aren't those of a log; else the gate of the first
 /// record that runs past the end of the file, or isn't one, or may not follow those before it, or whose body has more than
-/// `gate_log::BODY_LIMIT` bytes. `DiskFault` comes only where the disk's count of faults rose in this call; `Long` never comes.
+/// `gate_log::BODY_LIMIT` bytes. `DiskFault` comes only where the disk's count of faults rose in this call; `Long` never comes. On any
+/// disk its tasks and lives have valid ids, and scripts that aren't too long; `Store::add` keeps it so.
 pub fn open_store<D: Disk>(alloc: Global, disk: &mut D) -> Result<Store, StoreFault>
     ensures found { IsTrue D.tells → Finds (λ rs store.
         IsOn rs (D.seen disk.old) (D.may_leave disk.new) store) (D.seen disk.old) result }
@@ -131,6 +142,7 @@ pub fn open_store<D: Disk>(alloc: Global, disk: &mut D) -> Result<Store, StoreFa
     ensures refused { IsTrue D.tells → (part : Part) (offset : ℕ)
         → IsNoStore (D.seen disk.old) part offset → Refuses part offset result }
     ensures usable { IfOk result (λ store. store.log.spent ≡ false) }
+    ensures valid { IfOk result (λ store. AreValid store.kept) }
     ensures quiet { IsTrue D.tells
         → Quiet D.seen D.moment D.may_leave D.left_since disk.old disk.new }
     ensures cause { StoreCause (D.faults disk.old) (D.faults disk.new) result }
@@ -157,6 +169,10 @@ impl Store {
             → Moments D.moment D.may_leave D.left_since disk.old disk.new
             (stands_before_or_after rs rec.now) }
         ensures long { IsLongOrNot rec.now result }
+        ensures count { OnOk result
+            (self.new.kept.points ≡ self.old.kept.points + length (points_in rec.now)) }
+        ensures valid { DefinesValid rec.now → AreValid self.old.kept → AreValid self.new.kept }
+        ensures later { D.faults disk.old ≤ D.faults disk.new }
         ensures cause { AddFault result disk.old disk.new self.old self.new
             (HasRisen (D.faults disk.old) (D.faults disk.new)) }
     {
@@ -250,6 +266,15 @@ impl Store {
         piece_from(self.alloc, &self.log, disk, start, wanted)
     }
 
+    /// A reader of the points behind this number, which reads each record once.
+    pub fn read_points(&self, after: u64) -> PointsReader
+        ensures { (rs : List Rec) → KeepsRecords rs self.now.kept
+            → IsBefore rs (drop after (held rs).points) result }
+    {
+        let start = points_start(&self.kept.marks, after);
+        PointsReader::new(self.alloc, start, self.kept.points.saturating_sub(after))
+    }
+
     /// The transitions behind this number, from the one numbered `after + 1` on: 4,096, or all where there are no more. All else is as
     /// `points` says.
     pub fn transitions<D: Disk>(&self, disk: &mut D, after: u64) -> Result<Transitions, StoreFault>
@@ -265,6 +290,21 @@ impl Store {
         let start = transitions_start(&self.kept.marks, after);
         let wanted = piece_len(self.kept.transitions, after);
         piece_from(self.alloc, &self.log, disk, start, wanted)
+    }
+
+    /// The topics behind the first `number` transitions, or behind all where there are no more, for those who go on from there.
+    /// All else is as `points` says.
+    pub fn topics_behind<D: Disk>(&self, disk: &mut D, number: u64) -> Result<Topics, StoreFault>
+        requires usable { self.now.log.spent ≡ false }
+        ensures topics { IsTrue D.tells → (rs : List Rec)
+            → IsOn rs (D.seen disk.old) (D.may_leave disk.old) self.now
+            → TopicsOrNot (held rs).transitions number result }
+        ensures quiet { IsTrue D.tells
+            → Quiet D.seen D.moment D.may_leave D.left_since disk.old disk.new }
+        ensures cause { StoreCause (D.faults disk.old) (D.faults disk.new) result }
+    {
+        let wanted = number.min(self.kept.transitions);
+        topics_of_first(self.alloc, self, disk, wanted)
     }
 
     /// Whether a call on it failed in the middle. It is then to be opened anew.

@@ -43,3 +43,6 @@ returns-clause-switched g c = λ tells settled.
           (c.in_ok-write_synced-2.ensures.written tells);
       durable = c.in_ok-write_synced-2.ensures.durable tells;
     }
+
+pub returns-in_err-close_gate-clause-later : goal.returns-in_err-close_gate-clause-later
+returns-in_err-close_gate-clause-later g c = c.close_gate.ensures.later

@@ -27,7 +27,7 @@ reading-preserved g c =
           (c.in_ok-gate.ensures.next tells (map spell_record so.records) so.read) in
           let took = subst (λ (b : Bool). AddsOrNot so.records c.as_slice.result.now (kept_of c.take_record.new.kept) c.take_record.new.topics b)
           c.if-not-branch.false
-          (c.in_ok-take_record.ensures so.records so.holds (gate_there _ seen _ left c.reading.reader _ _ so c.in-Some.gate moves.at)) in
+          (c.in_ok-take_record.ensures.adds so.records so.holds (gate_there _ seen _ left c.reading.reader _ _ so c.in-Some.gate moves.at)) in
           let adds = subst (λ (b : List ℕ). AddsOrNot so.records b (kept_of c.take_record.new.kept) c.take_record.new.topics true) c.as_slice.ensures took in
           goes_on (g.D.Disk.seen c.reading.disk) seen (g.D.Disk.may_leave c.reading.disk) left c.reading.reader (kept_of c.reading.kept) c.reading.topics so
           c.next_body.new.reader c.in-Some.body (kept_of c.take_record.new.kept) c.take_record.new.topics next adds;
@@ -35,6 +35,7 @@ reading-preserved g c =
       quiet = λ tells. quiet_then g.D.Disk.seen g.D.Disk.moment g.D.Disk.may_leave g.D.Disk.left_since _ _ _ (c.reading.invariant.quiet tells)
           (c.next_body.ensures.quiet tells);
       faults = omega (arith, c.reading.invariant.faults, c.next_body.ensures.cause.later);
+      valid = c.take_record.ensures.valid c.reading.invariant.valid;
     }
 
 pub returns-then-not-branch-clause-found : goal.returns-then-not-branch-clause-found
@@ -48,7 +49,7 @@ returns-then-not-branch-clause-found g c = λ tells read.
     c.in-Some.is (c.in_ok-gate.ensures.next tells (map spell_record so.records) so.read) in
     let not_took = subst (λ (b : Bool). AddsOrNot so.records c.as_slice.result.now (kept_of c.take_record.new.kept) c.take_record.new.topics b)
     c.if-not-branch.true
-    (c.in_ok-take_record.ensures so.records so.holds (gate_there _ seen _ left c.reading.reader _ _ so c.in-Some.gate moves.at)) in
+    (c.in_ok-take_record.ensures.adds so.records so.holds (gate_there _ seen _ left c.reading.reader _ _ so c.in-Some.gate moves.at)) in
     let none = subst (λ (b : List ℕ). AddsOrNot so.records b (kept_of c.take_record.new.kept) c.take_record.new.topics false) c.as_slice.ensures not_took in
     let reads : seen ≡ g.D.Disk.seen c.args.disk.now = (c.next_body.ensures.quiet tells).reads ∙ (c.reading.invariant.quiet tells).reads in (
       c.part.ensures ∙ moves.part ∙ c.reading.invariant.part,

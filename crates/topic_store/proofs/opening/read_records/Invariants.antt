@@ -1,7 +1,7 @@
 use Rattle.std.proofs.Common.{◌≡◌, [], ◌-◌, ◌≤◌, IsTrue}
 use Rattle.kap_io.specs.Moments.{Quiet}
 use Rattle.gate_log.specs.Readers.{HasRead}
-use Rattle.store_kept.specs.Keeping.{kept_of}
+use Rattle.store_kept.specs.Keeping.{AreValid, kept_of}
 use Rattle.topic_store.specs.Opening.{SoFar}
 use Rattle.topic_store.proofs.opening.read_records.Given as goal
 
@@ -12,6 +12,7 @@ invariant-reading g l = record {
   part : l.reader.part ≡ l.fn.begun.part;
   quiet : IsTrue g.D.Disk.tells → Quiet g.D.Disk.seen g.D.Disk.moment g.D.Disk.may_leave g.D.Disk.left_since l.fn.disk l.disk;
   faults : g.D.Disk.faults l.fn.disk ≤ g.D.Disk.faults l.disk;
+  valid : AreValid (kept_of l.kept);
 }
 
 abbrev pub decreases-reading : goal.decreases-reading

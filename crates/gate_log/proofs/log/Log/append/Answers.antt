@@ -1,5 +1,5 @@
 use Rattle.std.proofs.Common.{◌∙◌, arith}
-use Rattle.gate_log.specs.Unique.{length-push}
+use Rattle.gate_log.proofs.Unique.{length-push}
 use Rattle.gate_log.proofs.log.Log.append.Goals as goal
 
 pub returns-clause-any_moment : goal.returns-clause-any_moment
