@@ -1,6 +1,6 @@
 //! `disk new CALLS`: an empty disk, whose calls with these numbers fail; `disk stop COUNT`: after so many
-//! more calls all fail; `disk file FILE`: what a file holds; `disk write FILE OFFSET BYTES`; `disk cut FILE
-//! SIZE`; `disk mark` and `disk changes`: the calls since the mark that change or sync a file.
+//! more calls all fail; `disk file FILE`: what a file holds; `disk write FILE OFFSET BYTES`; `disk mark` and
+//! `disk changes`: the calls since the mark that change or sync a file.
 
 use crate::stored::Stored;
 use case_text::{LineFault, bytes, calls, first_of, name_of, number, part, put_shown};
@@ -72,14 +72,6 @@ fn write(alloc: Global, disk: &mut MemDisk, text: &str, to: &mut Bytes) -> Resul
     Ok(())
 }
 
-/// Cuts or stretches a file: `FILE SIZE`.
-fn cut(disk: &mut MemDisk, text: &str, to: &mut Bytes) -> Result<(), LineFault> {
-    let (file, size) = first_of(text);
-    disk.cut(part(file)?, number(size)?)?;
-    to.append(b"cut")?;
-    Ok(())
-}
-
 /// Lets so many more calls of a disk be done, or all where the word is `all`.
 pub fn stop_behind(disk: &mut MemDisk, word: &str) -> Result<(), LineFault> {
     if word == "all" {
@@ -131,7 +123,6 @@ pub fn answer_disk(
         "stop" => stop(&mut stored.disk, rest, to),
         "file" => put_file(alloc, &mut stored.disk, part(rest)?, to),
         "write" => write(alloc, &mut stored.disk, rest, to),
-        "cut" => cut(&mut stored.disk, rest, to),
         "mark" => mark(stored, to),
         "changes" => put_since(alloc, stored, to),
         _ => Err(LineFault::NoForm),

@@ -1,7 +1,6 @@
 //! `log make FILE`; `log append FILE COUNT BYTES`: opened, and a body added, of whose calls of the disk so
 //! many are done, or all where the count is `all`; `log bodies FILE`: opened, and each body with its gate;
-//! `log next FILE`: the same by the reader; `log sizes FILE`: how long each body is, by the reader; `log
-//! crashes FILE`: what a crash may leave of it.
+//! `log next FILE`: the same by the reader; `log crashes FILE`: what a crash may leave of it.
 
 use crate::disks::{PICKS, stop_behind};
 use case_text::{LineFault, bytes, first_of, part, put_shown};
@@ -146,31 +145,14 @@ fn read(alloc: Global, disk: &mut MemDisk, part: Part, to: &mut Bytes) -> Result
     Ok(())
 }
 
-/// Adds how long each body of a log is, as the reader gives them; a fault with the gate that comes next.
-fn measure(alloc: Global, disk: &mut MemDisk, part: Part, to: &mut Bytes) -> Result<(), LogFault> {
-    let mut reader = read_log(alloc, disk, part)?;
-    for _ in 0..MOST {
-        match reader.next(disk) {
-            Ok(Some((at, body))) => {
-                to.append(format!(in alloc; "{at} {}; ", body.len())?.as_bytes())?;
-            }
-            Ok(None) => return Ok(put_end(alloc, &reader.into_log(), to)?),
-            Err(fault) => {
-                to.append(format!(in alloc; "at {} ", reader.gate())?.as_bytes())?;
-                return Err(fault);
-            }
-        }
-    }
-    Ok(())
-}
-
-/// Adds a fault, where there is one.
-fn put_outcome(
+/// The same, with the fault that ends it.
+fn list_by_reader(
     alloc: Global,
-    outcome: Result<(), LogFault>,
+    disk: &mut MemDisk,
+    part: Part,
     to: &mut Bytes,
 ) -> Result<(), NoMemory> {
-    match outcome {
+    match read(alloc, disk, part, to) {
         Ok(()) => Ok(()),
         Err(fault) => put_fault(alloc, fault, to),
     }
@@ -201,14 +183,7 @@ pub fn answer_log(
         "make" => begin(alloc, disk, part, to)?,
         "append" => append(alloc, disk, part, rest, to)?,
         "bodies" => list(alloc, disk, part, to)?,
-        "next" => {
-            let outcome = read(alloc, disk, part, to);
-            put_outcome(alloc, outcome, to)?
-        }
-        "sizes" => {
-            let outcome = measure(alloc, disk, part, to);
-            put_outcome(alloc, outcome, to)?
-        }
+        "next" => list_by_reader(alloc, disk, part, to)?,
         "crashes" => put_crashes(alloc, disk, part, to)?,
         _ => return Err(LineFault::NoForm),
     }
