@@ -4,8 +4,6 @@ use Rattle.kap_base.specs.declared.items.Level.{Level}
 use Rattle.kap_base.specs.declared.items.What.TheVariants as whats
 use Rattle.kap_base.specs.Points.{PointValue}
 use Rattle.lambda_types.specs.declared.lambda.Lambda.{Lambda}
-use Rattle.node_core.specs.declared.grouped.Grouped.{Grouped}
-use Rattle.node_core.specs.declared.numbered.Seat.{Seat}
 use Rattle.node_core.specs.declared.said.Said.{Said}
 use Rattle.node_core.specs.Groups.{GroupAnswer}
 use Rattle.node_core.specs.Meaning.{Turn, silence}
@@ -49,11 +47,3 @@ alert_of task name spec =
       state_changes_only = spec.state_changes_only;
       no_recoveries = spec.no_recoveries;
     }
-
--- an alert, the life in which it runs, and the number of the node
-abbrev pub AlertSeat : Type 0
-AlertSeat = Seat (Grouped Alert)
-
--- this alert, in this life and with this number
-abbrev pub seat_of : ℕ → ℕ → Alert → AlertSeat
-seat_of life node alert = record { life = life; node = node; kind = record { rule = alert } }

@@ -6,12 +6,10 @@ mod events;
 mod laws;
 mod levels;
 mod node;
-mod sends;
 mod templates;
 mod watch;
 
 pub use alert::Alert;
 pub use laws::{counts_are_evaluations, examples_of_alerts, texts_are_cut};
-pub use node::{AlertNode, build};
-pub use sends::send_alert_node;
+pub use node::alert_of;
 pub use watch::{Ask, Counts, Watch};

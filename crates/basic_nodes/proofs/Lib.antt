@@ -1,4 +1,3 @@
-pub mod Crossing
 pub mod DimensionLaws
 pub mod DeletionLaws
 pub mod TagLaws

@@ -10,7 +10,7 @@ pub mod Conditions
 -- what each kind says, and of what it keeps
 pub mod PointKinds
 pub mod GroupKinds
--- the node of what a script hands to one
+-- what a rule is given of what a script hands over
 pub mod Nodes
 -- examples
 pub mod Rows

@@ -36,7 +36,7 @@ pub fn pair(alloc: Global, capacity: u32) -> Result<(Tail, Head), NoMemory>
 }
 
 impl Tail {
-    /// Puts a message on the edge. It is given back only where this end knew of no free place, and then found none.
+    /// Puts a message on the edge. It is given back only where this end knows of no free place when the call ends.
     pub fn put(&mut self, msg: Msg) -> Result<(), Msg>
         ensures put { OnOk result (Puts msg self.old self.new) }
         ensures back { IfErr result (λ back. back ≡ msg) }
@@ -66,7 +66,7 @@ impl Tail {
 }
 
 impl Head {
-    /// Takes the next message from the edge. `None` comes only where this end knew of no message, and then found none.
+    /// Takes the next message from the edge. `None` comes only where this end knows of no message when the call ends.
     pub fn take(&mut self) -> Option<Msg>
         ensures taken { IfSome result (λ msg. Takes msg self.old self.new) }
         ensures kept { IfNone result (HeadLooked self.old self.new) }

@@ -5,8 +5,6 @@ use Rattle.std.specs.List.{list_any}
 use Rattle.kap_base.specs.declared.items.Body.TheVariants as bodies
 use Rattle.kap_base.specs.Points.{PointValue}
 use Rattle.kap_base.specs.Tree.{Tree}
-use Rattle.node_core.specs.declared.grouped.Grouped.{Grouped}
-use Rattle.node_core.specs.declared.numbered.Seat.{Seat}
 use Rattle.node_core.specs.declared.said.Said.{Said}
 use Rattle.node_core.specs.Groups.{Came, GroupAnswer}
 use Rattle.node_core.specs.Meaning.{Turn, a_drop}
@@ -73,11 +71,3 @@ evaluations eval place points = evaluations_behind eval place [] points
 -- a step, by what is kept
 abbrev pub eval_step : EvalSpec Tree → List ℕ → ℕ → PointValue → Turn (List ℕ)
 eval_step eval counts port p = let r = evaluated eval.results counts p in record { state = r.counts; said = said_of eval r.point }
-
--- an `eval`, the life in which it runs, and the number of the node
-abbrev pub EvalSeat : Type 0
-EvalSeat = Seat (Grouped (EvalSpec Tree))
-
--- this `eval`, in this life and with this number
-abbrev pub seat_of : ℕ → ℕ → EvalSpec Tree → EvalSeat
-seat_of life node eval = record { life = life; node = node; kind = record { rule = eval } }

@@ -1,5 +1,5 @@
 ghost use Rattle.std.specs.Prelude.{◌≡◌, IfOk};
-ghost use Rattle.eval_node.specs.Evals.{counts_in, eval_says, eval_step, said_of, seat_of, unless_empty, with_kept};
+ghost use Rattle.eval_node.specs.Evals.{counts_in, eval_says, eval_step, said_of, unless_empty, with_kept};
 ghost use Rattle.eval_node.specs.EvalLaws.{eval_goes_on};
 
 use crate::counts::Counts;
@@ -7,7 +7,7 @@ use crate::evaluations::evaluate;
 use crate::fields::kept_fields;
 use kap_base::{NoMemory, Point, Shared};
 use lambda_types::Lambda;
-use node_core::{Grouped, Node, Numbered, Rule, Said, Seat, pass_new};
+use node_core::{Rule, Said, pass_new};
 use std::alloc::Global;
 use std::marker::Model;
 use task_graph::{EvalResult, EvalSpec, Keep};
@@ -128,19 +128,4 @@ impl Rule for Eval {
         let seen = evaluate(alloc, self.results.as_mut_slice(), &mut cell.numbers, point)?;
         say_seen(alloc, &self.keep, &self.results, seen)
     }
-}
-
-/// The node `eval`.
-pub type EvalNode = Numbered<Grouped<Eval>>;
-
-/// The node `eval` that is given this, in its first state: in a life of its task, and with its number there.
-pub fn build(alloc: Global, life: u32, node: u32, spec: EvalSpec<Lambda>) -> EvalNode
-    ensures spec { ⟦<EvalNode as Node>⟧.spec result ≡ seat_of life node spec }
-    ensures first { ⟦<EvalNode as Node>⟧.state result
-        ≡ ⟦<EvalNode as Node>⟧.first (seat_of life node spec) }
-{
-    let kind = Grouped {
-        rule: Eval::from_spec(spec),
-    };
-    Numbered::new(alloc, Seat { life, node, kind })
 }

@@ -6,9 +6,7 @@ mod eval;
 mod evaluations;
 mod fields;
 mod laws;
-mod sends;
 
 pub use counts::Counts;
-pub use eval::{Eval, EvalNode, build};
+pub use eval::Eval;
 pub use laws::{counts_are_evaluations, examples_of_evals};
-pub use sends::send_eval_node;

@@ -11,7 +11,5 @@ pub mod States
 -- proofs, no definitions: the laws that the rule hands on
 pub mod QueueLaws
 pub mod JoinLaws
--- the node of what a script hands to one
-pub mod Nodes
 -- examples
 pub mod Rows

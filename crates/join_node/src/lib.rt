@@ -4,11 +4,8 @@
 mod groups;
 mod joins;
 mod laws;
-mod nodes;
 mod queues;
 mod results;
-mod sends;
-mod spec;
 mod unions;
 
 pub use groups::{JoinCell, JoinGroup};
@@ -17,7 +14,4 @@ pub use laws::{
     examples_of_joins, points_are_in_their_sets, renamed_points_change_groups,
     sets_wait_at_the_greatest_time,
 };
-pub use nodes::{GatherNode, build};
-pub use sends::send_gather_node;
-pub use spec::GatherSpec;
 pub use unions::Union;

@@ -23,50 +23,68 @@ use std::{env, io, time};
 /// What `kapd --help` prints.
 const HELP: &str = "kapd PLACE COMMAND ..
 
-PLACE is the folder of a store; or `-`, an empty disk in memory, gone at the end. `check`, `replay` and `gen` don't look at it.
-Commands:
+PLACE is the folder of a store; or `-`, an empty disk in memory, gone at the
+end. `check`, `replay` and `gen` don't look at it. Commands:
 
-  check                       reads a script from standard input, looks at its tokens, grammar, names, nodes with
-                              their arguments and properties, lambdas with their patterns, and graph, and writes
-                              its canonical form
-  replay [--workers W] [--capacity C] [--schedule N] [--counts] ID SCRIPT [ID SCRIPT]..
-                              reads a recording from standard input, and writes what the tasks do at its points
-  gen N                       writes a sample recording of N points (1 to 1000000): a point a second, of one of eight
-                              hosts in turn
+  check        reads a script from standard input, looks at its tokens,
+               grammar, names, nodes with their arguments and properties,
+               lambdas with their patterns, and graph, and writes its canonical
+               form
+  replay [OPTION].. ID SCRIPT [ID SCRIPT]..
+               reads a recording from standard input, and writes what the tasks
+               do at its points
+  gen N        writes a sample recording of N points (1 to 1000000): a point a
+               second, of one of eight hosts in turn
   gen N ID SCRIPT [ID SCRIPT]..
-                              writes how many points it has, and how many lines and bytes a replay of it would write
-  init                        makes an empty store in the folder, which must be there: its files are head, left and
-                              right
-  tasks                       writes a line `ID enabled` or `ID disabled` for each task of the store in the folder
+               writes how many points it has, and how many lines and bytes a
+               replay of it would write
+  init         makes an empty store in the folder, which must be there: its
+               files are head, left and right
+  tasks        writes a line `ID enabled` or `ID disabled` for each task of the
+               store in the folder
 
-  --counts      tells behind that how many points each node dropped
-  --workers W   has the nodes run by W workers in threads (1 to 64; else one a task, and at most 4)
-  --capacity C  gives each edge between two nodes room for C messages (1 to 65536; else 64)
-  --schedule N  runs the nodes in one thread and no workers, in the order that N (0 to 4294967295) gives
-                The output is the same for each W, C and N.
-  ID            a task's name: 1 to 64 ASCII letters, digits, `_`, `-` and `.`; the first doesn't begin with `--`
-  SCRIPT        the task's script, a TICKscript of at most 65,536 bytes
+Options of replay, in any order before the first ID, each at most once:
 
-Options stand in any order before the first ID, each at most once.
+  --counts     tells behind the output how many points each node dropped
+  --workers W  has the nodes run by W workers in threads (1 to 64; else one a
+               task, and at most 4)
+  --capacity C gives each edge between two nodes room for C messages (1 to
+               65536; else 64)
+  --schedule N runs the nodes in one thread and no workers, in the order that N
+               (0 to 4294967295) gives
 
-A replay, or a gen, has at most 64 tasks. A task's nodes are of these kinds: stream, from, where, eval, groupBy, log, default,
-delete, shift, sample, window, sum, count, min, max, first, last, spread, distinct, top, bottom, stateCount,
-changeDetect, difference, cumulativeSum, elapsed, union, join and alert. Other kinds of Kapacitor 1.6 are refused as
-NoKind.
+The output is the same for each W, C and N.
 
-A recording has three lines a point: the database, the retention policy, and the point in InfluxDB's line protocol.
-Database and policy are UTF-8 of at most 65,536 bytes. Numbers of fields are whole, from -9223372036854775808i to
-9223372036854775807i, and end in `i`; others are refused. A time is whole nanoseconds since 1970, at most
-9000000000000000000 before or behind it.
+ID is a task's name: 1 to 64 ASCII letters, digits, `_`, `-` and `.`; the first
+doesn't begin with `--`. SCRIPT is the task's script, a TICKscript of at most
+65,536 bytes. A replay, or a gen, has at most 64 tasks. A task's nodes are of
+these kinds: stream, from, where, eval, groupBy, log, default, delete, shift,
+sample, window, sum, count, min, max, first, last, spread, distinct, top,
+bottom, stateCount, changeDetect, difference, cumulativeSum, elapsed, union,
+join and alert. Other kinds of Kapacitor 1.6 are refused as NoKind.
+
+A recording has three lines a point: the database, the retention policy, and the
+point in InfluxDB's line protocol. Database and policy are UTF-8 of at most
+65,536 bytes. Numbers of fields are whole, from -9223372036854775808i to
+9223372036854775807i, and end in `i`; others are refused. A time is whole
+nanoseconds since 1970, at most 9000000000000000000 before or behind it.
 
 An example:
 
-  printf 'd\\nr\\ncpu,host=a idle=7i 5\\n' |
-    kapd - replay t \"stream|from().measurement('cpu')|alert().crit(lambda: \\\"idle\\\" < 10)\"
+  printf 'd\\nr\\ncpu,host=a idle=7i 5\\n' | kapd - replay t \\
+    \"stream|from().measurement('cpu')|alert().crit(lambda: \\\"idle\\\" < 10)\"
 
-A line of the output is `out ID NODE POINT` for a point that a log passes, `alert NUMBER TOPIC EVENT OLD->NEW TIME
-MESSAGE` for a change of level, or with --counts `dropped ID NODE NUMBER`. NODE is a kind and the node's number in its
-task; changes are numbered from 1 over all tasks. An alert's topic is `main:ID:NODE` unless its script names one.
+A script that stands in a file, on a recording that Kapacitor made (those are
+gzipped):
+
+  zcat day.srpl | kapd - replay t \"$(cat cpu_alert.tick)\"
+
+A line of the output is `out ID NODE POINT` for a point that a log passes,
+`alert NUMBER TOPIC EVENT OLD->NEW TIME MESSAGE` for a change of level, or with
+--counts `dropped ID NODE NUMBER`. NODE is a kind and the node's number in its
+task; changes are numbered from 1 over all tasks. An alert's topic is
+`main:ID:NODE` unless its script names one. A measurement or a field that no
+point has is no fault: what asks for it says nothing.
 
 The exit status, and what standard error says behind `kapd: `:
 
@@ -78,10 +96,13 @@ The exit status, and what standard error says behind `kapd: `:
   6   not a store: FILE at OFFSET      73  disk fault
   8   exists
 
-BYTE is a byte of the script, counted from 0; of a Graph fault it is the node's number. Exists: an id was given to two
-tasks, or init found a store's head in the folder. Not a store: the folder has no head of a store (head at 0: no init
-was done there, or the head was damaged, and init would then empty the logs), or a log is none at this offset. Disk
-fault: PLACE isn't there, is no folder, or its files can't be read or written.
+BYTE is a byte of the script, counted from 0; of a Graph fault it is the node's
+number. Exists: an id was given to two tasks, or init found a store's head in
+the folder. Not a store: the folder has no head of a store (head at 0: no init
+was done there, or the head was damaged, and init would then empty the logs), or
+a log is none at this offset. Disk fault: PLACE isn't there, is no folder, or
+its files can't be read or written; or another process uses the store, which a
+second line says then: `kapd: another process uses the store`.
 
   kapd --help        prints this
   kapd --version     prints the version
@@ -132,27 +153,47 @@ fn run_on<
     )
 }
 
+/// How a command ended.
+#[derive(Drop)]
+struct Outcome {
+    status: Status,
+    /// Whether another process uses the store.
+    in_use: bool,
+}
+
+/// What ended with this status, and has nothing to do with other processes.
+fn alone(status: Status) -> Outcome {
+    Outcome {
+        status,
+        in_use: false,
+    }
+}
+
 /// Does what the words behind the place ask for.
 fn run<
     R: Files + time::Clock + Threads + Sync + Input + Print + AllocGlobal,
     N: ScriptNode + NumberingNode + Send,
->(rt: &R, place: Place<'_>, words: &[String]) -> Status
+>(rt: &R, place: Place<'_>, words: &[String]) -> Outcome
 where
     R::File: FileExt + LockFile,
 {
     let alloc = rt.alloc();
     match place {
-        Place::Memory => run_on::<R, MemDisk, N>(
+        Place::Memory => alone(run_on::<R, MemDisk, N>(
             rt,
             words,
             &mut MemDisk::new(alloc, Vec::new(alloc)),
-        ),
+        )),
         Place::Folder(path) => match PathBuf::from_str(alloc, path) {
             Ok(folder) => {
                 let mut disk = DirDisk::new(alloc, rt, folder);
-                run_on::<R, _, N>(rt, words, &mut disk)
+                let status = run_on::<R, _, N>(rt, words, &mut disk);
+                Outcome {
+                    status,
+                    in_use: disk.is_in_use(),
+                }
             }
-            Err(_) => Status::NoMemory,
+            Err(_) => alone(Status::NoMemory),
         },
     }
 }
@@ -168,20 +209,20 @@ fn show<R: Print>(rt: &R, text: &str) -> Status {
 fn answer<
     R: Env + Files + time::Clock + Threads + Sync + Input + Print + AllocGlobal,
     N: ScriptNode + NumberingNode + Send,
->(rt: &R) -> Status
+>(rt: &R) -> Outcome
 where
     R::File: FileExt + LockFile,
 {
     let words = match words_of(rt) {
         Ok(words) => words,
-        Err(status) => return status,
+        Err(status) => return alone(status),
     };
     match words.as_slice() {
-        [word] if word.as_str() == "--help" => show(rt, HELP),
-        [word] if word.as_str() == "--version" => show(rt, VERSION),
+        [word] if word.as_str() == "--help" => alone(show(rt, HELP)),
+        [word] if word.as_str() == "--version" => alone(show(rt, VERSION)),
         _ => match place_in(&words) {
             Some((place, rest)) => run::<R, N>(rt, place, rest),
-            None => Status::Usage,
+            None => alone(Status::Usage),
         },
     }
 }
@@ -197,10 +238,19 @@ fn tell<R: Eprint + AllocGlobal>(rt: &R, status: &Status) -> io::Result<()> {
     }
 }
 
-fn main(rt: HostRuntime) -> ExitCode {
-    let status = answer::<HostRuntime, AnyNode>(&rt);
-    if status != Status::Ok {
-        let _ = tell(&rt, &status);
+/// Says behind a disk fault that another process uses the store, where one does.
+fn tell_use<R: Eprint>(rt: &R, outcome: &Outcome) -> io::Result<()> {
+    if outcome.in_use && outcome.status == Status::DiskFault {
+        eprintln!(rt; "kapd: another process uses the store")?;
     }
-    ExitCode::from(status.number())
+    Ok(())
+}
+
+fn main(rt: HostRuntime) -> ExitCode {
+    let outcome = answer::<HostRuntime, AnyNode>(&rt);
+    if outcome.status != Status::Ok {
+        let _ = tell(&rt, &outcome.status);
+        let _ = tell_use(&rt, &outcome);
+    }
+    ExitCode::from(outcome.status.number())
 }

@@ -9,6 +9,7 @@ ghost use Rattle.lambda_types.specs.declared.types.Ty.{Ty};
 ghost use Rattle.lambda_eval.specs.Soundness.{HasNeeds, HasType, IsTypedAnswer};
 ghost use Rattle.lambda_eval.specs.Values.{and_value, joined_by_and, val};
 
+use crate::comparisons::compare_field;
 use crate::evaluation::evaluate;
 use crate::input::Input;
 use kap_base::{Point, Value};
@@ -28,6 +29,9 @@ fn evaluate_whole(
     ensures field { IfOk result (λ v. IsTrue (is_value v)) }
     ensures kept { lambda.new ≡ lambda.old }
 {
+    if let Some(truth) = compare_field(lambda, point) {
+        return Ok(Value::Bool(truth));
+    }
     let input = Input { k, point };
     let seen = evaluate(alloc, lambda.expr.expr(), &mut lambda.patterns, &input)?;
     Ok(seen.into_value(alloc)?)

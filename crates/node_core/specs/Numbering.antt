@@ -8,6 +8,7 @@ use Rattle.kap_base.specs.declared.items.What.{What}
 use Rattle.node_core.specs.declared.said.Said.{Said}
 use Rattle.node_core.specs.declared.running.Tally.{Tally}
 use Rattle.node_core.specs.declared.running.Running.{Running}
+use Rattle.node_core.specs.declared.alone.Alone.{Alone}
 use Rattle.node_core.specs.declared.grouped.Grouped.{Grouped}
 use Rattle.node_core.specs.declared.numbered.Seat.{Seat}
 use Rattle.node_core.specs.Meaning.{Arrival, Saying, Turn, Input, Answer, Given, Move, given}
@@ -70,6 +71,10 @@ given_with stamp saying before (x ∷ xs) = (if x.1.stamp.0 == stamp then length
 -- what a node does in each group by itself, with the life in which it runs, and its number
 abbrev pub rule_seat : {R : Type 0} → ℕ → ℕ → R → Seat (Grouped R)
 rule_seat life node rule = record { life = life; node = node; kind = record { rule = rule } }
+
+-- what a node does with each body by itself, with the life in which it runs, and its number
+abbrev pub plain_seat : {P : Type 0} → ℕ → ℕ → P → Seat (Alone P)
+plain_seat life node plain = record { life = life; node = node; kind = record { plain = plain } }
 
 -- ---- the machine of a node, from the machine of what it says
 

@@ -4,6 +4,7 @@
 
 mod alone;
 mod both;
+mod build;
 mod few;
 mod grouped;
 mod key;
@@ -19,6 +20,7 @@ mod table;
 
 pub use alone::{Alone, Plain};
 pub use both::Both;
+pub use build::{PlainNode, RuleNode, plain_node, rule_node};
 pub use few::Few;
 pub use grouped::Grouped;
 use kap_base::{Effect, Item, ItemList};

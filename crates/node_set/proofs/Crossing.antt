@@ -23,7 +23,7 @@ use Rattle.eval_node.specs.contracts.eval.Eval as Eval
 use Rattle.join_node.specs.contracts.groups.JoinCell as JoinCell
 use Rattle.join_node.specs.contracts.joins.Join as Join
 use Rattle.join_node.specs.contracts.unions.Union as Union
-use Rattle.select_nodes.specs.contracts.nodes.Selection as Selection
+use Rattle.select_nodes.specs.contracts.selection.Selection as Selection
 use Rattle.state_nodes.specs.contracts.change_detect.ChangeDetect as ChangeDetect
 use Rattle.state_nodes.specs.contracts.cumulative_sum.CumulativeSum as CumulativeSum
 use Rattle.state_nodes.specs.contracts.difference.Difference as Difference

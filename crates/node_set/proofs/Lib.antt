@@ -1,3 +1,4 @@
 pub mod DraftLaws
 pub mod Crossing
 pub mod SaysLaws
+pub mod NewLaws

@@ -1,5 +1,5 @@
 -- What nodes of each kind do, and what the node of any kind does.
-use Rattle.std.specs.Prelude.{ℕ, ℤ, List, Option}
+use Rattle.std.specs.Prelude.{◌≡◌, ℕ, ℤ, List, Option}
 use Rattle.kap_base.specs.Maps.{KeyMap}
 use Rattle.kap_base.specs.declared.value.Value.{Value}
 use Rattle.kap_base.specs.Tree.{Tree}
@@ -34,9 +34,8 @@ use Rattle.join_node.specs.JoinLaws.{join_goes_on}
 use Rattle.join_node.specs.Queues.{JoinKept, join_kept, join_step}
 use Rattle.join_node.specs.States.{kept_spelled}
 use Rattle.join_node.specs.Unions.{union_says, union_silent}
-use Rattle.select_nodes.specs.declared.nodes.Selection.{Selection}
-use Rattle.select_nodes.specs.Nodes.{silent}
-use Rattle.select_nodes.specs.Results.{is_batch, select_says}
+use Rattle.select_nodes.specs.declared.selection.Selection.{Selection}
+use Rattle.select_nodes.specs.Results.{is_batch, select_says, silent}
 use Rattle.state_nodes.specs.declared.change_detect.ChangeDetect.{ChangeDetect as DetectRule}
 use Rattle.state_nodes.specs.declared.cumulative_sum.CumulativeSum.{CumulativeSum as SumRule}
 use Rattle.state_nodes.specs.declared.difference.Difference.{Difference as DifferenceRule}
@@ -164,3 +163,8 @@ state_of (Eval n) = Other (Other (One (Other n.running)))
 state_of (Union n) = Other (Other (Other (One (One n.running))))
 state_of (Join n) = Other (Other (Other (One (Other n.running))))
 state_of (Select n) = Other (Other (Other (Other n.running)))
+
+-- it is the node of this spec, in its first state
+pub record IsNew (n : AnyNode) (spec : AnySpec) : Type 0 where
+  pub spec_is : spec_of n ≡ spec
+  pub state_is : state_of n ≡ any.first spec

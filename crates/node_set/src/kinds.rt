@@ -8,7 +8,7 @@ use basic_nodes::{GroupKind, PointKind};
 use eval_node::{Counts as Evaluations, Eval};
 use join_node::{Join, JoinCell, Union};
 use kap_base::{Bytes, Effect, Item, ItemList, NoMemory};
-use node_core::{Alone, Both, Grouped, Node, Numbered, Running, Seat, Table};
+use node_core::{Alone, Both, Grouped, Node, PlainNode, RuleNode, Running, Seat, Table};
 use select_nodes::Selection;
 use state_code::{CodeFault, Cursor};
 use state_nodes::{
@@ -16,12 +16,6 @@ use state_nodes::{
 };
 use std::alloc::Global;
 use window_node::{CountedGroup, CountedWindow, EdgeCell, EdgeWindow, SlidingCell, SlidingWindow};
-
-/// The node of a rule for groups.
-type RuleNode<R> = Numbered<Grouped<R>>;
-
-/// The node of a rule that keeps nothing.
-type PlainNode<P> = Numbered<Alone<P>>;
 
 /// Where a rule for groups sits.
 type RuleSeat<R> = Seat<Grouped<R>>;

@@ -7,7 +7,6 @@ mod kinds;
 mod laws;
 mod script_node;
 mod sends;
-mod sorts;
 mod tasks;
 
 pub use any::any_node;

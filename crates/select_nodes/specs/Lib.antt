@@ -8,7 +8,5 @@ pub mod Choices
 pub mod Results
 -- what the code keeps of the points that it passed
 pub mod Steps
--- the node of what a script hands to a select
-pub mod Nodes
 -- examples
 pub mod Rows

@@ -1,5 +1,5 @@
 -- What a select says of a batch.
-use Rattle.std.specs.Prelude.{◌≡◌, ◌⊎◌, ℕ, Bool, true, false, not, List, [], map, filter, zip, codes, Option, Some, None, is_some}
+use Rattle.std.specs.Prelude.{◌≡◌, ◌⊎◌, ℕ, Bool, true, false, not, List, [], map, filter, zip, codes, Option, Some, None, is_some, refl}
 use Rattle.std.specs.FinMap.{empty, insert}
 use Rattle.kap_base.specs.Groups.{BatchValue, GroupValue}
 use Rattle.kap_base.specs.Maps.{KeyMap, with_entries}
@@ -75,6 +75,11 @@ is_batch (bodies.Batch b) = true
 abbrev pub select_says : SelectSpec → ℕ → Body → Said
 select_says s port (bodies.Point p) = silence
 select_says s port (bodies.Batch b) = batch_says s b
+
+-- which is what the other sort of body is
+pub silent : (spec : SelectSpec) (port : ℕ) (body : Body) → is_batch body ≡ false → select_says spec port body ≡ silence
+silent spec port (bodies.Point p) e = refl
+silent spec port (bodies.Batch b) e = absurd cc
 
 -- a group has no measurement, or this one
 abbrev pub IsNamed : List ℕ → Option (List ℕ) → Type 0

@@ -5,15 +5,13 @@
 mod choices;
 mod distinct;
 mod laws;
-mod nodes;
 mod picks;
 mod readings;
 mod results;
-mod sends;
+mod selection;
 
 pub use laws::{
     examples_of_selects, first_goes_before_all, ranks_are_sorted, results_are_of_their_group,
     values_are_told_once,
 };
-pub use nodes::{SelectNode, Selection, build};
-pub use sends::send_select_node;
+pub use selection::Selection;

@@ -51,4 +51,3 @@ group_of_tests name dims values e =
       dims = first_of (are_dimensions dims) (are_tag_values dims values) rest;
       values = second_of (are_dimensions dims) (are_tag_values dims values) rest;
     }
-

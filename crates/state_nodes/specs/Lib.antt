@@ -6,7 +6,5 @@ pub mod ChangeDetects
 pub mod Differences
 pub mod CumulativeSums
 pub mod ElapsedTimes
--- the node of what a script hands to one
-pub mod Nodes
 -- examples
 pub mod Rows

@@ -1,10 +1,9 @@
--- The nodes of a graph as they run: what a further stamp makes of their states, and what they give with it.
+-- The nodes of a graph as they run: in their first states, and in those that their inputs so far make.
 use Rattle.std.specs.Prelude.{◌≡◌, ℕ, ⊤, List, [], ◌∷◌, ◌++◌, length}
 use Rattle.kap_base.specs.Points.{PointValue}
 use Rattle.kap_base.specs.declared.items.Item.{Item}
-use Rattle.kap_base.specs.declared.items.Effect.{Effect}
 use Rattle.node_core.specs.Meaning.{Given, Input, Answer, Move, fold}
-use Rattle.task_run.specs.Merging.{at_ports, merged}
+use Rattle.task_run.specs.Merging.{merged}
 use Rattle.task_run.specs.Graphs.{Placed, stamped_from, outs_of, lists_of, node_gives}
 
 -- a node of a graph with its state
@@ -16,24 +15,6 @@ pub record Active (P S : Type 0) : Type 0 where
 -- without its state
 abbrev pub placed : {P S : Type 0} → Active P S → Placed P
 placed a = record { spec = a.spec; parents = a.parents }
-
-module _ {P S : Type 0} (step : P → S → Input → Move S) where
-  -- what new points make of a node and what it gives, where the earlier nodes gave out these lists
-  abbrev pub moved : List Item → List (List Item) → Active P S → Move S
-  moved points outs a = fold (step a.spec) a.state (at_ports 0 (lists_of points outs a.parents))
-
-  -- nodes after new points, behind earlier ones that gave out these lists
-  abbrev pub nodes_after : List Item → List (List Item) → List (Active P S) → List (Active P S)
-  nodes_after points outs [] = []
-  nodes_after points outs (a ∷ acts) =
-      let m = moved points outs a in
-      record { spec = a.spec; state = m.state; parents = a.parents } ∷ nodes_after points (outs ++ m.given.items ∷ []) acts
-
-  -- their effects
-  abbrev pub effects_after : List Item → List (List Item) → List (Active P S) → List Effect
-  effects_after points outs [] = []
-  effects_after points outs (a ∷ acts) =
-      let m = moved points outs a in m.given.effects ++ effects_after points (outs ++ m.given.items ∷ []) acts
 
 -- each node is in its first state
 abbrev pub AreFirst : {P S : Type 0} → (P → S) → List (Active P S) → Type 0

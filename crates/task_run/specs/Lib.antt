@@ -12,5 +12,3 @@ pub mod Active
 pub mod Courses
 pub mod MoreLaws
 pub mod PointLaws
-pub mod Feeding
-pub mod Laid

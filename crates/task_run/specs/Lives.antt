@@ -1,17 +1,11 @@
 -- The effects and the drops of lives that run side by side.
-use Rattle.std.specs.Prelude.{ℕ, Bool, List, map, flat_map, length}
+use Rattle.std.specs.Prelude.{ℕ, List, map, flat_map, length}
 use Rattle.kap_base.specs.Points.{PointValue}
 use Rattle.kap_base.specs.declared.items.Effect.{Effect}
 use Rattle.node_core.specs.Meaning.{Given, Answer}
 use Rattle.task_run.specs.Stamps.{of_effect, with_stamp}
 use Rattle.task_run.specs.Merging.{stamps}
 use Rattle.task_run.specs.Graphs.{Placed, graph_gives}
-
--- the nodes of each life, and the points so far
-pub record RunValue (P : Type 0) : Type 0 where
-  pub lives : List (List (Placed P))
-  pub points : List PointValue
-  pub spent : Bool
 
 -- the effects with a stamp
 abbrev pub effects_with : ℕ → List Effect → List Effect

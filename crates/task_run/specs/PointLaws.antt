@@ -1,5 +1,5 @@
 -- What one point more adds to lives.
-use Rattle.std.proofs.Common.{◌≡◌, ℕ, zero, suc, ◌+◌, ◌≤◌, List, [], ◌∷◌, ◌++◌, map, length, refl, sym, ap, subst, ◌∙◌, append-nil, arith}
+use Rattle.std.proofs.Common.{◌≡◌, ℕ, zero, suc, ◌+◌, ◌≤◌, List, [], ◌∷◌, ◌++◌, map, length, refl, sym, ap, ◌∙◌, append-nil, arith}
 use Rattle.std.specs.Prelude.{flat_map}
 use Rattle.std.proofs.lemmas.List.Concat.{flat_map-append}
 use Rattle.kap_base.specs.Points.{PointValue}
@@ -10,10 +10,10 @@ use Rattle.node_core.specs.Meaning.{Given, Input, Answer, Move, given, fold}
 use Rattle.node_core.specs.Cut.{IsStamped}
 use Rattle.task_run.specs.Merging.{stamps, merged}
 use Rattle.task_run.specs.Graphs.{Placed, stamped_from, outs_of, lists_of, node_gives, gives_behind, graph_gives}
-use Rattle.task_run.specs.Lives.{node_effects_with, life_effects_with, effects_of}
-use Rattle.task_run.specs.Active.{Active, placed, nodes_after, effects_after, AreFirst, AreAt, IsAt}
+use Rattle.task_run.specs.Lives.{life_effects_with, effects_of}
+use Rattle.task_run.specs.Active.{Active, placed, AreFirst, AreAt, IsAt}
 use Rattle.task_run.specs.Stamps.{of_item, StampsUpTo}
-use Rattle.task_run.specs.MoreLaws.{Source, Part, AreParts, olds, wholes, parts_behind, parts_behind-are, gives-old, gives-new, effects-old, effects-new, all_at, all_effects}
+use Rattle.task_run.specs.MoreLaws.{Source, Part, AreParts, olds, wholes, parts_behind, parts_behind-are, gives-old, gives-new, effects-old}
 
 -- a point with a stamp
 abbrev pub stamped_point : ℕ → PointValue → Item
@@ -89,23 +89,6 @@ module _ {P : Type 0} (answer : P → Answer) (life number : P → ℕ) (stamped
       ∙ ap (λ (es : List Effect). effects_of answer lives ps ++ es) (append-nil (life_effects_with answer (suc (length ps)) lives (ps ++ p ∷ [])))
 
   module _ {S : Type 0} (first : P → S) (step : P → S → Input → Move S) (folds : (p : P) (xs : List Input) → (fold (step p) (first p) xs).given ≡ given (answer p) xs) where
-    -- the states that one point more makes
-    pub goes_on : (ps : List PointValue) (p : PointValue) (acts : List (Active P S)) → IsAt answer first step ps acts
-        → IsAt answer first step (ps ++ p ∷ []) (nodes_after step (stamped_point (suc (length ps)) p ∷ []) [] acts)
-    unfolding source_of
-    goes_on ps p acts at =
-        subst (λ (n : ℕ). AreAt answer first step n (stamped_from 1 (ps ++ p ∷ [])) [] (nodes_after step (stamped_point (suc (length ps)) p ∷ []) [] acts)) (sym (length-more ps p))
-        (all_at answer life number stamped first step folds (length ps) (source_of ps p) [] tt acts at)
-
-    -- the effects of its stamp
-    pub gives_on : (ps : List PointValue) (p : PointValue) (acts : List (Active P S)) → IsAt answer first step ps acts
-        → effects_after step (stamped_point (suc (length ps)) p ∷ []) [] acts ≡ node_effects_with (suc (length ps)) (graph_gives answer (ps ++ p ∷ []) (map placed acts))
-    unfolding source_of
-    gives_on ps p acts at =
-        all_effects answer life number stamped first step folds (length ps) (source_of ps p) [] tt acts at
-        ∙ sym (effects-new (length ps) (parts-of ps p (map placed acts)) (parts-are ps p (map placed acts)))
-        ∙ ap (λ (gs : List Given). node_effects_with (suc (length ps)) gs) (sym (graph-new ps p (map placed acts)))
-
     -- before the first point
     begins-at : (earlier : List Given) (acts : List (Active P S)) → AreFirst first acts → AreAt answer first step 0 [] earlier acts
     begins-at earlier [] h = tt

@@ -1,20 +1,12 @@
-//! Tasks that run on one thread, one point after the other, and that this gives what the nodes' functions give of whole lists.
+//! What the nodes of lives give of whole lists of points: plans of lives, and laws.
 #![tactic(auto)]
 
-mod drops;
-mod feeding;
 mod laws;
-mod lives;
-mod making;
 mod plans;
-mod running;
-mod tasks;
-mod trail;
 
 use kap_base::ItemList;
 pub use laws::{courses_go_on, effects_go_on, merging_orders, nodes_give_by_parents};
 pub use plans::LifePlan;
-pub use tasks::TaskRun;
 
 /// The numbers of nodes.
 pub type Ids = ItemList<u32>;

@@ -2,6 +2,7 @@
 
 ghost use Rattle.std.specs.Prelude.{◌≡◌, List, map};
 ghost use Rattle.kap_base.specs.declared.items.Event.{Event};
+ghost use Rattle.topic_core.specs.Rows.{BackToFine, FirstIsFine, GreatestOfIds, GreatestOfNone, RepeatedLevel, SharedId, TwoIds, TwoTopics};
 ghost use Rattle.topic_core.specs.Topics.{StandsFor, TopicsValue, Trans, event_of};
 
 /// Transitions stand for their events: taken as events again they make the same transitions, and what is kept of the one is what is
@@ -12,4 +13,16 @@ pub fn transition_laws()
         → StandsFor (map event_of (Trans events)) kept }
     ensures stood { (events : List Event) (kept : TopicsValue)
         → StandsFor (map event_of (Trans events)) kept → StandsFor events kept }
+{}
+
+/// Examples of the transitions of events, and of the level of a topic.
+pub fn examples_of_topics()
+    ensures first_is_fine { FirstIsFine }
+    ensures repeated_level { RepeatedLevel }
+    ensures back_to_fine { BackToFine }
+    ensures two_ids { TwoIds }
+    ensures two_topics { TwoTopics }
+    ensures shared_id { SharedId }
+    ensures greatest_of_ids { GreatestOfIds }
+    ensures greatest_of_none { GreatestOfNone }
 {}

@@ -11,7 +11,5 @@ pub mod Lists
 pub mod EdgeLaws
 pub mod SlidingLaws
 pub mod CountedLaws
--- the node of what a script hands to a window
-pub mod Nodes
 -- examples
 pub mod Rows

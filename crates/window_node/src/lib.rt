@@ -5,14 +5,11 @@ mod batches;
 mod counted;
 mod edges;
 mod laws;
-mod nodes;
-mod sends;
 mod sliding;
 mod spans;
 
 pub use counted::{CountedGroup, CountedWindow};
 pub use edges::{EdgeCell, EdgeGroup, EdgeWindow};
 pub use laws::{edges_are_set_by_points, examples_of_windows};
-pub use nodes::{WindowNode, build};
-pub use sends::send_window_node;
 pub use sliding::{SlidingCell, SlidingGroup, SlidingWindow};
+pub use spans::period_of;

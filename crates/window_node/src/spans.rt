@@ -20,8 +20,8 @@ pub(crate) fn time_behind(time: i64, period: &Period) -> i128
     i128::from(time) + i128::from(period.nanos())
 }
 
-/// The span as a period, where it isn't 0.
-pub(crate) fn period_of(span: &Span) -> Option<Period>
+/// A span as a period, or None where it is 0. A window by time whose every is 0 slides; else it has edges.
+pub fn period_of(span: &Span) -> Option<Period>
     ensures { result ≡ (if span.now == 0 then None else Some span.now) }
 {
     Period::from_nanos(span.nanos() as i64)

@@ -2,8 +2,5 @@ use Rattle.std.proofs.Common.{ap}
 use Rattle.node_core.specs.declared.both.Both.TheVariants.{One, Other}
 use Rattle.node_set.proofs.any.eval.Goals as goal
 
-pub returns-clause-spec : goal.returns-clause-spec
-returns-clause-spec c = ap (λ s. Other (Other (One (Other s)))) c.build-node.ensures.spec
-
-pub returns-clause-first : goal.returns-clause-first
-returns-clause-first c = ap (λ s. Other (Other (One (Other s)))) c.build-node.ensures.first
+pub returns : goal.returns
+returns c = record { spec_is = ap (λ s. Other (Other (One (Other s)))) c.rule_node.ensures.spec; state_is = ap (λ s. Other (Other (One (Other s)))) c.rule_node.ensures.first }

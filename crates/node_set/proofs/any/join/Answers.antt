@@ -1,0 +1,6 @@
+use Rattle.std.proofs.Common.{ap}
+use Rattle.node_core.specs.declared.both.Both.TheVariants.{One, Other}
+use Rattle.node_set.proofs.any.join.Goals as goal
+
+pub returns : goal.returns
+returns c = record { spec_is = ap (λ s. Other (Other (Other (One (Other s))))) c.rule_node.ensures.spec; state_is = ap (λ s. Other (Other (Other (One (Other s))))) c.rule_node.ensures.first }

@@ -1,0 +1,6 @@
+use Rattle.std.proofs.Common.{ap}
+use Rattle.node_core.specs.declared.both.Both.TheVariants.{One}
+use Rattle.node_set.proofs.any.state_count.Goals as goal
+
+pub returns : goal.returns
+returns c = record { spec_is = ap (λ s. One (One s)) c.rule_node.ensures.spec; state_is = ap (λ s. One (One s)) c.rule_node.ensures.first }
