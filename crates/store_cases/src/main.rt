@@ -7,6 +7,7 @@ mod disks;
 mod heads;
 mod logs;
 mod pieces;
+mod readers;
 mod records;
 mod stored;
 mod stores;

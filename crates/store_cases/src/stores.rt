@@ -1,10 +1,11 @@
 //! `store make`; `store add RECORD`; `store fill points SIZE COUNT` and `store fill many SIZE COUNT`: so many
 //! records of so many; `store open`: what it holds in numbers; `store tasks`, `store lives`, `store snap`;
-//! `store points`, `store transitions`, `store calls` (see `pieces.rt`); `store topics TOPIC`: the topic's
-//! level; `store crashes`: what a crash may leave.
+//! `store points`, `store transitions`, `store calls` (see `pieces.rt`), `store read`, `store behind` (see
+//! `readers.rt`); `store topics TOPIC`: the topic's level; `store crashes`: what a crash may leave.
 
 use crate::disks::PICKS;
 use crate::pieces::put_pieces;
+use crate::readers::{put_read, put_topics};
 use crate::records::{has_form, record_of};
 use crate::topics::put_level;
 use case_text::{LineFault, first_of, name_of, number, numbers, put_shown, text};
@@ -247,6 +248,21 @@ pub fn answer_store(
         }
         "points" | "transitions" | "calls" => {
             let outcome = put_pieces(alloc, disk, kind, &numbers(alloc, rest)?, to);
+            put_outcome(alloc, outcome, to)?
+        }
+        "read" => {
+            let outcome = put_read(alloc, disk, number(rest)?, to);
+            put_outcome(alloc, outcome, to)?
+        }
+        "behind" => {
+            let (topic, behind) = first_of(rest);
+            let outcome = put_topics(
+                alloc,
+                disk,
+                &text(alloc, topic)?,
+                &numbers(alloc, behind)?,
+                to,
+            );
             put_outcome(alloc, outcome, to)?
         }
         _ => return Err(LineFault::NoForm),
