@@ -9,7 +9,7 @@ use Rattle.state_code.specs.Spelling.{IsSpelling}
 use Rattle.node_core.specs.declared.node.Node.{Ghosts}
 use Rattle.node_core.specs.Cut.{IsStamped}
 use Rattle.node_core.specs.Meaning.{Input, fold, given}
-use Rattle.merge_node.proofs.ClosingLaws.{IsClosedBy}
+use Rattle.merge_node.specs.Merge.{IsClosedBy}
 use Rattle.flow_cells.specs.declared.parts.CellParts.{CellParts}
 use Rattle.flow_life.specs.Loads.{plan_now}
 use Rattle.flow_life.specs.Making.{nodes_of}
