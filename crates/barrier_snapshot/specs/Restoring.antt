@@ -8,8 +8,8 @@ use Rattle.flow_core.specs.Nets.{IsResting, NetValue}
 use Rattle.barrier_snapshot.specs.Loading.{AreInStates}
 
 module _ {N P S : Type 0} (g : Ghosts N P S) where
-  -- A net of these lives, at rest, whose nodes are in the states that the bytes hold, each also the saved one; its last barrier has
-  -- the stamp 0.
+  -- A net of these lives, at rest, whose nodes are in the states that the bytes hold, each also the saved one; its last
+  -- barrier has the stamp 0.
   pub record Restores (plans : List (PlanValue N)) (bytes : List ℕ) (net : NetValue N) : Type 0 where
     pub loaded : List (PlanValue N)
     pub are : AreInStates g plans bytes loaded

@@ -60,19 +60,21 @@ module _ {N P S : Type 0} (g : Ghosts N P S) where
     pub parents : parents_of other.life.cells ≡ parents_of l.life.cells
     pub states : map (λ c. g.state c.core.node) other.life.cells ≡ map (λ c. g.state c.core.node) l.life.cells
 
-  -- A life did what another one did since the load: it is where that one is, each cell has the effects of the other one's, and each
-  -- edge carried what the other one's carried.
+  -- A life did what another one did since the load: it is where that one is, each cell has the effects of the other
+  -- one's, and each edge carried what the other one's carried.
   pub record DidTheSame (l other : NumberedLife N) : Type 0 where
     pub alike : IsAlike l other
     pub effects : effects_since other.life.cells ≡ effects_since l.life.cells
-    pub edges : (j k : ℕ) (e f : InEdge) → in_of l.life.cells j k ≡ Some e → in_of other.life.cells j k ≡ Some f → received f.head ≡ received e.head
+    pub edges : (j k : ℕ) (e f : InEdge) → in_of l.life.cells j k ≡ Some e → in_of other.life.cells j k ≡ Some f
+        → received f.head ≡ received e.head
 
-  -- A life did what another one did behind a barrier: it is where that one is, each cell has the effects of the other one's with
-  -- stamps above the barrier, and each edge carried what the other one's carried behind it.
+  -- A life did what another one did behind a barrier: it is where that one is, each cell has the effects of the other
+  -- one's with stamps above the barrier, and each edge carried what the other one's carried behind it.
   pub record DidTheRest (upto : Stamp) (whole rest : NumberedLife N) : Type 0 where
     pub alike : IsAlike whole rest
     pub effects : effects_since rest.life.cells ≡ map (effects_behind upto) (effects_since whole.life.cells)
-    pub edges : (j k : ℕ) (e f : InEdge) → in_of whole.life.cells j k ≡ Some e → in_of rest.life.cells j k ≡ Some f → received f.head ≡ msgs_behind upto (received e.head)
+    pub edges : (j k : ℕ) (e f : InEdge) → in_of whole.life.cells j k ≡ Some e → in_of rest.life.cells j k ≡ Some f
+        → received f.head ≡ msgs_behind upto (received e.head)
 
   -- and so each life of a net
   pub record DidTheRestOf (upto : Stamp) (whole rest : List (NumberedLife N)) : Type 0 where

@@ -16,8 +16,9 @@ ghost use Rattle.barrier_snapshot.specs.Snapshots.{IsSnapshot};
 
 use node_core::Node;
 
-/// Lives that are restored from a snapshot, by plans of the same nodes, are where their points had brought them there. And what is
-/// captured of lives at rest, at the last barrier of their load, is a snapshot of where their points have brought them.
+/// Lives that are restored from a snapshot, by plans of the same nodes, are where their points had brought
+/// them there. And what is captured of lives at rest, at the last barrier of their load, is a snapshot of
+/// where their points have brought them.
 pub fn snapshots_are_whole<N: Node>()
     ensures restored { (plans : List (PlanValue N)) (bytes : List ℕ) (net : NetValue N)
         (courses : List (Course N.Spec)) → Restores N.Node plans bytes net

@@ -48,8 +48,9 @@ module _ {N P S : Type 0} (g : Ghosts N P S) where
   abbrev pub run_of : Core N → List Entry → Run S
   run_of base handled = run (g.step (g.spec base.node)) (begun (g.state base.node) base.passed) handled
 
-  -- What is handled is what the merge determines of the received lists, and the buffer is the rest of them. The state, what was
-  -- sent and waits, the effects and the saved state are those of the run on what is handled, from the core at the load.
+  -- What is handled is what the merge determines of the received lists, and the buffer is the rest of them. The state,
+  -- what was sent and waits, the effects and the saved state are those of the run on what is handled, from the core at
+  -- the load.
   pub record KeptBy (base : Core N) (lists buffer : Lists) (c : Core N) : Type 0 where
     pub handled : List Entry
     pub merged : Merges lists handled buffer

@@ -8,7 +8,8 @@ use Rattle.node_core.specs.Meaning.{Input, Move}
 use Rattle.merge_node.specs.Merge.{Entry}
 use Rattle.flow_cells.specs.Outs.{item_msgs}
 
--- the state, what was given out, with each barrier behind the items up to it, the effects, and the last barrier with the state there
+-- the state, what was given out, with each barrier behind the items up to it, the effects, and the last barrier with
+-- the state there
 pub record Run (S : Type 0) : Type 0 where
   pub state : S
   pub outs : List Msg
@@ -26,7 +27,8 @@ module _ {S : Type 0} (step : S → Input → Move S) where
   reacted r parent (messages.Item x) =
       let m = step r.state (parent, x) in
       record r { state = m.state; outs = r.outs ++ item_msgs m.given.items; effects = r.effects ++ m.given.effects }
-  reacted r parent (messages.Barrier b) = record r { outs = r.outs ++ messages.Barrier b ∷ []; saved = r.state; passed = b }
+  reacted r parent (messages.Barrier b) =
+      record r { outs = r.outs ++ messages.Barrier b ∷ []; saved = r.state; passed = b }
 
   -- the run goes on over a list of messages, one after the other
   abbrev pub run : Run S → List Entry → Run S

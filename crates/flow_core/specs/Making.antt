@@ -28,8 +28,8 @@ CanAddAll ports at (n ∷ nodes) [] = ⊥
 CanAddAll ports at (n ∷ nodes) (ps ∷ pss) = CanAdd at (ports n) ps × CanAddAll ports (at + 1) nodes pss
 
 module _ {N P S : Type 0} (g : Ghosts N P S) where
-  -- A life of a plan, with its number, nodes and parents. It is at rest, no edge has carried a message, each saved state is the
-  -- state, and the last barrier that each cell passed has this stamp.
+  -- A life of a plan, with its number, nodes and parents. It is at rest, no edge has carried a message, each saved
+  -- state is the state, and the last barrier that each cell passed has this stamp.
   pub record IsLifeBehind (stamp : ℕ) (plan : PlanValue N) (l : NumberedLife N) : Type 0 where
     pub number : l.number ≡ plan.life
     pub nodes : nodes_of l.life.cells ≡ plan.nodes

@@ -65,7 +65,8 @@ fn load_stream<N: Node>(alloc: Global, cell: &mut Cell<N>, source: Vec<Msg>) -> 
     cell.load(alloc, source)
 }
 
-/// A load begins on some cells. The last one without inputs gets the points and barriers themselves, each other one copies.
+/// A load begins on some cells. The last one without inputs gets the points and barriers themselves, each
+/// other one copies.
 fn load_cells<N: Node>(
     alloc: Global,
     cells: &mut [Cell<N>],
