@@ -17,8 +17,16 @@ use Rattle.basic_nodes.specs.Streams.{sees}
 
 -- a point of `cpu`, grouped by its measurement
 abbrev pub point : PointValue
-point = record { db = codes "d"; rp = codes "r"; name = codes "cpu"; tags = empty; fields = empty; dims = [];
-    by_name = true; time = pos 0 }
+point = record {
+  db = codes "d";
+  rp = codes "r";
+  name = codes "cpu";
+  tags = empty;
+  fields = empty;
+  dims = [];
+  by_name = true;
+  time = pos 0;
+}
 
 -- it came
 abbrev pub came : Came
@@ -73,8 +81,14 @@ FalseIsSilent = group_says (Where true_at_second) (came ∷ came ∷ []) 0 point
 
 -- `from()` without properties
 abbrev pub all : Selection
-all = record { database = None; policy = None; measurement = None; conditions = []; grouping = By [];
-    by_measurement = false }
+all = record {
+  database = None;
+  policy = None;
+  measurement = None;
+  conditions = [];
+  grouping = By [];
+  by_measurement = false;
+}
 
 -- it groups by nothing, whatever the point was grouped by
 abbrev pub GroupsAnew : Type 0

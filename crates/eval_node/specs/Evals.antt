@@ -62,7 +62,7 @@ abbrev pub evaluations_behind : EvalSpec Tree → ℕ → List Came → List Cam
 evaluations_behind eval place before [] = 0
 evaluations_behind eval place before (c ∷ cs) =
     (if is_reached eval.results (counts_in eval before) c.1 place then 1 else 0) + evaluations_behind eval place (before
-        ++ c ∷ []) cs
+    ++ c ∷ []) cs
 
 -- at how many of a group's points it is evaluated
 abbrev pub evaluations : EvalSpec Tree → ℕ → List Came → ℕ

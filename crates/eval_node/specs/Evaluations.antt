@@ -42,4 +42,4 @@ abbrev pub evaluated : List (EvalResult Tree) → List ℕ → PointValue → Ev
 evaluated [] counts p = record { counts = counts; point = Some p }
 evaluated (x ∷ xs) counts p =
     followed (first_count counts) (other_counts counts) x.name p (evaluated xs)
-        (value_or_none (val x.lambda (first_count counts) p))
+    (value_or_none (val x.lambda (first_count counts) p))

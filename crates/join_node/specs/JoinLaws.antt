@@ -67,7 +67,7 @@ module _ (j : JoinSpec) where
   on_time-more done (x ∷ cs) c =
       ap (λ (l : List Came). unless_late j done x ++ l) (on_time-more (done ++ x ∷ []) cs c)
       ∙ sym (append_assoc (unless_late j done x) (on_time_behind j (done ++ x ∷ []) cs)
-          (unless_late j ((done ++ x ∷ []) ++ cs) c))
+      (unless_late j ((done ++ x ∷ []) ++ cs) c))
       ∙ ap (λ (l : List Came). on_time_behind j done (x ∷ cs) ++ unless_late j l c) (append_assoc done (x ∷ []) cs)
 
   on_late : (cs : List Came) (c : Came) → is_late j cs c ≡ true → on_time j (cs ++ c ∷ []) ≡ on_time j cs
@@ -115,9 +115,9 @@ module _ (j : JoinSpec) where
   tells-more cs c tells time =
       let all : some_above time (cs ++ c ∷ []) ≡ (is_below time (latest j cs) || (int_lt time (rounded j c) || false)) =
       list_any-append (λ b. int_lt time (rounded j b)) cs (c ∷ [])
-          ∙ ap (λ (b : Bool). b || (int_lt time (rounded j c) || false)) (tells time) in
+      ∙ ap (λ (b : Bool). b || (int_lt time (rounded j c) || false)) (tells time) in
       elim (is_late j cs c) as (λ b. is_late j cs c ≡ b
-          → some_above time (cs ++ c ∷ []) ≡ is_below time (latest j (cs ++ c ∷ []))) [
+      → some_above time (cs ++ c ∷ []) ≡ is_below time (latest j (cs ++ c ∷ []))) [
         | true ↦ λ e. all ∙ below_late time (rounded j c) (latest j cs) (sym (tells (rounded j c)) ∙ e)
             ∙ ap (is_below time) (sym (latest_late cs c e))
         | false ↦ λ e. all ∙ below_new time (rounded j c) (latest j cs) (sym (tells (rounded j c)) ∙ e)
@@ -179,9 +179,9 @@ module _ (j : JoinSpec) where
   filled_is : (time : ℤ) (s : Set) → filled_by j time (if_full s) ≡ filled j time s
   filled_is time s =
       elim (is_full s) as (λ b. filled_by j time (cond b (Some s) None) ≡ cond b (result_of j time s) []) [
-    | true ↦ refl
-    | false ↦ refl
-  ]
+        | true ↦ refl
+        | false ↦ refl
+      ]
 
   -- a point that isn't late comes to what waits with its rounded time
   arrived_is : (cs : List Came) (port : ℕ) (p : PointValue) (before : List Body) (queues : Columns) → port < parents j
@@ -201,12 +201,12 @@ module _ (j : JoinSpec) where
       } =
       ap (place port p) is ∙ place_is (parents j) port old p lt in
       ap (λ (d : Placed). turn (Some (record { time = time; queues = d.queues }))
-          (gives (before ++ filled_by j time d.filled))) here
+      (gives (before ++ filled_by j time d.filled))) here
       ∙ (λ i. turn (Some (record { time = time; queues = waiting (columns (parents j) (more i)) }))
       (gives (before
-          ++ filled_by j time (if_full (set_at (length (points_at port old)) (columns (parents j) (more i)))))))
+      ++ filled_by j time (if_full (set_at (length (points_at port old)) (columns (parents j) (more i)))))))
       ∙ (λ i. turn (option_map (kept_at j (cs ++ c ∷ [])) (sym (latest_new cs c fresh) i))
-          (gives (before ++ filled_is time (own_set j cs c) i)))
+      (gives (before ++ filled_is time (own_set j cs c) i)))
 
   late_says : (cs : List Came) (c : Came) → is_late j cs c ≡ true → heard_says j cs c ≡ a_drop
   late_says cs c e =
@@ -218,14 +218,16 @@ module _ (j : JoinSpec) where
       → heard_says j cs c ≡ gives (before ++ filled j (rounded j c) (own_set j cs c))
   fresh_says cs c before e is =
       ap (λ (b : Bool). cond b a_drop
-          (gives (closed j cs (rounded j c) (latest j cs) ++ filled j (rounded j c) (own_set j cs c)))) e
+      (gives (closed j cs (rounded j c) (latest j cs) ++ filled j (rounded j c) (own_set j cs c)))) e
       ∙ ap (λ (l : List Body). gives (l ++ filled j (rounded j c) (own_set j cs c))) is
 
   kept_late : (cs : List Came) (c : Came) → is_late j cs c ≡ true → kept_in (cs ++ c ∷ []) ≡ kept_in cs
   kept_late cs c e =
       (λ i. option_map
-      (λ (time : ℤ). record { time = time;
-      queues = waiting (columns (parents j) (with_time j time (on_late cs c e i))) })
+      (λ (time : ℤ). record {
+        time = time;
+        queues = waiting (columns (parents j) (with_time j time (on_late cs c e i)));
+      })
       (latest_late cs c e i))
 
   -- the greatest rounded time so far is this
@@ -267,20 +269,20 @@ module _ (j : JoinSpec) where
         ∙ not_below t) (lt_fact t (rounded j c) newer) in
         let queues : emptied (waiting (columns_at j t cs)) ≡ waiting (columns_at j (rounded j c) cs) =
         emptied_is (parents j) (with_time j t (on_time j cs))
-            ∙ ap (λ (l : List Came). waiting (columns (parents j) l)) (sym none) in
+        ∙ ap (λ (l : List Came). waiting (columns (parents j) l)) (sym none) in
         let given : closed j cs (rounded j c) (latest j cs) ≡ unfilled j t (sets (waiting (columns_at j t cs))) =
         ap (closed j cs (rounded j c)) e
-            ∙ ap (λ (b : Bool). cond b (unfilled j t (filter is_open (sets (columns_at j t cs)))) []) newer
+        ∙ ap (λ (b : Bool). cond b (unfilled j t (filter is_open (sets (columns_at j t cs)))) []) newer
         ∙ ap (unfilled j t) (open_wait (columns_at j t cs)) in
         ap (λ (b : Bool). cond b (turn (Some (kept_at j cs t)) a_drop)
         (cond (int_lt t (rounded j c)) (risen j (kept_at j cs t) (rounded j c) port p)
         (arrived j (rounded j c) [] (waiting (columns_at j t cs)) port p))) fresh
         ∙ ap (λ (b : Bool). cond b (risen j (kept_at j cs t) (rounded j c) port p)
-            (arrived j (rounded j c) [] (waiting (columns_at j t cs)) port p)) newer
+        (arrived j (rounded j c) [] (waiting (columns_at j t cs)) port p)) newer
         ∙ arrived_is cs port p (unfilled j t (sets (waiting (columns_at j t cs))))
-            (emptied (waiting (columns_at j t cs))) lt is queues
+        (emptied (waiting (columns_at j t cs))) lt is queues
         ∙ ap (turn (kept_in (cs ++ c ∷ [])))
-            (sym (fresh_says cs c (unfilled j t (sets (waiting (columns_at j t cs)))) is given))
+        (sym (fresh_says cs c (unfilled j t (sets (waiting (columns_at j t cs)))) is given))
 
     same_comes : (t : ℤ) → latest j cs ≡ Some t → int_lt (rounded j c) t ≡ false → int_lt t (rounded j c) ≡ false
         → Right (Some t)
@@ -289,12 +291,12 @@ module _ (j : JoinSpec) where
         let time : t ≡ rounded j c = same_number t (rounded j c) same fresh in
         let given : closed j cs (rounded j c) (latest j cs) ≡ [] =
         ap (closed j cs (rounded j c)) e
-            ∙ ap (λ (b : Bool). cond b (unfilled j t (filter is_open (sets (columns_at j t cs)))) []) same in
+        ∙ ap (λ (b : Bool). cond b (unfilled j t (filter is_open (sets (columns_at j t cs)))) []) same in
         ap (λ (b : Bool). cond b (turn (Some (kept_at j cs t)) a_drop)
         (cond (int_lt t (rounded j c)) (risen j (kept_at j cs t) (rounded j c) port p)
         (arrived j (rounded j c) [] (waiting (columns_at j t cs)) port p))) fresh
         ∙ ap (λ (b : Bool). cond b (risen j (kept_at j cs t) (rounded j c) port p)
-            (arrived j (rounded j c) [] (waiting (columns_at j t cs)) port p)) same
+        (arrived j (rounded j c) [] (waiting (columns_at j t cs)) port p)) same
         ∙ arrived_is cs port p [] (waiting (columns_at j t cs)) lt is (ap (λ (z : ℤ). waiting (columns_at j z cs)) time)
         ∙ ap (turn (kept_in (cs ++ c ∷ []))) (sym (fresh_says cs c [] is given))
 
@@ -323,7 +325,7 @@ module _ (j : JoinSpec) where
   -- What is kept of a list goes on as the definition says.
   pub goes_on : (before : List Came) (port : ℕ) (p : PointValue)
       → join_step j (join_kept j before) port p
-          ≡ record { state = join_kept j (before ++ (port, p) ∷ []); said = join_says j before port p }
+      ≡ record { state = join_kept j (before ++ (port, p) ∷ []); said = join_says j before port p }
   goes_on before port p =
       let c : Came = (port, p) in
       elim (is_heard j c) as
@@ -341,5 +343,5 @@ module _ (j : JoinSpec) where
 -- what is kept, and what is said, of one point more
 pub join_goes_on : (j : JoinSpec) (before : List Came) (port : ℕ) (p : PointValue)
     → join_step j (join_kept j before) port p
-        ≡ record { state = join_kept j (before ++ (port, p) ∷ []); said = join_says j before port p }
+    ≡ record { state = join_kept j (before ++ (port, p) ∷ []); said = join_says j before port p }
 join_goes_on = goes_on

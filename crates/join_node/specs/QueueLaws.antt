@@ -82,8 +82,8 @@ open_in [] others = all_open ([] ∷ others) refl (numbers_from 0 (most ([] ∷ 
 open_in (p ∷ ps) others =
     elim (is_ready others) as
     (λ b. is_ready others ≡ b
-        → filter is_open (sets ((p ∷ ps) ∷ others))
-        ≡ sets (cond b (waiting_in ps (rests others)) ((p ∷ ps) ∷ others))) [
+    → filter is_open (sets ((p ∷ ps) ∷ others))
+    ≡ sets (cond b (waiting_in ps (rests others)) ((p ∷ ps) ∷ others))) [
       | true ↦ λ e. ap (filter is_open) (sets_next ((p ∷ ps) ∷ others) refl)
           ∙ first_full (set_at 0 ((p ∷ ps) ∷ others)) (sets (ps ∷ rests others)) e
           ∙ open_in ps (rests others)
@@ -177,7 +177,7 @@ waits_more p ps others e = ap (λ (b : Bool). cond b (waiting_in ps (rests other
 -- of the first parent
 place_first : (p : PointValue) (ps : List PointValue) (others : Columns)
     → place 0 p (waiting_in ps others)
-        ≡ placed (waiting_in (ps ++ p ∷ []) others) (if_full (set_at (length ps) ((ps ++ p ∷ []) ∷ others)))
+    ≡ placed (waiting_in (ps ++ p ∷ []) others) (if_full (set_at (length ps) ((ps ++ p ∷ []) ∷ others)))
 place_first p [] others =
     let s : Set = Some p ∷ set_at 0 others in
     elim (is_ready others) as
@@ -193,44 +193,44 @@ place_first p (x ∷ ps) others =
     (placed (cond b (waiting_in (ps ++ p ∷ []) (rests others)) more) (if_full (set_at (suc (length ps)) more)))) [
       | true ↦ λ e. place_first p ps (rests others)
           ∙ ap (λ (s : Set). placed (waiting_in (ps ++ p ∷ []) (rests others)) (if_full s))
-              (sym (set_rest (length ps) more))
+          (sym (set_rest (length ps) more))
       | false ↦ λ e. settled_waits more e
           ∙ ap (λ (o : Option Set). placed more o)
-              (sym (is_no_full (set_at (suc (length ps)) more) (not_full (suc (length ps)) more e)))
+          (sym (is_no_full (set_at (suc (length ps)) more) (not_full (suc (length ps)) more e)))
     ] refl
 
 -- of a later one
 place_later : (q : ℕ) (p : PointValue) (ps : List PointValue) (others : Columns) → q < length others
     → place (suc q) p (waiting_in ps others)
-        ≡ placed (waiting_in ps (push q p others)) (if_full (set_at (len_at q others) (ps ∷ push q p others)))
+    ≡ placed (waiting_in ps (push q p others)) (if_full (set_at (len_at q others) (ps ∷ push q p others)))
 place_later q p [] others lt = refl
 place_later q p (x ∷ ps) others lt =
     let more : Columns = push q p others in
     let all : Columns = (x ∷ ps) ∷ more in
     elim (is_ready others) as
     (λ b. is_ready others ≡ b
-        → ◌≡◌ {A = Placed} (place (suc q) p (cond b (waiting_in ps (rests others)) ((x ∷ ps) ∷ others)))
+    → ◌≡◌ {A = Placed} (place (suc q) p (cond b (waiting_in ps (rests others)) ((x ∷ ps) ∷ others)))
     (placed (waiting_in (x ∷ ps) more) (if_full (set_at (len_at q others) all)))) [
       | true ↦ λ e.
           let same : rests more ≡ push q p (rests others) = rests_push q p others e in
           let long : len_at q others ≡ suc (len_at q (rests others)) = ready_len q others e lt in
           let waits : waiting_in (x ∷ ps) more
-              ≡ waiting_in ps (push q p (rests others)) = waits_more x ps more (ready_push q p others e)
+          ≡ waiting_in ps (push q p (rests others)) = waits_more x ps more (ready_push q p others e)
           ∙ ap (waiting_in ps) same in
           let own : set_at (len_at q others) all ≡ set_at (len_at q (rests others)) (ps ∷ push q p (rests others)) =
           ap (λ (k : ℕ). set_at k all) long ∙ set_rest (len_at q (rests others)) all
-              ∙ ap (λ (l : Columns). set_at (len_at q (rests others)) (ps ∷ l)) same in
+          ∙ ap (λ (l : Columns). set_at (len_at q (rests others)) (ps ∷ l)) same in
           place_later q p ps (rests others) (omega (arith, length-rests others))
-              ∙ sym (λ i. placed (waits i) (if_full (own i)))
+          ∙ sym (λ i. placed (waits i) (if_full (own i)))
       | false ↦ λ e.
           elim (is_ready more) as
           (λ r. is_ready more ≡ r
-              → ◌≡◌ {A = Placed} (cond r (placed (ps ∷ rests more) (Some (set_at 0 all))) (placed all None))
+          → ◌≡◌ {A = Placed} (cond r (placed (ps ∷ rests more) (Some (set_at 0 all))) (placed all None))
           (placed (cond r (waiting_in ps (rests more)) all) (if_full (set_at (len_at q others) all)))) [
             | true ↦ λ r.
                 let none : len_at q others ≡ 0 = first_push q p others e r in
                 let full : if_full (set_at (len_at q others) all)
-                    ≡ Some (set_at 0 all) = ap (λ (k : ℕ). if_full (set_at k all)) none
+                ≡ Some (set_at 0 all) = ap (λ (k : ℕ). if_full (set_at k all)) none
                 ∙ is_some_full (set_at 0 all) r in
                 sym (λ i. placed (waits_first ps (rests more) (spent_push q p others e r) i) (full i))
             | false ↦ λ r. ap (λ (o : Option Set). placed all o)
@@ -255,9 +255,9 @@ points-more : (port q : ℕ) (cs : List Came) (p : PointValue) → points_at por
 points-more port q cs p =
     ap (map (λ (c : Came). c.1)) (filter-append (λ (c : Came). c.0 == port) cs ((q, p) ∷ []))
     ∙ map-append (λ (c : Came). c.1) (filter (λ (c : Came). c.0 == port) cs)
-        (filter (λ (c : Came). c.0 == port) ((q, p) ∷ []))
+    (filter (λ (c : Came). c.0 == port) ((q, p) ∷ []))
     ∙ elim (q == port) as (λ b. points_at port cs
-        ++ map (λ (c : Came). c.1) (cond b ((q, p) ∷ []) []) ≡ points_at port cs ++ cond b (p ∷ []) []) [
+    ++ map (λ (c : Came). c.1) (cond b ((q, p) ∷ []) []) ≡ points_at port cs ++ cond b (p ∷ []) []) [
       | true ↦ refl
       | false ↦ refl
     ]
@@ -346,7 +346,7 @@ emptied-in : (ps : List PointValue) (others : Columns) → emptied (waiting_in p
 emptied-in [] others = refl
 emptied-in (p ∷ ps) others =
     elim (is_ready others) as
-        (λ b. emptied (cond b (waiting_in ps (rests others)) ((p ∷ ps) ∷ others)) ≡ [] ∷ emptied others) [
+    (λ b. emptied (cond b (waiting_in ps (rests others)) ((p ∷ ps) ∷ others)) ≡ [] ∷ emptied others) [
       | true ↦ emptied-in ps (rests others) ∙ ap (λ (l : Columns). [] ∷ l) (emptied_rests others)
       | false ↦ refl
     ]

@@ -85,8 +85,10 @@ filled_by j time (Some s) = result_of j time s
 abbrev pub arrived : JoinSpec → ℤ → List Body → Columns → ℕ → PointValue → Turn (Option JoinKept)
 arrived j time before queues port p =
     let placed = place port p queues in
-    record { state = Some (record { time = time; queues = placed.queues });
-        said = gives (before ++ filled_by j time placed.filled) }
+    record {
+      state = Some (record { time = time; queues = placed.queues });
+      said = gives (before ++ filled_by j time placed.filled);
+    }
 
 -- a point with a greater rounded time comes: the sets there that aren't full are given
 abbrev pub risen : JoinSpec → JoinKept → ℤ → ℕ → PointValue → Turn (Option JoinKept)

@@ -16,13 +16,26 @@ use Rattle.join_node.specs.Results.{result_of}
 -- two parents, with a tolerance of a second
 abbrev pub seconds_joined : Fill → JoinSpec
 seconds_joined fill =
-    record { prefixes = (97 ∷ []) ∷ (98 ∷ []) ∷ []; tolerance = 1000000000; fill = fill; stream_name = None;
-    delimiter = None }
+    record {
+      prefixes = (97 ∷ []) ∷ (98 ∷ []) ∷ [];
+      tolerance = 1000000000;
+      fill = fill;
+      stream_name = None;
+      delimiter = None;
+    }
 
 -- a point of this time
 abbrev pub at : ℕ → PointValue
-at millis = record { db = []; rp = []; name = []; tags = empty; fields = empty; dims = []; by_name = false;
-    time = pos (millis * 1000000) }
+at millis = record {
+  db = [];
+  rp = [];
+  name = [];
+  tags = empty;
+  fields = empty;
+  dims = [];
+  by_name = false;
+  time = pos (millis * 1000000);
+}
 
 -- of a parent
 abbrev pub from_a : ℕ → Came
@@ -52,7 +65,7 @@ abbrev pub LatePoint : Type 0
 LatePoint =
     Says fills.None (from_a 499 ∷ from_a 500 ∷ from_b 200 ∷ from_b 1100 ∷ from_a 900 ∷ from_b 1400 ∷ [])
     (gives [] ∷ gives [] ∷ a_drop ∷ gives
-        (given (seconds_joined fills.None) 1 ((Some (at 500), Some (at 1100)) ∷ [])) ∷ gives [] ∷ gives
+    (given (seconds_joined fills.None) 1 ((Some (at 500), Some (at 1100)) ∷ [])) ∷ gives [] ∷ gives
     (given (seconds_joined fills.None) 1 ((Some (at 900), Some (at 1400)) ∷ [])) ∷ [])
 
 -- the sets that aren't full are given at the first point of a later second, in order, and no sooner

@@ -38,9 +38,12 @@ regrouped name g = record g { name = option_map (λ old. name) g.name }
 pub group_renamed : (name : List ℕ) (p : PointValue) → group_of (renamed (Some name) p) ≡ regrouped name (group_of p)
 group_renamed name p = elim p.by_name as
     (λ b. ◌≡◌ {A = GroupValue}
-        (record { name = (if b then Some name else None); dims = (group_of p).dims; values = (group_of p).values })
-    (record { name = option_map (λ old. name) (if b then Some p.name else None); dims = (group_of p).dims;
-        values = (group_of p).values })) [
+    (record { name = (if b then Some name else None); dims = (group_of p).dims; values = (group_of p).values })
+    (record {
+      name = option_map (λ old. name) (if b then Some p.name else None);
+      dims = (group_of p).dims;
+      values = (group_of p).values;
+    })) [
       | true ↦ refl
       | false ↦ refl
     ]

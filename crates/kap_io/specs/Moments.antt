@@ -29,7 +29,7 @@ module _ {D : Type 0} (moment : D → ℕ) (may_leave : D → Image → Type 0) 
   pub one_call : (old new : D) (becomes : Image → Image → Type 0)
       → Elapses (moment old) (moment new) (left_since old) (left_since new) (may_leave new)
       → ((c : Image) → may_leave new c → Reached (may_leave old) becomes c)
-          → Moments moment may_leave left_since old new becomes
+      → Moments moment may_leave left_since old new becomes
   one_call old new becomes time reached = record {
     later = time.later;
     now = reached;
@@ -41,7 +41,7 @@ module _ {D : Type 0} (moment : D → ℕ) (may_leave : D → Image → Type 0) 
       → Moments moment may_leave left_since old mid first
       → Moments moment may_leave left_since mid new second
       → ((a b : Image) → may_leave old a → first a b → both a b)
-          → ((a b c : Image) → may_leave old a → first a b → may_leave mid b → second b c → both a c)
+      → ((a b c : Image) → may_leave old a → first a b → may_leave mid b → second b c → both a c)
       → Moments moment may_leave left_since old new both
   then_run old mid new first second both one two sooner later = record {
     later = omega (arith, one.later, two.later);
@@ -57,8 +57,11 @@ module _ {D : Type 0} (moment : D → ℕ) (may_leave : D → Image → Type 0) 
       after : (c : Image) → Reached (may_leave mid) second c → Reached (may_leave old) both c
       after c r =
           let start = one.now r.origin r.was in
-          record { origin = start.origin; was = start.was;
-              how = later start.origin r.origin c start.was start.how r.was r.how }
+          record {
+            origin = start.origin;
+            was = start.was;
+            how = later start.origin r.origin c start.was start.how r.was r.how;
+          }
 
   -- a run, by what is known of the images at its start
   pub weaker : (old new : D) (fine coarse : Image → Image → Type 0) → Moments moment may_leave left_since old new fine
@@ -90,7 +93,7 @@ module _ {D : Type 0} (seen : D → Image) (moment : D → ℕ) (may_leave : D �
 
   pub quiet_call : (old new : D) → seen new ≡ seen old → ((c : Image) → may_leave new c → may_leave old c)
       → Elapses (moment old) (moment new) (left_since old) (left_since new) (may_leave new)
-          → Quiet seen moment may_leave left_since old new
+      → Quiet seen moment may_leave left_since old new
   quiet_call old new reads images time = record {
     reads = reads;
     moments = one_call moment may_leave left_since old new Same time
@@ -119,7 +122,7 @@ module _ {D : Type 0} (moment : D → ℕ) (may_leave : D → Image → Type 0) 
   -- a call that changes nothing, where the file has P
   pub stays : (file : List ℕ) (old new : D) → OnlyIn part file (may_leave old) → P file
       → Elapses (moment old) (moment new) (left_since old) (left_since new) (may_leave new)
-          → ((c : Image) → may_leave new c → may_leave old c)
+      → ((c : Image) → may_leave new c → may_leave old c)
       → Moments moment may_leave left_since old new (On part (λ _ f. P f))
   stays file old new only has time images =
       one_call moment may_leave left_since old new _ time
@@ -136,8 +139,10 @@ module _ {D : Type 0} (moment : D → ℕ) (may_leave : D → Image → Type 0) 
       → Moments moment may_leave left_since old new (On part (λ _ f. P f))
   first_step becomes file old new only run has =
       weaker moment may_leave left_since old new _ _ run
-      (λ a b was how. record { step = has (b part) (subst (λ (f : List ℕ). becomes f (b part)) (only a was) how.step);
-          elsewhere = how.elsewhere })
+      (λ a b was how. record {
+        step = has (b part) (subst (λ (f : List ℕ). becomes f (b part)) (only a was) how.step);
+        elsewhere = how.elsewhere;
+      })
 
   -- the same, behind a run whose outcomes have P
   pub then_step : (becomes : List ℕ → List ℕ → Type 0) (file : List ℕ) (old mid new : D)

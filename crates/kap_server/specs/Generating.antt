@@ -45,4 +45,4 @@ abbrev pub Summed : {P : Type 0} → (P → Answer) → Planned P → List ℕ �
     → Option (List ℕ) → Type 0
 Summed answer planned refused n pairs result w v =
     SumsTasks answer planned n pairs result w v
-        ⊎ (RefusesPairs refused pairs result None None w v ⊎ RanOut result None None w v)
+    ⊎ (RefusesPairs refused pairs result None None w v ⊎ RanOut result None None w v)

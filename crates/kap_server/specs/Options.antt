@@ -18,7 +18,7 @@ has_leading_zero word = slice_index word 0 == 48 && nat_lt 1 (length word)
 abbrev pub number_in : List ℕ → Option ℕ
 number_in word =
     if are_digits word && not (has_leading_zero word) && nat_lt (digits_value 10 word) (2 ^ 32)
-        then Some (digits_value 10 word) else None
+    then Some (digits_value 10 word) else None
 
 -- the number, where it lies within limits
 abbrev pub within : ℕ → ℕ → Option ℕ → Option ℕ
@@ -38,8 +38,12 @@ no_options = record { counts = false; workers = None; schedule = None; capacity 
 -- with `--counts`, where it wasn't given before
 abbrev pub with_counts : ReplayOptions → Option ReplayOptions
 with_counts options = if options.counts then None
-    else Some (record { counts = true; workers = options.workers; schedule = options.schedule;
-    capacity = options.capacity })
+    else Some (record {
+      counts = true;
+      workers = options.workers;
+      schedule = options.schedule;
+      capacity = options.capacity;
+    })
 
 -- with this order of a net, if there is one
 abbrev pub set_schedule : ReplayOptions → Option ℕ → Option ReplayOptions
@@ -51,8 +55,12 @@ set_schedule options (Some n) =
 abbrev pub set_workers : ReplayOptions → Option ℕ → Option ReplayOptions
 set_workers options None = None
 set_workers options (Some n) =
-    Some (record { counts = options.counts; workers = Some n; schedule = options.schedule;
-    capacity = options.capacity })
+    Some (record {
+      counts = options.counts;
+      workers = Some n;
+      schedule = options.schedule;
+      capacity = options.capacity;
+    })
 
 -- with `--workers` and this value, which is 1 to 64, where it wasn't given before
 abbrev pub with_workers : ReplayOptions → List ℕ → Option ReplayOptions

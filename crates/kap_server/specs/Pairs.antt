@@ -44,7 +44,7 @@ abbrev pub AreNoTasks : Option Refusal → List (List ℕ) → List Pair → Sta
 AreNoTasks refused ids [] status = ⊥
 AreNoTasks refused ids (pair ∷ pairs) status =
     IsNoTask refused ids pair status
-        ⊎ ((task : Task) × IsTask ids pair task × AreNoTasks refused (ids ++ pair.id ∷ []) pairs status)
+    ⊎ ((task : Task) × IsTask ids pair task × AreNoTasks refused (ids ++ pair.id ∷ []) pairs status)
 
 -- the names by which lines tell of a task
 abbrev pub names_of : Pair → Task → TaskNames

@@ -64,7 +64,7 @@ abbrev pub Ran : {P : Type 0} → (P → Answer) → Planned P → List ℕ → 
     → Option (List ℕ) → Option (List ℕ) → Option (List ℕ) → Type 0
 Ran answer planned refused counts pairs result s t w v =
     RunsTasks answer planned counts pairs result s t w v
-        ⊎ (RefusesPairs refused pairs result s t w v ⊎ RanOut result s t w v)
+    ⊎ (RefusesPairs refused pairs result s t w v ⊎ RanOut result s t w v)
 
 -- what is due and the rest behind it were written, or the output failed, or memory ran out and nothing was written
 abbrev pub EndsWritten : Status → Option (List ℕ) → Option (List ℕ) → List ℕ → List ℕ → ℕ → ℕ → Type 0

@@ -62,7 +62,7 @@ replay_request options (word ∷ []) = if is_option word then None else request_
 replay_request options (word ∷ value ∷ words) =
     if not (is_option word) then request_of_pairs options (word ∷ value ∷ words) else
     if bytes_eq word (codes "--counts")
-        then option_and_then (λ o. replay_request o (value ∷ words)) (with_counts options)
+    then option_and_then (λ o. replay_request o (value ∷ words)) (with_counts options)
     else option_and_then (λ o. replay_request o words) (with_value options word value)
 
 -- the sample recording of so many points, where no words stand behind the number, else `ID SCRIPT [ID SCRIPT]..`

@@ -81,7 +81,7 @@ IsGiven bytes whole None = TEXT_LIMIT < length whole
 abbrev pub is_space : ℕ → Bool
 is_space c =
     (nat_le 0x9 c && nat_le c 0xD) || c == 0x20 || c == 0x85 || c == 0xA0 || c == 0x1680
-        || (nat_le 0x2000 c && nat_le c 0x200A)
+    || (nat_le 0x2000 c && nat_le c 0x200A)
     || c == 0x2028 || c == 0x2029 || c == 0x202F || c == 0x205F || c == 0x3000
 
 -- characters without the white space at their start

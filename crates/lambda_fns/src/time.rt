@@ -50,5 +50,6 @@ pub fn time_part(part: TimePart, time: i64) -> Result<i64, NoMemory>
 /// The year, the month and the day of a time are a date of the calendar, and the time's day is that date's.
 pub fn parts_are_a_date()
     ensures { (time : ℤ) → IsTrue (is_time time)
-        → IsDateOf (day_number time) (year_of (day_number time)) (month_of (day_number time)) (day_of (day_number time)) }
+        → IsDateOf (day_number time) (year_of (day_number time)) (month_of (day_number time))
+        (day_of (day_number time)) }
 {}

@@ -90,7 +90,7 @@ IsUntyped (LitTree (lits.Dur span) at) here = at ≡ here
 IsUntyped (NameTree name at) here = at ≡ here
 IsUntyped (CallTree name args at) here =
     (function : Function) × (function_named name ≡ Some function) × (argument_count args ≡ arity function)
-        × HasNoType (CallTree name args at) × (at ≡ here)
+    × HasNoType (CallTree name args at) × (at ≡ here)
 IsUntyped (NegTree operand at) here = HasNoType (NegTree operand at) × (at ≡ here)
 IsUntyped (NotTree operand at) here = HasNoType (NotTree operand at) × (at ≡ here)
 IsUntyped (BinTree op left right at) here = HasNoType (BinTree op left right at) × (at ≡ here)

@@ -51,7 +51,7 @@ module _ {P : Type 0} where
   open_courses (life ∷ lives) [] points = []
   open_courses (life ∷ lives) (nodes ∷ graphs) points =
       if is_open life then course_of life nodes points ∷ open_courses lives graphs points
-          else open_courses lives graphs points
+      else open_courses lives graphs points
 
   -- All that the lives have done on the points of their stamps: by stamp, then by life, then by node, then by place.
   abbrev pub stored_effects : (P → Answer) → List Life → List (List (Placed P)) → List PointValue → List Effect
@@ -63,4 +63,4 @@ abbrev pub ending_from : List ℕ → ℕ → List Life → Option ℕ
 ending_from id n [] = None
 ending_from id n (life ∷ lives) =
     if list_any (is_open_of id) lives then ending_from id (n + 1) lives
-        else (if is_open_of id life then Some n else None)
+    else (if is_open_of id life then Some n else None)

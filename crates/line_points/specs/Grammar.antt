@@ -72,7 +72,7 @@ pub data SpellsTime : Mode → ℤ → List ℕ → Type 0 where
   some_time : (mode : Mode) (n : ℕ) (negative : Bool) (digits : List ℕ) → is_digits digits ≡ true →
       nat_le (digits_value 10 digits * nanoseconds (unit_of mode)) TIME_LIMIT ≡ true →
       SpellsTime mode (with_sign (negative, digits_value 10 digits * nanoseconds (unit_of mode)))
-          (space ∷ (spaces n ++ (minus negative ++ digits)))
+      (space ∷ (spaces n ++ (minus negative ++ digits)))
 
 -- A line spells a point: spaces, the measurement, the tags, one space or more, the fields, the time, spaces. Each part
 -- is a spelling of the point's part.

@@ -160,8 +160,16 @@ point_of db rp mode bytes = do
   tags ← tags_at name.1
   fields ← fields_at tags.1
   time ← time_of mode (without_spaces fields.1)
-  Ok (record { db = db; rp = rp; name = name.0; tags = tags.0; fields = fields.0; dims = []; by_name = false;
-      time = time })
+  Ok (record {
+    db = db;
+    rp = rp;
+    name = name.0;
+    tags = tags.0;
+    fields = fields.0;
+    dims = [];
+    by_name = false;
+    time = time;
+  })
 
 -- the point of a line of any length
 unfoldable pub stored_of : List ℕ → List ℕ → Mode → List ℕ → Result PointValue LineFault

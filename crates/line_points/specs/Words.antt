@@ -63,7 +63,7 @@ abbrev pub is_float : List ℕ → Bool
 is_float word =
     let number = without is_minus word in
     option_map_or (λ p. is_mantissa p.0 && is_digits (without is_sign p.1)) (cut is_exponent_mark number)
-        (is_mantissa number)
+    (is_mantissa number)
 
 -- the number of a word that ends in 'i'
 abbrev pub integer_of : List ℕ → Option (Bool × ℕ)

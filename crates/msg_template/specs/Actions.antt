@@ -56,7 +56,7 @@ is_allowed of_id (actions.Field key) = true
 abbrev pub listed : Bool → ℕ → List ℕ → Result Action TemplateFault
 listed of_id at name =
     option_map_or (λ action. if is_allowed of_id action then Ok action else Err (faults.Field at)) (named name)
-        (Err (faults.Field at))
+    (Err (faults.Field at))
 
 -- behind a dot: a name, and spaces
 abbrev pub dotted : Bool → ℕ → List ℕ → Result Action TemplateFault
@@ -85,8 +85,8 @@ of_key at words key =
 abbrev pub indexed : ℕ → List ℕ → Result Action TemplateFault
 indexed at body =
     option_map_or
-        (λ p. option_map_or (λ q. if are_spaces q.1 then of_key at (without_spaces p.0) q.0 else Err (faults.Action at))
-        (cut_at_quote p.1) (Err (faults.Action at)))
+    (λ p. option_map_or (λ q. if are_spaces q.1 then of_key at (without_spaces p.0) q.0 else Err (faults.Action at))
+    (cut_at_quote p.1) (Err (faults.Action at)))
     (cut_at_quote body) (Err (faults.Action at))
 
 -- the same by what stands behind the first spaces: a name behind a dot, or an indexed key

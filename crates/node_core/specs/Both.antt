@@ -73,9 +73,9 @@ module _ {P Q A B : Type 0} (f : P → A → Input → Move A) (g : Q → B → 
   -- fed a list, a node of either kind gives what its answers are
   pub folds_both : (first_one : P → A) (first_other : Q → B) (one : P → Answer) (other : Q → Answer)
       → ((p : P) (xs : List Input) → (fold (f p) (first_one p) xs).given ≡ given (one p) xs)
-          → ((q : Q) (xs : List Input) → (fold (g q) (first_other q) xs).given ≡ given (other q) xs)
+      → ((q : Q) (xs : List Input) → (fold (g q) (first_other q) xs).given ≡ given (other q) xs)
       → (spec : Both P Q) (xs : List Input)
-          → (fold (step_both f g spec) (of_both first_one first_other spec) xs).given ≡ given (either one other spec) xs
+      → (fold (step_both f g spec) (of_both first_one first_other spec) xs).given ≡ given (either one other spec) xs
   folds_both first_one first_other one other h k (One p) xs =
       ap (λ (m : Move (Both A B)). m.given) (fold-one p (first_one p) xs) ∙ h p xs
   folds_both first_one first_other one other h k (Other q) xs =
@@ -85,10 +85,10 @@ module _ {P Q A B : Type 0} (f : P → A → Input → Move A) (g : Q → B → 
   pub counts_both : (first_one : P → A) (first_other : Q → B) (drops_one : A → ℕ) (drops_other : B → ℕ) (one : P
       → Answer) (other : Q → Answer)
       → ((p : P) (xs : List Input) → drops_one (fold (f p) (first_one p) xs).state ≡ (given (one p) xs).drops)
-          → ((q : Q) (xs : List Input) → drops_other (fold (g q) (first_other q) xs).state ≡ (given (other q) xs).drops)
+      → ((q : Q) (xs : List Input) → drops_other (fold (g q) (first_other q) xs).state ≡ (given (other q) xs).drops)
       → (spec : Both P Q) (xs : List Input)
-          → either drops_one drops_other (fold (step_both f g spec) (of_both first_one first_other spec) xs).state
-          ≡ (given (either one other spec) xs).drops
+      → either drops_one drops_other (fold (step_both f g spec) (of_both first_one first_other spec) xs).state
+      ≡ (given (either one other spec) xs).drops
   counts_both first_one first_other drops_one drops_other one other h k (One p) xs =
       ap (λ (m : Move (Both A B)). either drops_one drops_other m.state) (fold-one p (first_one p) xs) ∙ h p xs
   counts_both first_one first_other drops_one drops_other one other h k (Other q) xs =
@@ -98,11 +98,11 @@ module _ {P Q A B : Type 0} (f : P → A → Input → Move A) (g : Q → B → 
 pub stamped_both : {P Q : Type 0} (life_one node_one : P → ℕ) (life_other node_other : Q → ℕ) (one : P → Answer)
     (other : Q → Answer)
     → ((p : P) (before : List Input) (x : Input) → IsStamped (life_one p) (node_one p) x.1.stamp.0 (one p before x))
-        → ((q : Q) (before : List Input) (x : Input)
-        → IsStamped (life_other q) (node_other q) x.1.stamp.0 (other q before x))
+    → ((q : Q) (before : List Input) (x : Input)
+    → IsStamped (life_other q) (node_other q) x.1.stamp.0 (other q before x))
     → (spec : Both P Q) (before : List Input) (x : Input)
-        → IsStamped (either life_one life_other spec) (either node_one node_other spec) x.1.stamp.0
-        (either one other spec before x)
+    → IsStamped (either life_one life_other spec) (either node_one node_other spec) x.1.stamp.0
+    (either one other spec before x)
 stamped_both life_one node_one life_other node_other one other h k (One p) before x = h p before x
 stamped_both life_one node_one life_other node_other one other h k (Other q) before x = k q before x
 
@@ -110,9 +110,9 @@ stamped_both life_one node_one life_other node_other one other h k (Other q) bef
 pub stays_both : {P Q A B : Type 0} (takes_one : P → Body → Bool) (takes_other : Q → Body → Bool) (one : P → A → Input
     → Move A) (other : Q → B → Input → Move B)
     → ((p : P) (s : A) (x : Input) → takes_one p x.1.body ≡ false → one p s x ≡ stay s)
-        → ((q : Q) (s : B) (x : Input) → takes_other q x.1.body ≡ false → other q s x ≡ stay s)
+    → ((q : Q) (s : B) (x : Input) → takes_other q x.1.body ≡ false → other q s x ≡ stay s)
     → (spec : Both P Q) (s : Both A B) (x : Input) → either takes_one takes_other spec x.1.body ≡ false
-        → step_both one other spec s x ≡ stay s
+    → step_both one other spec s x ≡ stay s
 stays_both takes_one takes_other one other h k (One p) (One s) x e = ap move_one (h p s x e)
 stays_both takes_one takes_other one other h k (One p) (Other s) x e = refl
 stays_both takes_one takes_other one other h k (Other q) (One s) x e = refl
@@ -132,7 +132,7 @@ module _ {A C : Type 0} {Fits : A → Type 0} {spell : A → List ℕ} {read : R
       let both = same_pair {A = C} (made r.0, r.1) (c, rest) e in
       let s = h r.0 r.1 refl in
       subst (λ (p : C × List ℕ). Stands FitsC spell_c bytes p.0 p.1) both
-          (record { fits = fits r.0 s.fits; parts = rw spells s.parts; rest_bytes = s.rest_bytes })
+      (record { fits = fits r.0 s.fits; parts = rw spells s.parts; rest_bytes = s.rest_bytes })
 
   -- what is read as a state of one of the two is spelled so
   pub made_only : (bytes : List ℕ) (c : C) (rest : List ℕ) → IsBytes bytes → read_as made read bytes ≡ value_then c rest
@@ -142,7 +142,7 @@ module _ {A C : Type 0} {Fits : A → Type 0} {spell : A → List ℕ} {read : R
 module _ {P Q A B : Type 0} (fits_one : P → A → Type 0) (fits_other : Q → B → Type 0) (spell_one : P → A → List ℕ)
     (spell_other : Q → B → List ℕ) (read_one : P → Reading A) (read_other : Q → Reading B)
     (one : (p : P) → IsSpelling (fits_one p) (spell_one p) (read_one p)) (other : (q : Q)
-        → IsSpelling (fits_other q) (spell_other q) (read_other q)) where
+    → IsSpelling (fits_other q) (spell_other q) (read_other q)) where
   again-both : (spec : Both P Q) (s : Both A B) (rest : List ℕ) → FitsBoth fits_one fits_other spec s
       → read_both read_one read_other spec (spell_both spell_one spell_other spec s ++ rest) ≡ value_then s rest
   again-both (One p) (One s) rest h = rw ((one p).again s rest h) refl

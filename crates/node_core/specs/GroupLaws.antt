@@ -47,8 +47,10 @@ module _ {C : Type 0} (step : C → ℕ → PointValue → Turn C) (kept : List 
   -- the group's own step
   turn_at : (before : List Arrival) (cells : KeyMap C) (port : ℕ) (p : PointValue) → KeptCells kept before cells
       → step (cell_or (kept []) (get cells (group_key p))) port p
-      ≡ record { state = kept (points_of (group_key p) before ++ (port, p) ∷ []);
-      said = answer (points_of (group_key p) before) port p }
+      ≡ record {
+        state = kept (points_of (group_key p) before ++ (port, p) ∷ []);
+        said = answer (points_of (group_key p) before) port p;
+      }
   turn_at before cells port p k =
       rw (k (group_key p), cell_or-kept kept (points_of (group_key p) before)) (goes_on _ port p)
 
@@ -61,8 +63,8 @@ module _ {C : Type 0} (step : C → ℕ → PointValue → Turn C) (kept : List 
       get-insert nat_list_cmp_total cells (group_key p) _ key
       ∙ rw (is_eq-slice_cmp key (group_key p), points_of-more key before (port, bodies.Point p), k key)
       (elim (bytes_eq key (group_key p)) as (λ b. bytes_eq key (group_key p) ≡ b
-          → cond b (Some (kept (points_of (group_key p) before ++ (port, p) ∷ [])))
-          (kept_at kept (points_of key before)) ≡ kept_at kept (points_of key before ++ cond b ((port, p) ∷ []) [])) [
+      → cond b (Some (kept (points_of (group_key p) before ++ (port, p) ∷ [])))
+      (kept_at kept (points_of key before)) ≡ kept_at kept (points_of key before ++ cond b ((port, p) ∷ []) [])) [
         | true ↦ λ e. rw (kept_at-some kept (points_of key before) (port, p))
             (ap (λ q. Some (kept (points_of q before ++ (port, p) ∷ []))) (sym (same_bytes key (group_key p) e)))
         | false ↦ λ e. rw append-nil refl

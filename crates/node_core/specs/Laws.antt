@@ -24,8 +24,11 @@ module _ {S : Type 0} {step : S → Input → Move S} {answer : Answer} {Kept : 
       → (fold step s xs).given ≡ given_after answer before xs
   fold-given before s [] kept = refl
   fold-given before s (x ∷ xs) kept =
-      rw (follows.given before s x kept, fold-given (before ++ x ∷ []) (step s x).state xs
-      (follows.state before s x kept)) refl
+      rw (
+        follows.given before s x kept,
+        fold-given (before ++ x ∷ []) (step s x).state xs
+            (follows.state before s x kept),
+      ) refl
 
   -- and is in the state that the list makes
   pub fold-state : (before : List Input) (s : S) (xs : List Input) → Kept before s
@@ -49,6 +52,6 @@ filter-append p [] ys = refl
 filter-append p (x ∷ xs) ys =
     elim (p x) as (λ b. cond b (x ∷ filter p (xs ++ ys)) (filter p (xs ++ ys)) ≡ cond b (x ∷ filter p xs) (filter p xs)
     ++ filter p ys) [
-  | true ↦ ap (λ l. x ∷ l) (filter-append p xs ys)
-  | false ↦ filter-append p xs ys
-]
+      | true ↦ ap (λ l. x ∷ l) (filter-append p xs ys)
+      | false ↦ filter-append p xs ys
+    ]

@@ -13,12 +13,12 @@ use Rattle.node_core.specs.Cut.{IsStamped, AreStamped, AreEffectsOf}
 
 tally-more : (saying : Saying) (t : Tally) (before xs : List Input) (x : Input)
     → tally_after saying t before (xs ++ x ∷ [])
-        ≡ counted (tally_after saying t before xs) x.1.stamp.0
-        (length (saying (map arrival (before ++ xs)) (arrival x)).deeds)
+    ≡ counted (tally_after saying t before xs) x.1.stamp.0
+    (length (saying (map arrival (before ++ xs)) (arrival x)).deeds)
 tally-more saying t before [] x = rw append-nil refl
 tally-more saying t before (y ∷ xs) x =
     tally-more saying (counted t y.1.stamp.0 (length (saying (map arrival before) (arrival y)).deeds)) (before
-        ++ y ∷ []) xs x ∙ rw append_assoc refl
+    ++ y ∷ []) xs x ∙ rw append_assoc refl
 
 drops-more : (answer : Answer) (before : List Input) (x : Input)
     → (given answer (before ++ x ∷ [])).drops ≡ (given answer before).drops + (answer before x).drops

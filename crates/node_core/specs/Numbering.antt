@@ -38,8 +38,11 @@ effects_from life node stamp seq (what ∷ whats) =
 -- what is said, with a stamp, and its effects numbered from here on
 abbrev pub given_at : ℕ → ℕ → Stamp → ℕ → Said → Given
 given_at life node stamp seq said =
-    record { items = items_at stamp said.bodies; effects = effects_from life node stamp seq said.deeds;
-    drops = said.drops }
+    record {
+      items = items_at stamp said.bodies;
+      effects = effects_from life node stamp seq said.deeds;
+      drops = said.drops;
+    }
 
 -- how many effects were given with this stamp, by the last stamp with which some were given and their number
 abbrev pub number_at : Tally → ℕ → ℕ
@@ -92,8 +95,11 @@ abbrev pub running_step : {S : Type 0} → ℕ → ℕ → (S → Arrival → Tu
 running_step life node step s x =
     let turn = step s.inner (arrival x) in
     record {
-      state = record { tally = counted s.tally x.1.stamp.0 (length turn.said.deeds);
-          dropped = s.dropped + turn.said.drops; inner = turn.state };
+      state = record {
+        tally = counted s.tally x.1.stamp.0 (length turn.said.deeds);
+        dropped = s.dropped + turn.said.drops;
+        inner = turn.state;
+      };
       given = given_at life node x.1.stamp (number_at s.tally x.1.stamp.0) turn.said;
     }
 

@@ -55,11 +55,11 @@ pub record Behaviour (P S : Type 0) : Type 1 where
 pub answers_both : {P Q : Type 0} (life_one node_one : P → ℕ) (life_other node_other : Q → ℕ) (says_one : P → Saying)
     (says_other : Q → Saying) (one : P → Answer) (other : Q → Answer)
     → ((p : P) → one p ≡ stamped_answer (life_one p) (node_one p) (says_one p))
-        → ((q : Q) → other q ≡ stamped_answer (life_other q) (node_other q) (says_other q))
+    → ((q : Q) → other q ≡ stamped_answer (life_other q) (node_other q) (says_other q))
     → (spec : Both P Q)
-        → either one other spec
-        ≡ stamped_answer (either life_one life_other spec) (either node_one node_other spec)
-        (either says_one says_other spec)
+    → either one other spec
+    ≡ stamped_answer (either life_one life_other spec) (either node_one node_other spec)
+    (either says_one says_other spec)
 answers_both life_one node_one life_other node_other says_one says_other one other h k (One p) = h p
 answers_both life_one node_one life_other node_other says_one says_other one other h k (Other q) = k q
 
@@ -95,7 +95,7 @@ GoesOn step kept answer = (before : List Came) (port : ℕ) (p : PointValue)
 abbrev pub grouped : {R C : Type 0} {Fits : C → Type 0} {spell : C → List ℕ} {read : Reading C} (ports : R → ℕ)
     (answer : R → GroupAnswer) (kept : R → List Came → C) (step : R → C → ℕ → PointValue → Turn C)
     → ((r : R) → GoesOn (step r) (kept r) (answer r)) → IsSpelling Fits spell read
-        → Behaviour (Seat (Grouped R)) (Running (KeyMap C))
+    → Behaviour (Seat (Grouped R)) (Running (KeyMap C))
 grouped {Fits = Fits} {spell = spell} {read = read} ports answer kept step goes_on spelled = record {
   ports = λ s. ports s.kind.rule;
   life = λ s. s.life;
@@ -137,7 +137,7 @@ turn_of says s x = record { state = s; said = says x.0 x.1 }
 -- of a rule that keeps nothing: its ports, the bodies that are for it, and what it says of them
 abbrev pub alone : {R : Type 0} (ports : R → ℕ) (takes : Body → Bool) (says : R → ℕ → Body → Said)
     → ((r : R) (port : ℕ) (body : Body) → takes body ≡ false → says r port body ≡ silence)
-        → Behaviour (Seat (Alone R)) (Running (Unit {0}))
+    → Behaviour (Seat (Alone R)) (Running (Unit {0}))
 alone ports takes says silent = record {
   ports = λ s. ports s.kind.plain;
   life = λ s. s.life;

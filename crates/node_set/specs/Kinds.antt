@@ -134,7 +134,7 @@ AnyState = Both
     (Both (Cells (Option (List (Option Value)))) (Both (Cells (Option ℤ)) (Both (Cells ℤ) (Cells (Option ℤ))))))
     (Both (Both (Both (Cells (Option EdgeKept)) (Both (Cells (Option SlidingKept)) (Cells CountedKept))) (Cells Watch))
     (Both (Both (Both (Running (Unit {0})) (Cells ℕ)) (Cells (List ℕ)))
-        (Both (Both (Running (Unit {0})) (Cells (Option JoinKept))) (Running (Unit {0})))))
+    (Both (Both (Running (Unit {0})) (Cells (Option JoinKept))) (Running (Unit {0})))))
 
 -- what a node of any kind does
 abbrev pub any : Behaviour AnySpec AnyState

@@ -39,9 +39,9 @@ AnySpec = Both
     (Both (Seat (Grouped DetectRule))
     (Both (Seat (Grouped DifferenceRule)) (Both (Seat (Grouped SumRule)) (Seat (Grouped ElapsedRule))))))
     (Both (Both (Both (Seat (Grouped EdgeRule)) (Both (Seat (Grouped SlidingRule)) (Seat (Grouped CountedRule))))
-        (Seat (Grouped AlertRule)))
+    (Seat (Grouped AlertRule)))
     (Both (Both (Both (Seat (Alone PointKind)) (Seat (Grouped GroupKind))) (Seat (Grouped (EvalSpec Tree))))
-        (Both (Both (Seat (Alone UnionRule)) (Seat (Grouped JoinRule))) (Seat (Alone Selection)))))
+    (Both (Both (Seat (Alone UnionRule)) (Seat (Grouped JoinRule))) (Seat (Alone Selection)))))
 
 -- ---- of each kind
 
@@ -96,15 +96,15 @@ timed_spec life number period every align fill_period =
     if every == 0
     then in_sliding_window (rule_seat life number (record { period = period; fill_period = fill_period }))
     else in_edge_window
-        (rule_seat life number (record { period = period; every = every; align = align; fill_period = fill_period }))
+    (rule_seat life number (record { period = period; every = every; align = align; fill_period = fill_period }))
 
 -- a window, in this life and with this number
 abbrev pub window_spec : ℕ → ℕ → WindowSpec → AnySpec
 window_spec life number (Timed period every align fill_period) = timed_spec life number period every align fill_period
 window_spec life number (Counted period_count every_count fill_period) =
     in_counted_window
-        (rule_seat life number
-        (record { period_count = period_count; every_count = every_count; fill_period = fill_period }))
+    (rule_seat life number
+    (record { period_count = period_count; every_count = every_count; fill_period = fill_period }))
 
 -- ---- of any kind
 

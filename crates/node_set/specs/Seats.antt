@@ -23,7 +23,7 @@ any_life =
     (either (λ s. s.life) (either (λ s. s.life) (either (λ s. s.life) (either (λ s. s.life) (λ s. s.life)))))
     (either (either (either (λ s. s.life) (either (λ s. s.life) (λ s. s.life))) (λ s. s.life))
     (either (either (either (λ s. s.life) (λ s. s.life)) (λ s. s.life))
-        (either (either (λ s. s.life) (λ s. s.life)) (λ s. s.life))))
+    (either (either (λ s. s.life) (λ s. s.life)) (λ s. s.life))))
 
 -- the number of a node in its task
 abbrev pub any_number : AnySpec → ℕ
@@ -32,7 +32,7 @@ any_number =
     (either (λ s. s.node) (either (λ s. s.node) (either (λ s. s.node) (either (λ s. s.node) (λ s. s.node)))))
     (either (either (either (λ s. s.node) (either (λ s. s.node) (λ s. s.node))) (λ s. s.node))
     (either (either (either (λ s. s.node) (λ s. s.node)) (λ s. s.node))
-        (either (either (λ s. s.node) (λ s. s.node)) (λ s. s.node))))
+    (either (either (λ s. s.node) (λ s. s.node)) (λ s. s.node))))
 
 -- how many ports a node has: a union and a join one for each parent, each other node one
 abbrev pub any_ports : AnySpec → ℕ
@@ -41,7 +41,7 @@ any_ports =
     (either (λ s. 1) (either (λ s. 1) (either (λ s. 1) (either (λ s. 1) (λ s. 1)))))
     (either (either (either (λ s. 1) (either (λ s. 1) (λ s. 1))) (λ s. 1))
     (either (either (either (λ s. 1) (λ s. 1)) (λ s. 1))
-        (either (either (λ s. s.kind.plain.parents) (λ s. parents s.kind.rule.spec)) (λ s. 1))))
+    (either (either (λ s. s.kind.plain.parents) (λ s. parents s.kind.rule.spec)) (λ s. 1))))
 
 is_one : (n : ℕ) → IsTrue (nat_eq n 1) → n ≡ 1
 is_one n h = grind (arith, nat_tests)
@@ -71,7 +71,7 @@ module _ (task : List ℕ) (life number : ℕ) (name : List ℕ) (n : ℕ) where
       → any_number (any_spec task life number name n spec) ≡ number
       → any_ports (any_spec task life number name n spec) ≡ 1
       → (IsTrue (is_fit n spec) → n ≡ 1)
-          → Sits any_ports any_life any_number life number n spec (any_spec task life number name n spec)
+      → Sits any_ports any_life any_number life number n spec (any_spec task life number name n spec)
   one_port spec lives numbers port one = record {
     life_is = lives;
     number_is = numbers;
@@ -84,14 +84,14 @@ module _ (task : List ℕ) (life number : ℕ) (name : List ℕ) (n : ℕ) where
       (any_spec task life number name n (Window window))
   window_sits (Timed period every align fill_period) =
       let sliding : AnySpec = in_sliding_window
-          (rule_seat life number (record { period = period; fill_period = fill_period })) in
+      (rule_seat life number (record { period = period; fill_period = fill_period })) in
       let edges : AnySpec = in_edge_window
-          (rule_seat life number
-          (record { period = period; every = every; align = align; fill_period = fill_period })) in
+      (rule_seat life number
+      (record { period = period; every = every; align = align; fill_period = fill_period })) in
       one_port (Window (Timed period every align fill_period))
-          (of_either any_life life (every == 0) sliding edges refl refl)
-          (of_either any_number number (every == 0) sliding edges refl refl)
-          (of_either any_ports 1 (every == 0) sliding edges refl refl) (is_one n)
+      (of_either any_life life (every == 0) sliding edges refl refl)
+      (of_either any_number number (every == 0) sliding edges refl refl)
+      (of_either any_ports 1 (every == 0) sliding edges refl refl) (is_one n)
   window_sits (Counted period_count every_count fill_period) =
       one_port (Window (Counted period_count every_count fill_period)) refl refl refl (is_one n)
 
@@ -120,8 +120,12 @@ module _ (task : List ℕ) (life number : ℕ) (name : List ℕ) (n : ℕ) where
   spec_sits (Union rename) =
       record { life_is = refl; number_is = refl; ports_are = some_port n; stream_port = λ h. absurd cc }
   spec_sits (Join join) =
-      record { life_is = refl; number_is = refl;
-      ports_are = join_port n (length join.prefixes) (are_different join.prefixes); stream_port = λ h. absurd cc }
+      record {
+        life_is = refl;
+        number_is = refl;
+        ports_are = join_port n (length join.prefixes) (are_different join.prefixes);
+        stream_port = λ h. absurd cc;
+      }
 
 -- each node of a script sits where it is made to
 pub each_sits : (task : List ℕ) (life number : ℕ) (node : NodeSpec Tree)

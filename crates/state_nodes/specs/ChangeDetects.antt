@@ -94,10 +94,10 @@ made values b p = record { state = values; said = passed_if b p }
 -- what is kept, and what is said, of one point more
 pub change_detect_goes_on : (names : List (List ℕ)) (before : List Came) (port : ℕ) (p : PointValue)
     → change_detect_step names (last_values names before) port p
-        ≡ record { state = last_values names (before ++ (port, p) ∷ []); said = change_detect_says names before port p }
+    ≡ record { state = last_values names (before ++ (port, p) ∷ []); said = change_detect_says names before port p }
 unfolding made
 change_detect_goes_on names before port p =
     let newest : Some (values_at names p) ≡ last_values names (before ++ (port, p) ∷ []) =
     ap (λ (o : Option Came). option_map (values_at names) (option_map (λ c. c.1) o))
-        (sym (last_push before (port, p))) in
+    (sym (last_push before (port, p))) in
     (λ i. made (newest i) (change_is names (last_point before) p i) p)

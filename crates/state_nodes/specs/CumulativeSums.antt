@@ -78,7 +78,7 @@ made sum said = record { state = sum; said = said }
 -- what is kept, and what is said, of one point more
 pub cumulative_sum_goes_on : (spec : FieldSpec) (before : List Came) (port : ℕ) (p : PointValue)
     → cumulative_sum_step spec (sum_in spec before) port p
-        ≡ record { state = sum_in spec (before ++ (port, p) ∷ []); said = cumulative_sum_says spec before port p }
+    ≡ record { state = sum_in spec (before ++ (port, p) ∷ []); said = cumulative_sum_says spec before port p }
 unfolding made ints_of
 cumulative_sum_goes_on spec before port p =
     let n = int_at spec.field p in

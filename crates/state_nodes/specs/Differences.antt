@@ -30,8 +30,10 @@ difference_says spec before port p = difference_from spec.name (last_int spec be
 -- a step, by what is kept
 abbrev pub difference_step : FieldSpec → Option ℤ → ℕ → PointValue → Turn (Option ℤ)
 difference_step spec before port p =
-    record { state = latest before (int_at spec.field p);
-    said = difference_from spec.name before (int_at spec.field p) p }
+    record {
+      state = latest before (int_at spec.field p);
+      said = difference_from spec.name before (int_at spec.field p) p;
+    }
 
 made : Said → Option ℤ → Turn (Option ℤ)
 made said kept = record { state = kept; said = said }
@@ -39,8 +41,8 @@ made said kept = record { state = kept; said = said }
 -- what is kept, and what is said, of one point more
 pub difference_goes_on : (spec : FieldSpec) (before : List Came) (port : ℕ) (p : PointValue)
     → difference_step spec (last_int spec before) port p
-        ≡ record { state = last_int spec (before ++ (port, p) ∷ []); said = difference_says spec before port p }
+    ≡ record { state = last_int spec (before ++ (port, p) ∷ []); said = difference_says spec before port p }
 unfolding made
 difference_goes_on spec before port p =
     ap (made (difference_says spec before port p))
-        (sym (last_more (λ (c : Came). int_at spec.field c.1) before (port, p)))
+    (sym (last_more (λ (c : Came). int_at spec.field c.1) before (port, p)))

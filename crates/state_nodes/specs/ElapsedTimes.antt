@@ -50,8 +50,8 @@ made said kept = record { state = kept; said = said }
 -- what is kept, and what is said, of one point more
 pub elapsed_goes_on : (spec : ElapsedSpec) (before : List Came) (port : ℕ) (p : PointValue)
     → elapsed_step spec (last_time spec before) port p
-        ≡ record { state = last_time spec (before ++ (port, p) ∷ []); said = elapsed_says spec before port p }
+    ≡ record { state = last_time spec (before ++ (port, p) ∷ []); said = elapsed_says spec before port p }
 unfolding made
 elapsed_goes_on spec before port p =
     ap (made (elapsed_says spec before port p))
-        (sym (last_more (λ (c : Came). time_at spec.field c.1) before (port, p)))
+    (sym (last_more (λ (c : Came). time_at spec.field c.1) before (port, p)))

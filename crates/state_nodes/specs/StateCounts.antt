@@ -137,13 +137,13 @@ made k run said = record { state = (k, run); said = said }
 -- what is kept, and what is said, of one point more
 pub state_count_goes_on : (spec : StateCountSpec Tree) (before : List Came) (port : ℕ) (p : PointValue)
     → state_count_step spec (counts_in spec before) port p
-        ≡ record { state = counts_in spec (before ++ (port, p) ∷ []); said = state_count_says spec before port p }
+    ≡ record { state = counts_in spec (before ++ (port, p) ∷ []); said = state_count_says spec before port p }
 unfolding made
 state_count_goes_on spec before port p =
     let truth = truth_at spec.condition (length before) p in
     let ts = truths spec.condition before in
     let more : length before + 1
-        ≡ length (before ++ (port, p) ∷ []) = omega (arith, length-append before ((port, p) ∷ [])) in
+    ≡ length (before ++ (port, p) ∷ []) = omega (arith, length-append before ((port, p) ∷ [])) in
     let run : run_behind (true_run ts) truth ≡ true_run (truths spec.condition (before ++ (port, p) ∷ [])) =
     run_more ts truth ∙ ap true_run (sym (truths_more spec.condition before (port, p))) in
     (λ i. made (more i) (run i) (numbered_is spec.name ts truth p i))

@@ -36,7 +36,7 @@ pub stands_at : {A : Type 0} {Fits : A → Type 0} {spell : A → List ℕ} (byt
 stands_at {A = A} {Fits = Fits} {spell = spell} bytes x y r t e stands =
     let both = same_pair {A = A} (x, r) (y, t) e in
     subst (λ z. Stands Fits spell bytes z t) (ap (λ (p : A × List ℕ). p.0) both)
-        (subst (λ z. Stands Fits spell bytes x z) (ap (λ (p : A × List ℕ). p.1) both) stands)
+    (subst (λ z. Stands Fits spell bytes x z) (ap (λ (p : A × List ℕ). p.1) both) stands)
 
 module _ {A B : Type 0} {FitsA : A → Type 0} {spell_a : A → List ℕ} {read_a : Reading A}
     (a : IsSpelling FitsA spell_a read_a) (FitsB : A → B → Type 0) (spell_b : B → List ℕ) (read_b : A → Reading B)
@@ -46,7 +46,7 @@ module _ {A B : Type 0} {FitsA : A → Type 0} {spell_a : A → List ℕ} {read_
       → Stands (λ p. FitsA p.0 × FitsB p.0 p.1) (λ p. spell_a p.0 ++ spell_b p.1) bytes p rest
   behind_only bytes p rest fits e =
       let one = parted (read_a bytes) (λ x rest. read_then (read_b x rest) (λ y rest. value_then (x, y) rest))
-          (p, rest) e in
+      (p, rest) e in
       let two = parted (read_b one.value one.rest) (λ y rest. value_then (one.value, y) rest) (p, rest) one.second in
       let first = a.only bytes one.value one.rest fits one.first in
       let second = (b one.value).only one.rest two.value two.rest first.rest_bytes two.first in

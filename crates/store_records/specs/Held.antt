@@ -123,7 +123,7 @@ level_of topic id before = last_level topic id Fine (map event_of before)
 abbrev pub goes_on : ℕ → Level → Transition → Bool
 goes_on count level t =
     (t.number == count + 1)
-        && (same_level t.old_level level && (not (same_level t.old_level t.new_level) && is_time t.time))
+    && (same_level t.old_level level && (not (same_level t.old_level t.new_level) && is_time t.time))
 
 -- it goes on from these
 abbrev pub is_next : List Transition → Transition → Bool
@@ -194,7 +194,7 @@ after h at r = record {
 abbrev pub may_define : List ℕ → List ℕ → List StoredTask → Bool
 may_define id script tasks =
     is_task_id id
-        && (not (has_task id tasks) && (nat_lt (length tasks) TASK_LIMIT && nat_le (length script) SCRIPT_LIMIT))
+    && (not (has_task id tasks) && (nat_lt (length tasks) TASK_LIMIT && nat_le (length script) SCRIPT_LIMIT))
 
 -- a snapshot of what is stored
 pub record IsSnap (h : Held) (points trans : ℕ) (states : List ℕ) : Type 0 where

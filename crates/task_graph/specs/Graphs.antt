@@ -30,7 +30,7 @@ abbrev pub are_behind : {L : Type 0} → ℕ → List (NodeSpec L) → Bool
 are_behind number [] = true
 are_behind number (node ∷ nodes) =
     is_fit (length node.parents) node.spec && list_all (λ p. nat_lt p number) node.parents
-        && are_behind (number + 1) nodes
+    && are_behind (number + 1) nodes
 
 -- node 0 is the stream, which has no parent
 abbrev pub has_shape : {L : Type 0} → List (NodeSpec L) → Bool
@@ -53,7 +53,7 @@ node_fault nodes number node =
     if nat_le NODE_LIMIT number then Some TooManyNodes else (
     if some_parent ends_chain nodes node.parents then Some (Chain number) else (
     if some_parent (cannot_stand node.spec) nodes node.parents || nat_lt PARENT_LIMIT (length node.parents)
-        then Some (Parents number) else (
+    then Some (Parents number) else (
     if some_parent (is_wrong_kind node.spec) nodes node.parents then Some (Kind number) else None)))
 
 -- the first of two faults

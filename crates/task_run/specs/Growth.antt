@@ -26,8 +26,13 @@ with_old n s old more new le g =
 pub with_new : (n : ℕ) (old more new : List Item) → Grows n old more new → items_with (suc n) new ≡ more
 with_new n old more new g =
     let above : n < suc n = omega arith in
-    rw (g.is, filter-append, none_above of_item (suc n) n old above g.before, all_with of_item
-        (suc n) more g.behind) refl
+    rw (
+      g.is,
+      filter-append,
+      none_above of_item (suc n) n old above g.before,
+      all_with of_item
+          (suc n) more g.behind,
+    ) refl
 
 -- ---- lists that are picked by their numbers
 
@@ -48,7 +53,7 @@ module _ (n : ℕ) (old more new : ℕ → List Item) (grow : (i : ℕ) → Grow
   merged-old (suc m) is le =
       let low : m ≤ n = omega arith in
       rw (flat_map-append, merged-old m is low, picked-old (suc m) 0 is le)
-          (sym (flat_map-append _ (stamps m) (suc m ∷ [])))
+      (sym (flat_map-append _ (stamps m) (suc m ∷ [])))
 
   -- the merged lists grow by what was added, port by port
   pub merged_more : (is : List ℕ) → merged (suc n) (map new is) ≡ merged n (map old is) ++ at_ports 0 (map more is)
@@ -74,9 +79,9 @@ with-up_to n s port [] le = tt
 with-up_to n s port (i ∷ items) le =
     elim (i.stamp.0 == s) as (λ b. (i.stamp.0 == s) ≡ b
     → StampsUpTo of_input n (at_port port (cond b (i ∷ items_with s items) (items_with s items)))) [
-  | true ↦ λ e. let same : i.stamp.0 ≡ s = grind (arith, nat_tests) in ((omega arith), with-up_to n s port items le)
-  | false ↦ λ e. with-up_to n s port items le
-] refl
+      | true ↦ λ e. let same : i.stamp.0 ≡ s = grind (arith, nat_tests) in ((omega arith), with-up_to n s port items le)
+      | false ↦ λ e. with-up_to n s port items le
+    ] refl
 
 ports-up_to : (n s port : ℕ) (lists : List (List Item)) → s ≤ n
     → StampsUpTo of_input n (at_ports port (map (items_with s) lists))
@@ -89,8 +94,8 @@ merged-below n zero lists le = tt
 merged-below n (suc m) lists le =
     let low : m ≤ n = omega arith in
     rw flat_map-append
-        (up_to_append of_input n _ _ (merged-below n m lists low)
-        (up_to_append of_input n _ _ (ports-up_to n (suc m) 0 lists le) tt))
+    (up_to_append of_input n _ _ (merged-below n m lists low)
+    (up_to_append of_input n _ _ (ports-up_to n (suc m) 0 lists le) tt))
 
 -- lists merged up to a stamp have no stamp above it
 pub merged_up_to : (n : ℕ) (lists : List (List Item)) → StampsUpTo of_input n (merged n lists)

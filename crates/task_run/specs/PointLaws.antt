@@ -73,35 +73,40 @@ module _ {P : Type 0} (answer : P → Answer) (life number : P → ℕ) (stamped
       → life_effects_with answer s lives (ps ++ p ∷ []) ≡ life_effects_with answer s lives ps
   life-old ps p s [] le = refl
   life-old ps p s (nodes ∷ lives) le =
-      rw (graph-new ps p nodes, graph-old ps p nodes, effects-old (length ps) s (parts-of ps p nodes) le
-          (parts-are ps p nodes), life-old ps p s lives le) refl
+      rw (
+        graph-new ps p nodes,
+        graph-old ps p nodes,
+        effects-old (length ps) s (parts-of ps p nodes) le
+            (parts-are ps p nodes),
+        life-old ps p s lives le,
+      ) refl
 
   stamps-old : (ps : List PointValue) (p : PointValue) (lives : List (List (Placed P))) (m : ℕ) → m ≤ length ps
       → flat_map (λ s. life_effects_with answer s lives (ps ++ p ∷ [])) (stamps m)
-          ≡ flat_map (λ s. life_effects_with answer s lives ps) (stamps m)
+      ≡ flat_map (λ s. life_effects_with answer s lives ps) (stamps m)
   stamps-old ps p lives zero le = refl
   stamps-old ps p lives (suc m) le =
       let low : m ≤ length ps = omega arith in
       flat_map-append (λ s. life_effects_with answer s lives (ps ++ p ∷ [])) (stamps m) (suc m ∷ [])
       ∙ ap (λ (es : List Effect). es ++ (life_effects_with answer (suc m) lives (ps ++ p ∷ []) ++ []))
-          (stamps-old ps p lives m low)
+      (stamps-old ps p lives m low)
       ∙ ap (λ (es : List Effect). flat_map (λ s. life_effects_with answer s lives ps) (stamps m) ++ (es ++ []))
-          (life-old ps p (suc m) lives le)
+      (life-old ps p (suc m) lives le)
       ∙ sym (flat_map-append (λ s. life_effects_with answer s lives ps) (stamps m) (suc m ∷ []))
 
   -- the effects of one point more come behind the others
   pub effects_more : (lives : List (List (Placed P))) (ps : List PointValue) (p : PointValue)
       → effects_of answer lives (ps ++ p ∷ []) ≡ effects_of answer lives ps
-          ++ life_effects_with answer (suc (length ps)) lives (ps ++ p ∷ [])
+      ++ life_effects_with answer (suc (length ps)) lives (ps ++ p ∷ [])
   effects_more lives ps p =
       let low : length ps ≤ length ps = omega arith in
       ap (λ (n : ℕ). flat_map (λ s. life_effects_with answer s lives (ps ++ p ∷ [])) (stamps n)) (length-more ps p)
       ∙ flat_map-append (λ s. life_effects_with answer s lives (ps ++ p ∷ [])) (stamps (length ps))
-          (suc (length ps) ∷ [])
+      (suc (length ps) ∷ [])
       ∙ ap (λ (es : List Effect). es ++ (life_effects_with answer (suc (length ps)) lives (ps ++ p ∷ []) ++ []))
-          (stamps-old ps p lives (length ps) low)
+      (stamps-old ps p lives (length ps) low)
       ∙ ap (λ (es : List Effect). effects_of answer lives ps ++ es)
-          (append-nil (life_effects_with answer (suc (length ps)) lives (ps ++ p ∷ [])))
+      (append-nil (life_effects_with answer (suc (length ps)) lives (ps ++ p ∷ [])))
 
   module _ {S : Type 0} (first : P → S) (step : P → S → Input → Move S) (folds : (p : P) (xs : List Input)
       → (fold (step p) (first p) xs).given ≡ given (answer p) xs) where
@@ -119,15 +124,19 @@ module _ {P : Type 0} (answer : P → Answer) (life number : P → ℕ) (stamped
     drops-at : (drops : S → ℕ)
         → ((p : P) (xs : List Input) → drops (fold (step p) (first p) xs).state ≡ (given (answer p) xs).drops)
         → (n : ℕ) (points : List Item) (earlier : List Given) (acts : List (Active P S))
-            → AreAt answer first step n points earlier acts
+        → AreAt answer first step n points earlier acts
         → map (λ a. drops a.state) acts ≡ map (λ g. g.drops) (gives_behind answer n points earlier (map placed acts))
     drops-at drops counts n points earlier [] at = refl
     drops-at drops counts n points earlier (a ∷ acts) at =
-        rw (at.0, counts a.spec (merged n (lists_of points (outs_of earlier) a.parents)), drops-at drops counts n points
-            (earlier ++ node_gives answer n points earlier (placed a) ∷ []) acts at.1) refl
+        rw (
+          at.0,
+          counts a.spec (merged n (lists_of points (outs_of earlier) a.parents)),
+          drops-at drops counts n points
+              (earlier ++ node_gives answer n points earlier (placed a) ∷ []) acts at.1,
+        ) refl
 
     pub dropped_at : (drops : S → ℕ)
         → ((p : P) (xs : List Input) → drops (fold (step p) (first p) xs).state ≡ (given (answer p) xs).drops)
         → (ps : List PointValue) (acts : List (Active P S)) → IsAt answer first step ps acts
-            → map (λ a. drops a.state) acts ≡ map (λ g. g.drops) (graph_gives answer ps (map placed acts))
+        → map (λ a. drops a.state) acts ≡ map (λ g. g.drops) (graph_gives answer ps (map placed acts))
     dropped_at drops counts ps acts at = drops-at drops counts (length ps) (stamped_from 1 ps) [] acts at

@@ -33,9 +33,10 @@ module _ {A : Type 0} (stamp_of : A → ℕ) where
   pub rise_append : (s : ℕ) (xs ys : List A) → HaveStamp stamp_of s xs → StampsFrom stamp_of s ys
       → StampsRise stamp_of ys → StampsRise stamp_of (xs ++ ys)
   rise_append s [] ys have from rising = rising
-  rise_append s (x ∷ xs) ys have from rising =
-      (rw have.0 (from_append s xs ys (have_from s s xs (omega arith) have.1) from),
-          rise_append s xs ys have.1 from rising)
+  rise_append s (x ∷ xs) ys have from rising = (
+    rw have.0 (from_append s xs ys (have_from s s xs (omega arith) have.1) from),
+    rise_append s xs ys have.1 from rising,
+  )
 
   -- ---- those with a stamp
 
@@ -76,22 +77,23 @@ module _ {A : Type 0} (stamp_of : A → ℕ) where
   until-more n (x ∷ xs) rising =
       elim (nat_le (stamp_of x) n) as (λ b. nat_le (stamp_of x) n ≡ b
       → until (suc n) (x ∷ xs) ≡ cond b (x ∷ until n xs) (until n xs) ++ with_stamp stamp_of (suc n) (x ∷ xs)) [
-    | true ↦ λ e.
-        let low : nat_le (stamp_of x) (suc n) ≡ true = grind (arith, nat_tests) in
-        let other : (stamp_of x == suc n) ≡ false = grind (arith, nat_tests) in
-        rw (low, other) (ap (λ (l : List A). x ∷ l) (until-more n xs rising.1))
-    | false ↦ λ e. elim (stamp_of x == suc n) as (λ b. (stamp_of x == suc n) ≡ b → until (suc n) (x ∷ xs) ≡ until n xs
-        ++ cond b (x ∷ with_stamp stamp_of (suc n) xs) (with_stamp stamp_of (suc n) xs)) [
-      | true ↦ λ f.
-          let low : nat_le (stamp_of x) (suc n) ≡ true = grind (arith, nat_tests) in
-          let above : n < stamp_of x = grind (arith, nat_tests) in
-          let none : until n xs ≡ [] = until-none n (stamp_of x) xs above rising.0 in
-          rw (low, until-more n xs rising.1, none) refl
-      | false ↦ λ f.
-          let high : nat_le (stamp_of x) (suc n) ≡ false = grind (arith, nat_tests) in
-          rw high (until-more n xs rising.1)
-    ] refl
-  ] refl
+        | true ↦ λ e.
+            let low : nat_le (stamp_of x) (suc n) ≡ true = grind (arith, nat_tests) in
+            let other : (stamp_of x == suc n) ≡ false = grind (arith, nat_tests) in
+            rw (low, other) (ap (λ (l : List A). x ∷ l) (until-more n xs rising.1))
+        | false ↦ λ e. elim (stamp_of x == suc n) as (λ b. (stamp_of x == suc n) ≡ b
+            → until (suc n) (x ∷ xs) ≡ until n xs
+            ++ cond b (x ∷ with_stamp stamp_of (suc n) xs) (with_stamp stamp_of (suc n) xs)) [
+              | true ↦ λ f.
+                  let low : nat_le (stamp_of x) (suc n) ≡ true = grind (arith, nat_tests) in
+                  let above : n < stamp_of x = grind (arith, nat_tests) in
+                  let none : until n xs ≡ [] = until-none n (stamp_of x) xs above rising.0 in
+                  rw (low, until-more n xs rising.1, none) refl
+              | false ↦ λ f.
+                  let high : nat_le (stamp_of x) (suc n) ≡ false = grind (arith, nat_tests) in
+                  rw high (until-more n xs rising.1)
+            ] refl
+      ] refl
 
   by-stamp : (n : ℕ) (xs : List A) → StampsFrom stamp_of 1 xs → StampsRise stamp_of xs
       → flat_map (λ s. with_stamp stamp_of s xs) (stamps n) ≡ until n xs

@@ -28,11 +28,11 @@ level_rows =
 abbrev pub reset_rows : {L : Type 0} → List (Row L (AlertSpec L))
 reset_rows =
     row (codes "infoReset") (one as_lambda)
-        (λ l alert. record alert { resets = record (alert.resets) { info = Some l } })
+    (λ l alert. record alert { resets = record (alert.resets) { info = Some l } })
     ∷ row (codes "warnReset") (one as_lambda)
-        (λ l alert. record alert { resets = record (alert.resets) { warn = Some l } })
+    (λ l alert. record alert { resets = record (alert.resets) { warn = Some l } })
     ∷ row (codes "critReset") (one as_lambda)
-        (λ l alert. record alert { resets = record (alert.resets) { crit = Some l } })
+    (λ l alert. record alert { resets = record (alert.resets) { crit = Some l } })
     ∷ []
 
 -- a property that takes a template, of an id or not
@@ -59,7 +59,7 @@ alert_rows = level_rows ++ (reset_rows ++ other_rows)
 abbrev pub handlers : List (List ℕ)
 handlers =
     codes "email" ∷ codes "slack" ∷ codes "pagerDuty" ∷ codes "post" ∷ codes "tcp" ∷ codes "exec" ∷ codes "telegram" ∷
-        codes "victorOps"
+    codes "victorOps"
     ∷ codes "opsGenie" ∷ codes "hipChat" ∷ codes "sensu" ∷ codes "snmpTrap" ∷ []
 
 -- the name is that of a handler that an alert has in Kapacitor, and not here

@@ -46,7 +46,7 @@ abbrev pub eval_spec : {L : Type 0} → Node L → Result (Spec L) NodeFault
 eval_spec node =
     needed node.at (each as_lambda node.args) >>= λ lambdas. all_set (set_by eval_rows) no_eval node.props >>= λ eval.
     fitting node.at (nat_lt 0 (length lambdas) && nat_eq (length lambdas) (length eval.names))
-        (specs.Eval (record { results = eval_results lambdas eval.names; keep = eval.keep }))
+    (specs.Eval (record { results = eval_results lambdas eval.names; keep = eval.keep }))
 
 -- groupBy(s..) or groupBy(*)
 abbrev pub group_by_rows : {L : Type 0} → List (Row L GroupBySpec)
@@ -56,8 +56,8 @@ group_by_rows = row (codes "byMeasurement") nothing (λ _ group. record group { 
 abbrev pub group_by_spec : {L : Type 0} → Node L → Result (Spec L) NodeFault
 group_by_spec node =
     needed node.at (dimensions node.args)
-        >>= λ d. all_set (set_by group_by_rows) (record { dims = d; by_measurement = false }) node.props
-        >>= λ group. Ok (specs.GroupBy group)
+    >>= λ d. all_set (set_by group_by_rows) (record { dims = d; by_measurement = false }) node.props
+    >>= λ group. Ok (specs.GroupBy group)
 
 -- log()
 abbrev pub log_rows : {L : Type 0} → List (Row L LogSpec)

@@ -24,8 +24,14 @@ from_rows =
 
 -- a from node of which no property is set
 abbrev pub no_from : {L : Type 0} → FromSpec L
-no_from = record { database = None; retention_policy = None; measurement = None; conditions = []; dims = dims.Names [];
-    by_measurement = false }
+no_from = record {
+  database = None;
+  retention_policy = None;
+  measurement = None;
+  conditions = [];
+  dims = dims.Names [];
+  by_measurement = false;
+}
 
 -- what a from node is given, or its first fault
 abbrev pub from_spec : {L : Type 0} → Node L → Result (Spec L) NodeFault

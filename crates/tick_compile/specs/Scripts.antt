@@ -39,7 +39,7 @@ named (Err fault) = Err (Name fault)
 abbrev pub task_of : Option Refusal → List StmtTree → Result Task ScriptFault
 task_of refused script =
     named (bound_of script) >>= λ made. compiled refused made
-        >>= λ nodes. Ok (record { graph = nodes; dbrps = made.dbrps })
+    >>= λ nodes. Ok (record { graph = nodes; dbrps = made.dbrps })
 
 -- the text is a script of this task, where this pattern is refused, or none is
 pub record Accepts (refused : Option Refusal) (text : List ℕ) (task : Task) : Type 0 where

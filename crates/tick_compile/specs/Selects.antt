@@ -51,7 +51,7 @@ selected select field props =
 abbrev pub select_spec : {L : Type 0} → Select → Node L → Result (Spec L) NodeFault
 select_spec select node =
     needed node.at (one as_text node.args) >>= λ field. all_set (set_by select_rows) no_select node.props
-        >>= λ props. Ok (selected select field props)
+    >>= λ props. Ok (selected select field props)
 
 -- the first so many points of a rank
 abbrev pub ranked : Rank → ℕ → Select
@@ -62,5 +62,5 @@ ranked Bottom n = selects.Bottom n
 abbrev pub rank_spec : {L : Type 0} → Rank → Node L → Result (Spec L) NodeFault
 rank_spec rank node =
     needed node.at (pair as_count as_text node.args) >>= λ given. all_set (set_by select_rows) no_select node.props
-        >>= λ props.
+    >>= λ props.
     Ok (selected (ranked rank given.0) given.1 props)

@@ -29,7 +29,7 @@ as_rows = row (codes "as") (one as_name) (λ s _. Some s) ∷ []
 abbrev pub state_count_spec : {L : Type 0} → Node L → Result (Spec L) NodeFault
 state_count_spec node =
     needed node.at (one as_lambda node.args) >>= λ l. all_set (set_by as_rows) None node.props
-        >>= λ name. Ok (specs.StateCount (record { condition = l; name = name }))
+    >>= λ name. Ok (specs.StateCount (record { condition = l; name = name }))
 
 -- changeDetect(f..)
 abbrev pub change_detect_spec : {L : Type 0} → Node L → Result (Spec L) NodeFault

@@ -66,7 +66,7 @@ finished specs = well_joined (first_graph_fault specs) >>= λ _. with_from specs
 abbrev pub compiled_nodes : Option Refusal → List Dbrp → List NodeTree → Result (List (NodeSpec Tree)) ScriptFault
 compiled_nodes refused dbrps nodes =
     raised (specs_from dbrps [] (map node_of nodes)) >>= λ specs. typed (type_fault refused nodes)
-        >>= λ _. finished specs
+    >>= λ _. finished specs
 
 -- the nodes of the task of a bound script, where this pattern is refused, or its first fault
 abbrev pub compiled : Option Refusal → BoundTree → Result (List (NodeSpec Tree)) ScriptFault

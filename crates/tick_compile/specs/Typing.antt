@@ -42,7 +42,7 @@ prop_fault refused condition prop = firsts (arg_fault refused condition) prop.ar
 abbrev pub node_type_fault : Option Refusal → NodeTree → Option TypeFault
 node_type_fault refused node =
     first (firsts (arg_fault refused (takes_conditions node.kind)) node.args)
-        (firsts (prop_fault refused (takes_conditions node.kind)) node.props)
+    (firsts (prop_fault refused (takes_conditions node.kind)) node.props)
 
 -- the first fault of a script's lambdas
 abbrev pub type_fault : Option Refusal → List NodeTree → Option TypeFault
@@ -62,8 +62,13 @@ setting_of prop = record { name = prop.name; args = map given_of prop.args; at =
 -- a node with what it is given, without the places of that
 abbrev pub node_of : NodeTree → Node Tree
 node_of node =
-    record { kind = node.kind; parent = node.parent; args = map given_of node.args; props = map setting_of node.props;
-    at = node.at }
+    record {
+      kind = node.kind;
+      parent = node.parent;
+      args = map given_of node.args;
+      props = map setting_of node.props;
+      at = node.at;
+    }
 
 -- This value where no pattern is refused and there is no fault; else the first fault, where the pattern of which it
 -- speaks is the one that was refused last.

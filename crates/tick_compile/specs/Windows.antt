@@ -25,8 +25,14 @@ window_rows =
 
 -- a window of which no property is set
 abbrev pub no_window : WindowProps
-no_window = record { period = None; every = None; align = false; fill_period = false; period_count = None;
-    every_count = None }
+no_window = record {
+  period = None;
+  every = None;
+  align = false;
+  fill_period = false;
+  period_count = None;
+  every_count = None;
+}
 
 -- a property of the form by time is set
 abbrev pub is_timed : WindowProps → Bool

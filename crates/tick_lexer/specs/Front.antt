@@ -31,7 +31,7 @@ word_kind name =
 abbrev pub named : List ℕ → List ℕ → Found
 named name rest =
     cond (bytes_eq name (codes "lambda") && starts is_colon rest) (Took Lambda (length name + 1))
-        (Took (word_kind name) (length name))
+    (Took (word_kind name) (length name))
 
 -- a word that begins with this text: a name, a keyword, or `lambda:`
 abbrev pub word : List ℕ → Found
@@ -52,14 +52,14 @@ unit_at tail =
 abbrev pub integer : ℕ → List ℕ → Found
 integer at digits =
     cond (ltb (digits_value 10 digits) (2 ^ 63)) (Took (Literal (Int (pos (digits_value 10 digits)))) (length digits))
-        (Bad (WideInt at))
+    (Bad (WideInt at))
 
 -- the duration of these digits in this unit, or the fault that it is too wide
 abbrev pub duration : ℕ → List ℕ → units.Unit → Found
 duration at digits unit =
     cond (leb (digits_value 10 digits * unit_nanos unit) DURATION_LIMIT)
-        (Took (Literal (Dur (pos (digits_value 10 digits * unit_nanos unit))))
-        (length digits + length (unit_bytes unit))) (Bad (WideDuration at))
+    (Took (Literal (Dur (pos (digits_value 10 digits * unit_nanos unit))))
+    (length digits + length (unit_bytes unit))) (Bad (WideDuration at))
 
 -- digits, what follows them, and the unit there
 abbrev pub measured : ℕ → List ℕ → List ℕ → Option units.Unit → Found
@@ -126,7 +126,7 @@ tripled at rest (Some n) = Took (Literal (Str (take n rest))) (n + 6)
 abbrev pub string : ℕ → ℕ → List ℕ → Found
 string at b rest =
     cond (starts_three (b ∷ rest)) (tripled at (drop 2 rest) (before_three (drop 2 rest)))
-        (quoted (λ text. Literal (Str text)) (OpenString at) b rest)
+    (quoted (λ text. Literal (Str text)) (OpenString at) b rest)
 
 -- a sign whose second byte may be the one or the other
 abbrev pub paired : (ℕ → Bool) → Kind → (ℕ → Bool) → Kind → Kind → List ℕ → Found

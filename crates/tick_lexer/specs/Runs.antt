@@ -47,7 +47,7 @@ abbrev pub Runs : List Token → Ending → Bool → ℕ → List ℕ → Type 0
 Runs [] Whole pattern at text = skipped text false ≡ []
 Runs [] (Fault fault) pattern at text =
     (skipped text false ≢ [])
-        × (front pattern (at + (length text - length (skipped text false))) (skipped text false) ≡ Bad fault)
+    × (front pattern (at + (length text - length (skipped text false))) (skipped text false) ≡ Bad fault)
 Runs (t ∷ ts) ending pattern at text =
     (bytes : ℕ)
     × (front pattern t.start (skipped text false) ≡ Took t.kind bytes)

@@ -149,4 +149,4 @@ abbrev pub AreInPlace : List ℕ → ℕ → List Token → Type 0
 AreInPlace text at [] = Unit {0}
 AreInPlace text at (t ∷ ts) =
     (at ≤ t.start) × (t.start < t.«end») × (t.«end» ≤ length text) × Spelled t.kind (slice_range text t.start t.«end»)
-        × AreInPlace text t.«end» ts
+    × AreInPlace text t.«end» ts

@@ -53,7 +53,7 @@ reduce n (Minus at ∷ stack) tree = reduce n stack (NegTree tree at)
 reduce n (Negation at ∷ stack) tree = reduce n stack (NotTree tree at)
 reduce n (Left op left at ∷ stack) tree =
     cond (leb n (level op)) (reduce n stack (BinTree op left tree at))
-        (record { stack = Left op left at ∷ stack; tree = tree })
+    (record { stack = Left op left at ∷ stack; tree = tree })
 reduce n (Paren at ∷ stack) tree = record { stack = Paren at ∷ stack; tree = tree }
 reduce n (Args name done at ∷ stack) tree = record { stack = Args name done at ∷ stack; tree = tree }
 

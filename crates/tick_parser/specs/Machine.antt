@@ -89,7 +89,7 @@ abbrev pub begin : ℕ → List StmtTree → ℕ → Kind → State
 begin many done at Var = cond (ltb (length done) many) (VarRead done at) (Stopped (TooMany at))
 begin many done at (Ident name) =
     cond (ltb (length done) many) (ChainRead done [] (record { head = name; links = NoJoints; at = at }))
-        (Stopped (TooMany at))
+    (Stopped (TooMany at))
 begin many done at _ = Stopped (Expected Statement at)
 
 -- a token behind an argument, which is the first of these
@@ -209,7 +209,7 @@ step deep wide many (ValueRead done stack context value) token =
     settle many done stack context value token.start token.kind
 step deep wide many (InLambda done stack context at inner) token =
     within many done stack context at token.start token.kind
-        (lambdas.step (deep - (opens stack + opens_context context)) wide inner token)
+    (lambdas.step (deep - (opens stack + opens_context context)) wide inner token)
 step deep wide many (ChainRead done stack chain) token = follow many done stack chain token.start token.kind
 step deep wide many (LinkRead done stack chain node) token = link done stack chain node token.start token.kind
 step deep wide many (CallRead done stack chain call) token = opening deep done stack chain call token.start token.kind

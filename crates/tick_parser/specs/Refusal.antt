@@ -106,7 +106,7 @@ Ends deep wide many before token (Expected want at) =
     (at ≡ token.start) × (Begins (before ++ token ∷ []) → ⊥) × Needs want before
 Ends deep wide many before token (Deep at) =
     (at ≡ token.start) × IsOpening token.kind × Begins (before ++ token ∷ [])
-        × (Opens deep wide (before ++ token ∷ []) → ⊥)
+    × (Opens deep wide (before ++ token ∷ []) → ⊥)
 Ends deep wide many before token (TooMany at) =
     (at ≡ token.start) × IsStart token.kind × Begins (before ++ token ∷ []) × Fills many before
 Ends deep wide many before token NoMemory = ⊥
@@ -116,7 +116,7 @@ abbrev pub GoesOn : ℕ → ℕ → ℕ → List Token → Type 0
 GoesOn deep wide many tokens =
     Begins tokens
     × ((before after : List Token) (token : Token) (fault : ParseFault) → tokens ≡ before ++ token ∷ after
-        → Ends deep wide many before token fault → ⊥)
+    → Ends deep wide many before token fault → ⊥)
 
 -- the first token at which the reading ends, and why
 pub record Stops (deep wide many : ℕ) (tokens : List Token) (fault : ParseFault) : Type 0 where

@@ -47,8 +47,8 @@ abbrev mutual
       looked_up scope head at >>= λ arg. Ok (record { value = handed_on at arg; nodes = nodes })
   bound_val scope nodes (ChainVal head (MoreJoints node name args place rest) at) =
       looked_up scope head at >>= as_node at
-          >>= (λ number. bound_links scope (record { value = number; nodes = nodes })
-          (MoreJoints node name args place rest)) >>= λ made.
+      >>= (λ number. bound_links scope (record { value = number; nodes = nodes })
+      (MoreJoints node name args place rest)) >>= λ made.
       Ok (record { value = NodeArg made.value at; nodes = made.nodes })
 
   pub bound_vals : Scope → WithNodes (List ArgTree) → ValTrees → Result (WithNodes (List ArgTree)) VarFault
@@ -61,7 +61,7 @@ abbrev mutual
   bound_links scope made NoJoints = Ok made
   bound_links scope made (MoreJoints node name args at rest) =
       bound_vals scope (record { value = []; nodes = made.nodes }) args
-          >>= λ args. bound_links scope (linked node name at made.value args) rest
+      >>= λ args. bound_links scope (linked node name at made.value args) rest
 
 -- what statements have made: what names stand for, the nodes, and the pairs of a database and a retention policy
 pub record Progress : Type 0 where
@@ -86,7 +86,7 @@ bound_stmt progress (DbrpStmt db rp at) =
     Ok (record progress { dbrps = progress.dbrps ++ record { db = db; rp = rp } ∷ [] })
 bound_stmt progress (ChainStmt head links at) =
     bound_val progress.scope progress.nodes (ChainVal head links at)
-        >>= λ made. Ok (record progress { nodes = made.nodes })
+    >>= λ made. Ok (record progress { nodes = made.nodes })
 
 -- behind all of these statements
 abbrev pub bound_stmts : Progress → List StmtTree → Result Progress VarFault

@@ -83,11 +83,11 @@ abbrev mutual
   done_along next on NoJoints = []
   done_along next on (MoreJoints true name args at rest) =
       done_among next args
-          ++ MakesNode name on (written_vals next args) at ∷ done_along (next + pipes_among args + 1)
-          (OnNode (next + pipes_among args)) rest
+      ++ MakesNode name on (written_vals next args) at ∷ done_along (next + pipes_among args + 1)
+      (OnNode (next + pipes_among args)) rest
   done_along next on (MoreJoints false name args at rest) =
       done_among next args
-          ++ SetsProp name on (written_vals next args) at ∷ done_along (next + pipes_among args) on rest
+      ++ SetsProp name on (written_vals next args) at ∷ done_along (next + pipes_among args) on rest
 
 -- what a statement does
 abbrev pub done_by : ℕ → StmtTree → List Event
@@ -161,16 +161,21 @@ abbrev pub props_on : Scope → ℕ → List Event → List PropTree
 props_on scope number [] = []
 props_on scope number (SetsProp name on args at ∷ events) =
     if node_at scope on == number
-        then record { name = name; args = map (arg_of scope) args; at = at } ∷ props_on scope number events
-        else props_on scope number events
+    then record { name = name; args = map (arg_of scope) args; at = at } ∷ props_on scope number events
+    else props_on scope number events
 props_on scope number (event ∷ events) = props_on scope number events
 
 -- the nodes that are made, in order, from the number that is next, where each number has these properties
 abbrev pub nodes_made : Scope → (ℕ → List PropTree) → ℕ → List Event → List NodeTree
 nodes_made scope props next [] = []
 nodes_made scope props next (MakesNode kind under args at ∷ events) =
-    record { kind = kind; parent = node_at scope under; args = map (arg_of scope) args; props = props next;
-        at = at } ∷ nodes_made scope props (next + 1) events
+    record {
+      kind = kind;
+      parent = node_at scope under;
+      args = map (arg_of scope) args;
+      props = props next;
+      at = at;
+    } ∷ nodes_made scope props (next + 1) events
 nodes_made scope props next (event ∷ events) = nodes_made scope props next events
 
 -- the pairs of a database and a retention policy, in order

@@ -54,8 +54,13 @@ prop_tree prop = record { name = prop.name; args = arg_trees prop.args; at = pro
 -- the tree of a node
 abbrev pub node_tree : RawNode → NodeTree
 node_tree node =
-    record { kind = node.kind; parent = node.parent; args = arg_trees node.args; props = map prop_tree node.props;
-    at = node.at }
+    record {
+      kind = node.kind;
+      parent = node.parent;
+      args = arg_trees node.args;
+      props = map prop_tree node.props;
+      at = node.at;
+    }
 
 -- the trees of nodes
 abbrev pub node_trees : List RawNode → List NodeTree

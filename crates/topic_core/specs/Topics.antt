@@ -54,8 +54,15 @@ changes earlier (e ∷ later) = change (last_level e.topic e.id Fine earlier) e 
 -- the transition of this number: the number stands still at the end of its type
 abbrev pub transition : ℕ → Level → Event → Transition
 transition n old e =
-    record { number = min n (2 ^ 64 - 1); topic = e.topic; id = e.id; old_level = old; new_level = e.level;
-        time = e.time; message = e.message }
+    record {
+      number = min n (2 ^ 64 - 1);
+      topic = e.topic;
+      id = e.id;
+      old_level = old;
+      new_level = e.level;
+      time = e.time;
+      message = e.message;
+    }
 
 -- the transitions of these changes, numbered from n on
 unfoldable pub numbered : ℕ → List (Level × Event) → List Transition

@@ -90,7 +90,7 @@ come_due : (fill : Bool) (n m seen : ℕ)
 come_due true n m seen due =
     let two = both (nat_le n (seen + 1)) (((seen + 1) - n) % m == 0) due in
     due_filled n m seen (nat_lt seen n) refl (number_at_least n (seen + 1) two.0)
-        (same_number (((seen + 1) - n) % m) 0 two.1)
+    (same_number (((seen + 1) - n) % m) 0 two.1)
 come_due false n m seen due = (next_remainder seen m).due (same_number ((seen + 1) % m) 0 due)
 
 -- ---- the points that are kept
@@ -111,7 +111,7 @@ counted_live w before p =
     let seen = length before in
     elim (is_due w (seen + 1)) as (λ b. is_due w (seen + 1) ≡ b
     → cond b (batch_at p p.time (last w.period_count (last (kept_count w seen) before ++ p ∷ []))) silence
-        ≡ cond b (batch_at p p.time (last w.period_count (before ++ p ∷ []))) silence) [
+    ≡ cond b (batch_at p p.time (last w.period_count (before ++ p ∷ []))) silence) [
       | true ↦ λ due. ap (batch_at p p.time)
           (last_more w.period_count (kept_count w seen) before p (kept_due w seen due))
       | false ↦ λ waits. refl
@@ -132,7 +132,7 @@ counts_on w before port p =
     let all = before ++ p ∷ [] in
     let long : length (before ++ p ∷ []) ≡ length before + 1 = length-append before (p ∷ []) in
     ap (λ (l : List PointValue). turn_to (seen + 1) l (counted w (seen + 1) p (live ++ p ∷ [])))
-        (last_more (kept_count w (seen + 1)) (kept_count w seen) before p (kept_less w seen))
+    (last_more (kept_count w (seen + 1)) (kept_count w seen) before p (kept_less w seen))
     ∙ ap (turn_to (seen + 1) (last (kept_count w (seen + 1)) all)) (counted_live w before p)
     ∙ ap (λ (n : ℕ). turn_to n (last (kept_count w n) all) (points_say w before p)) (sym long)
 

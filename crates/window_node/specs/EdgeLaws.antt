@@ -52,22 +52,22 @@ live_before : (w : EdgeWindow) (edge : ℤ) (p q : PointValue) → int_le edge p
     → is_live w (following w p.time) q ≡ true → is_live w edge q ≡ true
 live_before w edge p q passed live =
     later_le edge p.time (following w p.time) (pos w.period) q.time (le_fact edge p.time passed) (behind_point w p.time)
-        (le_fact (following w p.time -ℤ pos w.period) q.time live)
+    (le_fact (following w p.time -ℤ pos w.period) q.time live)
 
 -- a point that a later edge can take is kept, and no other
 pub live_is : (w : EdgeWindow) (edge : ℤ) (p : PointValue) (before : List PointValue)
     → still_live w edge p (filter (is_live w edge) before)
-        ≡ filter (is_live w (next_edge w edge p.time)) (before ++ p ∷ [])
+    ≡ filter (is_live w (next_edge w edge p.time)) (before ++ p ∷ [])
 unfolding next_edge
 live_is w edge p before =
     elim (int_le edge p.time) as (λ b. int_le edge p.time ≡ b
     → cond b (filter (is_live w (following w p.time)) (filter (is_live w edge) before)
-        ++ filter (is_live w (following w p.time)) (p ∷ [])) (filter (is_live w edge) before
-        ++ filter (is_live w edge) (p ∷ []))
+    ++ filter (is_live w (following w p.time)) (p ∷ [])) (filter (is_live w edge) before
+    ++ filter (is_live w edge) (p ∷ []))
     ≡ filter (is_live w (cond b (following w p.time) edge)) (before ++ p ∷ [])) [
       | true ↦ λ passed.
           ap (λ l. l ++ filter (is_live w (following w p.time)) (p ∷ []))
-              (filter_twice _ _ (λ q live. live_before w edge p q passed live) before)
+          (filter_twice _ _ (λ q live. live_before w edge p q passed live) before)
           ∙ sym (filter-append _ before (p ∷ []))
       | false ↦ λ passed. sym (filter-append _ before (p ∷ []))
     ] refl
@@ -92,11 +92,11 @@ edges_go_on w (q ∷ qs) port p =
     let edge = edge_of w q qs in
     let live = filter (is_live w edge) (q ∷ qs) in
     ap (λ (l : List PointValue). turn_to q.time (next_edge w edge p.time) l (emitted w edge p live))
-        (live_is w edge p (q ∷ qs))
+    (live_is w edge p (q ∷ qs))
     ∙ ap (λ (e : ℤ). turn_to q.time e (filter (is_live w e) (q ∷ (qs ++ p ∷ []))) (emitted w edge p live))
-        (sym (edge_more w (first_edge w q.time) qs p))
+    (sym (edge_more w (first_edge w q.time) qs p))
     ∙ ap (turn_to q.time (edge_of w q (qs ++ p ∷ []))
-        (filter (is_live w (edge_of w q (qs ++ p ∷ []))) (q ∷ (qs ++ p ∷ [])))) (emitted_live w edge p (q ∷ qs))
+    (filter (is_live w (edge_of w q (qs ++ p ∷ []))) (q ∷ (qs ++ p ∷ [])))) (emitted_live w edge p (q ∷ qs))
 
 -- what is kept, and what is said, of one point more
 pub edge_goes_on : (w : EdgeWindow) (before : List Came) (port : ℕ) (p : PointValue)

@@ -80,10 +80,10 @@ module _ {A : Type 0} where
       let n = length xs in
       let within : n - b ≤ n = omega arith in
       let front : drop (n - b) xs
-          ++ p ∷ [] ≡ drop (n - b) (xs ++ p ∷ []) = sym (drop-append-le (n - b) xs (p ∷ []) within) in
+      ++ p ∷ [] ≡ drop (n - b) (xs ++ p ∷ []) = sym (drop-append-le (n - b) xs (p ∷ []) within) in
       let long : length (xs ++ p ∷ []) ≡ n + 1 = length-append xs (p ∷ []) in
       let short : length (drop (n - b) (xs ++ p ∷ [])) ≡ n + 1 - (n - b) = length-drop (n - b) (xs ++ p ∷ [])
-          ∙ ap (λ (k : ℕ). k - (n - b)) long in
+      ∙ ap (λ (k : ℕ). k - (n - b)) long in
       let count : (n - b) + (n + 1 - (n - b) - a) ≡ n + 1 - a = omega arith in
       ap (λ (l : List A). last a l) front
       ∙ ap (λ (k : ℕ). drop (k - a) (drop (n - b) (xs ++ p ∷ []))) short

@@ -50,8 +50,11 @@ pub record SlidingKept : Type 0 where
 abbrev pub points_kept : SlidingWindow → List PointValue → Option SlidingKept
 points_kept w [] = None
 points_kept w (p ∷ ps) =
-    Some (record { first = p.time; high = greatest p ps;
-    live = filter (is_near w (reach w p.time (greatest p ps))) (p ∷ ps) })
+    Some (record {
+      first = p.time;
+      high = greatest p ps;
+      live = filter (is_near w (reach w p.time (greatest p ps))) (p ∷ ps);
+    })
 
 -- what is kept of what came
 abbrev pub sliding_kept : SlidingWindow → List Came → Option SlidingKept
@@ -67,13 +70,16 @@ started p = record { first = p.time; high = p.time; live = [] }
 abbrev pub still_near : SlidingWindow → ℤ → ℤ → PointValue → List PointValue → List PointValue
 still_near w first high p live =
     if is_due w first high then filter (is_near w high) (live ++ p ∷ []) else live
-        ++ filter (is_near w (first +ℤ pos w.period)) (p ∷ [])
+    ++ filter (is_near w (first +ℤ pos w.period)) (p ∷ [])
 
 -- one point more
 abbrev pub slid_on : SlidingWindow → SlidingKept → PointValue → SlidingKept
 slid_on w k p =
-    record { first = k.first; high = int_max k.high p.time;
-    live = still_near w k.first (int_max k.high p.time) p k.live }
+    record {
+      first = k.first;
+      high = int_max k.high p.time;
+      live = still_near w k.first (int_max k.high p.time) p k.live;
+    }
 
 -- a step behind the first point
 abbrev pub slid_turn : SlidingWindow → SlidingKept → PointValue → Turn (Option SlidingKept)

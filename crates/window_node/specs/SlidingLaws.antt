@@ -61,35 +61,35 @@ near_twice : (w : SlidingWindow) (high next : ℤ) → high ≤ℤ next → (bef
 near_twice w high next le before p =
     filter-append _ (filter (is_near w high) before) (p ∷ [])
     ∙ ap (λ l. l ++ filter (is_near w next) (p ∷ []))
-        (filter_twice _ _ (λ q h. nearer high next (pos w.period) q.time le h) before)
+    (filter_twice _ _ (λ q h. nearer high next (pos w.period) q.time le h) before)
     ∙ sym (filter-append _ before (p ∷ []))
 
 -- a point that a later point can take is kept
 pub kept_near : (w : SlidingWindow) (first high next : ℤ) → high ≤ℤ next → (before : List PointValue) (p : PointValue)
     → still_near w first next p (filter (is_near w (reach w first high)) before)
-        ≡ filter (is_near w (reach w first next)) (before ++ p ∷ [])
+    ≡ filter (is_near w (reach w first next)) (before ++ p ∷ [])
 kept_near w first high next le before p =
     let full = first +ℤ pos w.period in
     elim (is_due w first next) as (λ b. is_due w first next ≡ b
     → cond b (filter (is_near w next) (filter (is_near w (reach w first high)) before ++ p ∷ []))
-        (filter (is_near w (reach w first high)) before ++ filter (is_near w full) (p ∷ []))
+    (filter (is_near w (reach w first high)) before ++ filter (is_near w full) (p ∷ []))
     ≡ filter (is_near w (cond b next full)) (before ++ p ∷ [])) [
       | true ↦ λ due. near_twice w (reach w first high) next (reach_due w.fill_period full high next le due) before p
       | false ↦ λ waits.
           ap (λ (r : ℤ). filter (is_near w r) before ++ filter (is_near w full) (p ∷ []))
-              (reach_waits w.fill_period full high next le waits)
+          (reach_waits w.fill_period full high next le waits)
           ∙ sym (filter-append _ before (p ∷ []))
     ] refl
 
 -- a point takes none but live points
 pub slid_live : (w : SlidingWindow) (first high next : ℤ) → high ≤ℤ next → (before : List PointValue) (p : PointValue)
     → slid w first next p (filter (is_near w (reach w first high)) before ++ p ∷ [])
-        ≡ slid w first next p (before ++ p ∷ [])
+    ≡ slid w first next p (before ++ p ∷ [])
 slid_live w first high next le before p =
     let full = first +ℤ pos w.period in
     elim (is_due w first next) as (λ b. is_due w first next ≡ b
     → cond b (batch_at p next
-        (filter (is_near w next) (filter (is_near w (reach w first high)) before ++ p ∷ []))) silence
+    (filter (is_near w next) (filter (is_near w (reach w first high)) before ++ p ∷ []))) silence
     ≡ cond b (batch_at p next (filter (is_near w next) (before ++ p ∷ []))) silence) [
       | true ↦ λ due. ap (batch_at p next)
           (near_twice w (reach w first high) next (reach_due w.fill_period full high next le due) before p)
@@ -109,17 +109,17 @@ slides_on w [] port p =
     let same : p.time ≤ℤ p.time = omega (arith, ints) in
     ap (λ (h : ℤ). turn_to p.time h (still_near w p.time h p []) (slid w p.time h p (p ∷ []))) (max_same p.time)
     ∙ ap (λ (l : List PointValue). turn_to p.time p.time l (slid w p.time p.time p (p ∷ [])))
-        (kept_near w p.time p.time p.time same [] p)
+    (kept_near w p.time p.time p.time same [] p)
 slides_on w (q ∷ qs) port p =
     let high = greatest q qs in
     let next = int_max high p.time in
     let live = filter (is_near w (reach w q.time high)) (q ∷ qs) in
     ap (λ (l : List PointValue). turn_to q.time next l (slid w q.time next p (live ++ p ∷ [])))
-        (kept_near w q.time high next (max_above high p.time) (q ∷ qs) p)
+    (kept_near w q.time high next (max_above high p.time) (q ∷ qs) p)
     ∙ ap (turn_to q.time next (filter (is_near w (reach w q.time next)) (q ∷ (qs ++ p ∷ []))))
-        (slid_live w q.time high next (max_above high p.time) (q ∷ qs) p)
+    (slid_live w q.time high next (max_above high p.time) (q ∷ qs) p)
     ∙ ap (λ (h : ℤ). turn_to q.time h (filter (is_near w (reach w q.time h)) (q ∷ (qs ++ p ∷ [])))
-        (slid w q.time h p (q ∷ (qs ++ p ∷ [])))) (sym (greatest_more q qs p))
+    (slid w q.time h p (q ∷ (qs ++ p ∷ [])))) (sym (greatest_more q qs p))
 
 -- what is kept, and what is said, of one point more
 pub sliding_goes_on : (w : SlidingWindow) (before : List Came) (port : ℕ) (p : PointValue)
