@@ -1,5 +1,5 @@
 use Rattle.std.proofs.Common.{length}
-use Rattle.kap_cases.proofs.nodes.+feed_rest.Given as goal
+use Rattle.node_tests.proofs.states.+feed_rest.Given as goal
 
 abbrev pub decreases-feed_rest : goal.decreases-feed_rest
 decreases-feed_rest g l = length l.rest.rest.items

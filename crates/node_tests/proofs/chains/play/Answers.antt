@@ -1,5 +1,5 @@
-use Rattle.kap_cases.proofs.NodeLaws.{at_zero}
-use Rattle.kap_cases.proofs.nodes.play.Goals as goal
+use Rattle.node_tests.proofs.ChainLaws.{at_zero}
+use Rattle.node_tests.proofs.chains.play.Goals as goal
 
 pub run-requires-clause-ports : goal.run-requires-clause-ports
 run-requires-clause-ports g c =

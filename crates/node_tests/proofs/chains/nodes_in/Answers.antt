@@ -1,7 +1,7 @@
 use Rattle.std.proofs.Common.{subst, sym}
 use Rattle.task_run.specs.Plans.{AreFirstNodes}
-use Rattle.kap_cases.proofs.NodeLaws.{ready}
-use Rattle.kap_cases.proofs.nodes.nodes_in.Goals as goal
+use Rattle.node_tests.proofs.ChainLaws.{ready}
+use Rattle.node_tests.proofs.chains.nodes_in.Goals as goal
 
 pub returns : goal.returns
 returns g c =

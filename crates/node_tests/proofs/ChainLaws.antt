@@ -3,7 +3,7 @@ use Rattle.std.proofs.Common.{◌≡◌, ℕ, ◌+◌, ◌<◌, List, [], ◌∷
 use Rattle.kap_base.specs.declared.items.Item.{Item}
 use Rattle.node_core.specs.Cut.{AllAtPorts}
 use Rattle.task_run.specs.Plans.{AreFirstNodes, AreNodesFrom, IsPlan, PlanValue}
-use Rattle.kap_cases.specs.Ready.{AreReady}
+use Rattle.node_tests.specs.Chains.{AreReady}
 
 pub at_zero : (ports : ℕ) (items : List Item) → 0 < ports → AllAtPorts ports (map (λ item. (0, item)) items)
 at_zero ports [] some = tt

@@ -1,5 +1,5 @@
 use Rattle.std.proofs.Common.{length}
-use Rattle.kap_cases.proofs.nodes.+hand_over_all.Given as goal
+use Rattle.node_tests.proofs.states.+hand_over_all.Given as goal
 
 abbrev pub decreases-hand_over_all : goal.decreases-hand_over_all
 decreases-hand_over_all g l = length l.ones.rest.items
