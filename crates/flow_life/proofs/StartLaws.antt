@@ -16,7 +16,7 @@ use Rattle.flow_cells.specs.Looks.{IsQuiet, has_known}
 use Rattle.flow_cells.specs.Made.{HasNothing, IsNothing}
 use Rattle.flow_cells.specs.Outs.{has_unsent}
 use Rattle.flow_life.specs.Loads.{IsGathered}
-use Rattle.flow_life.specs.Making.{IsSaved}
+use Rattle.flow_life.specs.Making.{IsClean}
 use Rattle.flow_life.proofs.PlaceLaws.{CellOfOut, cell-of_out, each-get, each-of, in-at}
 use Rattle.flow_life.specs.Steps.{AreQuiet}
 use Rattle.flow_life.specs.Wired.{IsFed, IsReady}
@@ -79,8 +79,6 @@ module _ {N P S : Type 0} (g : Ghosts N P S) where
     pub nothing-gathered : Each IsGathered cells
     nothing-gathered = each-of IsGathered cells (λ j c at. none-behind (gathered c.core.gathered) c.core.effects (begun-here j c at).effects)
 
-    -- the saved state is the state
-    pub nothing-saved : Each (IsSaved g) cells
-    nothing-saved = each-of (IsSaved g) cells (λ j c at.
-        let b = begun-here j c at in
-        b.saved ∙ sym (rw (b.spec, b.state) refl))
+    -- no item came since the last barrier
+    pub nothing-fed : Each IsClean cells
+    nothing-fed = each-of IsClean cells (λ j c at. (begun-here j c at).clean)

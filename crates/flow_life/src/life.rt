@@ -55,9 +55,9 @@ impl<N: Node> Life<N> {
     ghost use Rattle.flow_life.specs.Left.{left_of};
     ghost use Rattle.flow_life.specs.Listing.{ends_of, steps_from};
     ghost use Rattle.flow_life.specs.Lives.{IsLife};
-    ghost use Rattle.flow_life.specs.Loads.{IsGathered, LoadsFrom, plan_now};
+    ghost use Rattle.flow_life.specs.Loads.{IsGathered, LoadsFrom, has_inner, plan_now};
     ghost use Rattle.flow_life.specs.Loose.{HasLooked, IsLoose};
-    ghost use Rattle.flow_life.specs.Making.{HasCarriedNothing, IsSaved, nodes_of, passed_of};
+    ghost use Rattle.flow_life.specs.Making.{HasCarriedNothing, IsClean, nodes_of, passed_of};
     ghost use Rattle.flow_life.specs.Nodes.{gathered_of, specs_of};
     ghost use Rattle.flow_life.specs.Playing.{Plays};
     ghost use Rattle.flow_life.specs.Rooms.{rooms_of};
@@ -106,7 +106,7 @@ impl<N: Node> Life<N> {
             ≡ passed_of self.old.cells ++ passed.0 ∷ []) }
         ensures rest { OnOk result (AreQuiet self.new.cells) }
         ensures gathered { OnOk result (Each IsGathered self.new.cells) }
-        ensures saved { OnOk result (Each (IsSaved N.Node) self.new.cells) }
+        ensures clean { OnOk result (Each IsClean self.new.cells) }
         ensures carried { OnOk result (Each HasCarriedNothing self.old.cells
             → Each HasCarriedNothing self.new.cells) }
         ensures room { OnOk result (Each (HasRoom capacity) self.old.cells
@@ -215,7 +215,7 @@ impl<N: Node> Life<N> {
         requires rest { AreQuiet self.old.cells }
         requires gathered { Each IsGathered self.old.cells }
         requires closed { IsClosed source.items }
-        ensures loads { OnOk result (AllZip (LoadsFrom source.items)
+        ensures loads { OnOk result (AllZip (LoadsFrom (has_inner source.items) source.items)
             self.old.cells self.new.cells) }
         ensures plans { OnOk result (plans_of N.Node self.new.cells
             ≡ map (plan_now N.Node source.items) self.old.cells) }
