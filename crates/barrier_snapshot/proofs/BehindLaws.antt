@@ -64,6 +64,7 @@ module _ {N P S : Type 0} (g : Ghosts N P S) where
     where
       Kept : NumberedLife N → Type 0
       Kept l = Each HasKept l.life.cells
+
       all : (ls : List (NumberedLife N)) → Each Kept ls → Each HasKept (cells_in ls)
       all [] k = tt
       all (l ∷ ls) k = kept-both l.life.cells (cells_in ls) k.0 (all ls k.1)

@@ -8,8 +8,8 @@ use Rattle.kap_base.specs.declared.items.Effect.{Effect}
 use Rattle.kap_base.specs.declared.items.Msg.{Msg}
 use Rattle.kap_base.specs.declared.items.Msg.TheVariants as messages
 use Rattle.kap_base.specs.declared.items.Stamp.{Stamp}
-use Rattle.merge_node.specs.Merge.{AreOrdered, Entry, IsClosed, PrecedesAll, RisesFrom, barriers, rank}
-use Rattle.merge_node.proofs.ClosingLaws.{EntriesClosed, IsClosedBy, entry_barriers}
+use Rattle.merge_node.specs.Merge.{AreOrdered, Entry, IsClosed, IsClosedBy, PrecedesAll, RisesFrom, barriers, rank}
+use Rattle.merge_node.proofs.ClosingLaws.{EntriesClosed, entry_barriers}
 use Rattle.flow_cells.specs.Runs.{inputs}
 use Rattle.task_run.specs.Stamps.{StampsFrom, StampsUpTo, of_effect, of_input}
 use Rattle.barrier_snapshot.specs.Resuming.{effects_behind, msgs_behind}

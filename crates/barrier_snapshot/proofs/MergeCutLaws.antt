@@ -4,11 +4,11 @@ use Rattle.std.specs.List.{AllZip}
 use Rattle.kap_base.specs.declared.items.Msg.{Msg}
 use Rattle.kap_base.specs.declared.items.Msg.TheVariants as messages
 use Rattle.kap_base.specs.declared.items.Stamp.{Stamp}
-use Rattle.merge_node.specs.Merge.{AreClosed, AreMergeable, AreOrdered, Entry, IsClosed, Lists, RisesFrom, barriers}
+use Rattle.merge_node.specs.Merge.{AllClosedBy, AreClosed, AreMergeable, AreOrdered, Entry, IsClosed, IsClosedBy, Lists, RisesFrom, barriers}
 use Rattle.merge_node.specs.Buffers.{Merges, next}
 use Rattle.merge_node.proofs.BufferLaws.{Ahead, join, merges-ahead, merges-join, merges-length, merges-same}
 use Rattle.merge_node.proofs.CallLaws.{AreEmpty, merges-whole}
-use Rattle.merge_node.proofs.ClosingLaws.{AllClosedBy, EntriesClosed, IsClosedBy, entry_barriers, merged-closed}
+use Rattle.merge_node.proofs.ClosingLaws.{EntriesClosed, entry_barriers, merged-closed}
 use Rattle.merge_node.proofs.OrderLaws.{merge_ordered}
 use Rattle.flow_core.proofs.MessageLaws.{barriers-append}
 use Rattle.flow_life.specs.GraphLaws.{merge-all}

@@ -5,8 +5,7 @@ use Rattle.kap_base.specs.Points.{PointValue}
 use Rattle.kap_base.specs.declared.items.Msg.{Msg}
 use Rattle.kap_base.specs.declared.items.Msg.TheVariants as messages
 use Rattle.kap_base.specs.declared.items.Stamp.{Stamp}
-use Rattle.merge_node.proofs.ClosingLaws.{IsClosedBy}
-use Rattle.merge_node.specs.Merge.{RisesFrom}
+use Rattle.merge_node.specs.Merge.{IsClosedBy, RisesFrom}
 use Rattle.task_run.specs.Graphs.{stamped_from}
 use Rattle.task_run.specs.PointLaws.{stamped_point}
 use Rattle.flow_core.proofs.MessageLaws.{messages_barriers, messages_closed, messages_rise}

@@ -10,9 +10,8 @@ use Rattle.node_core.specs.declared.node.Node.{Ghosts}
 use Rattle.node_core.specs.Cut.{IsStamped}
 use Rattle.node_core.specs.Meaning.{Input, fold, given}
 use Rattle.merge_node.proofs.BufferLaws.{merges-same}
-use Rattle.merge_node.proofs.ClosingLaws.{IsClosedBy}
 use Rattle.merge_node.specs.Buffers.{done}
-use Rattle.merge_node.specs.Merge.{Entry}
+use Rattle.merge_node.specs.Merge.{Entry, IsClosedBy}
 use Rattle.flow_cells.specs.Kept.{Keeps, run_of}
 use Rattle.flow_cells.specs.Made.{HasNothing}
 use Rattle.flow_cells.specs.declared.parts.CellParts.{CellParts}

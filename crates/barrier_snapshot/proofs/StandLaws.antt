@@ -10,8 +10,8 @@ use Rattle.node_core.specs.declared.node.Node.{Ghosts}
 use Rattle.node_core.specs.Cut.{IsStamped}
 use Rattle.node_core.specs.Meaning.{Input, Move, fold, given}
 use Rattle.merge_node.proofs.BufferLaws.{merges-same}
-use Rattle.merge_node.proofs.ClosingLaws.{EntriesClosed, IsClosedBy, entry_barriers}
-use Rattle.merge_node.specs.Merge.{Entry, RisesFrom}
+use Rattle.merge_node.proofs.ClosingLaws.{EntriesClosed, entry_barriers}
+use Rattle.merge_node.specs.Merge.{Entry, IsClosedBy, RisesFrom}
 use Rattle.flow_cells.specs.declared.parts.CellParts.{CellParts}
 use Rattle.flow_cells.specs.HandledLaws.{run-append}
 use Rattle.flow_cells.specs.Kept.{Keeps}

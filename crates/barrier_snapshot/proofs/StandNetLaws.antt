@@ -10,8 +10,7 @@ use Rattle.node_core.specs.declared.node.Node.{Ghosts}
 use Rattle.node_core.specs.Cut.{IsStamped}
 use Rattle.node_core.specs.Meaning.{Input, fold, given}
 use Rattle.state_code.specs.Spelling.{IsSpelling}
-use Rattle.merge_node.proofs.ClosingLaws.{IsClosedBy}
-use Rattle.merge_node.specs.Merge.{barriers}
+use Rattle.merge_node.specs.Merge.{IsClosedBy, barriers}
 use Rattle.flow_cells.specs.declared.parts.CellParts.{CellParts}
 use Rattle.flow_life.specs.Loads.{plan_now}
 use Rattle.flow_life.specs.Nodes.{specs_of}

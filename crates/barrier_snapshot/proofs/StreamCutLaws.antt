@@ -5,9 +5,9 @@ use Rattle.std.specs.List.{AllByRecursion as Each, AllZip}
 use Rattle.kap_base.specs.declared.items.Msg.{Msg}
 use Rattle.kap_base.specs.declared.items.Stamp.{Stamp}
 use Rattle.node_core.specs.Meaning.{Input, Move}
-use Rattle.merge_node.specs.Merge.{AreOrdered, Entry, Lists, RisesFrom}
+use Rattle.merge_node.specs.Merge.{AreOrdered, Entry, IsClosedBy, Lists, RisesFrom}
 use Rattle.merge_node.specs.Buffers.{Merges}
-use Rattle.merge_node.proofs.ClosingLaws.{EntriesClosed, IsClosedBy, entry_barriers}
+use Rattle.merge_node.proofs.ClosingLaws.{EntriesClosed, entry_barriers}
 use Rattle.flow_cells.specs.HandledLaws.{run-append}
 use Rattle.flow_cells.specs.Runs.{Run, begun, run}
 use Rattle.flow_life.specs.Graphs.{IsGraph, IsGraphFrom}

@@ -7,12 +7,12 @@ use Rattle.kap_base.specs.declared.items.Stamp.{Stamp}
 use Rattle.node_core.specs.Meaning.{Answer, Given, Input, Move, fold, given, given_after}
 use Rattle.node_core.specs.Cut.{IsStamped}
 use Rattle.node_core.specs.Laws.{given-append}
-use Rattle.merge_node.specs.Merge.{AreClosed, AreMergeable, AreOrdered, Entry, IsClosed, Lists, RisesFrom, barriers, items, merge}
+use Rattle.merge_node.specs.Merge.{AreClosed, AreMergeable, AreOrdered, Entry, IsClosed, IsClosedBy, Lists, RisesFrom, barriers, items, merge}
 use Rattle.merge_node.proofs.OrderLaws.{merge_ordered}
 use Rattle.merge_node.specs.Buffers.{Merges}
 use Rattle.merge_node.proofs.CallLaws.{merges-whole}
 use Rattle.merge_node.proofs.RankLaws.{AllAbove}
-use Rattle.merge_node.proofs.ClosingLaws.{IsClosedBy, merged-closed}
+use Rattle.merge_node.proofs.ClosingLaws.{merged-closed}
 use Rattle.flow_cells.specs.Outs.{item_msgs}
 use Rattle.flow_cells.specs.Runs.{Run, begun, inputs, run}
 use Rattle.flow_cells.specs.Promises.{run_effects, run_items, run_state}

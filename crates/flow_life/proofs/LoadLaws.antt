@@ -3,8 +3,7 @@ use Rattle.std.proofs.Common.{◌≡◌, ℕ, zero, suc, ◌<◌, Bool, List, []
 use Rattle.std.specs.List.{AllByRecursion as Each, AllZip}
 use Rattle.kap_base.specs.declared.items.Msg.{Msg}
 use Rattle.node_core.specs.declared.node.Node.{Ghosts}
-use Rattle.merge_node.specs.Merge.{IsClosed, barriers}
-use Rattle.merge_node.proofs.ClosingLaws.{IsClosedBy}
+use Rattle.merge_node.specs.Merge.{IsClosed, IsClosedBy, barriers}
 use Rattle.edge_queue.specs.Edges.{known, received, sent}
 use Rattle.edge_queue.proofs.EdgeLaws.{IsEdge-loaded, IsSettled-loaded, TailLoads-capacity}
 use Rattle.flow_cells.specs.declared.parts.OutEdge.{OutEdge}

@@ -20,10 +20,10 @@ use Rattle.flow_life.specs.Wired.{Feeds, IsFed, IsReady, IsUnspent, IsWired, out
 use Rattle.flow_life.specs.Making.{AreBlank, FeedsNext, IsWiredWith}
 use Rattle.flow_life.proofs.SplitLaws.{each-append}
 use Rattle.kap_base.specs.declared.items.Msg.{Msg}
-use Rattle.merge_node.proofs.ClosingLaws.{IsClosedBy}
 use Rattle.flow_life.specs.Graphs.{IsClosedFor, IsLoaded}
 use Rattle.flow_life.specs.Lives.{IsLife}
 use Rattle.flow_life.specs.Streams.{Plan, plans_of}
+use Rattle.merge_node.specs.Merge.{IsClosedBy}
 
 -- ---- a new edge
 

@@ -9,11 +9,11 @@ use Rattle.kap_base.specs.declared.items.Msg.TheVariants as messages
 use Rattle.kap_base.specs.declared.items.Stamp.{Stamp}
 use Rattle.node_core.specs.declared.node.Node.{Ghosts}
 use Rattle.node_core.specs.Meaning.{Input, Move}
-use Rattle.merge_node.specs.Merge.{Entry, IsClosed, Lists, barriers}
+use Rattle.merge_node.specs.Merge.{AllClosedBy, Entry, IsClosed, IsClosedBy, Lists, barriers}
 use Rattle.merge_node.specs.Buffers.{Merges}
 use Rattle.merge_node.proofs.BufferLaws.{merges-same}
 use Rattle.merge_node.proofs.CallLaws.{AreEmpty}
-use Rattle.merge_node.proofs.ClosingLaws.{AllClosedBy, ClosedMerge, EntriesClosed, IsClosedBy, entry_barriers, merged-closed}
+use Rattle.merge_node.proofs.ClosingLaws.{ClosedMerge, EntriesClosed, entry_barriers, merged-closed}
 use Rattle.edge_queue.specs.Edges.{known, received, sent}
 use Rattle.edge_queue.proofs.EdgeLaws.{settled_since}
 use Rattle.flow_cells.specs.declared.parts.OutEdge.{OutEdge}

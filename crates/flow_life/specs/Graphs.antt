@@ -3,8 +3,8 @@ use Rattle.std.specs.Prelude.{ℕ, suc, ◌<◌, ⊤, List, [], ◌∷◌}
 use Rattle.std.specs.List.{AllByRecursion as Each}
 use Rattle.kap_base.specs.declared.items.Msg.{Msg}
 use Rattle.kap_base.specs.declared.items.Stamp.{Stamp}
-use Rattle.merge_node.proofs.ClosingLaws.{IsClosedBy}
 use Rattle.flow_life.specs.Streams.{AreStreams, Plan}
+use Rattle.merge_node.specs.Merge.{IsClosedBy}
 
 -- the parents of each node stand before it; the nodes are numbered from here on
 abbrev pub IsGraphFrom : {S : Type 0} → ℕ → List (Plan S) → Type 0

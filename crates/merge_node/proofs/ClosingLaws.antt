@@ -6,21 +6,12 @@ use Rattle.kap_base.specs.declared.items.Item.{Item}
 use Rattle.kap_base.specs.declared.items.Msg.{Msg}
 use Rattle.kap_base.specs.declared.items.Msg.TheVariants as messages
 use Rattle.kap_base.specs.declared.items.Stamp.{Stamp}
-use Rattle.merge_node.specs.Merge.{Entry, IsClosed, Lists, barriers}
+use Rattle.merge_node.specs.Merge.{AllClosedBy, Entry, IsClosed, IsClosedBy, Lists, barriers}
 use Rattle.merge_node.specs.declared.fronts.Front.{Front}
 use Rattle.merge_node.specs.Buffers.{Merges, Taken, done, front, has_empty, least, lower, more, next, next_by, taken, without_front, without_fronts}
 use Rattle.merge_node.proofs.BufferLaws.{next-by, next-full, next-less, some-same}
 use Rattle.merge_node.proofs.CallLaws.{AreEmpty}
 use Rattle.merge_node.proofs.FrontLaws.{empty-none}
-
--- a list with these barriers, and one behind each item
-pub record IsClosedBy (bs : List Stamp) (l : List Msg) : Type 0 where
-  pub barriers : barriers l ≡ bs
-  pub closed : IsClosed l
-
--- so of each list
-abbrev pub AllClosedBy : List Stamp → Lists → Type 0
-AllClosedBy bs ls = Each (IsClosedBy bs) ls
 
 -- ---- which message is next
 

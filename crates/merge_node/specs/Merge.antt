@@ -1,5 +1,6 @@
 -- Lists of messages merged as a whole.
 use Rattle.std.specs.Prelude.{◌≡◌, ◌≢◌, ℕ, ◌+◌, ◌*◌, ◌<◌, ◌≤◌, ◌⊎◌, ⊤, nat_le, ◌==◌, if◌then◌else◌, List, [], ◌∷◌, ◌++◌, map, slice_index_or}
+use Rattle.std.specs.List.{AllByRecursion as Each}
 use Rattle.kap_base.specs.declared.items.Stamp.{Stamp}
 use Rattle.kap_base.specs.declared.items.Msg.{Msg}
 use Rattle.kap_base.specs.declared.items.Msg.TheVariants as messages
@@ -82,6 +83,15 @@ IsClosed (messages.Barrier b ∷ l) = IsClosed l
 abbrev pub AreClosed : Lists → Type 0
 AreClosed [] = ⊤
 AreClosed (l ∷ ls) = IsClosed l × AreClosed ls
+
+-- a list with these barriers, and one behind each item
+pub record IsClosedBy (bs : List Stamp) (l : List Msg) : Type 0 where
+  pub barriers : barriers l ≡ bs
+  pub closed : IsClosed l
+
+-- so of each list
+abbrev pub AllClosedBy : List Stamp → Lists → Type 0
+AllClosedBy bs ls = Each (IsClosedBy bs) ls
 
 -- ---- the order of a merged list
 
