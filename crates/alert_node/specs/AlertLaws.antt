@@ -13,7 +13,8 @@ use Rattle.std.specs.Prelude.{fold}
 
 -- what is kept behind one point more
 watch_more : (alert : Alert) (watch : Watch) (cs : List Came) (c : Came)
-    → fold (λ w d. watched alert w d.1) watch (cs ++ c ∷ []) ≡ watched alert (fold (λ w d. watched alert w d.1) watch cs) c.1
+    → fold (λ w d. watched alert w d.1) watch (cs ++ c ∷ [])
+    ≡ watched alert (fold (λ w d. watched alert w d.1) watch cs) c.1
 watch_more alert watch [] c = refl
 watch_more alert watch (d ∷ cs) c = watch_more alert (watched alert watch d.1) cs c
 
@@ -22,6 +23,8 @@ turn said watch = record { state = watch; said = said }
 
 -- what is kept, and what is said, of one point more
 pub alert_goes_on : (alert : Alert) (before : List Came) (port : ℕ) (p : PointValue)
-    → alert_step alert (watch_in alert before) port p ≡ record { state = watch_in alert (before ++ (port, p) ∷ []); said = alert_says alert before port p }
+    → alert_step alert (watch_in alert before) port p
+    ≡ record { state = watch_in alert (before ++ (port, p) ∷ []); said = alert_says alert before port p }
 unfolding turn
-alert_goes_on alert before port p = ap (turn (alert_says alert before port p)) (sym (watch_more alert (watch_in alert []) before (port, p)))
+alert_goes_on alert before port p =
+    ap (turn (alert_says alert before port p)) (sym (watch_more alert (watch_in alert []) before (port, p)))

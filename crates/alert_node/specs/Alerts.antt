@@ -16,7 +16,8 @@ use Rattle.alert_node.specs.Watches.{watch_in, watched}
 -- at most an event, and nothing is given on: nothing stands under an alert
 abbrev pub said_at : Alert → Level → Level → PointValue → Said
 said_at alert before now p =
-    if tells alert before now then record { bodies = []; deeds = whats.Event (event_of alert now p) ∷ []; drops = 0 } else silence
+    if tells alert before now then record { bodies = []; deeds = whats.Event (event_of alert now p) ∷ []; drops = 0 }
+    else silence
 
 -- what is said of a point behind what is kept of its group
 abbrev pub said_behind : Alert → Watch → PointValue → Said

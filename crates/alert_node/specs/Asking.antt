@@ -16,7 +16,8 @@ level_asked (Reset level) = level
 -- what one leaves, and behind it the others
 abbrev pub after : Ask → Option Bool → (Watch → Watch) → Watch → Watch
 after ask None others watch = others watch
-after ask (Some truth) others watch = if decides ask truth then record (counted watch ask) { level = level_asked ask } else others (counted watch ask)
+after ask (Some truth) others watch =
+    if decides ask truth then record (counted watch ask) { level = level_asked ask } else others (counted watch ask)
 
 -- the level that these decide in order, OK where none does, and each evaluation counted
 abbrev pub asked : (Ask → Option Bool) → List Ask → Watch → Watch

@@ -70,7 +70,16 @@ text_of facts template = cut (whole_text facts template)
 -- what is known of a point at a level, and this id
 abbrev pub facts_of : Alert → Level → PointValue → List ℕ → Facts
 facts_of alert level p id =
-    record { id = id; name = p.name; task = alert.task; group = group_of p; level = level; time = p.time; tags = p.tags; fields = p.fields }
+    record {
+      id = id;
+      name = p.name;
+      task = alert.task;
+      group = group_of p;
+      level = level;
+      time = p.time;
+      tags = p.tags;
+      fields = p.fields;
+    }
 
 -- the id of an event; it knows no id
 abbrev pub id_of : Alert → Level → PointValue → List ℕ
@@ -83,4 +92,10 @@ message_of alert level p = text_of (facts_of alert level p (id_of alert level p)
 -- the event of a point at a level: its topic, id, level and time, and its message
 abbrev pub event_of : Alert → Level → PointValue → Event
 event_of alert level p =
-    record { topic = alert.topic; id = id_of alert level p; level = level; time = p.time; message = message_of alert level p }
+    record {
+      topic = alert.topic;
+      id = id_of alert level p;
+      level = level;
+      time = p.time;
+      message = message_of alert level p;
+    }

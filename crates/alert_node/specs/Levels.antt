@@ -45,7 +45,8 @@ held truth level = if fails (truth (Reset level)) then Some level else None
 -- true; that level, where its reset is there and isn't true; the highest level up to it whose expression is true; OK.
 abbrev pub level_of : (Ask → Option Bool) → Level → Level
 level_of truth current =
-    unwrap_or (first_true truth (levels_above current)) (unwrap_or (held truth current) (unwrap_or (first_true truth (levels_up_to current)) Fine))
+    unwrap_or (first_true truth (levels_above current))
+    (unwrap_or (held truth current) (unwrap_or (first_true truth (levels_up_to current)) Fine))
 
 -- ---- what is evaluated
 

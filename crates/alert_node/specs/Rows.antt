@@ -80,8 +80,12 @@ EachAboveOk = told plain Fine (Fine ∷ Critical ∷ Critical ∷ Fine ∷ Fine 
 
 -- with `.stateChangesOnly` those whose level differs from the one before
 abbrev pub ChangesOnly : Type 0
-ChangesOnly = told (record plain { state_changes_only = true }) Fine (Fine ∷ Critical ∷ Critical ∷ Fine ∷ Fine ∷ []) ≡ Critical ∷ Fine ∷ []
+ChangesOnly =
+    told (record plain { state_changes_only = true }) Fine (Fine ∷ Critical ∷ Critical ∷ Fine ∷ Fine ∷ [])
+    ≡ Critical ∷ Fine ∷ []
 
 -- with `.noRecoveries` none at OK
 abbrev pub NoRecoveries : Type 0
-NoRecoveries = told (record plain { no_recoveries = true }) Fine (Fine ∷ Critical ∷ Critical ∷ Fine ∷ Fine ∷ []) ≡ Critical ∷ Critical ∷ []
+NoRecoveries =
+    told (record plain { no_recoveries = true }) Fine (Fine ∷ Critical ∷ Critical ∷ Fine ∷ Fine ∷ [])
+    ≡ Critical ∷ Critical ∷ []

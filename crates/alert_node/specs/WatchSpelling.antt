@@ -22,7 +22,8 @@ FitsCounts counts = FitsPair (λ n. n < 2 ^ 64) (FitsPair (λ n. n < 2 ^ 64) (λ
 
 -- the numbers of INFO, of WARNING and of CRITICAL
 abbrev pub spell_counts : Counts → List ℕ
-spell_counts counts = spell_pair (spell_number w64) (spell_pair (spell_number w64) (spell_number w64)) (counts_parts counts)
+spell_counts counts =
+    spell_pair (spell_number w64) (spell_pair (spell_number w64) (spell_number w64)) (counts_parts counts)
 
 -- and the numbers that stand there
 abbrev pub read_counts : Reading Counts
@@ -30,7 +31,9 @@ read_counts = read_as counts_of (read_pair (read_number w64) (read_pair (read_nu
 
 -- what is spelled is read again, and only that
 pub counts_spelled : IsSpelling FitsCounts spell_counts read_counts
-counts_spelled = as_parts (pair_spelled u64_spelled (pair_spelled u64_spelled u64_spelled)) counts_of counts_parts (λ counts. refl) (λ parts. refl)
+counts_spelled =
+    as_parts (pair_spelled u64_spelled (pair_spelled u64_spelled u64_spelled)) counts_of counts_parts (λ counts. refl)
+    (λ parts. refl)
 
 -- what is kept of a group as a tuple: the level, the numbers of the expressions, those of the resets
 abbrev pub watch_parts : Watch → Level × (Counts × Counts)
@@ -54,4 +57,6 @@ read_watch = read_as watch_of (read_pair read_level (read_pair read_counts read_
 
 -- what is spelled is read again, and only that
 pub watch_spelled : IsSpelling FitsWatch spell_watch read_watch
-watch_spelled = as_parts (pair_spelled level_spelled (pair_spelled counts_spelled counts_spelled)) watch_of watch_parts (λ watch. refl) (λ parts. refl)
+watch_spelled =
+    as_parts (pair_spelled level_spelled (pair_spelled counts_spelled counts_spelled)) watch_of watch_parts
+    (λ watch. refl) (λ parts. refl)

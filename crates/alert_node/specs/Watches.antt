@@ -74,7 +74,8 @@ evaluated_at alert watch p = evaluated (truth_of alert watch p) (asks_at watch.l
 
 -- behind a point: its level, and each evaluation counted
 abbrev pub watched : Alert → Watch → PointValue → Watch
-watched alert watch p = record (fold counted watch (evaluated_at alert watch p)) { level = level_of (truth_of alert watch p) watch.level }
+watched alert watch p =
+    record (fold counted watch (evaluated_at alert watch p)) { level = level_of (truth_of alert watch p) watch.level }
 
 -- of a group without points
 abbrev pub unwatched : Watch
@@ -98,7 +99,8 @@ same_ask (Reset one) (Reset other) = same_level one other
 -- what is evaluated at these points, which came behind others, in order
 abbrev pub evaluations_behind : Alert → Watch → List Came → List Ask
 evaluations_behind alert watch [] = []
-evaluations_behind alert watch (c ∷ cs) = evaluated_at alert watch c.1 ++ evaluations_behind alert (watched alert watch c.1) cs
+evaluations_behind alert watch (c ∷ cs) =
+    evaluated_at alert watch c.1 ++ evaluations_behind alert (watched alert watch c.1) cs
 
 -- what is evaluated at a group's points, in order
 abbrev pub evaluations : Alert → List Came → List Ask

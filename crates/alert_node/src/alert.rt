@@ -13,8 +13,9 @@ use node_core::{Rule, Said};
 use std::alloc::Global;
 use task_graph::Conditions;
 
-/// What `alert` does (Kapacitor 1.6: alert node): each point of a group has a level, by expressions, by resets, and by
-/// the level of the group's point before; and of levels above OK, and of OK after another one, a topic is told by events.
+/// What `alert` does (Kapacitor 1.6: alert node): each point of a group has a level, by expressions, by
+/// resets, and by the level of the group's point before; and of levels above OK, and of OK after another one,
+/// a topic is told by events.
 #[derive(Drop)]
 pub struct Alert {
     /// The expressions: `.info`, `.warn` and `.crit`.

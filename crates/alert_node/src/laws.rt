@@ -11,7 +11,8 @@ ghost use Rattle.alert_node.specs.Asking.{level_asked};
 ghost use Rattle.alert_node.specs.Watches.{count_of, evaluations, same_ask, watch_in};
 ghost use Rattle.alert_node.specs.Rows.{AboveFirst, BehindAReset, ChangesOnly, EachAboveOk, HeldByAReset, HighestFirst, NoRecoveries, ResetDecides};
 
-/// The number of an expression or a reset of a level above OK is how often it was evaluated at the group's points.
+/// The number of an expression or a reset of a level above OK is how often it was evaluated at the group's
+/// points.
 pub fn counts_are_evaluations()
     ensures { (alert : Alert) (ask : Ask) (points : List Came) → is_fine (level_asked ask) ≡ false
         → count_of (watch_in alert points) ask

@@ -26,8 +26,8 @@ fn is_true(value: Option<Value>) -> bool
     }
 }
 
-/// Whether a condition is true at a point, where it was evaluated `k` times before in the point's group; nothing where
-/// there is no condition.
+/// Whether a condition is true at a point, where it was evaluated `k` times before in the point's group;
+/// nothing where there is no condition.
 fn truth_at(
     alloc: Global,
     condition: &mut Option<Lambda>,
@@ -66,8 +66,8 @@ fn truth_in(
     }
 }
 
-/// Whether an expression or a reset is true at a point, by how often each was evaluated before; nothing where there is
-/// none.
+/// Whether an expression or a reset is true at a point, by how often each was evaluated before; nothing where
+/// there is none.
 fn truth_of(
     alloc: Global,
     alert: &mut Alert,
@@ -105,8 +105,8 @@ fn decides(ask: Ask, truth: bool) -> bool
     }
 }
 
-/// What is evaluated at a level, in order: the expressions of the levels above it, its reset, and the expressions of the
-/// levels up to it, each from the highest down.
+/// What is evaluated at a level, in order: the expressions of the levels above it, its reset, and the
+/// expressions of the levels up to it, each from the highest down.
 fn asks_at(level: Level) -> &'static [Ask]
     ensures { result.now ≡ asks_at level }
 {
@@ -138,8 +138,8 @@ fn asks_at(level: Level) -> &'static [Ask]
     }
 }
 
-/// The level of a point, which these expressions and resets decide in order, OK where none does; and each evaluation
-/// counted.
+/// The level of a point, which these expressions and resets decide in order, OK where none does; and each
+/// evaluation counted.
 fn asked(
     alloc: Global,
     alert: &mut Alert,

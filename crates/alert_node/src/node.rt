@@ -10,8 +10,9 @@ use lambda_types::Lambda;
 use std::alloc::Global;
 use task_graph::AlertSpec;
 
-/// What an alert does that a script hands this to, in the task of this id, as the node of this name, as `alert2`. The
-/// default topic and the templates name the task, and the default topic the node. `NoMemory` comes where an allocation fails.
+/// What an alert does that a script hands this to, in the task of this id, as the node of this name, as
+/// `alert2`. The default topic and the templates name the task, and the default topic the node. `NoMemory`
+/// comes where an allocation fails.
 pub fn alert_of(
     alloc: Global,
     task: &Text,

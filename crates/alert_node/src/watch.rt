@@ -29,7 +29,8 @@ pub struct Counts {
     pub crit: u64,
 }
 
-/// What an alert keeps of a group: its level, and how often each expression and each reset was evaluated at its points.
+/// What an alert keeps of a group: its level, and how often each expression and each reset was evaluated at
+/// its points.
 #[derive(Clone, Copy, Debug, PartialEq, Eq)]
 pub struct Watch {
     /// The level of its last point, OK where there is none.

@@ -24,8 +24,8 @@ pub data EndsAt (upto passed : Stamp) : List Entry → Type 0 where
   with_it : (list : List Entry) (parent : ℕ) → EndsAt upto passed (list ++ (parent, messages.Barrier upto) ∷ [])
 
 module _ {N P S : Type 0} (g : Ghosts N P S) where
-  -- The state in which the node of a cell was at a barrier: the one that its run since the load had there. What it handled is what
-  -- it handled up to the barrier, and more behind it.
+  -- The state in which the node of a cell was at a barrier: the one that its run since the load had there. What it
+  -- handled is what it handled up to the barrier, and more behind it.
   pub record WasAt (upto : Stamp) (c : CellParts N) (s : S) : Type 0 where
     pub before : List Entry
     pub after : List Entry
@@ -41,8 +41,8 @@ module _ {N P S : Type 0} (g : Ghosts N P S) where
   abbrev pub IsOfLoad : Stamp → CellParts N → Type 0
   IsOfLoad upto c = (c.base.value.passed ≡ upto) ⊎ Contains (barriers c.source.value.items) upto
 
-  -- The barrier is the last that a cell has passed, and its state there can be had. A stream's, which has no inputs, may have passed
-  -- later ones if its state never changes.
+  -- The barrier is the last that a cell has passed, and its state there can be had. A stream's, which has no inputs,
+  -- may have passed later ones if its state never changes.
   abbrev pub HasPassed : Stamp → CellParts N → List InEdge → Type 0
   HasPassed upto c [] = HasKept c × ((c.core.passed ≡ upto) ⊎ (IsOfLoad upto c × NeverChanges (g.spec c.core.node)))
   HasPassed upto c (e ∷ ins) = HasKept c × (c.core.passed ≡ upto)

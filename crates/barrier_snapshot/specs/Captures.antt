@@ -17,7 +17,8 @@ module _ {P S : Type 0} (fits : P → S → Type 0) (spell : P → S → List �
   spellings (p ∷ specs) [] = []
   spellings (p ∷ specs) (s ∷ states) = spell p s ∷ spellings specs states
 
-  -- these bytes are the number of these states, which nodes of these specs have, and the spelling of each as a byte string
+  -- these bytes are the number of these states, which nodes of these specs have, and the spelling of each as a byte
+  -- string
   pub record IsCapture (specs : List P) (states : List S) (bytes : List ℕ) : Type 0 where
     pub states_are : AreStatesOf specs states
     pub short : FitsList FitsBytes (spellings specs states)

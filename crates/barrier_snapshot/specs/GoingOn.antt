@@ -14,9 +14,11 @@ module _ {N P S : Type 0} (g : Ghosts N P S) where
   abbrev pub run_on : CellParts N → S → Stamp → List Entry → Run S
   run_on c s passed list = run (g.step (g.spec c.base.value.node)) (begun s passed) list
 
-  -- The cell stands where its node stands that goes on from the state at the barrier, over what was handled behind it: its state,
-  -- its effects, and what it gave out, behind those up to the barrier.
+  -- The cell stands where its node stands that goes on from the state at the barrier, over what was handled behind it:
+  -- its state, its effects, and what it gave out, behind those up to the barrier.
   pub record HasGoneOn (upto passed : Stamp) (c : CellParts N) (s : S) (was : WasAt g upto c s) : Type 0 where
     pub state : g.state c.core.node ≡ (run_on c s passed was.after).state
-    pub effects : gathered c.core.gathered ++ c.core.effects ≡ (run_of g c.base.value was.before).effects ++ (run_on c s passed was.after).effects
-    pub given : Each (IsGiven ((run_of g c.base.value was.before).outs ++ (run_on c s passed was.after).outs)) c.core.outs.items
+    pub effects : gathered c.core.gathered ++ c.core.effects ≡ (run_of g c.base.value was.before).effects
+        ++ (run_on c s passed was.after).effects
+    pub given : Each
+        (IsGiven ((run_of g c.base.value was.before).outs ++ (run_on c s passed was.after).outs)) c.core.outs.items

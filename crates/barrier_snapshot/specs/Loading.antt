@@ -16,7 +16,8 @@ module _ {N P : Type 0} (spec : N → P) where
 
 module _ {N P S : Type 0} (g : Ghosts N P S) where
   -- lives whose nodes took the states that stand at a place were put behind others
-  pub record LoadsLives (plans : List (PlanValue N)) (old new : Place) (before after : List (PlanValue N)) : Type 0 where
+  pub record LoadsLives (plans : List (PlanValue N)) (old new : Place)
+      (before after : List (PlanValue N)) : Type 0 where
     pub loaded : List (PlanValue N)
     pub added : after ≡ before ++ loaded
     pub same : AllZip (IsSameLife g.spec) plans loaded

@@ -12,15 +12,19 @@ alone x (b ∷ more) rest = None
 
 -- the value whose spelling is the byte string that stands there
 abbrev pub read_whole : {A : Type 0} → Reading A → Reading A
-read_whole read bytes = read_then (read_bytes bytes) (λ piece rest. read_then (read piece) (λ x more. alone x more rest))
+read_whole read bytes =
+    read_then (read_bytes bytes) (λ piece rest. read_then (read piece) (λ x more. alone x more rest))
 
 module _ {P S : Type 0} (read : P → Reading S) where
   -- a state of a node of each spec, one behind the other
   abbrev pub read_each : List P → Reading (List S)
   read_each [] bytes = value_then [] bytes
-  read_each (p ∷ specs) bytes = read_then (read_whole (read p) bytes) (λ s rest. read_then (read_each specs rest) (λ states behind. value_then (s ∷ states) behind))
+  read_each (p ∷ specs) bytes =
+      read_then (read_whole (read p) bytes)
+      (λ s rest. read_then (read_each specs rest) (λ states behind. value_then (s ∷ states) behind))
 
-  -- states of the first nodes stand at a place, and behind them, at an offset, no byte string that is the state of the next one
+  -- states of the first nodes stand at a place, and behind them, at an offset, no byte string that is the state of the
+  -- next one
   pub record StopsAt (specs : List P) (from : Place) (offset : ℕ) : Type 0 where
     pub before : List P
     pub next : P

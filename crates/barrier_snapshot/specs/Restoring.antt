@@ -9,8 +9,8 @@ use Rattle.flow_core.specs.Nets.{IsResting, NetValue}
 use Rattle.barrier_snapshot.specs.Loading.{AreInStates}
 
 module _ {N P S : Type 0} (g : Ghosts N P S) where
-  -- A net of these lives, at rest behind a barrier, whose nodes are in the states that the bytes hold, each also the one at the
-  -- barrier.
+  -- A net of these lives, at rest behind a barrier, whose nodes are in the states that the bytes hold, each also the
+  -- one at the barrier.
   pub record Restores (plans : List (PlanValue N)) (there : Stamp) (bytes : List ℕ) (net : NetValue N) : Type 0 where
     pub loaded : List (PlanValue N)
     pub are : AreInStates g plans bytes loaded

@@ -43,7 +43,8 @@ module _ {N P S : Type 0} (g : Ghosts N P S) where
   abbrev pub HasReached : CellParts N → Type 0
   HasReached c = IsReached (g.spec c.core.node) (g.state c.core.node)
 
-  -- each node of a life is in such a state, the last barrier that each cell passed has this stamp, and no item came since
+  -- each node of a life is in such a state, the last barrier that each cell passed has this stamp, and no item came
+  -- since
   pub record StandsBehind (stamp : ℕ) (l : NumberedLife N) : Type 0 where
     pub reached : Each HasReached l.life.cells
     pub passed : Each (λ b. b ≡ stamp) (passed_of l.life.cells)
@@ -61,11 +62,14 @@ module _ {N P S : Type 0} (g : Ghosts N P S) where
     pub specs : specs_of g after.life.cells ≡ specs_of g before.life.cells
     pub life : IsLifeIn g after
 
-  -- A life is at rest behind a barrier: it began there and was not loaded since, or it was loaded up to there and has handled all.
+  -- A life is at rest behind a barrier: it began there and was not loaded since, or it was loaded up to there and has
+  -- handled all.
   pub data RestsBehind (upto : Stamp) (l : NumberedLife N) : Type 0 where
     began_there : (plan : PlanValue N) → IsLifeBehind g upto.0 plan l → IsLifeIn g l → RestsBehind upto l
-    came_there : (stamp : ℕ) (points : List PointValue) (marks : List Stamp) (before : NumberedLife N) → stamp < upto.0 → length points ≤ upto.0 → AreMarksOf points upto marks
-        → StandsBehind stamp before → IsLoadedWith (load_messages points upto marks) before l → IsResting l → RestsBehind upto l
+    came_there : (stamp : ℕ) (points : List PointValue) (marks : List Stamp) (before : NumberedLife N) → stamp < upto.0
+        → length points ≤ upto.0 → AreMarksOf points upto marks
+        → StandsBehind stamp before → IsLoadedWith (load_messages points upto marks) before l → IsResting l
+        → RestsBehind upto l
 
   -- the same nodes with the same parents are planned as a life has
   pub record IsPlannedAgain (l : NumberedLife N) (plan : PlanValue N) : Type 0 where
@@ -78,19 +82,21 @@ module _ {N P S : Type 0} (g : Ghosts N P S) where
     pub parents : parents_of other.life.cells ≡ parents_of l.life.cells
     pub states : map (λ c. g.state c.core.node) other.life.cells ≡ map (λ c. g.state c.core.node) l.life.cells
 
-  -- A life did what another one did since the load: it is where that one is, each cell has the effects of the other one's, and each
-  -- edge carried what the other one's carried.
+  -- A life did what another one did since the load: it is where that one is, each cell has the effects of the other
+  -- one's, and each edge carried what the other one's carried.
   pub record DidTheSame (l other : NumberedLife N) : Type 0 where
     pub alike : IsAlike l other
     pub effects : effects_since other.life.cells ≡ effects_since l.life.cells
-    pub edges : (j k : ℕ) (e f : InEdge) → in_of l.life.cells j k ≡ Some e → in_of other.life.cells j k ≡ Some f → received f.head ≡ received e.head
+    pub edges : (j k : ℕ) (e f : InEdge) → in_of l.life.cells j k ≡ Some e → in_of other.life.cells j k ≡ Some f
+        → received f.head ≡ received e.head
 
-  -- A life did what another one did behind a barrier: it is where that one is, each cell has the effects of the other one's with
-  -- stamps above the barrier, and each edge carried what the other one's carried behind it.
+  -- A life did what another one did behind a barrier: it is where that one is, each cell has the effects of the other
+  -- one's with stamps above the barrier, and each edge carried what the other one's carried behind it.
   pub record DidTheRest (upto : Stamp) (whole rest : NumberedLife N) : Type 0 where
     pub alike : IsAlike whole rest
     pub effects : effects_since rest.life.cells ≡ map (effects_behind upto) (effects_since whole.life.cells)
-    pub edges : (j k : ℕ) (e f : InEdge) → in_of whole.life.cells j k ≡ Some e → in_of rest.life.cells j k ≡ Some f → received f.head ≡ msgs_behind upto (received e.head)
+    pub edges : (j k : ℕ) (e f : InEdge) → in_of whole.life.cells j k ≡ Some e → in_of rest.life.cells j k ≡ Some f
+        → received f.head ≡ msgs_behind upto (received e.head)
 
   -- and so each life of a net
   pub record DidTheRestOf (upto : Stamp) (whole rest : List (NumberedLife N)) : Type 0 where

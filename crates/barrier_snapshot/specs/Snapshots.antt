@@ -17,7 +17,8 @@ states_all [] = []
 states_all (acts ∷ all) = map (λ a. a.state) acts ++ states_all all
 
 module _ {N P S : Type 0} (g : Ghosts N P S) where
-  -- The bytes hold the states of the nodes of lives where their points have brought them, life by life and node by node.
+  -- The bytes hold the states of the nodes of lives where their points have brought them, life by life and node by
+  -- node.
   pub record IsSnapshot (courses : List (Course P)) (bytes : List ℕ) : Type 0 where
     pub acts : List (List (Active P S))
     pub are : AllZip (IsWhere g.answer g.first g.step) courses acts

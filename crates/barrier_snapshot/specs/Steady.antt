@@ -9,9 +9,11 @@ use Rattle.task_run.specs.Plans.{PlanValue}
 use Rattle.barrier_snapshot.specs.Barriers.{NeverChanges}
 
 module _ {N P S : Type 0} (g : Ghosts N P S) where
-  -- of a stream, which has no parents: no input changes its state, and the barrier is the one before the load, or one of the load
+  -- of a stream, which has no parents: no input changes its state, and the barrier is the one before the load, or one
+  -- of the load
   abbrev pub IsSteady : Stamp → Plan S → P → Type 0
-  IsSteady upto plan p = plan.parents ≡ [] → ((plan.passed ≡ upto) ⊎ Contains (barriers plan.source) upto) × NeverChanges g p
+  IsSteady upto plan p =
+      plan.parents ≡ [] → ((plan.passed ≡ upto) ⊎ Contains (barriers plan.source) upto) × NeverChanges g p
 
   -- and so of each node of a life
   abbrev pub AreSteady : Stamp → List (Plan S) → List P → Type 0
@@ -33,7 +35,8 @@ module _ {N P S : Type 0} (g : Ghosts N P S) where
   abbrev pub StreamsNeverChange : List N → List (List ℕ) → Type 0
   StreamsNeverChange [] parents = ⊤
   StreamsNeverChange (n ∷ nodes) [] = ⊤
-  StreamsNeverChange (n ∷ nodes) (ps ∷ parents) = (ps ≡ [] → NeverChanges g (g.spec n)) × StreamsNeverChange nodes parents
+  StreamsNeverChange (n ∷ nodes) (ps ∷ parents) =
+      (ps ≡ [] → NeverChanges g (g.spec n)) × StreamsNeverChange nodes parents
 
   -- and among those of a plan
   abbrev pub HasSteadyStream : PlanValue N → Type 0

@@ -69,10 +69,10 @@ fn count<N: Node>(lives: &[Numbered<Life<N>>]) -> Option<u32>
     own.checked_add(behind)
 }
 
-/// The states in which the nodes were at a barrier, life by life and node by node, spelled now: a
-/// cell that nothing was fed to since is still in its state there, another one has kept it. Each cell with a parent has passed the barrier, and none behind it. A stream's cell
-/// has passed it too; where it has passed a later one, its node has one state alone, whatever it is
-/// fed. The net needn't be at rest.
+/// The states in which the nodes were at a barrier, life by life and node by node, spelled now: a cell that
+/// nothing was fed to since is still in its state there, another one has kept it. Each cell with a parent has
+/// passed the barrier, and none behind it. A stream's cell has passed it too; where it has passed a later
+/// one, its node has one state alone, whatever it is fed. The net needn't be at rest.
 pub fn capture<N: Node>(alloc: Global, net: &Net<N>, upto: Stamp) -> Result<Bytes, NoMemory>
     requires unspent { net.now.spent ≡ false }
     requires passed { HavePassed N.Node upto (cells_in net.now.lives) }

@@ -108,7 +108,8 @@ pub fn lives_stand<N: Node>()
         (stopped : List (NumberedLife N)) (restored : NetValue N)
         → IsCaptureAt N.Node upto (cells_in stopped) bytes
         → AllZip (IsPlannedAgain N.Node) stopped plans
-        → Restores N.Node plans there bytes restored → (stamp : ℕ) (msgs : List Msg) (before : List (NumberedLife N))
+        → Restores N.Node plans there bytes restored
+        → (stamp : ℕ) (msgs : List Msg) (before : List (NumberedLife N))
         → Each (StandsBehind N.Node stamp) before → AreLoadedWith N.Node msgs before stopped
         → Each (StandsBehind N.Node there.0) restored.lives }
 {}

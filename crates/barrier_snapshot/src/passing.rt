@@ -11,7 +11,8 @@ use flow_life::Life;
 use kap_base::Stamp;
 use node_core::Node;
 
-/// Whether a cell's state at the last barrier that it passed can be had, and this is the barrier, where it has inputs.
+/// Whether a cell's state at the last barrier that it passed can be had, and this is the barrier, where it
+/// has inputs.
 fn is_behind<N: Node>(cell: &Cell<N>, upto: Stamp) -> bool
     ensures yes { IsTrue result → IsBehind upto cell.now cell.now.ins.items }
     ensures no { IsFalse result → IsBehind upto cell.now cell.now.ins.items → ⊥ }

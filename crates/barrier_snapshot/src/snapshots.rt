@@ -16,9 +16,10 @@ ghost use Rattle.barrier_snapshot.specs.Snapshots.{IsSnapshot};
 
 use node_core::Node;
 
-/// Lives that are restored from a snapshot, by plans of the same nodes, are where their points had brought them there; a net that
-/// is restored behind the last of these points stands behind them. And what is captured of lives at rest behind a
-/// barrier, whether they began there or came there, is a snapshot of where their points have brought them.
+/// Lives that are restored from a snapshot, by plans of the same nodes, are where their points had brought
+/// them there; a net that is restored behind the last of these points stands behind them. And what is
+/// captured of lives at rest behind a barrier, whether they began there or came there, is a snapshot of where
+/// their points have brought them.
 pub fn snapshots_are_whole<N: Node>()
     ensures restored { (plans : List (PlanValue N)) (there : Stamp) (bytes : List ℕ)
         (net : NetValue N) (courses : List (Course N.Spec))

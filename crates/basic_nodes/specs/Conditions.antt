@@ -19,10 +19,11 @@ is_asked (Some asked) text = bytes_eq asked text
 abbrev pub agrees : Selection → PointValue → Bool
 agrees s p = is_asked s.database p.db && (is_asked s.policy p.rp && is_asked s.measurement p.name)
 
--- a point that agrees, where so many were evaluated before in the group that it comes in: where all conditions are true it is
--- grouped by the node alone, and given out
+-- a point that agrees, where so many were evaluated before in the group that it comes in: where all conditions are true
+-- it is grouped by the node alone, and given out
 abbrev pub chosen_says : Selection → ℕ → PointValue → Said
-chosen_says s k p = passed_where (value_or_none (val (joined_by_and 0 s.conditions) k p)) (grouped s.grouping s.by_measurement p)
+chosen_says s k p =
+    passed_where (value_or_none (val (joined_by_and 0 s.conditions) k p)) (grouped s.grouping s.by_measurement p)
 
 -- `from`: a point that doesn't agree isn't evaluated
 abbrev pub from_says : Selection → ℕ → PointValue → Said

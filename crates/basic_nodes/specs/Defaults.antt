@@ -19,7 +19,8 @@ value_of (Str text) = values.Str text
 
 -- a field or a tag that is there stays, another is set
 abbrev pub with_default : DefaultSetting → PointValue → PointValue
-with_default (Field name value) p = if contains_key p.fields name then p else record p { fields = insert p.fields name (value_of value) }
+with_default (Field name value) p =
+    if contains_key p.fields name then p else record p { fields = insert p.fields name (value_of value) }
 with_default (Tag name value) p = if contains_key p.tags name then p else record p { tags = insert p.tags name value }
 
 -- in the order of the properties

@@ -47,5 +47,12 @@ one_more false c = refl
 
 -- what is kept, and what is said, of one point more
 pub group_goes_on : (kind : GroupKind) (before : List Came) (port : ℕ) (p : PointValue)
-    → group_step kind (count_in kind before) port p ≡ record { state = count_in kind (before ++ (port, p) ∷ []); said = group_says kind before port p }
-group_goes_on kind before port p = rw (filter-append (λ (c : Came). is_counted kind c.1) before ((port, p) ∷ []), length-append, one_more (is_counted kind p) (port, p)) refl
+    → group_step kind (count_in kind before) port p
+    ≡ record { state = count_in kind (before ++ (port, p) ∷ []); said = group_says kind before port p }
+group_goes_on kind before port p =
+    rw (
+      filter-append (λ (c : Came). is_counted kind c.1) before ((port, p) ∷ []),
+      length-append,
+      one_more
+          (is_counted kind p) (port, p),
+    ) refl

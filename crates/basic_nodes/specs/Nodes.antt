@@ -22,7 +22,15 @@ grouping_of dims.All = ByAll
 
 -- what `from` selects, of its spec
 abbrev pub selection_of : FromSpec Lambda → Selection
-selection_of f = record { database = f.database; policy = f.retention_policy; measurement = f.measurement; conditions = f.conditions; grouping = grouping_of f.dims; by_measurement = f.by_measurement }
+selection_of f =
+    record {
+      database = f.database;
+      policy = f.retention_policy;
+      measurement = f.measurement;
+      conditions = f.conditions;
+      grouping = grouping_of f.dims;
+      by_measurement = f.by_measurement;
+    }
 
 -- by what `groupBy` groups, of its spec
 abbrev pub regrouping_of : GroupBySpec → Regrouping

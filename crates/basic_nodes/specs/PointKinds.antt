@@ -30,6 +30,7 @@ abbrev pub point_says : PointKind → ℕ → Body → Said
 point_says kind port body = of_points (says_of kind) body
 
 -- nothing is said of a batch
-pub point_silent : (kind : PointKind) (port : ℕ) (body : Body) → is_point body ≡ false → point_says kind port body ≡ silence
+pub point_silent : (kind : PointKind) (port : ℕ) (body : Body) → is_point body ≡ false
+    → point_says kind port body ≡ silence
 point_silent kind port (bodies.Point p) e = absurd cc
 point_silent kind port (bodies.Batch b) e = refl

@@ -17,7 +17,16 @@ use Rattle.basic_nodes.specs.Streams.{sees}
 
 -- a point of `cpu`, grouped by its measurement
 abbrev pub point : PointValue
-point = record { db = codes "d"; rp = codes "r"; name = codes "cpu"; tags = empty; fields = empty; dims = []; by_name = true; time = pos 0 }
+point = record {
+  db = codes "d";
+  rp = codes "r";
+  name = codes "cpu";
+  tags = empty;
+  fields = empty;
+  dims = [];
+  by_name = true;
+  time = pos 0;
+}
 
 -- it came
 abbrev pub came : Came
@@ -47,10 +56,14 @@ number n = LitTree (lits.Int (pos n)) 0
 abbrev pub count : Tree
 count = CallTree (codes "count") NoTrees 0
 
--- the lambda `if(count() == 1, 1 / 0 == 1, count() == 2)`: it has a fault where it is evaluated for the first time in a group, and
--- is true for the second time
+-- the lambda `if(count() == 1, 1 / 0 == 1, count() == 2)`: it has a fault where it is evaluated for the first time in a
+-- group, and is true for the second time
 abbrev pub true_at_second : Tree
-true_at_second = CallTree (codes "if") (MoreTrees (BinTree Eq count (number 1) 0) (MoreTrees (BinTree Eq (BinTree Div (number 1) (number 0) 0) (number 1) 0) (MoreTrees (BinTree Eq count (number 2) 0) NoTrees))) 0
+true_at_second =
+    CallTree (codes "if")
+    (MoreTrees (BinTree Eq count (number 1) 0)
+    (MoreTrees (BinTree Eq (BinTree Div (number 1) (number 0) 0) (number 1) 0)
+    (MoreTrees (BinTree Eq count (number 2) 0) NoTrees))) 0
 
 -- a fault is dropped and counted
 abbrev pub FaultIsDropped : Type 0
@@ -68,7 +81,14 @@ FalseIsSilent = group_says (Where true_at_second) (came ∷ came ∷ []) 0 point
 
 -- `from()` without properties
 abbrev pub all : Selection
-all = record { database = None; policy = None; measurement = None; conditions = []; grouping = By []; by_measurement = false }
+all = record {
+  database = None;
+  policy = None;
+  measurement = None;
+  conditions = [];
+  grouping = By [];
+  by_measurement = false;
+}
 
 -- it groups by nothing, whatever the point was grouped by
 abbrev pub GroupsAnew : Type 0
@@ -86,7 +106,8 @@ OtherMeasurement = group_says (From first_of_cpu) (net ∷ net ∷ []) 0 point �
 
 -- grouping by the measurement stays as it was
 abbrev pub NameStays : Type 0
-NameStays = group_by_says (record { grouping = By (codes "host" ∷ []); by_measurement = false }) point ≡ passed (record point { dims = codes "host" ∷ [] })
+NameStays = group_by_says (record { grouping = By (codes "host" ∷ []); by_measurement = false }) point
+    ≡ passed (record point { dims = codes "host" ∷ [] })
 
 -- ---- `shift`
 

@@ -8,8 +8,8 @@ use Rattle.kap_base.specs.declared.value.Value.TheVariants.{Bool as Truth}
 use Rattle.node_core.specs.declared.said.Said.{Said}
 use Rattle.node_core.specs.Meaning.{a_drop, passed_if, silence}
 
--- the point is given out where this value of a condition is true; it is dropped and counted where the condition has a fault,
--- and only dropped where its value is false, or no truth value
+-- the point is given out where this value of a condition is true; it is dropped and counted where the condition has a
+-- fault, and only dropped where its value is false, or no truth value
 abbrev pub passed_where : Option Value → PointValue → Said
 passed_where None p = a_drop
 passed_where (Some (Truth b)) p = passed_if b p

@@ -6,8 +6,8 @@ ghost use Rattle.kap_base.specs.Points.{rises};
 ghost use Rattle.basic_nodes.specs.Dimensions.{in_order};
 ghost use Rattle.basic_nodes.specs.Rows.{BehindTheLastTime, FalseIsSilent, FaultIsDropped, FirstOfTwo, GroupsAnew, LastTime, NameStays, OtherMeasurement, OtherPolicy, SecondOfTwo, SeesAll, ThirdOfTwo, TrueIsPassed};
 
-/// Dimensions are the names that a script gives, whatever their order and however often each is given: they rise, and a text
-/// is one of them exactly where it is one of the names.
+/// Dimensions are the names that a script gives, whatever their order and however often each is given: they
+/// rise, and a text is one of them exactly where it is one of the names.
 #[tactic(auto, using(crate::proofs::DimensionLaws::ordered))]
 pub fn dimensions_are_the_names()
     ensures rising { (names : List (List ℕ)) → IsTrue (rises (in_order names)) }

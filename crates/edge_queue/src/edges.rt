@@ -11,7 +11,8 @@ use rtrb::{PushError, RingBuffer};
 use std::alloc::Global;
 use std::snapshot::Snapshot;
 
-/// The two ends of an empty edge with room for 1 to 65,536 messages. `NoMemory` comes where an allocation fails.
+/// The two ends of an empty edge with room for 1 to 65,536 messages. `NoMemory` comes where an allocation
+/// fails.
 pub fn pair(alloc: Global, capacity: u32) -> Result<(Tail, Head), NoMemory>
     requires some { 0 < capacity }
     requires limit { capacity ≤ CAPACITY_LIMIT }
@@ -36,7 +37,8 @@ pub fn pair(alloc: Global, capacity: u32) -> Result<(Tail, Head), NoMemory>
 }
 
 impl Tail {
-    /// Puts a message on the edge. It is given back only where this end knows of no free place when the call ends.
+    /// Puts a message on the edge. It is given back only where this end knows of no free place when the call
+    /// ends.
     pub fn put(&mut self, msg: Msg) -> Result<(), Msg>
         ensures put { OnOk result (Puts msg self.old self.new) }
         ensures back { IfErr result (λ back. back ≡ msg) }
@@ -66,7 +68,8 @@ impl Tail {
 }
 
 impl Head {
-    /// Takes the next message from the edge. `None` comes only where this end knows of no message when the call ends.
+    /// Takes the next message from the edge. `None` comes only where this end knows of no message when the
+    /// call ends.
     pub fn take(&mut self) -> Option<Msg>
         ensures taken { IfSome result (λ msg. Takes msg self.old self.new) }
         ensures kept { IfNone result (HeadLooked self.old self.new) }

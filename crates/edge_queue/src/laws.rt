@@ -7,8 +7,9 @@ ghost use Rattle.edge_queue.specs.declared.ends.Tail.{Tail};
 ghost use Rattle.edge_queue.specs.Edges.{IsEdge, IsSettled, edge_capacity, known, received, sent};
 ghost use Rattle.edge_queue.specs.Moves.{HeadLooked, Puts, TailLooked, Takes};
 
-/// On a settled edge what was received since the load, and then what is on the edge, are what was sent since the load.
-/// There a message was put only where there was room, and taken only where one was, as settling the edge again shows.
+/// On a settled edge what was received since the load, and then what is on the edge, are what was sent since
+/// the load. There a message was put only where there was room, and taken only where one was, as settling the
+/// edge again shows.
 #[tactic(auto, using(crate::proofs::EdgeLaws::settled_since, crate::proofs::EdgeLaws::put_had_room, crate::proofs::EdgeLaws::taken_was_there))]
 pub fn settled_edges_tell()
     ensures order { (t : Tail) (h : Head)

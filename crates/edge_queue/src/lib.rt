@@ -1,5 +1,5 @@
-//! An edge between two nodes: a ring with room for a bounded number of messages, and what went over it since the last
-//! load.
+//! An edge between two nodes: a ring with room for a bounded number of messages, and what went over it since
+//! the last load.
 #![tactic(auto)]
 
 ghost use Rattle.std.specs.Prelude.{◌≡◌, ◌^◌};

@@ -33,13 +33,15 @@ id_of tasks life = option_map_or (λ task. task.id) (task_of tasks life) []
 
 -- the name of a node of the task of a life
 abbrev pub node_of : List TaskNames → ℕ → ℕ → List ℕ
-node_of tasks life node = option_map_or (λ task. option_map_or (λ name. name) (slice_get task.nodes node) []) (task_of tasks life) []
+node_of tasks life node =
+    option_map_or (λ task. option_map_or (λ name. name) (slice_get task.nodes node) []) (task_of tasks life) []
 
 -- the transitions that the list of all events has with this one behind the events before it
 abbrev pub new_transitions : List Event → Event → List Transition
 new_transitions events e = drop (length (Trans events)) (Trans (events ++ e ∷ []))
 
--- the lines of an effect that comes behind these events: of a logged point its line, of an event those of its transition
+-- the lines of an effect that comes behind these events: of a logged point its line, of an event those of its
+-- transition
 abbrev pub what_lines : List ℕ → List ℕ → List Event → What → List ℕ
 what_lines id node events (what.Line p) = out_line id node p
 what_lines id node events (what.Event e) = flat_map transition_line (new_transitions events e)
@@ -60,10 +62,11 @@ events_of effects = flat_map (λ e. event_in e.what) effects
 -- the text of effects that come behind these events
 unfoldable pub text_behind : List TaskNames → List Event → List Effect → List ℕ
 text_behind tasks events [] = []
-text_behind tasks events (e ∷ effects) = effect_lines tasks events e ++ text_behind tasks (events ++ event_in e.what) effects
+text_behind tasks events (e ∷ effects) =
+    effect_lines tasks events e ++ text_behind tasks (events ++ event_in e.what) effects
 
--- The text of effects: a line for each logged point, and one for each transition of the events, with its number, in the order of
--- the effects.
+-- The text of effects: a line for each logged point, and one for each transition of the events, with its number, in the
+-- order of the effects.
 abbrev pub text_of : List TaskNames → List Effect → List ℕ
 text_of tasks effects = text_behind tasks [] effects
 

@@ -40,8 +40,9 @@ fn put_lines(task: &TaskNames, counts: &[u64], text: &mut Bytes) -> Result<(), N
     Ok(())
 }
 
-/// Adds a line `dropped ID NODE COUNT` for each node of each task that dropped points, in the order of the tasks and of the nodes'
-/// numbers. `counts` has for each task how many each of its nodes dropped. After `NoMemory` the text is any.
+/// Adds a line `dropped ID NODE COUNT` for each node of each task that dropped points, in the order of the
+/// tasks and of the nodes' numbers. `counts` has for each task how many each of its nodes dropped. After
+/// `NoMemory` the text is any.
 #[tactic(auto, unfolding(crate::specs::Lines::dropped_text))]
 pub fn put_dropped(
     tasks: &[TaskNames],

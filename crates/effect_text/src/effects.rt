@@ -116,10 +116,11 @@ fn tell_effect(
     }
 }
 
-/// Adds the text of effects that come behind the events that `topics` has taken, and lets it take theirs: a line
-/// `out ID NODE POINT` for each logged point, with the point in canonical line protocol, and one `alert ..` for each transition, as
-/// `print_transition` has it. The transitions themselves are appended to `told`, which so goes on to be the last transitions of the
-/// events. After `NoMemory` the text, the topics and what was told are any.
+/// Adds the text of effects that come behind the events that `topics` has taken, and lets it take theirs: a
+/// line `out ID NODE POINT` for each logged point, with the point in canonical line protocol, and one `alert
+/// ..` for each transition, as `print_transition` has it. The transitions themselves are appended to `told`,
+/// which so goes on to be the last transitions of the events. After `NoMemory` the text, the topics and what
+/// was told are any.
 pub fn tell_effects(
     alloc: Global,
     tasks: &[TaskNames],

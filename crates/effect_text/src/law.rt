@@ -7,7 +7,8 @@ ghost use Rattle.kap_base.specs.declared.items.Event.{Event};
 ghost use Rattle.effect_text.specs.Lines.{events_of, task_of, text_behind};
 ghost use Rattle.effect_text.specs.declared.names.TaskNames.{TaskNames};
 
-/// The text of effects and of more is that of the first, and that of the others behind the events of the first.
+/// The text of effects and of more is that of the first, and that of the others behind the events of the
+/// first.
 #[tactic(auto, using(crate::proofs::TextLaws::text_more))]
 pub fn text_goes_on()
     ensures { (tasks : List TaskNames) (events : List Event) (xs ys : List Effect)
@@ -15,8 +16,8 @@ pub fn text_goes_on()
         ≡ text_behind tasks events xs ++ text_behind tasks (events ++ events_of xs) ys }
 {}
 
-/// The text of effects is the same by any names that are the same for their lives. So of a life that has ended, and whose effects
-/// were told, no names need be kept but its place.
+/// The text of effects is the same by any names that are the same for their lives. So of a life that has
+/// ended, and whose effects were told, no names need be kept but its place.
 #[tactic(auto, using(crate::proofs::TextLaws::text_by_names))]
 pub fn text_has_names_by_life()
     ensures { (some others : List TaskNames) (events : List Event) (effects : List Effect)

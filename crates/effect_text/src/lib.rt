@@ -1,4 +1,5 @@
-//! The text of what the nodes of tasks did: lines of logged points, of transitions of alerts, and of how many points were dropped.
+//! The text of what the nodes of tasks did: lines of logged points, of transitions of alerts, and of how many
+//! points were dropped.
 #![tactic(auto)]
 
 mod dropped;

@@ -23,6 +23,8 @@ turn said counts = record { state = counts; said = said }
 
 -- what is kept, and what is said, of one point more
 pub eval_goes_on : (eval : EvalSpec Tree) (before : List Came) (port : ℕ) (p : PointValue)
-    → eval_step eval (counts_in eval before) port p ≡ record { state = counts_in eval (before ++ (port, p) ∷ []); said = eval_says eval before port p }
+    → eval_step eval (counts_in eval before) port p
+    ≡ record { state = counts_in eval (before ++ (port, p) ∷ []); said = eval_says eval before port p }
 unfolding turn
-eval_goes_on eval before port p = ap (turn (eval_says eval before port p)) (sym (counts_more eval.results [] before (port, p)))
+eval_goes_on eval before port p =
+    ap (turn (eval_says eval before port p)) (sym (counts_more eval.results [] before (port, p)))

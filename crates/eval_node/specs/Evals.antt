@@ -54,13 +54,15 @@ eval_says eval before port p = said_of eval (evaluated eval.results (counts_in e
 
 -- the lambda at this place is evaluated at a point: each lambda before it has a value there
 abbrev pub is_reached : List (EvalResult Tree) → List ℕ → PointValue → ℕ → Bool
-is_reached results counts p place = is_some (slice_get results place) && is_some (evaluated (take place results) counts p).point
+is_reached results counts p place =
+    is_some (slice_get results place) && is_some (evaluated (take place results) counts p).point
 
 -- at how many of these points it is evaluated, which came behind others of the group
 abbrev pub evaluations_behind : EvalSpec Tree → ℕ → List Came → List Came → ℕ
 evaluations_behind eval place before [] = 0
 evaluations_behind eval place before (c ∷ cs) =
-    (if is_reached eval.results (counts_in eval before) c.1 place then 1 else 0) + evaluations_behind eval place (before ++ c ∷ []) cs
+    (if is_reached eval.results (counts_in eval before) c.1 place then 1 else 0) + evaluations_behind eval place (before
+    ++ c ∷ []) cs
 
 -- at how many of a group's points it is evaluated
 abbrev pub evaluations : EvalSpec Tree → ℕ → List Came → ℕ
@@ -70,4 +72,5 @@ evaluations eval place points = evaluations_behind eval place [] points
 
 -- a step, by what is kept
 abbrev pub eval_step : EvalSpec Tree → List ℕ → ℕ → PointValue → Turn (List ℕ)
-eval_step eval counts port p = let r = evaluated eval.results counts p in record { state = r.counts; said = said_of eval r.point }
+eval_step eval counts port p =
+    let r = evaluated eval.results counts p in record { state = r.counts; said = said_of eval r.point }

@@ -31,8 +31,8 @@ with_result name value p = record p { fields = insert p.fields name value }
 abbrev pub counted : ℕ → Evaluated → Evaluated
 counted k others = record { counts = (k + 1) ∷ others.counts; point = others.point }
 
--- What follows the value of a lambda that was evaluated k times before: the others, which see it. Behind a fault they aren't
--- evaluated, and their numbers stay.
+-- What follows the value of a lambda that was evaluated k times before: the others, which see it. Behind a fault they
+-- aren't evaluated, and their numbers stay.
 abbrev pub followed : ℕ → List ℕ → List ℕ → PointValue → (List ℕ → PointValue → Evaluated) → Option Value → Evaluated
 followed k counts name p others None = record { counts = (k + 1) ∷ counts; point = None }
 followed k counts name p others (Some value) = counted k (others counts (with_result name value p))
@@ -41,4 +41,5 @@ followed k counts name p others (Some value) = counted k (others counts (with_re
 abbrev pub evaluated : List (EvalResult Tree) → List ℕ → PointValue → Evaluated
 evaluated [] counts p = record { counts = counts; point = Some p }
 evaluated (x ∷ xs) counts p =
-    followed (first_count counts) (other_counts counts) x.name p (evaluated xs) (value_or_none (val x.lambda (first_count counts) p))
+    followed (first_count counts) (other_counts counts) x.name p (evaluated xs)
+    (value_or_none (val x.lambda (first_count counts) p))

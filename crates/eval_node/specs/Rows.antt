@@ -22,7 +22,10 @@ number n = LitTree (lits.Int (pos n)) 0
 
 -- the lambda `if(count() == 2, 1 / 0, 7)`, which has a fault where it is evaluated for the second time
 abbrev pub second_fails : Tree
-second_fails = CallTree (codes "if") (MoreTrees (BinTree Eq count (number 2) 0) (MoreTrees (BinTree Div (number 1) (number 0) 0) (MoreTrees (number 7) NoTrees))) 0
+second_fails =
+    CallTree (codes "if")
+    (MoreTrees (BinTree Eq count (number 2) 0)
+    (MoreTrees (BinTree Div (number 1) (number 0) 0) (MoreTrees (number 7) NoTrees))) 0
 
 -- these two, as `q` and `k`
 abbrev pub results : List (EvalResult Tree)

@@ -12,9 +12,9 @@ use std::alloc::Global;
 use std::marker::Model;
 use task_graph::{EvalResult, EvalSpec, Keep};
 
-/// What `eval` does (Kapacitor 1.6: eval node), which contracts see as what it is given: in order, its lambdas become fields of
-/// the point, each seeing the results before it; then the kept fields stay. A point at which a lambda has a fault, or that
-/// keeps no field, is dropped and counted.
+/// What `eval` does (Kapacitor 1.6: eval node), which contracts see as what it is given: in order, its
+/// lambdas become fields of the point, each seeing the results before it; then the kept fields stay. A point
+/// at which a lambda has a fault, or that keeps no field, is dropped and counted.
 #[derive(Drop)]
 pub struct Eval {
     results: Vec<EvalResult<Lambda>>,

@@ -12,7 +12,8 @@ use lambda_types::Lambda;
 use std::alloc::Global;
 use task_graph::EvalResult;
 
-/// The point with the result of a lambda that was evaluated `k` times before in its group, or nothing where it has a fault.
+/// The point with the result of a lambda that was evaluated `k` times before in its group, or nothing where
+/// it has a fault.
 fn add_result(
     alloc: Global,
     due: &mut EvalResult<Lambda>,
@@ -32,8 +33,8 @@ fn add_result(
     }
 }
 
-/// Evaluates lambdas in order, each of which sees the results before it, until one has a fault: the point with all results, or
-/// nothing. Each evaluation is counted.
+/// Evaluates lambdas in order, each of which sees the results before it, until one has a fault: the point
+/// with all results, or nothing. Each evaluation is counted.
 pub(crate) fn evaluate(
     alloc: Global,
     results: &mut [EvalResult<Lambda>],

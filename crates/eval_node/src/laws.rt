@@ -7,8 +7,8 @@ ghost use Rattle.task_graph.specs.declared.spec.EvalSpec.{EvalSpec};
 ghost use Rattle.eval_node.specs.Evals.{counts_in, evaluations};
 ghost use Rattle.eval_node.specs.Rows.{FaultIsDropped, KeepAll, KeepNames, LaterAreNotEvaluated, ResultsAlone};
 
-/// The number of a lambda is the number of points of the group at which it was evaluated, which are those at which each lambda
-/// before it had a value.
+/// The number of a lambda is the number of points of the group at which it was evaluated, which are those at
+/// which each lambda before it had a value.
 pub fn counts_are_evaluations()
     ensures { (eval : EvalSpec Tree) (place : ℕ) (points : List Came)
         → slice_index (counts_in eval points) place ≡ evaluations eval place points }

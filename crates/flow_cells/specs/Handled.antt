@@ -18,12 +18,14 @@ pub record Waits (a b : OutEdge) : Type 0 where
 module _ {N P S : Type 0} (g : Ghosts N P S) where
   -- wherever the core stood, it stands one message further
   abbrev pub Reacts : Core N → ℕ → Msg → Core N → Type 0
-  Reacts c parent m d = (r : Run S) → IsAt g (g.spec c.node) r c → IsAt g (g.spec c.node) (reacted (g.step (g.spec c.node)) r parent m) d
+  Reacts c parent m d =
+      (r : Run S) → IsAt g (g.spec c.node) r c → IsAt g (g.spec c.node) (reacted (g.step (g.spec c.node)) r parent m) d
 
   -- all that the buffers determine was handled
   pub record Handles (c : Core N) (b : Lists) (d : Core N) (e : Lists) : Type 0 where
     pub handled : List Entry
     pub merged : Merges b handled e
-    pub at : (r : Run S) → IsAt g (g.spec c.node) r c → IsAt g (g.spec c.node) (run (g.step (g.spec c.node)) r handled) d
+    pub at : (r : Run S) → IsAt g (g.spec c.node) r c
+        → IsAt g (g.spec c.node) (run (g.step (g.spec c.node)) r handled) d
     pub spec : g.spec d.node ≡ g.spec c.node
     pub keeps : d.keeps ≡ c.keeps

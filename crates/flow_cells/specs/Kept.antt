@@ -38,8 +38,8 @@ module _ {N P S : Type 0} (g : Ghosts N P S) where
     pub is : bytes ≡ g.spell p s
     pub fits : g.fits p s
 
-  -- The core of a node of this spec stands where a run stands. The state at the last barrier is its state while no item came since;
-  -- where one did, it is spelled, if the core is to keep it.
+  -- The core of a node of this spec stands where a run stands. The state at the last barrier is its state while no item
+  -- came since; where one did, it is spelled, if the core is to keep it.
   pub record IsAt (p : P) (r : Run S) (c : Core N) : Type 0 where
     pub spec : g.spec c.node ≡ p
     pub state : g.state c.node ≡ r.state
@@ -54,8 +54,9 @@ module _ {N P S : Type 0} (g : Ghosts N P S) where
   abbrev pub run_of : Core N → List Entry → Run S
   run_of base handled = run (g.step (g.spec base.node)) (begun (g.state base.node) base.passed) handled
 
-  -- What is handled is what the merge determines of the received lists, and the buffer is the rest of them. The state, what was
-  -- sent and waits, the effects and the state at the last barrier are those of the run on what is handled, from the core at the load.
+  -- What is handled is what the merge determines of the received lists, and the buffer is the rest of them. The state,
+  -- what was sent and waits, the effects and the state at the last barrier are those of the run on what is handled,
+  -- from the core at the load.
   pub record KeptBy (base : Core N) (lists buffer : Lists) (c : Core N) : Type 0 where
     pub handled : List Entry
     pub merged : Merges lists handled buffer

@@ -34,7 +34,8 @@ IsOwn (e ∷ ins) source = source ≡ []
 abbrev pub with_source : List Msg → Lists → Lists
 with_source source ls = slice_set ls 0 (slice_index_or ls 0 [] ++ source)
 
--- the load of a cell begins in the state in which it is; whether it is to keep the state at each barrier is said with the load
+-- the load of a cell begins in the state in which it is; whether it is to keep the state at each barrier is said with
+-- the load
 pub record Begins {N : Type 0} (msgs : List Msg) (keeps : Bool) (c d : CellParts N) : Type 0 where
   pub source : d.source.value.items ≡ msgs
   pub node : d.base.value.node ≡ c.core.node

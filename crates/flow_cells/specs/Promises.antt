@@ -33,41 +33,51 @@ module _ {S : Type 0} (step : S → Input → Move S) where
   run_state r ((k, messages.Barrier b) ∷ xs) = run_state (reacted step r k (messages.Barrier b)) xs
 
   -- the effects are the fold's
-  pub run_effects : (r : Run S) (xs : List Entry) → (run step r xs).effects ≡ r.effects ++ (fold step r.state (inputs xs)).given.effects
+  pub run_effects : (r : Run S) (xs : List Entry) → (run step r xs).effects ≡ r.effects
+      ++ (fold step r.state (inputs xs)).given.effects
   run_effects r [] = sym (append-nil r.effects)
   run_effects r ((k, messages.Item x) ∷ xs) =
       let m = step r.state (k, x) in
-      run_effects (reacted step r k (messages.Item x)) xs ∙ append_assoc r.effects m.given.effects (fold step m.state (inputs xs)).given.effects
+      run_effects (reacted step r k (messages.Item x)) xs
+      ∙ append_assoc r.effects m.given.effects (fold step m.state (inputs xs)).given.effects
   run_effects r ((k, messages.Barrier b) ∷ xs) = run_effects (reacted step r k (messages.Barrier b)) xs
 
   -- the items given out are the fold's
-  pub run_items : (r : Run S) (xs : List Entry) → items (run step r xs).outs ≡ items r.outs ++ item_msgs (fold step r.state (inputs xs)).given.items
+  pub run_items : (r : Run S) (xs : List Entry) → items (run step r xs).outs ≡ items r.outs
+      ++ item_msgs (fold step r.state (inputs xs)).given.items
   run_items r [] = sym (append-nil (items r.outs))
   run_items r ((k, messages.Item x) ∷ xs) =
       let m = step r.state (k, x) in
       let rest = (fold step m.state (inputs xs)).given.items in
       run_items (reacted step r k (messages.Item x)) xs
-      ∙ ap (λ (l : List Msg). l ++ item_msgs rest) (items-append r.outs (item_msgs m.given.items) ∙ ap (λ (l : List Msg). items r.outs ++ l) (items-msgs m.given.items))
+      ∙ ap (λ (l : List Msg). l ++ item_msgs rest) (items-append r.outs (item_msgs m.given.items)
+      ∙ ap (λ (l : List Msg). items r.outs ++ l) (items-msgs m.given.items))
       ∙ append_assoc (items r.outs) (item_msgs m.given.items) (item_msgs rest)
       ∙ ap (λ (l : List Msg). items r.outs ++ l) (sym (map-append (λ (y : Item). messages.Item y) m.given.items rest))
   run_items r ((k, messages.Barrier b) ∷ xs) =
       run_items (reacted step r k (messages.Barrier b)) xs
-      ∙ ap (λ (l : List Msg). l ++ item_msgs (fold step r.state (inputs xs)).given.items) (items-append r.outs (messages.Barrier b ∷ []) ∙ append-nil (items r.outs))
+      ∙ ap (λ (l : List Msg). l ++ item_msgs (fold step r.state (inputs xs)).given.items)
+      (items-append r.outs (messages.Barrier b ∷ []) ∙ append-nil (items r.outs))
 
   -- a barrier goes on behind what the items up to it gave
-  pub run_barrier : (r : Run S) (xs : List Entry) (k : ℕ) (b : Stamp) → (run step r (xs ++ (k, messages.Barrier b) ∷ [])).outs ≡ (run step r xs).outs ++ messages.Barrier b ∷ []
+  pub run_barrier : (r : Run S) (xs : List Entry) (k : ℕ) (b : Stamp)
+      → (run step r (xs ++ (k, messages.Barrier b) ∷ [])).outs ≡ (run step r xs).outs ++ messages.Barrier b ∷ []
   run_barrier r xs k b = ap (λ (q : Run S). q.outs) (run-append step r xs ((k, messages.Barrier b) ∷ []))
 
-  saved-item : (r : Run S) (k : ℕ) (x : Item) (o : Option (List Entry)) → state_at step (reacted step r k (messages.Item x)) o ≡ state_at step r (longer k (messages.Item x) o)
+  saved-item : (r : Run S) (k : ℕ) (x : Item) (o : Option (List Entry))
+      → state_at step (reacted step r k (messages.Item x)) o ≡ state_at step r (longer k (messages.Item x) o)
   saved-item r k x None = refl
   saved-item r k x (Some l) = refl
 
-  saved-barrier : (r : Run S) (k : ℕ) (b : Stamp) (o : Option (List Entry)) → state_at step (reacted step r k (messages.Barrier b)) o ≡ state_at step r (longer k (messages.Barrier b) o)
+  saved-barrier : (r : Run S) (k : ℕ) (b : Stamp) (o : Option (List Entry))
+      → state_at step (reacted step r k (messages.Barrier b)) o ≡ state_at step r (longer k (messages.Barrier b) o)
   saved-barrier r k b None = refl
   saved-barrier r k b (Some l) = refl
 
   -- the saved state is the fold's at the last barrier
   pub run_saved : (r : Run S) (xs : List Entry) → (run step r xs).saved ≡ state_at step r (before_last xs)
   run_saved r [] = refl
-  run_saved r ((k, messages.Item x) ∷ xs) = run_saved (reacted step r k (messages.Item x)) xs ∙ saved-item r k x (before_last xs)
-  run_saved r ((k, messages.Barrier b) ∷ xs) = run_saved (reacted step r k (messages.Barrier b)) xs ∙ saved-barrier r k b (before_last xs)
+  run_saved r ((k, messages.Item x) ∷ xs) =
+      run_saved (reacted step r k (messages.Item x)) xs ∙ saved-item r k x (before_last xs)
+  run_saved r ((k, messages.Barrier b) ∷ xs) =
+      run_saved (reacted step r k (messages.Barrier b)) xs ∙ saved-barrier r k b (before_last xs)

@@ -8,8 +8,8 @@ use Rattle.node_core.specs.Meaning.{Input, Move}
 use Rattle.merge_node.specs.Merge.{Entry}
 use Rattle.flow_cells.specs.Outs.{item_msgs}
 
--- the state, what was given out, with each barrier behind the items up to it, the effects, the last barrier with the state there,
--- and whether no item came since
+-- the state, what was given out, with each barrier behind the items up to it, the effects, the last barrier with the
+-- state there, and whether no item came since
 pub record Run (S : Type 0) : Type 0 where
   pub state : S
   pub outs : List Msg
@@ -27,8 +27,14 @@ module _ {S : Type 0} (step : S → Input → Move S) where
   abbrev pub reacted : Run S → ℕ → Msg → Run S
   reacted r parent (messages.Item x) =
       let m = step r.state (parent, x) in
-      record r { state = m.state; outs = r.outs ++ item_msgs m.given.items; effects = r.effects ++ m.given.effects; clean = false }
-  reacted r parent (messages.Barrier b) = record r { outs = r.outs ++ messages.Barrier b ∷ []; saved = r.state; passed = b; clean = true }
+      record r {
+        state = m.state;
+        outs = r.outs ++ item_msgs m.given.items;
+        effects = r.effects ++ m.given.effects;
+        clean = false;
+      }
+  reacted r parent (messages.Barrier b) =
+      record r { outs = r.outs ++ messages.Barrier b ∷ []; saved = r.state; passed = b; clean = true }
 
   -- the run goes on over a list of messages, one after the other
   abbrev pub run : Run S → List Entry → Run S

@@ -14,8 +14,8 @@ use node_core::{Effects, Node};
 use std::alloc::Global;
 use std::marker::Model;
 
-/// A cell of a net. Its state, what it sent and has to send, its effects and its state at the last barrier are those of its
-/// node's function on what it received; its type says so, unless it is spent.
+/// A cell of a net. Its state, what it sent and has to send, its effects and its state at the last barrier
+/// are those of its node's function on what it received; its type says so, unless it is spent.
 #[derive(Drop)]
 pub struct Cell<N: Node> {
     parts: CellParts<N>,
@@ -52,9 +52,9 @@ impl<N: Node> Cell<N> {
     ghost use Rattle.flow_cells.specs.declared.parts.InEdge.{InEdge};
     ghost use Rattle.flow_cells.specs.declared.parts.OutEdge.{OutEdge};
 
-    /// A cell of a node with these inputs, on which nothing was received since their load, in the order of its parents;
-    /// none for a stream. It is behind the barrier with the stamp `passed`, where its node was in this state.
-    /// `NoMemory` comes where an allocation fails.
+    /// A cell of a node with these inputs, on which nothing was received since their load, in the order of
+    /// its parents; none for a stream. It is behind the barrier with the stamp `passed`, where its node was
+    /// in this state. `NoMemory` comes where an allocation fails.
     pub fn new(alloc: Global, node: N, ins: Vec<InEdge>, passed: Stamp) -> Result<Cell<N>, NoMemory>
         requires limit { length ins.items ≤ PARENT_LIMIT }
         requires fresh { Each IsFresh ins.items }
@@ -72,8 +72,8 @@ impl<N: Node> Cell<N> {
         })
     }
 
-    /// Adds an edge to a child, where nothing was received since the load. `NoMemory` comes where an allocation fails,
-    /// and changes nothing.
+    /// Adds an edge to a child, where nothing was received since the load. `NoMemory` comes where an
+    /// allocation fails, and changes nothing.
     pub fn add_out(&mut self, out: OutEdge) -> Result<(), NoMemory>
         requires unspent { self.old.spent ≡ false }
         requires nothing { HasNothing self.old }
@@ -86,9 +86,9 @@ impl<N: Node> Cell<N> {
         add_out(&mut self.parts, out)
     }
 
-    /// Takes a message from an input into its buffer, where none waits to be sent, and handles all that is then
-    /// determined. `false` comes only where there is no such input, a message waits to be sent, or the ring was empty as
-    /// this call looked. After NoMemory the cell is spent.
+    /// Takes a message from an input into its buffer, where none waits to be sent, and handles all that is
+    /// then determined. `false` comes only where there is no such input, a message waits to be sent, or the
+    /// ring was empty as this call looked. After NoMemory the cell is spent.
     #[inline(always)]
     pub fn take(&mut self, alloc: Global, input: u32) -> Result<bool, NoMemory>
         requires { self.old.spent ≡ false }
@@ -107,8 +107,8 @@ impl<N: Node> Cell<N> {
         }
     }
 
-    /// Puts the first message that waits at an out on its edge. `false` comes only where there is no such out, nothing
-    /// waits there, or the ring was full as this call looked. It takes no memory.
+    /// Puts the first message that waits at an out on its edge. `false` comes only where there is no such
+    /// out, nothing waits there, or the ring was full as this call looked. It takes no memory.
     #[inline(always)]
     pub fn put(&mut self, out: u32) -> bool
         requires { self.old.spent ≡ false }
@@ -120,10 +120,10 @@ impl<N: Node> Cell<N> {
         put(&mut self.parts, out)
     }
 
-    /// A load begins: from now on what is sent, received and done is counted anew, from the state in which the node is.
-    /// A stream's cell handles the points and barriers of the load in this call. Whether the state at the last barrier
-    /// can be had behind it too, `keeps` says: a state is then spelled before the next item comes. After NoMemory the cell
-    /// is spent.
+    /// A load begins: from now on what is sent, received and done is counted anew, from the state in which
+    /// the node is. A stream's cell handles the points and barriers of the load in this call. Whether the
+    /// state at the last barrier can be had behind it too, `keeps` says: a state is then spelled before the
+    /// next item comes. After NoMemory the cell is spent.
     pub fn load(&mut self, alloc: Global, source: Vec<Msg>, keeps: bool) -> Result<(), NoMemory>
         requires unspent { self.old.spent ≡ false }
         requires empty { Each IsNothing self.old.buffer }
@@ -143,8 +143,8 @@ impl<N: Node> Cell<N> {
         }
     }
 
-    /// Whether a message can be taken from an input, as far as this cell knows: there is such an input, a message is known
-    /// on its edge, and none waits to be sent.
+    /// Whether a message can be taken from an input, as far as this cell knows: there is such an input, a
+    /// message is known on its edge, and none waits to be sent.
     pub fn can_take(&self, input: u32) -> bool
         ensures yes { IsTrue result → CanTake input self.now }
         ensures no { IsFalse result → CanTake input self.now → ⊥ }
@@ -202,7 +202,8 @@ impl<N: Node> Cell<N> {
         edge.input
     }
 
-    /// Shows both ends of the edge to an input of a child, side by side, what is on it. Nothing is sent or received.
+    /// Shows both ends of the edge to an input of a child, side by side, what is on it. Nothing is sent or
+    /// received.
     pub fn settle(&mut self, child: &mut Cell<N>, input: u32)
         requires { IsFedBy input self.old child.old }
         ensures parent { Keeps N.Node self.old → Keeps N.Node self.new }
@@ -212,8 +213,8 @@ impl<N: Node> Cell<N> {
         settle(&mut self.parts, &mut child.parts, input);
     }
 
-    /// Puts its effects behind others, where they weren't gathered yet. After NoMemory the cell is spent, and which of
-    /// them stand in `to` is unknown.
+    /// Puts its effects behind others, where they weren't gathered yet. After NoMemory the cell is spent, and
+    /// which of them stand in `to` is unknown.
     pub fn gather(&mut self, alloc: Global, to: &mut Effects) -> Result<(), NoMemory>
         requires { self.old.spent ≡ false }
         ensures keeps { OnOk result (Keeps N.Node self.new) }
@@ -237,8 +238,8 @@ impl<N: Node> Cell<N> {
         self.parts.core.node.dropped()
     }
 
-    /// Whether its node's state at the last barrier that it passed can be had: nothing was fed to the node since, or the
-    /// load has it kept.
+    /// Whether its node's state at the last barrier that it passed can be had: nothing was fed to the node
+    /// since, or the load has it kept.
     pub fn has_kept(&self) -> bool
         ensures yes { IsTrue result → HasKept self.now }
         ensures no { IsFalse result → HasKept self.now → ⊥ }
@@ -246,8 +247,8 @@ impl<N: Node> Cell<N> {
         has_kept(&self.parts)
     }
 
-    /// Appends the spelling of its node's state at the last barrier that it passed, or at the load where it passed none
-    /// since. `NoMemory` comes where an allocation fails, and changes nothing.
+    /// Appends the spelling of its node's state at the last barrier that it passed, or at the load where it
+    /// passed none since. `NoMemory` comes where an allocation fails, and changes nothing.
     pub fn put_saved(&self, to: &mut Bytes) -> Result<(), NoMemory>
         requires unspent { self.now.spent ≡ false }
         requires kept { HasKept self.now }

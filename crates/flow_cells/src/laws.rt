@@ -11,9 +11,9 @@ ghost use Rattle.flow_cells.specs.Runs.{Run, before_last, inputs, run};
 
 use node_core::Node;
 
-/// What a cell keeps of its node is what the node's fold gives on the items that were handled: the state, the effects,
-/// the items that are given out, and the state saved at the last barrier; and a barrier goes on behind what the items
-/// up to it gave.
+/// What a cell keeps of its node is what the node's fold gives on the items that were handled: the state, the
+/// effects, the items that are given out, and the state saved at the last barrier; and a barrier goes on
+/// behind what the items up to it gave.
 pub fn runs_are_folds<N: Node>()
     ensures state { (p : N.Spec) (r : Run N.State) (handled : List Entry)
         → (run (N.step p) r handled).state ≡ (fold (N.step p) r.state (inputs handled)).state }

@@ -80,8 +80,8 @@ fn handle_source<N: Node>(
     Ok(())
 }
 
-/// A load begins, with its points and barriers where the cell is a stream's, which are handled in this call. Whether the state at
-/// each barrier is to be kept is said with it.
+/// A load begins, with its points and barriers where the cell is a stream's, which are handled in this call.
+/// Whether the state at each barrier is to be kept is said with it.
 pub(crate) fn load<N: Node>(
     alloc: Global,
     cell: &mut CellParts<N>,

@@ -85,8 +85,8 @@ fn put(tail: &mut Tail, msg: Msg)
 }
 
 impl OutEdge {
-    /// Puts the first message that waits on the edge. `false` comes where none waits, or the ring was full as this call
-    /// looked.
+    /// Puts the first message that waits on the edge. `false` comes where none waits, or the ring was full as
+    /// this call looked.
     pub(crate) fn send(&mut self) -> bool
         ensures sent { IsTrue result → SendsOn self.old self.new }
         ensures kept { IsFalse result → LooksOn self.old self.new }

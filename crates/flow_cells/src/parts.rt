@@ -30,8 +30,8 @@ pub struct InEdge {
     pub out: u32,
 }
 
-/// The effects that were gathered from a cell since the load, one list behind the other. It has no contents: contracts
-/// alone see them.
+/// The effects that were gathered from a cell since the load, one list behind the other. It has no contents:
+/// contracts alone see them.
 #[derive(Drop)]
 pub enum Gathered {
     /// None yet.
@@ -47,7 +47,8 @@ pub struct Core<N> {
     pub node: N,
     /// Its edges to children.
     pub outs: Vec<OutEdge>,
-    /// Room for what the node gives for a message, before that waits at the outs. What it holds counts for nothing.
+    /// Room for what the node gives for a message, before that waits at the outs. What it holds counts for
+    /// nothing.
     pub given: Items,
     /// The effects since the load that were gathered.
     pub gathered: Gathered,

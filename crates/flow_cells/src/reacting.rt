@@ -35,7 +35,8 @@ impl<N: Node> Core<N> {
         Ok(())
     }
 
-    /// Passes a barrier: the state there is the node's as long as nothing is fed to it. Has the barrier wait at each out.
+    /// Passes a barrier: the state there is the node's as long as nothing is fed to it. Has the barrier wait
+    /// at each out.
     fn pass(&mut self, alloc: Global, stamp: Stamp) -> Result<(), NoMemory>
         ensures spec { N.spec self.new.node ≡ N.spec self.old.node }
         ensures gathered { self.new.gathered ≡ self.old.gathered }

@@ -7,7 +7,8 @@ use crate::parts::CellParts;
 use kap_base::{Bytes, NoMemory};
 use node_core::Node;
 
-/// Spells the state of a node before something is fed to it: where it is the one at the last barrier, which is to be kept.
+/// Spells the state of a node before something is fed to it: where it is the one at the last barrier, which
+/// is to be kept.
 pub(crate) fn keep_state<N: Node>(
     node: &N,
     saved: &mut Bytes,

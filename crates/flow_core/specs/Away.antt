@@ -54,7 +54,8 @@ module _ {N P S : Type 0} (g : Ghosts N P S) where
     pub specs : specs_of g l.life.cells ≡ specs_of g before.life.cells
     pub rooms : rooms_of l.life.cells ≡ rooms_of before.life.cells
     pub ends : ends_of l.life.cells ≡ ends_of before.life.cells
-    pub gathers : GathersAll (together (effects_since before.life.cells)) (together (effects_since l.life.cells)) gathered gathered'
+    pub gathers : GathersAll (together (effects_since before.life.cells))
+        (together (effects_since l.life.cells)) gathered gathered'
 
   -- and so have lives
   pub record AreGivenBack (before lives : List (NumberedLife N)) (gathered gathered' : List Effect) : Type 0 where

@@ -25,8 +25,10 @@ module _ {P : Type 0} (life number : P → ℕ) where
   -- the numbers of lives rise from here on, and each has its nodes numbered by their places
   abbrev pub LivesRise : ℕ → List (List (Placed P)) → Type 0
   LivesRise low [] = ⊤
-  LivesRise low (nodes ∷ lives) = (which : ℕ) × (low ≤ which) × NodesNumbered life number which 0 nodes × LivesRise (which + 1) lives
+  LivesRise low (nodes ∷ lives) =
+      (which : ℕ) × (low ≤ which) × NodesNumbered life number which 0 nodes × LivesRise (which + 1) lives
 
 -- all effects of lives, life by life and node by node
 abbrev pub effects_by_node : {P : Type 0} → (P → Answer) → List (List (Placed P)) → List PointValue → List Effect
-effects_by_node answer lives points = flat_map (λ nodes. flat_map (λ g. g.effects) (graph_gives answer points nodes)) lives
+effects_by_node answer lives points =
+    flat_map (λ nodes. flat_map (λ g. g.effects) (graph_gives answer points nodes)) lives

@@ -22,20 +22,23 @@ module _ {P S : Type 0} (step : P → S → Input → Move S) where
 module _ {P S : Type 0} where
   -- a node is in the state in which its run on its merged streams ends
   abbrev pub EndsIn : List (List Msg) → Plan S → Active P S → Type 0
-  EndsIn streams p a = (stream : List Msg) (whole : IsStream streams p stream) → a.state ≡ (run_from p whole.merged).state
+  EndsIn streams p a =
+      (stream : List Msg) (whole : IsStream streams p stream) → a.state ≡ (run_from p whole.merged).state
 
 module _ {S : Type 0} where
   -- a node does this in its run on its merged streams
   abbrev pub Does : List (List Msg) → Plan S → List Effect → Type 0
-  Does streams p effects = (stream : List Msg) (whole : IsStream streams p stream) → effects ≡ (run_from p whole.merged).effects
+  Does streams p effects =
+      (stream : List Msg) (whole : IsStream streams p stream) → effects ≡ (run_from p whole.merged).effects
 
 module _ {P S : Type 0} (first : P → S) (step : P → S → Input → Move S) where
-  -- Loads of these points, one after the other, from the first states of the nodes on: the nodes as they then are, what each has
-  -- given out in all loads, and what it has done. Each load begins in the states that the one before left.
+  -- Loads of these points, one after the other, from the first states of the nodes on: the nodes as they then are, what
+  -- each has given out in all loads, and what it has done. Each load begins in the states that the one before left.
   pub data Loaded : List PointValue → List (Active P S) → (ℕ → List Msg) → (ℕ → List Effect) → Type 0 where
     start : (acts : List (Active P S)) → AreFirst first acts → Loaded [] acts (λ node. []) (λ node. [])
     more : {points : List PointValue} {acts : List (Active P S)} {outs : ℕ → List Msg} {done : ℕ → List Effect}
-        (new : List PointValue) (upto : Stamp) (marks : List Stamp) (plans : List (Plan S)) (streams : List (List Msg)) (effects : List (List Effect)) (after : List (Active P S))
+        (new : List PointValue) (upto : Stamp) (marks : List Stamp) (plans : List (Plan S)) (streams : List (List Msg))
+        (effects : List (List Effect)) (after : List (Active P S))
         → Loaded points acts outs done
         → upto.0 ≡ length (points ++ new)
         → AreMarksOf new upto marks
@@ -45,4 +48,5 @@ module _ {P S : Type 0} (first : P → S) (step : P → S → Input → Move S) 
         → AllZip (Does streams) plans effects
         → AllZip (EndsIn streams) plans after
         → map placed after ≡ map placed acts
-        → Loaded (points ++ new) after (λ node. outs node ++ slice_index_or streams node []) (λ node. done node ++ slice_index_or effects node [])
+        → Loaded (points ++ new) after (λ node. outs node ++ slice_index_or streams node []) (λ node. done node
+        ++ slice_index_or effects node [])

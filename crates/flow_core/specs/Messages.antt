@@ -26,7 +26,8 @@ marked (x ∷ items) marks = messages.Item x ∷ barrier_at x.stamp.0 marks ++ m
 abbrev pub stamped_up_to : Stamp → List PointValue → List Item
 stamped_up_to upto points = stamped_from (upto.0 - length points + 1) points
 
--- the messages of a load: the points with the stamps that end at `upto`, a barrier behind each mark and one behind the last point
+-- the messages of a load: the points with the stamps that end at `upto`, a barrier behind each mark and one behind the
+-- last point
 abbrev pub load_messages : List PointValue → Stamp → List Stamp → List Msg
 load_messages points upto marks = marked (stamped_up_to upto points) marks ++ messages.Barrier upto ∷ []
 

@@ -50,8 +50,10 @@ step_before n (steps.Put cell out) = steps.Put (cell + n) out
 
 -- a step can be made: in the life that has the cell
 pub data EnabledIn {N : Type 0} : List (NumberedLife N) → Step → Type 0 where
-  here : {l : NumberedLife N} {lives : List (NumberedLife N)} {next : Step} → cell_of next < length l.life.cells → IsEnabled l.life.cells next → EnabledIn (l ∷ lives) next
-  later : {l : NumberedLife N} {lives : List (NumberedLife N)} {next : Step} → length l.life.cells ≤ cell_of next → EnabledIn lives (step_behind (length l.life.cells) next) → EnabledIn (l ∷ lives) next
+  here : {l : NumberedLife N} {lives : List (NumberedLife N)} {next : Step} → cell_of next < length l.life.cells
+      → IsEnabled l.life.cells next → EnabledIn (l ∷ lives) next
+  later : {l : NumberedLife N} {lives : List (NumberedLife N)} {next : Step} → length l.life.cells ≤ cell_of next
+      → EnabledIn lives (step_behind (length l.life.cells) next) → EnabledIn (l ∷ lives) next
 
 -- some step can be made
 pub record SomeEnabledIn {N : Type 0} (lives : List (NumberedLife N)) : Type 0 where
@@ -60,8 +62,11 @@ pub record SomeEnabledIn {N : Type 0} (lives : List (NumberedLife N)) : Type 0 w
 
 -- a step makes exactly one list longer, by one message, in the life that has the cell; the others stay
 pub data GrowsIn {N : Type 0} : Step → List (NumberedLife N) → List (NumberedLife N) → Type 0 where
-  in_it : {l l' : NumberedLife N} {lives : List (NumberedLife N)} {next : Step} → Grows next l.life.cells l'.life.cells → GrowsIn next (l ∷ lives) (l' ∷ lives)
-  behind : {l : NumberedLife N} {lives lives' : List (NumberedLife N)} {next : Step} → length l.life.cells ≤ cell_of next → GrowsIn (step_behind (length l.life.cells) next) lives lives' → GrowsIn next (l ∷ lives) (l ∷ lives')
+  in_it : {l l' : NumberedLife N} {lives : List (NumberedLife N)} {next : Step} → Grows next l.life.cells l'.life.cells
+      → GrowsIn next (l ∷ lives) (l' ∷ lives)
+  behind : {l : NumberedLife N} {lives lives' : List (NumberedLife N)} {next : Step}
+      → length l.life.cells ≤ cell_of next → GrowsIn (step_behind (length l.life.cells) next) lives lives'
+      → GrowsIn next (l ∷ lives) (l ∷ lives')
 
 -- how many messages were sent and received by all cells since the load
 abbrev pub moves_in : {N : Type 0} → List (NumberedLife N) → ℕ
@@ -80,12 +85,15 @@ IsResting l = AreQuiet l.life.cells
 abbrev pub streams_length : {N : Type 0} → List (NumberedLife N) → List (List (List Msg)) → ℕ
 streams_length [] all = 0
 streams_length (l ∷ lives) [] = 0
-streams_length (l ∷ lives) (streams ∷ all) = sum_of_all (stream_length streams) (parents_of l.life.cells) + streams_length lives all
+streams_length (l ∷ lives) (streams ∷ all) =
+    sum_of_all (stream_length streams) (parents_of l.life.cells) + streams_length lives all
 
 -- a cell by its number
 pub data HasCell {N : Type 0} : List (NumberedLife N) → ℕ → CellParts N → Type 0 where
-  own : {l : NumberedLife N} {lives : List (NumberedLife N)} {cell : ℕ} {c : CellParts N} → slice_get l.life.cells cell ≡ Some c → HasCell (l ∷ lives) cell c
-  after : {l : NumberedLife N} {lives : List (NumberedLife N)} {cell : ℕ} {c : CellParts N} → length l.life.cells ≤ cell → HasCell lives (cell - length l.life.cells) c → HasCell (l ∷ lives) cell c
+  own : {l : NumberedLife N} {lives : List (NumberedLife N)} {cell : ℕ} {c : CellParts N}
+      → slice_get l.life.cells cell ≡ Some c → HasCell (l ∷ lives) cell c
+  after : {l : NumberedLife N} {lives : List (NumberedLife N)} {cell : ℕ} {c : CellParts N} → length l.life.cells ≤ cell
+      → HasCell lives (cell - length l.life.cells) c → HasCell (l ∷ lives) cell c
 
 -- how many cells all lives have
 abbrev pub cell_count : {N : Type 0} → List (NumberedLife N) → ℕ
@@ -120,7 +128,9 @@ module _ {N P S : Type 0} (g : Ghosts N P S) where
   -- it has sent and received twice the length of all streams
   abbrev pub HasMovedTwice : NumberedLife N → Type 0
   HasMovedTwice l = (streams : List (List Msg)) → AreStreams (plans_of g l.life.cells) streams
-      → moves_of l.life.cells ≡ sum_of_all (stream_length streams) (parents_of l.life.cells) + sum_of_all (stream_length streams) (parents_of l.life.cells)
+      → moves_of l.life.cells
+      ≡ sum_of_all (stream_length streams) (parents_of l.life.cells) + sum_of_all (stream_length streams)
+      (parents_of l.life.cells)
 
   -- the streams of each life
   abbrev pub AreStreamsIn : List (NumberedLife N) → List (List (List Msg)) → Type 0
@@ -128,4 +138,5 @@ module _ {N P S : Type 0} (g : Ghosts N P S) where
 
   -- they have sent and received twice the length of all streams of all lives
   abbrev pub HaveMovedTwice : List (NumberedLife N) → Type 0
-  HaveMovedTwice lives = (all : List (List (List Msg))) → AreStreamsIn lives all → moves_in lives ≡ streams_length lives all + streams_length lives all
+  HaveMovedTwice lives = (all : List (List (List Msg))) → AreStreamsIn lives all
+      → moves_in lives ≡ streams_length lives all + streams_length lives all

@@ -49,7 +49,8 @@ module _ {N P S : Type 0} (g : Ghosts N P S) where
     pub gathered : net.gathered ≡ []
 
   -- a life of these nodes was loaded with points, was at rest then, and was loaded with these messages
-  pub record LifeHasRun (points : List PointValue) (source : List Msg) (nodes : List (Placed P)) (l : NumberedLife N) : Type 0 where
+  pub record LifeHasRun (points : List PointValue) (source : List Msg) (nodes : List (Placed P))
+      (l : NumberedLife N) : Type 0 where
     pub acts : List (Active P S)
     pub outs : ℕ → List Msg
     pub done : ℕ → List Effect
@@ -59,10 +60,11 @@ module _ {N P S : Type 0} (g : Ghosts N P S) where
     pub nodes_were : map placed acts ≡ nodes
     pub nodes_are : map placed (acts_of g l.life.cells) ≡ nodes
 
-  -- A net of lives of these nodes was loaded with these points, in one load or in several, each at the rest behind the one before,
-  -- and these effects were collected. What its nodes gave for the points before the last load and have done since is what was
-  -- collected and what wasn't yet.
-  pub record HasRun (lives : List (List (Placed P))) (points : List PointValue) (collected : List Effect) (net : NetValue N) : Type 0 where
+  -- A net of lives of these nodes was loaded with these points, in one load or in several, each at the rest behind the
+  -- one before, and these effects were collected. What its nodes gave for the points before the last load and have done
+  -- since is what was collected and what wasn't yet.
+  pub record HasRun (lives : List (List (Placed P))) (points : List PointValue) (collected : List Effect)
+      (net : NetValue N) : Type 0 where
     pub old : List PointValue
     pub new : List PointValue
     pub marks : List Stamp

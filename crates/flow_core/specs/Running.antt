@@ -12,7 +12,8 @@ use Rattle.flow_core.specs.Nets.{EnabledIn, NetValue, NumberedLife, numbers_of, 
 use Rattle.flow_core.specs.Ran.{GathersAll, HasRun, effects_in}
 use Rattle.flow_core.specs.Rooms.{rooms_in}
 
--- the steps of lives whose cells are numbered from here on, life by life; of each life it is known how many inputs and outs its cells have
+-- the steps of lives whose cells are numbered from here on, life by life; of each life it is known how many inputs and
+-- outs its cells have
 abbrev pub steps_onward : ℕ → List (List (ℕ × ℕ)) → List Step
 steps_onward cell [] = []
 steps_onward cell (ends ∷ others) = steps_from cell ends ++ steps_onward (cell + length ends) others
@@ -55,8 +56,8 @@ module _ {N P S : Type 0} (g : Ghosts N P S) where
     pub left : left_in lives' ≤ left_in lives
     pub gathers : GathersAll (effects_in lives) (effects_in lives') gathered gathered'
 
-  -- A net in which some moves were made, or none: its lives with their numbers, nodes, edges and steps stay, and so do its load and
-  -- its last barrier. What it had run it has run, and what was done more is gathered.
+  -- A net in which some moves were made, or none: its lives with their numbers, nodes, edges and steps stay, and so do
+  -- its load and its last barrier. What it had run it has run, and what was done more is gathered.
   pub record NetGoesOn (net net' : NetValue N) : Type 0 where
     pub numbers : numbers_of net'.lives ≡ numbers_of net.lives
     pub plans : plans_in g net'.lives ≡ plans_in g net.lives
@@ -64,5 +65,6 @@ module _ {N P S : Type 0} (g : Ghosts N P S) where
     pub rooms : rooms_in net'.lives ≡ rooms_in net.lives
     pub steps : steps_of net'.lives ≡ steps_of net.lives
     pub last : net'.last ≡ net.last
-    pub runs : (lives : List (List (Placed P))) (points : List PointValue) (collected : List Effect) → HasRun g lives points collected net → HasRun g lives points collected net'
+    pub runs : (lives : List (List (Placed P))) (points : List PointValue) (collected : List Effect)
+        → HasRun g lives points collected net → HasRun g lives points collected net'
     pub gathers : GathersAll (effects_in net.lives) (effects_in net'.lives) net.gathered net'.gathered

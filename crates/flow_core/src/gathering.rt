@@ -13,7 +13,8 @@ fn place_of(effect: &Effect) -> (u64, u32, u32, u32)
     (effect.stamp.0, effect.life, effect.node, effect.seq)
 }
 
-/// The same effects by stamp, with one stamp by life, in one life by node, and of one node by number. It takes no memory.
+/// The same effects by stamp, with one stamp by life, in one life by node, and of one node by number. It
+/// takes no memory.
 pub fn sort_effects(effects: Effects) -> Effects
     ensures same { IsPermutation effects result }
     ensures sorted { AreSorted result }

@@ -27,8 +27,9 @@ ghost use Rattle.flow_core.specs.Sorting.{AreRising, AreSorted};
 
 use node_core::Node;
 
-/// The messages of a load have the points, with the stamps that end at the last one, and the barriers of the marks and of the last
-/// stamp, all of them in the order of their stamps, each barrier behind the points up to it, and one behind each point.
+/// The messages of a load have the points, with the stamps that end at the last one, and the barriers of the
+/// marks and of the last stamp, all of them in the order of their stamps, each barrier behind the points up
+/// to it, and one behind each point.
 pub fn loads_have_messages()
     ensures items { (points : List PointValue) (upto : Stamp) (marks : List Stamp)
         → items (load_messages points upto marks) ≡ item_msgs (stamped_up_to upto points) }
@@ -41,8 +42,9 @@ pub fn loads_have_messages()
         → IsClosed (load_messages points upto marks) }
 {}
 
-/// Loads, one after the other, each in the states that the one before left, make of the nodes of a graph what the nodes' functions
-/// make of all points: what each node has given out, barriers aside, its effects, its state, and how many inputs it dropped.
+/// Loads, one after the other, each in the states that the one before left, make of the nodes of a graph what
+/// the nodes' functions make of all points: what each node has given out, barriers aside, its effects, its
+/// state, and how many inputs it dropped.
 pub fn loads_go_on<N: Node>()
     ensures outs { (points : List PointValue) (acts : List (Active N.Spec N.State))
         (outs : ℕ → List Msg) (done : ℕ → List Effect) (node : ℕ)
@@ -65,8 +67,8 @@ pub fn loads_go_on<N: Node>()
         ≡ map (λ g. g.drops) (graph_gives N.answer points (map placed acts)) }
 {}
 
-/// A life that is at rest behind a load of more points, whose nodes are still what they were, is loaded with these points too: so
-/// what its cells have given out and done in all loads is what whole lists give.
+/// A life that is at rest behind a load of more points, whose nodes are still what they were, is loaded with
+/// these points too: so what its cells have given out and done in all loads is what whole lists give.
 pub fn lives_go_on<N: Node>()
     ensures { (points new : List PointValue) (upto : Stamp) (marks : List Stamp)
         (before after : List (CellParts N)) (outs : ℕ → List Msg) (done : ℕ → List Effect)
@@ -82,9 +84,9 @@ pub fn lives_go_on<N: Node>()
         (λ node. done node ++ slice_index_or (effects_since after) node []) }
 {}
 
-/// The effects that the nodes of lives gave for all points, or for more points than before, are those that whole lists give, once
-/// they are sorted, where each node numbers the effects of a stamp, and then no two of them stand at one place in this order; and a
-/// node does whose effects are numbered as they are said.
+/// The effects that the nodes of lives gave for all points, or for more points than before, are those that
+/// whole lists give, once they are sorted, where each node numbers the effects of a stamp, and then no two of
+/// them stand at one place in this order; and a node does whose effects are numbered as they are said.
 pub fn sorted_effects_are_whole<N: Node>()
     ensures all { (numbers : (p : N.Spec) → NumbersEffects (N.answer p))
         (lives : List (List (Placed N.Spec))) (points : List PointValue) (first : ℕ)
@@ -107,8 +109,9 @@ pub fn sorted_effects_are_whole<N: Node>()
         → NumbersEffects (stamped life node saying) }
 {}
 
-/// Behind a load of any net of which all was collected before, whatever its nodes had done till then, what it has gathered is what
-/// its cells have done since the load; and behind steps that is what was collected since the load and what wasn't yet.
+/// Behind a load of any net of which all was collected before, whatever its nodes had done till then, what it
+/// has gathered is what its cells have done since the load; and behind steps that is what was collected since
+/// the load and what wasn't yet.
 pub fn effects_are_gathered<N: Node>()
     ensures loaded { (before after : NetValue N) → before.gathered ≡ []
         → after.gathered ≡ before.gathered ++ effects_in after.lives → HasGathered [] after }

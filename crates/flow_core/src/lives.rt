@@ -152,7 +152,8 @@ pub(crate) fn at_rest<N: Node>(lives: &[Numbered<Life<N>>]) -> bool
     at_rest(others)
 }
 
-/// What the cells of lives keep, of which no call failed: among it that each edge has carried a prefix of its stream.
+/// What the cells of lives keep, of which no call failed: among it that each edge has carried a prefix of its
+/// stream.
 pub fn keep_lives<N: Node>(lives: &[Numbered<Life<N>>])
     requires { Each IsSound lives.now }
     ensures lives { Each (IsLifeIn N.Node) lives.now }
@@ -191,8 +192,8 @@ fn load_life<N: Node>(
     Ok(())
 }
 
-/// A load begins on lives, and what they give at once is gathered. The last one gets the messages themselves, each other one
-/// copies.
+/// A load begins on lives, and what they give at once is gathered. The last one gets the messages themselves,
+/// each other one copies.
 pub(crate) fn load<N: Node>(
     alloc: Global,
     lives: &mut [Numbered<Life<N>>],

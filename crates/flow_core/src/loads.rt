@@ -49,8 +49,8 @@ fn pass_mark(marks: &[Stamp], stamp: u64) -> &[Stamp]
     if mark.0 == stamp { later } else { marks }
 }
 
-/// The messages of a load: the points with the stamps that end at `upto`, a barrier behind each stamp of `marks`, which rise, and
-/// one behind the last point.
+/// The messages of a load: the points with the stamps that end at `upto`, a barrier behind each stamp of
+/// `marks`, which rise, and one behind the last point.
 pub fn messages(
     alloc: Global,
     points: &[Shared<Point>],

@@ -17,8 +17,8 @@ use std::marker::Model;
 use std::mem;
 use task_run::{Counts, LifePlan};
 
-/// Lives side by side, whose cells are numbered life by life, from 0 on. Its type says that the edges of each life are settled
-/// and that the effects of all moves were gathered, unless it is spent.
+/// Lives side by side, whose cells are numbered life by life, from 0 on. Its type says that the edges of each
+/// life are settled and that the effects of all moves were gathered, unless it is spent.
 #[derive(Drop)]
 pub struct Net<N: Node> {
     // In the order in which they came.
@@ -94,8 +94,8 @@ impl<N: Node> Net<N> {
         }
     }
 
-    /// A net with a life of each plan, in their order, whose edges have room for just `capacity` messages, 1 to 65,536. It is at
-    /// rest, and each cell's saved state is its state.
+    /// A net with a life of each plan, in their order, whose edges have room for just `capacity` messages, 1
+    /// to 65,536. It is at rest, and each cell's saved state is its state.
     pub fn make(alloc: Global, plans: Vec<LifePlan<N>>, capacity: u32) -> Result<Net<N>, NoMemory>
         requires few { Each HasFewParents plans.items }
         requires some { 0 < capacity }
@@ -119,7 +119,8 @@ impl<N: Node> Net<N> {
         })
     }
 
-    /// The same behind a barrier, which is the net's last one: the nodes of the plans are in the states in which they were there.
+    /// The same behind a barrier, which is the net's last one: the nodes of the plans are in the states in
+    /// which they were there.
     pub fn make_behind(
         alloc: Global,
         plans: Vec<LifePlan<N>>,
@@ -144,7 +145,8 @@ impl<N: Node> Net<N> {
         })
     }
 
-    /// Adds a life behind the others, of which no call failed and whose effects were gathered. An `Err` changes nothing.
+    /// Adds a life behind the others, of which no call failed and whose effects were gathered. An `Err`
+    /// changes nothing.
     pub fn add(&mut self, number: u32, life: Life<N>) -> Result<(), NoMemory>
         requires unspent { self.old.spent ≡ false }
         requires sound { life.spent ≡ false }
@@ -160,8 +162,9 @@ impl<N: Node> Net<N> {
         Ok(())
     }
 
-    /// A life of a plan begins at rest, behind the others, with edges that have room for just `capacity` messages, 1 to 65,536: its
-    /// cells have the plan's nodes, whose states are saved at the barrier at the end of the last load. An `Err` changes nothing.
+    /// A life of a plan begins at rest, behind the others, with edges that have room for just `capacity`
+    /// messages, 1 to 65,536: its cells have the plan's nodes, whose states are saved at the barrier at the
+    /// end of the last load. An `Err` changes nothing.
     pub fn begin(&mut self, alloc: Global, plan: LifePlan<N>, capacity: u32) -> Result<(), NoMemory>
         requires unspent { self.old.spent ≡ false }
         requires rest { Each IsResting self.old.lives }
@@ -183,8 +186,8 @@ impl<N: Node> Net<N> {
         Ok(())
     }
 
-    /// The first life with this number ends at rest, where nothing is left to collect: its cells are gone, and the numbers of
-    /// the cells behind it close up. It takes no memory.
+    /// The first life with this number ends at rest, where nothing is left to collect: its cells are gone,
+    /// and the numbers of the cells behind it close up. It takes no memory.
     pub fn end(&mut self, number: u32)
         requires unspent { self.old.spent ≡ false }
         requires rest { Each IsResting self.old.lives }
@@ -200,9 +203,10 @@ impl<N: Node> Net<N> {
         let _ended = self.lives.remove(place);
     }
 
-    /// A load begins: the points, with the stamps that end at `upto`, go to each life, with a barrier behind each stamp of
-    /// `marks` and one behind the last point. From now on what is sent, received and done is counted anew, each node from the
-    /// state in which it is. Streams handle the points in this call. After NoMemory the net is spent.
+    /// A load begins: the points, with the stamps that end at `upto`, go to each life, with a barrier behind
+    /// each stamp of `marks` and one behind the last point. From now on what is sent, received and done is
+    /// counted anew, each node from the state in which it is. Streams handle the points in this call. After
+    /// NoMemory the net is spent.
     pub fn load(
         &mut self,
         alloc: Global,
@@ -243,9 +247,9 @@ impl<N: Node> Net<N> {
         Ok(())
     }
 
-    /// Makes a step. `false` comes exactly where it isn't enabled: there is no such cell, input or out, the edge is empty or
-    /// a message waits to be sent (take), or none waits or the edge has no free place (put); then what can be made is as
-    /// before. After NoMemory the net is spent.
+    /// Makes a step. `false` comes exactly where it isn't enabled: there is no such cell, input or out, the
+    /// edge is empty or a message waits to be sent (take), or none waits or the edge has no free place (put);
+    /// then what can be made is as before. After NoMemory the net is spent.
     pub fn step(&mut self, alloc: Global, next: Step) -> Result<bool, NoMemory>
         requires { self.old.spent ≡ false }
         ensures goes { OnOk result (NetGoesOn N.Node self.old self.new) }
@@ -268,7 +272,8 @@ impl<N: Node> Net<N> {
         Ok(made)
     }
 
-    /// Tries steps in their order: makes each one that is enabled at its turn, and counts those. After NoMemory the net is spent.
+    /// Tries steps in their order: makes each one that is enabled at its turn, and counts those. After
+    /// NoMemory the net is spent.
     pub fn play(&mut self, alloc: Global, steps: &[Step]) -> Result<u64, NoMemory>
         requires { self.old.spent ≡ false }
         ensures goes { OnOk result (NetGoesOn N.Node self.old self.new) }
@@ -284,8 +289,9 @@ impl<N: Node> Net<N> {
         Ok(made)
     }
 
-    /// All its steps, by cell, of each cell its takes by input and then its puts by out; each that can be made is among them.
-    /// They stay the same whatever it runs. NoMemory comes where an allocation fails or a number has more than 32 bits.
+    /// All its steps, by cell, of each cell its takes by input and then its puts by out; each that can be
+    /// made is among them. They stay the same whatever it runs. NoMemory comes where an allocation fails or a
+    /// number has more than 32 bits.
     pub fn steps(&self, alloc: Global) -> Result<Vec<Step>, NoMemory>
         ensures steps { IfOk result (λ steps. steps.items ≡ steps_of self.now.lives) }
         ensures all { IfOk result (λ steps. (next : Step)
@@ -294,9 +300,9 @@ impl<N: Node> Net<N> {
         list_steps(alloc, &self.lives)
     }
 
-    /// Makes steps until nothing is left to do, in the order of a number: of all steps, c in number, at the turn j from 0 it
-    /// tries the one at `number` + j · (2 · `number` + 1) mod c and then the following ones round, makes the first that is
-    /// enabled, and ends where none is. After NoMemory the net is spent.
+    /// Makes steps until nothing is left to do, in the order of a number: of all steps, c in number, at the
+    /// turn j from 0 it tries the one at `number` + j · (2 · `number` + 1) mod c and then the following ones
+    /// round, makes the first that is enabled, and ends where none is. After NoMemory the net is spent.
     pub fn play_by(&mut self, alloc: Global, number: u32) -> Result<(), NoMemory>
         requires { self.old.spent ≡ false }
         ensures rest { OnOk result (Each IsResting self.new.lives) }
@@ -311,8 +317,8 @@ impl<N: Node> Net<N> {
         Ok(())
     }
 
-    /// Makes steps until nothing is left to do, by one thread: cell by cell all that can be made, and again. After NoMemory the
-    /// net is spent.
+    /// Makes steps until nothing is left to do, by one thread: cell by cell all that can be made, and again.
+    /// After NoMemory the net is spent.
     pub fn run(&mut self, alloc: Global) -> Result<(), NoMemory>
         requires { self.old.spent ≡ false }
         ensures rest { OnOk result (Each IsResting self.new.lives) }
@@ -327,9 +333,10 @@ impl<N: Node> Net<N> {
         Ok(())
     }
 
-    /// Whether nothing is pending, unsent, buffered or on an edge. While it isn't so, some step is enabled; where it is so,
-    /// each edge has carried its stream, and the messages sent and received since the load are twice the streams' length. Over
-    /// all loads each edge has then carried, barriers aside, what its parent gives out for all points so far.
+    /// Whether nothing is pending, unsent, buffered or on an edge. While it isn't so, some step is enabled;
+    /// where it is so, each edge has carried its stream, and the messages sent and received since the load
+    /// are twice the streams' length. Over all loads each edge has then carried, barriers aside, what its
+    /// parent gives out for all points so far.
     pub fn at_rest(&self) -> bool
         requires { self.now.spent ≡ false }
         ensures rest { IsTrue result → Each IsResting self.now.lives }
@@ -344,7 +351,8 @@ impl<N: Node> Net<N> {
         at_rest(&self.lives)
     }
 
-    /// Takes the cells out, so that each may move by itself. Until they are given back the net is spent. It takes no memory.
+    /// Takes the cells out, so that each may move by itself. Until they are given back the net is spent. It
+    /// takes no memory.
     pub fn take_cells(&mut self, alloc: Global) -> Cells<N>
         requires { self.old.spent ≡ false }
         ensures cells { result.lives.items ≡ self.old.lives }
@@ -362,8 +370,8 @@ impl<N: Node> Net<N> {
         Cells { lives }
     }
 
-    /// Gives a net the cells that the last `take_cells` gave, in their order, each after moves of its own, of which none failed.
-    /// Each edge is settled and the effects are gathered. After NoMemory the net is spent.
+    /// Gives a net the cells that the last `take_cells` gave, in their order, each after moves of its own, of
+    /// which none failed. Each edge is settled and the effects are gathered. After NoMemory the net is spent.
     pub fn give_cells(&mut self, alloc: Global, cells: Cells<N>) -> Result<(), NoMemory>
         requires none { self.old.lives ≡ [] }
         requires back { AreBack N.Node cells.lives.items }
@@ -389,7 +397,8 @@ impl<N: Node> Net<N> {
         keep_lives(&self.lives);
     }
 
-    /// The effects since the last call, by stamp, then by life, then by node, then by number. It takes no memory.
+    /// The effects since the last call, by stamp, then by life, then by node, then by number. It takes no
+    /// memory.
     pub fn collect(&mut self, alloc: Global) -> Effects
         ensures same { IsPermutation self.old.gathered result }
         ensures sorted { AreSorted result }
@@ -423,8 +432,8 @@ impl<N: Node> Net<N> {
         dropped(&self.lives, cell)
     }
 
-    /// How many inputs each node of each life dropped and counted, life by life and node by node: at rest of all points, and of
-    /// none where nothing was loaded.
+    /// How many inputs each node of each life dropped and counted, life by life and node by node: at rest of
+    /// all points, and of none where nothing was loaded.
     pub fn counts(&self, alloc: Global) -> Result<Counts, NoMemory>
         requires { self.now.spent ≡ false }
         ensures counts { IfOk result (λ counts. counts ≡ drops_in N.Node self.now.lives) }

@@ -77,8 +77,8 @@ fn make_next<N: Node>(
     make_first(alloc, lives, before, gathered)
 }
 
-/// Makes steps in the order that a number says, until none can be made. With c steps in all, the turn j begins at the place
-/// number + j · (2 · number + 1) mod c.
+/// Makes steps in the order that a number says, until none can be made. With c steps in all, the turn j
+/// begins at the place number + j · (2 · number + 1) mod c.
 fn play_turns<N: Node>(
     alloc: Global,
     lives: &mut [Numbered<Life<N>>],

@@ -30,7 +30,8 @@ pub record IsJoined {N : Type 0} (cells : List (CellParts N)) : Type 0 where
 
 -- both ends of the edge of an input know what is on it
 abbrev pub IsSettledAt : {N : Type 0} → List (CellParts N) → ℕ → ℕ → Type 0
-IsSettledAt cells j k = (e : InEdge) (o : OutEdge) → in_of cells j k ≡ Some e → out_of cells e.from e.out ≡ Some o → IsSettled o.tail e.head
+IsSettledAt cells j k =
+    (e : InEdge) (o : OutEdge) → in_of cells j k ≡ Some e → out_of cells e.from e.out ≡ Some o → IsSettled o.tail e.head
 
 -- both ends know it on each edge of the cells before this one, and of its inputs before this one
 pub record AreSettledTo {N : Type 0} (cells : List (CellParts N)) (cell input : ℕ) : Type 0 where

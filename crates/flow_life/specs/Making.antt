@@ -39,8 +39,10 @@ pub record FeedsNext (ins : List InEdge) (cell parent i : ℕ) (o : OutEdge) : T
 pub record IsWiredWith {N : Type 0} (new : List InEdge) (cells : List (CellParts N)) : Type 0 where
   pub ins : (j k : ℕ) (e : InEdge) → in_of cells j k ≡ Some e → IsFed cells j k e
   pub next : (k : ℕ) (e : InEdge) → slice_get new k ≡ Some e → IsFed cells (length cells) k e
-  pub outs : (j i : ℕ) (o : OutEdge) → out_of cells j i ≡ Some o → Feeds cells j i o ⊎ FeedsNext new (length cells) j i o
-  pub even : (f : ℕ → ℕ) → sum_of_all f (parents_of cells) + sum_of f (map (λ (e : InEdge). e.from) new) ≡ sum_by_out f 0 (outs_of cells)
+  pub outs : (j i : ℕ) (o : OutEdge) → out_of cells j i ≡ Some o → Feeds cells j i o
+      ⊎ FeedsNext new (length cells) j i o
+  pub even : (f : ℕ → ℕ)
+      → sum_of_all f (parents_of cells) + sum_of f (map (λ (e : InEdge). e.from) new) ≡ sum_by_out f 0 (outs_of cells)
 
 -- no item came to a cell since the last barrier
 abbrev pub IsClean : {N : Type 0} → CellParts N → Type 0

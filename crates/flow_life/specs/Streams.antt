@@ -30,8 +30,8 @@ befores_of ins = map (λ (e : InEdge). received_before e.head) ins
 abbrev pub rings_of : List InEdge → List (List Msg)
 rings_of ins = map (λ (e : InEdge). ring_received e.head) ins
 
--- a node at a load: its step, its state, the last barrier that it passed, the points and barriers of the load, its parents, what it
--- had received from each of them before, and whether its states at barriers are to be kept
+-- a node at a load: its step, its state, the last barrier that it passed, the points and barriers of the load, its
+-- parents, what it had received from each of them before, and whether its states at barriers are to be kept
 pub record Plan (S : Type 0) : Type 0 where
   pub step : S → Input → Move S
   pub start : S
@@ -59,7 +59,8 @@ module _ {S : Type 0} where
   abbrev pub run_from : Plan S → List Entry → Run S
   run_from p merged = run p.step (begun p.start p.passed) merged
 
-  -- what a node gives out in whole: the items of its run on the merged streams of its parents, each barrier behind the items up to it
+  -- what a node gives out in whole: the items of its run on the merged streams of its parents, each barrier behind the
+  -- items up to it
   pub record IsStream (streams : List (List Msg)) (p : Plan S) (stream : List Msg) : Type 0 where
     pub merged : List Entry
     pub rest : Lists
@@ -88,7 +89,8 @@ module _ {N P S : Type 0} (g : Ghosts N P S) where
   abbrev pub plans_of : List (CellParts N) → List (Plan S)
   plans_of cells = map plan_of cells
 
-  -- a cell stands where the run of its node on these messages stands: its state, what it gave out, its effects, its saved state
+  -- a cell stands where the run of its node on these messages stands: its state, what it gave out, its effects, its
+  -- saved state
   abbrev pub StandsAt : CellParts N → List Entry → Type 0
   StandsAt c handled = IsAt g (g.spec c.base.value.node) (run_of g c.base.value handled) c.core
 
@@ -98,14 +100,23 @@ module _ {N P S : Type 0} (g : Ghosts N P S) where
     pub prefix : IsPrefix handled merged
     pub at : StandsAt c handled
 
-  -- what each edge has carried is a prefix of the stream of its parent, and each cell has handled the beginning of its merged streams
+  -- what each edge has carried is a prefix of the stream of its parent, and each cell has handled the beginning of its
+  -- merged streams
   pub record CarriesPrefixes (cells : List (CellParts N)) : Type 0 where
-    pub received : (streams : List (List Msg)) → AreStreams (plans_of cells) streams → (j k : ℕ) (e : InEdge) → in_of cells j k ≡ Some e → IsPrefix (received e.head) (slice_index_or streams e.from [])
-    pub sent : (streams : List (List Msg)) → AreStreams (plans_of cells) streams → (j i : ℕ) (o : OutEdge) → out_of cells j i ≡ Some o → IsPrefix (sent o.tail) (slice_index_or streams j [])
-    pub stands : (streams : List (List Msg)) → AreStreams (plans_of cells) streams → (j : ℕ) (c : CellParts N) → slice_get cells j ≡ Some c → (stream : List Msg) (whole : IsStream streams (plan_of c) stream) → StandsWithin c whole.merged
+    pub received : (streams : List (List Msg)) → AreStreams (plans_of cells) streams → (j k : ℕ) (e : InEdge)
+        → in_of cells j k ≡ Some e → IsPrefix (received e.head) (slice_index_or streams e.from [])
+    pub sent : (streams : List (List Msg)) → AreStreams (plans_of cells) streams → (j i : ℕ) (o : OutEdge)
+        → out_of cells j i ≡ Some o → IsPrefix (sent o.tail) (slice_index_or streams j [])
+    pub stands : (streams : List (List Msg)) → AreStreams (plans_of cells) streams → (j : ℕ) (c : CellParts N)
+        → slice_get cells j ≡ Some c → (stream : List Msg) (whole : IsStream streams (plan_of c) stream)
+        → StandsWithin c whole.merged
 
   -- what each edge has carried is the stream of its parent, and each cell has handled its merged streams
   pub record CarriesStreams (cells : List (CellParts N)) : Type 0 where
-    pub received : (streams : List (List Msg)) → AreStreams (plans_of cells) streams → (j k : ℕ) (e : InEdge) → in_of cells j k ≡ Some e → received e.head ≡ slice_index_or streams e.from []
-    pub sent : (streams : List (List Msg)) → AreStreams (plans_of cells) streams → (j i : ℕ) (o : OutEdge) → out_of cells j i ≡ Some o → sent o.tail ≡ slice_index_or streams j []
-    pub stands : (streams : List (List Msg)) → AreStreams (plans_of cells) streams → (j : ℕ) (c : CellParts N) → slice_get cells j ≡ Some c → (stream : List Msg) (whole : IsStream streams (plan_of c) stream) → StandsAt c whole.merged
+    pub received : (streams : List (List Msg)) → AreStreams (plans_of cells) streams → (j k : ℕ) (e : InEdge)
+        → in_of cells j k ≡ Some e → received e.head ≡ slice_index_or streams e.from []
+    pub sent : (streams : List (List Msg)) → AreStreams (plans_of cells) streams → (j i : ℕ) (o : OutEdge)
+        → out_of cells j i ≡ Some o → sent o.tail ≡ slice_index_or streams j []
+    pub stands : (streams : List (List Msg)) → AreStreams (plans_of cells) streams → (j : ℕ) (c : CellParts N)
+        → slice_get cells j ≡ Some c → (stream : List Msg) (whole : IsStream streams (plan_of c) stream)
+        → StandsAt c whole.merged

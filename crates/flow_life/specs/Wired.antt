@@ -9,7 +9,8 @@ use Rattle.flow_cells.specs.declared.parts.CellParts.{CellParts}
 use Rattle.flow_cells.specs.Kept.{Keeps}
 use Rattle.flow_life.specs.Places.{in_of, out_of}
 
--- the edge of an input: it comes from an out of an earlier cell, which names this input, and both ends know what is on it
+-- the edge of an input: it comes from an out of an earlier cell, which names this input, and both ends know what is on
+-- it
 pub record IsFed {N : Type 0} (cells : List (CellParts N)) (cell k : ℕ) (e : InEdge) : Type 0 where
   pub out : OutEdge
   pub at : out_of cells e.from e.out ≡ Some out

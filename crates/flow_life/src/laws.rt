@@ -11,8 +11,8 @@ ghost use Rattle.flow_life.specs.Streams.{AreStreams, IsStream, Plan, plans_of, 
 
 use node_core::Node;
 
-/// Every graph has its streams, and no others. Where the streams of a node's parents are in order of their stamps, with
-/// the same barriers and one behind each item, what the node handles in whole is their merge.
+/// Every graph has its streams, and no others. Where the streams of a node's parents are in order of their
+/// stamps, with the same barriers and one behind each item, what the node handles in whole is their merge.
 pub fn graphs_have_streams<N: Node>()
     ensures has { (plans : List (Plan N.State)) → IsGraph plans → HasStreams plans }
     ensures only { (plans : List (Plan N.State)) (xs ys : List (List Msg))

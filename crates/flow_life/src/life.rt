@@ -16,8 +16,8 @@ use std::alloc::Global;
 use std::marker::Model;
 use std::mem;
 
-/// The cells of one graph. Its type says that each keeps what a cell keeps, that both ends know what is on each edge,
-/// and that the last load ended with a barrier, unless it is spent.
+/// The cells of one graph. Its type says that each keeps what a cell keeps, that both ends know what is on
+/// each edge, and that the last load ended with a barrier, unless it is spent.
 #[derive(Drop)]
 pub struct Life<N: Node> {
     // In the order of its graph's nodes.
@@ -78,10 +78,10 @@ impl<N: Node> Life<N> {
         }
     }
 
-    /// Adds a cell of a node with these parents, which stand before it, where nothing was received since the load.
-    /// The edges to it have room for just `capacity` messages, 1 to 65,536. The last barrier that the new cell passed has
-    /// the stamp `passed`. The life is at rest with nothing to gather, and each cell's saved state is its state. After
-    /// NoMemory the life is spent.
+    /// Adds a cell of a node with these parents, which stand before it, where nothing was received since the
+    /// load. The edges to it have room for just `capacity` messages, 1 to 65,536. The last barrier that the
+    /// new cell passed has the stamp `passed`. The life is at rest with nothing to gather, and each cell's
+    /// saved state is its state. After NoMemory the life is spent.
     pub fn add(
         &mut self,
         alloc: Global,
@@ -123,9 +123,10 @@ impl<N: Node> Life<N> {
         }
     }
 
-    /// Makes a step. `false` comes exactly where it isn't enabled: there is no such cell, input or out, the edge is
-    /// empty or a message waits to be sent (take), or none waits or the edge has no free place (put); then what can be
-    /// made is as before. It has effects of the cell that it moves alone. After NoMemory the life is spent.
+    /// Makes a step. `false` comes exactly where it isn't enabled: there is no such cell, input or out, the
+    /// edge is empty or a message waits to be sent (take), or none waits or the edge has no free place (put);
+    /// then what can be made is as before. It has effects of the cell that it moves alone. After NoMemory the
+    /// life is spent.
     pub fn step(&mut self, alloc: Global, next: Step) -> Result<bool, NoMemory>
         requires { self.old.spent ≡ false }
         ensures prefixes { OnOk result (CarriesPrefixes N.Node self.new.cells) }
@@ -162,8 +163,8 @@ impl<N: Node> Life<N> {
         }
     }
 
-    /// Tries steps in their order: makes each one that is enabled at its turn, and counts those. After NoMemory the life is
-    /// spent.
+    /// Tries steps in their order: makes each one that is enabled at its turn, and counts those. After
+    /// NoMemory the life is spent.
     pub fn play(&mut self, alloc: Global, steps: &[Step]) -> Result<u64, NoMemory>
         requires { self.old.spent ≡ false }
         ensures prefixes { OnOk result (CarriesPrefixes N.Node self.new.cells) }
@@ -188,8 +189,8 @@ impl<N: Node> Life<N> {
         }
     }
 
-    /// Whether nothing is pending, unsent, buffered or on an edge. While it isn't so, some step is enabled; where it is
-    /// so, each edge has carried its stream.
+    /// Whether nothing is pending, unsent, buffered or on an edge. While it isn't so, some step is enabled;
+    /// where it is so, each edge has carried its stream.
     pub fn at_rest(&self) -> bool
         requires { self.now.spent ≡ false }
         ensures rest { IsTrue result → AreQuiet self.now.cells }
@@ -207,9 +208,9 @@ impl<N: Node> Life<N> {
         at_rest(&self.cells)
     }
 
-    /// A load begins, with points and barriers, one behind each point: from now on what is sent, received and done is
-    /// counted anew, each node from the state in which it is. Streams handle the points and barriers in this call.
-    /// After NoMemory the life is spent.
+    /// A load begins, with points and barriers, one behind each point: from now on what is sent, received and
+    /// done is counted anew, each node from the state in which it is. Streams handle the points and barriers
+    /// in this call. After NoMemory the life is spent.
     pub fn load(&mut self, alloc: Global, source: Vec<Msg>) -> Result<(), NoMemory>
         requires unspent { self.old.spent ≡ false }
         requires rest { AreQuiet self.old.cells }
@@ -236,8 +237,8 @@ impl<N: Node> Life<N> {
         }
     }
 
-    /// Puts the effects of all cells behind others, where they weren't gathered yet. After NoMemory the life is spent,
-    /// and which of them stand in `to` is unknown.
+    /// Puts the effects of all cells behind others, where they weren't gathered yet. After NoMemory the life
+    /// is spent, and which of them stand in `to` is unknown.
     pub fn gather(&mut self, alloc: Global, to: &mut Effects) -> Result<(), NoMemory>
         requires { self.old.spent ≡ false }
         ensures gathers { OnOk result (AllZip Gathers self.old.cells self.new.cells) }
@@ -260,7 +261,8 @@ impl<N: Node> Life<N> {
         }
     }
 
-    /// The same where one cell alone may have effects that weren't gathered yet: it looks at this cell and no other.
+    /// The same where one cell alone may have effects that weren't gathered yet: it looks at this cell and no
+    /// other.
     pub fn gather_from(
         &mut self,
         alloc: Global,
@@ -290,8 +292,9 @@ impl<N: Node> Life<N> {
         }
     }
 
-    /// Adds its steps behind others, its cells numbered from here on: cell by cell the takes by input, then the puts by
-    /// out. NoMemory comes where an allocation fails or a number has more than 32 bits; some are there then.
+    /// Adds its steps behind others, its cells numbered from here on: cell by cell the takes by input, then
+    /// the puts by out. NoMemory comes where an allocation fails or a number has more than 32 bits; some are
+    /// there then.
     pub fn list_steps(&self, from: usize, to: &mut Vec<Step>) -> Result<(), NoMemory>
         ensures { OnOk result (to.new.items
             ≡ to.old.items ++ steps_from from (ends_of self.now.cells)) }
@@ -299,8 +302,8 @@ impl<N: Node> Life<N> {
         list_steps(&self.cells, from, to)
     }
 
-    /// Takes the cells out, so that each may move by itself. The life is spent until they are back and settled. It takes
-    /// no memory.
+    /// Takes the cells out, so that each may move by itself. The life is spent until they are back and
+    /// settled. It takes no memory.
     pub fn take_cells(&mut self, alloc: Global) -> Vec<Cell<N>>
         ensures cells { result.items ≡ self.old.cells }
         ensures none { self.new.cells ≡ [] }
@@ -327,8 +330,8 @@ impl<N: Node> Life<N> {
         are_unspent(&self.cells)
     }
 
-    /// Settles each edge, where cells moved by themselves and no call on one failed: both ends are shown what is on it, and
-    /// the cells are those of a life again. After NoMemory the life is spent.
+    /// Settles each edge, where cells moved by themselves and no call on one failed: both ends are shown what
+    /// is on it, and the cells are those of a life again. After NoMemory the life is spent.
     pub fn settle(&mut self) -> Result<(), NoMemory>
         requires unspent { Each IsUnspent self.old.cells }
         requires loose { IsLoose N.Node self.old.cells }

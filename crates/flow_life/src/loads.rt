@@ -71,7 +71,8 @@ fn load_stream<N: Node>(
     cell.load(alloc, source, keeps)
 }
 
-/// A load begins on some cells. The last one without inputs gets the points and barriers themselves, each other one copies.
+/// A load begins on some cells. The last one without inputs gets the points and barriers themselves, each
+/// other one copies.
 fn load_cells<N: Node>(
     alloc: Global,
     cells: &mut [Cell<N>],

@@ -9,7 +9,8 @@ use Rattle.node_core.specs.Meaning.{silence}
 
 -- a line of the point as it came, the point with the node's own mark, and as many drops as its port says
 abbrev pub relay_says : Bool → ℕ → Body → Said
-relay_says mark port (bodies.Point p) = record { bodies = bodies.Point (record p { by_name = mark }) ∷ []; deeds = Line p ∷ []; drops = port }
+relay_says mark port (bodies.Point p) =
+    record { bodies = bodies.Point (record p { by_name = mark }) ∷ []; deeds = Line p ∷ []; drops = port }
 relay_says mark port (bodies.Batch b) = silence
 
 -- nothing is said of a batch

@@ -24,8 +24,8 @@ abbrev pub Fit : List (List ℕ) → Type 0
 Fit [] = Unit {0}
 Fit (body ∷ bodies) = (length body < 2 ^ 32) × Fit bodies
 
--- The bytes are a log of these bodies: records behind open gates, and a closed gate with anything behind it. A gate is open only
--- where its byte is 0xA5.
+-- The bytes are a log of these bodies: records behind open gates, and a closed gate with anything behind it. A gate is
+-- open only where its byte is 0xA5.
 pub record IsLog (bodies : List (List ℕ)) (bytes : List ℕ) : Type 0 where
   pub gate : ℕ
   pub rest : List ℕ

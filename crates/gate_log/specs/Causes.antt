@@ -6,7 +6,8 @@ use Rattle.gate_log.specs.declared.fault.LogFault.{LogFault}
 use Rattle.gate_log.specs.declared.fault.LogFault.TheVariants.{Header, Torn, DiskFault, Long, NoMemory}
 use Rattle.gate_log.specs.Logs.{LogState}
 
--- Want of memory and a long body change nothing. A fault of the disk spends the log, and comes only where the count rose.
+-- Want of memory and a long body change nothing. A fault of the disk spends the log, and comes only where the count
+-- rose.
 abbrev pub AppendFault : {D : Type 0} → Result (Unit {0}) LogFault → D → D → LogState → LogState → Type 0 → Type 0
 AppendFault (Ok _) before after old new rose = Unit {0}
 AppendFault (Err DiskFault) before after old new rose = IsTrue new.spent × rose

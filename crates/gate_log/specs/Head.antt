@@ -1,4 +1,5 @@
--- The head of a store: its first bytes, and gates. The length of the leading run of open ones tells which log is the current one.
+-- The head of a store: its first bytes, and gates. The length of the leading run of open ones tells which log is the
+-- current one.
 use Rattle.std.specs.Prelude.{◌≡◌, ◌⊎◌, ℕ, ◌+◌, ◌<◌, List, [], ◌∷◌, ◌++◌, length, take, drop, replicate, Result}
 use Rattle.std.specs.declared.result.Result.TheVariants.{Ok, Err}
 use Rattle.kap_io.specs.Disk.{Image, OnlyIn}

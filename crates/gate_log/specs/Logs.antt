@@ -26,8 +26,8 @@ pub record IsReady (bodies : List (List ℕ)) (body : List ℕ) (part : Part) (g
   pub is_record : piece ≡ size_bytes (length body) ++ body ++ 0 ∷ []
   pub fits : length body < 2 ^ 32
 
--- The log has these bodies, and a crash leaves them and no others. So it is on the disk on which it was made or opened, where since
--- then only calls on it changed its file.
+-- The log has these bodies, and a crash leaves them and no others. So it is on the disk on which it was made or opened,
+-- where since then only calls on it changed its file.
 pub record Rests (bodies : List (List ℕ)) (seen : Image) (images : Image → Type 0) (log : LogState) : Type 0 where
   pub file : IsAdded bodies log.part seen images
   pub end : log.end ≡ length (bytes_of bodies)

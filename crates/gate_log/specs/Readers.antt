@@ -32,8 +32,8 @@ pub record ReaderState : Type 0 where
   pub size : ℕ
   pub gate : ℕ
 
--- These bodies were read, and a crash leaves what is read of the file. So it is on the disk on which it was made, where since then
--- nothing changed its file.
+-- These bodies were read, and a crash leaves what is read of the file. So it is on the disk on which it was made, where
+-- since then nothing changed its file.
 pub record HasRead (bodies : List (List ℕ)) (seen : Image) (images : Image → Type 0) (r : ReaderState) : Type 0 where
   pub file : BeginsWith bodies (seen r.part)
   pub durable : OnlyIn r.part (seen r.part) images
@@ -53,9 +53,10 @@ Begins seen images part (Err DiskFault) = Unit {0}
 Begins seen images part (Err NoMemory) = Unit {0}
 Begins seen images part (Err _) = ⊥
 
--- what stands behind these bodies: one more, or the closed gate of the log that they are, or a record that runs past the end or is
--- too long
-abbrev pub ReadsNext : List (List ℕ) → Image → (Image → Type 0) → ReaderState → ReaderState → Result (Option (ℕ × List ℕ)) LogFault → Type 0
+-- what stands behind these bodies: one more, or the closed gate of the log that they are, or a record that runs past
+-- the end or is too long
+abbrev pub ReadsNext : List (List ℕ) → Image → (Image → Type 0) → ReaderState → ReaderState
+    → Result (Option (ℕ × List ℕ)) LogFault → Type 0
 ReadsNext bodies seen images old new (Ok None) = Rests bodies seen images (log_at old)
 ReadsNext bodies seen images old new (Ok (Some found)) = HasRead (bodies ++ found.1 ∷ []) seen images new
 ReadsNext bodies seen images old new (Err (Torn offset)) = IsTornBehind bodies offset (seen old.part)

@@ -53,8 +53,8 @@ pub(crate) fn write_synced<D: Disk>(
     disk.sync(part)
 }
 
-/// Writes a record behind the closed gate, and opens the gate when the record is on the disk. A crash at any moment leaves the log
-/// with the record or without.
+/// Writes a record behind the closed gate, and opens the gate when the record is on the disk. A crash at any
+/// moment leaves the log with the record or without.
 pub(crate) fn add_record<D: Disk>(
     disk: &mut D,
     part: Part,

@@ -38,7 +38,8 @@ fn fetch<D: Disk>(
     Ok(Bytes::from_items(bytes))
 }
 
-/// The body behind the gate at an offset of a file of this length, and the offset of the next gate; none at a closed gate.
+/// The body behind the gate at an offset of a file of this length, and the offset of the next gate; none at a
+/// closed gate.
 pub(crate) fn record_at<D: Disk>(
     alloc: Global,
     disk: &mut D,
@@ -66,7 +67,8 @@ pub(crate) fn record_at<D: Disk>(
     }
 }
 
-/// The same, where the body has at most `BODY_LIMIT` bytes. `Long` comes exactly where it has more, and nothing of it is then read.
+/// The same, where the body has at most `BODY_LIMIT` bytes. `Long` comes exactly where it has more, and
+/// nothing of it is then read.
 pub(crate) fn short_record_at<D: Disk>(
     alloc: Global,
     disk: &mut D,
@@ -119,9 +121,10 @@ fn read_body<D: Disk>(
 }
 
 impl Log {
-    /// The body behind the gate at an offset, and the offset of the next gate; `None` at the closed gate. `at` is a gate's offset.
-    /// `DiskFault` comes only where the disk's count of faults rose in this call, and `NoMemory` where memory ran out. `Torn` comes
-    /// only on a disk that doesn't tell what a read gives, where the record or the gate behind it isn't there.
+    /// The body behind the gate at an offset, and the offset of the next gate; `None` at the closed gate.
+    /// `at` is a gate's offset. `DiskFault` comes only where the disk's count of faults rose in this call,
+    /// and `NoMemory` where memory ran out. `Torn` comes only on a disk that doesn't tell what a read gives,
+    /// where the record or the gate behind it isn't there.
     pub fn body<D: Disk>(&self, disk: &mut D, at: u64) -> Result<Option<(Bytes, u64)>, LogFault>
         requires { self.now.spent ≡ false }
         ensures found { IsTrue D.tells → (before after : List (List ℕ))

@@ -67,9 +67,9 @@ fn count_gates<D: Disk>(disk: &mut D) -> Result<u64, LogFault>
     Ok(run)
 }
 
-/// How many open gates the head begins with; a missing byte is a closed gate. It changes nothing. `Header` comes exactly where the
-/// head's first eight bytes aren't those of a head. `DiskFault` comes before that, only where the disk's count of faults rose in
-/// this call. No other fault comes.
+/// How many open gates the head begins with; a missing byte is a closed gate. It changes nothing. `Header`
+/// comes exactly where the head's first eight bytes aren't those of a head. `DiskFault` comes before that,
+/// only where the disk's count of faults rose in this call. No other fault comes.
 pub fn read_head<D: Disk>(disk: &mut D) -> Result<u64, LogFault>
     ensures found { IsTrue D.tells → HeadRead (D.seen disk.old Part.Head) result }
     ensures run { IsTrue D.tells → (run : ℕ)
@@ -83,8 +83,9 @@ pub fn read_head<D: Disk>(disk: &mut D) -> Result<u64, LogFault>
     count_gates(disk)
 }
 
-/// Makes the head that of a new store, with no open gate, whatever it held; from `Ok` on each image has it. `DiskFault` comes only
-/// where the disk's count of faults rose in this call, and the head may then be anything; the other files stay. No other fault comes.
+/// Makes the head that of a new store, with no open gate, whatever it held; from `Ok` on each image has it.
+/// `DiskFault` comes only where the disk's count of faults rose in this call, and the head may then be
+/// anything; the other files stay. No other fault comes.
 pub fn make_head<D: Disk>(disk: &mut D) -> Result<(), LogFault>
     ensures made { IsTrue D.tells → IfOk result (λ _. IsHead 0 (D.seen disk.new Part.Head)) }
     ensures durable { IsTrue D.tells

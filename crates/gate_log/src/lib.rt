@@ -1,6 +1,7 @@
-//! A log of bodies in one of the files of a disk. Each body stands behind a gate of its own, a byte that is opened once the body is
-//! on the disk, so that a crash at any moment leaves the bodies that were acknowledged, and of the next one all or nothing. And the
-//! head of a store, whose gates tell which of two logs is the current one.
+//! A log of bodies in one of the files of a disk. Each body stands behind a gate of its own, a byte that is
+//! opened once the body is on the disk, so that a crash at any moment leaves the bodies that were
+//! acknowledged, and of the next one all or nothing. And the head of a store, whose gates tell which of two
+//! logs is the current one.
 #![tactic(auto)]
 
 mod append;

@@ -15,8 +15,9 @@ use std::marker::Model;
 /// The longest body, in bytes.
 pub const BODY_LIMIT: usize = 67_108_864;
 
-/// A log in one of the files of a disk. What its calls promise stands on the disk on which it was made or opened, where since then
-/// only calls on it changed what a read of its file gives, or added to what a crash may leave of it.
+/// A log in one of the files of a disk. What its calls promise stands on the disk on which it was made or
+/// opened, where since then only calls on it changed what a read of its file gives, or added to what a crash
+/// may leave of it.
 #[derive(Debug, Drop)]
 pub struct Log {
     pub(crate) alloc: Global,
@@ -67,9 +68,10 @@ impl Log {
         self.spent
     }
 
-    /// Adds a body, by two writes, each of which is synced. From `Ok` on it is the last one in each image. `Long` comes exactly where
-    /// the body has more than `BODY_LIMIT` bytes; `Long` and `NoMemory` change nothing. After `DiskFault`, which comes only where the
-    /// disk's count of faults rose in this call, the log is spent, and each image has the old bodies, or these and the new one.
+    /// Adds a body, by two writes, each of which is synced. From `Ok` on it is the last one in each image.
+    /// `Long` comes exactly where the body has more than `BODY_LIMIT` bytes; `Long` and `NoMemory` change
+    /// nothing. After `DiskFault`, which comes only where the disk's count of faults rose in this call, the
+    /// log is spent, and each image has the old bodies, or these and the new one.
     pub fn append<D: Disk>(&mut self, disk: &mut D, body: &[u8]) -> Result<(), LogFault>
         requires { self.old.spent ≡ false }
         ensures added { IsTrue D.tells → (bodies : List (List ℕ))

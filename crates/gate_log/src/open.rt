@@ -64,10 +64,11 @@ fn find_log<D: Disk>(alloc: Global, disk: &mut D, part: Part) -> Result<Log, Log
     Ok(Log::at(alloc, part, end))
 }
 
-/// The log of the bodies behind open gates in a file, up to the first closed gate, whatever stands behind that. It begins with a
-/// sync, and changes nothing. `Header` comes exactly where the file's first eight bytes aren't those of a log or it has no ninth
-/// byte. `Torn` comes exactly where a record behind an open gate, or the gate behind it, runs past the end, and tells the offset of
-/// that record's gate. `DiskFault` comes before these, only where the disk's count of faults rose in this call.
+/// The log of the bodies behind open gates in a file, up to the first closed gate, whatever stands behind
+/// that. It begins with a sync, and changes nothing. `Header` comes exactly where the file's first eight
+/// bytes aren't those of a log or it has no ninth byte. `Torn` comes exactly where a record behind an open
+/// gate, or the gate behind it, runs past the end, and tells the offset of that record's gate. `DiskFault`
+/// comes before these, only where the disk's count of faults rose in this call.
 pub fn open_log<D: Disk>(alloc: Global, disk: &mut D, part: Part) -> Result<Log, LogFault>
     ensures found { IsTrue D.tells → Finds (D.seen disk.old) (D.may_leave disk.new) part result }
     ensures opened { IsTrue D.tells → (bodies : List (List ℕ))

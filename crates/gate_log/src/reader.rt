@@ -17,9 +17,10 @@ use kap_io::{Disk, Part};
 use std::alloc::Global;
 use std::marker::Model;
 
-/// A log that is read from its first record on, and is a log to which bodies can be added once all are read. Other than `open_log`, it
-/// gives the bodies that stand in front of a record that runs past the end of the file. What its calls promise stands on the disk on
-/// which it was made, where since then nothing changed what a read of its file gives.
+/// A log that is read from its first record on, and is a log to which bodies can be added once all are read.
+/// Other than `open_log`, it gives the bodies that stand in front of a record that runs past the end of the
+/// file. What its calls promise stands on the disk on which it was made, where since then nothing changed
+/// what a read of its file gives.
 #[derive(Debug, Drop)]
 pub struct LogReader {
     alloc: Global,
@@ -54,9 +55,9 @@ fn begin<D: Disk>(alloc: Global, disk: &mut D, part: Part) -> Result<LogReader, 
     })
 }
 
-/// Begins to read a file as a log. It begins with a sync, and changes nothing. `Header` comes exactly where the file's first eight
-/// bytes aren't those of a log or it has no ninth byte. `DiskFault` comes before that, only where the disk's count of faults rose in
-/// this call; `Torn` and `Long` never come.
+/// Begins to read a file as a log. It begins with a sync, and changes nothing. `Header` comes exactly where
+/// the file's first eight bytes aren't those of a log or it has no ninth byte. `DiskFault` comes before that,
+/// only where the disk's count of faults rose in this call; `Torn` and `Long` never come.
 pub fn read_log<D: Disk>(alloc: Global, disk: &mut D, part: Part) -> Result<LogReader, LogFault>
     ensures found { IsTrue D.tells → Begins (D.seen disk.old) (D.may_leave disk.new) part result }
     ensures header { IsTrue D.tells
@@ -84,10 +85,11 @@ impl LogReader {
         self.gate
     }
 
-    /// The next body, with the offset of its gate; `None` at the closed gate, again and again. `Torn` comes exactly where the record
-    /// behind the open gate that comes next, or the gate behind it, runs past the end, and tells the offset of that record's gate.
-    /// `Long` comes exactly where its body has more than `BODY_LIMIT` bytes, before anything of the body is read. `DiskFault` comes
-    /// only where the disk's count of faults rose in this call, and `NoMemory` where memory ran out; after each of these the same body
+    /// The next body, with the offset of its gate; `None` at the closed gate, again and again. `Torn` comes
+    /// exactly where the record behind the open gate that comes next, or the gate behind it, runs past the
+    /// end, and tells the offset of that record's gate. `Long` comes exactly where its body has more than
+    /// `BODY_LIMIT` bytes, before anything of the body is read. `DiskFault` comes only where the disk's count
+    /// of faults rose in this call, and `NoMemory` where memory ran out; after each of these the same body
     /// comes next.
     pub fn next<D: Disk>(&mut self, disk: &mut D) -> Result<Option<(u64, Bytes)>, LogFault>
         ensures next { IsTrue D.tells → (bodies : List (List ℕ))

@@ -13,8 +13,9 @@ use std::alloc::Global;
 /// An empty log: the bytes that a log begins with, and a closed gate.
 const EMPTY: [u8; 9] = *b"KAPLOG01\0";
 
-/// Makes the file an empty log, whatever it held; from `Ok` on each image has it. `DiskFault` comes only where the disk's count of
-/// faults rose in this call, and the file may then be anything; the other files stay. No other fault comes.
+/// Makes the file an empty log, whatever it held; from `Ok` on each image has it. `DiskFault` comes only
+/// where the disk's count of faults rose in this call, and the file may then be anything; the other files
+/// stay. No other fault comes.
 pub fn make<D: Disk>(alloc: Global, disk: &mut D, part: Part) -> Result<Log, LogFault>
     ensures made { IsTrue D.tells
         → IfOk result (Rests [] (D.seen disk.new) (D.may_leave disk.new)) }

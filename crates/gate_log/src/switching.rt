@@ -35,10 +35,11 @@ fn close_gate<D: Disk>(disk: &mut D, run: u64) -> Result<(), LogFault>
     Ok(())
 }
 
-/// Opens one more gate of the head, so that it names the other log. The head has `run` open gates by `read_head`, and nothing is
-/// pending on it, so that in each image of now it is what a read gives. In each image during the call it has `run` open gates or one
-/// more, and one more in each from `Ok` on. `DiskFault` comes only where the disk's count of faults rose in this call. A head
-/// of nearly 2^64 bytes is want of memory, and nothing is then changed.
+/// Opens one more gate of the head, so that it names the other log. The head has `run` open gates by
+/// `read_head`, and nothing is pending on it, so that in each image of now it is what a read gives. In each
+/// image during the call it has `run` open gates or one more, and one more in each from `Ok` on. `DiskFault`
+/// comes only where the disk's count of faults rose in this call. A head of nearly 2^64 bytes is want of
+/// memory, and nothing is then changed.
 pub fn switch<D: Disk>(disk: &mut D, run: u64) -> Result<(), LogFault>
     ensures switched { IsTrue D.tells → IsSettledHead run (D.seen disk.old) (D.may_leave disk.old)
         → OnOk result (IsSettledHead (run + 1) (D.seen disk.new) (D.may_leave disk.new)) }

@@ -60,15 +60,19 @@ is_below time (Some t) = int_lt time t
 module _ (j : JoinSpec) where
   -- ---- one more point
 
-  on_time-more : (done cs : List Came) (c : Came) → on_time_behind j done (cs ++ c ∷ []) ≡ on_time_behind j done cs ++ unless_late j (done ++ cs) c
-  on_time-more done [] c = append-nil (unless_late j done c) ∙ ap (λ (l : List Came). unless_late j l c) (sym (append-nil done))
+  on_time-more : (done cs : List Came) (c : Came) → on_time_behind j done (cs ++ c ∷ []) ≡ on_time_behind j done cs
+      ++ unless_late j (done ++ cs) c
+  on_time-more done [] c =
+      append-nil (unless_late j done c) ∙ ap (λ (l : List Came). unless_late j l c) (sym (append-nil done))
   on_time-more done (x ∷ cs) c =
       ap (λ (l : List Came). unless_late j done x ++ l) (on_time-more (done ++ x ∷ []) cs c)
-      ∙ sym (append_assoc (unless_late j done x) (on_time_behind j (done ++ x ∷ []) cs) (unless_late j ((done ++ x ∷ []) ++ cs) c))
+      ∙ sym (append_assoc (unless_late j done x) (on_time_behind j (done ++ x ∷ []) cs)
+      (unless_late j ((done ++ x ∷ []) ++ cs) c))
       ∙ ap (λ (l : List Came). on_time_behind j done (x ∷ cs) ++ unless_late j l c) (append_assoc done (x ∷ []) cs)
 
   on_late : (cs : List Came) (c : Came) → is_late j cs c ≡ true → on_time j (cs ++ c ∷ []) ≡ on_time j cs
-  on_late cs c e = on_time-more [] cs c ∙ ap (λ (b : Bool). on_time j cs ++ cond b [] (c ∷ [])) e ∙ append-nil (on_time j cs)
+  on_late cs c e =
+      on_time-more [] cs c ∙ ap (λ (b : Bool). on_time j cs ++ cond b [] (c ∷ [])) e ∙ append-nil (on_time j cs)
 
   on_new : (cs : List Came) (c : Came) → is_late j cs c ≡ false → on_time j (cs ++ c ∷ []) ≡ on_time j cs ++ c ∷ []
   on_new cs c e = on_time-more [] cs c ∙ ap (λ (b : Bool). on_time j cs ++ cond b [] (c ∷ [])) e
@@ -89,11 +93,13 @@ module _ (j : JoinSpec) where
   abbrev some_above : ℤ → List Came → Bool
   some_above time cs = list_any (λ b. int_lt time (rounded j b)) cs
 
-  below_late : (time r : ℤ) (o : Option ℤ) → is_below r o ≡ true → (is_below time o || (int_lt time r || false)) ≡ is_below time o
+  below_late : (time r : ℤ) (o : Option ℤ) → is_below r o ≡ true
+      → (is_below time o || (int_lt time r || false)) ≡ is_below time o
   below_late time r None e = absurd cc
   below_late time r (Some t) e = grind (arith, ints)
 
-  below_new : (time r : ℤ) (o : Option ℤ) → is_below r o ≡ false → (is_below time o || (int_lt time r || false)) ≡ int_lt time r
+  below_new : (time r : ℤ) (o : Option ℤ) → is_below r o ≡ false
+      → (is_below time o || (int_lt time r || false)) ≡ int_lt time r
   below_new time r None e = or-false (int_lt time r)
     where
       or-false : (b : Bool) → (b || false) ≡ b
@@ -108,15 +114,20 @@ module _ (j : JoinSpec) where
   tells-more : (cs : List Came) (c : Came) → Tells cs → Tells (cs ++ c ∷ [])
   tells-more cs c tells time =
       let all : some_above time (cs ++ c ∷ []) ≡ (is_below time (latest j cs) || (int_lt time (rounded j c) || false)) =
-      list_any-append (λ b. int_lt time (rounded j b)) cs (c ∷ []) ∙ ap (λ (b : Bool). b || (int_lt time (rounded j c) || false)) (tells time) in
-      elim (is_late j cs c) as (λ b. is_late j cs c ≡ b → some_above time (cs ++ c ∷ []) ≡ is_below time (latest j (cs ++ c ∷ []))) [
-        | true ↦ λ e. all ∙ below_late time (rounded j c) (latest j cs) (sym (tells (rounded j c)) ∙ e) ∙ ap (is_below time) (sym (latest_late cs c e))
-        | false ↦ λ e. all ∙ below_new time (rounded j c) (latest j cs) (sym (tells (rounded j c)) ∙ e) ∙ ap (is_below time) (sym (latest_new cs c e))
+      list_any-append (λ b. int_lt time (rounded j b)) cs (c ∷ [])
+      ∙ ap (λ (b : Bool). b || (int_lt time (rounded j c) || false)) (tells time) in
+      elim (is_late j cs c) as (λ b. is_late j cs c ≡ b
+      → some_above time (cs ++ c ∷ []) ≡ is_below time (latest j (cs ++ c ∷ []))) [
+        | true ↦ λ e. all ∙ below_late time (rounded j c) (latest j cs) (sym (tells (rounded j c)) ∙ e)
+            ∙ ap (is_below time) (sym (latest_late cs c e))
+        | false ↦ λ e. all ∙ below_new time (rounded j c) (latest j cs) (sym (tells (rounded j c)) ∙ e)
+            ∙ ap (is_below time) (sym (latest_new cs c e))
       ] refl
 
   tells-all : (done cs : List Came) → Tells done → Tells (done ++ cs)
   tells-all done [] tells = rw (append-nil done) tells
-  tells-all done (c ∷ cs) tells = rw (append_assoc done (c ∷ []) cs) at (tells-all (done ++ c ∷ []) cs (tells-more done c tells))
+  tells-all done (c ∷ cs) tells =
+      rw (append_assoc done (c ∷ []) cs) at (tells-all (done ++ c ∷ []) cs (tells-more done c tells))
 
   -- Some point has a greater rounded time exactly where the greatest one is greater.
   pub latest_tells : (cs : List Came) (time : ℤ) → some_above time cs ≡ is_below time (latest j cs)
@@ -124,7 +135,8 @@ module _ (j : JoinSpec) where
 
   -- ---- points with a rounded time
 
-  any-on_time : (f : Came → Bool) (done cs : List Came) → list_any f cs ≡ false → list_any f (on_time_behind j done cs) ≡ false
+  any-on_time : (f : Came → Bool) (done cs : List Came) → list_any f cs ≡ false
+      → list_any f (on_time_behind j done cs) ≡ false
   any-on_time f done [] e = refl
   any-on_time f done (c ∷ cs) e =
       let here : f c ≡ false = first_false (f c) (list_any f cs) e in
@@ -143,8 +155,10 @@ module _ (j : JoinSpec) where
       ∙ none_with t r cs (second_false (int_lt t (rounded j c)) (some_above t cs) e) lt
 
   -- no point has a rounded time above all
-  none_above : (cs : List Came) (t r : ℤ) → is_below t (latest j cs) ≡ false → t <ℤ r → with_time j r (on_time j cs) ≡ []
-  none_above cs t r e lt = none_with t r (on_time j cs) (any-on_time (λ b. int_lt t (rounded j b)) [] cs (latest_tells cs t ∙ e)) lt
+  none_above : (cs : List Came) (t r : ℤ) → is_below t (latest j cs) ≡ false → t <ℤ r
+      → with_time j r (on_time j cs) ≡ []
+  none_above cs t r e lt =
+      none_with t r (on_time j cs) (any-on_time (λ b. int_lt t (rounded j b)) [] cs (latest_tells cs t ∙ e)) lt
 
   -- a point that isn't late is the last of those with its rounded time
   pub with_own : (cs : List Came) (c : Came) → is_late j cs c ≡ false
@@ -163,13 +177,15 @@ module _ (j : JoinSpec) where
   kept_in cs = option_map (kept_at j cs) (latest j cs)
 
   filled_is : (time : ℤ) (s : Set) → filled_by j time (if_full s) ≡ filled j time s
-  filled_is time s = elim (is_full s) as (λ b. filled_by j time (cond b (Some s) None) ≡ cond b (result_of j time s) []) [
-    | true ↦ refl
-    | false ↦ refl
-  ]
+  filled_is time s =
+      elim (is_full s) as (λ b. filled_by j time (cond b (Some s) None) ≡ cond b (result_of j time s) []) [
+        | true ↦ refl
+        | false ↦ refl
+      ]
 
   -- a point that isn't late comes to what waits with its rounded time
-  arrived_is : (cs : List Came) (port : ℕ) (p : PointValue) (before : List Body) (queues : Columns) → port < parents j → is_late j cs (port, p) ≡ false
+  arrived_is : (cs : List Came) (port : ℕ) (p : PointValue) (before : List Body) (queues : Columns) → port < parents j
+      → is_late j cs (port, p) ≡ false
       → queues ≡ waiting (columns_at j (rounded j (port, p)) cs)
       → arrived j (rounded j (port, p)) before queues port p ≡ turn (kept_in (cs ++ (port, p) ∷ []))
       (gives (before ++ filled j (rounded j (port, p)) (own_set j cs (port, p))))
@@ -184,22 +200,34 @@ module _ (j : JoinSpec) where
             (set_at (length (points_at port old)) (columns (parents j) (old ++ c ∷ [])));
       } =
       ap (place port p) is ∙ place_is (parents j) port old p lt in
-      ap (λ (d : Placed). turn (Some (record { time = time; queues = d.queues })) (gives (before ++ filled_by j time d.filled))) here
+      ap (λ (d : Placed). turn (Some (record { time = time; queues = d.queues }))
+      (gives (before ++ filled_by j time d.filled))) here
       ∙ (λ i. turn (Some (record { time = time; queues = waiting (columns (parents j) (more i)) }))
-      (gives (before ++ filled_by j time (if_full (set_at (length (points_at port old)) (columns (parents j) (more i)))))))
-      ∙ (λ i. turn (option_map (kept_at j (cs ++ c ∷ [])) (sym (latest_new cs c fresh) i)) (gives (before ++ filled_is time (own_set j cs c) i)))
+      (gives (before
+      ++ filled_by j time (if_full (set_at (length (points_at port old)) (columns (parents j) (more i)))))))
+      ∙ (λ i. turn (option_map (kept_at j (cs ++ c ∷ [])) (sym (latest_new cs c fresh) i))
+      (gives (before ++ filled_is time (own_set j cs c) i)))
 
   late_says : (cs : List Came) (c : Came) → is_late j cs c ≡ true → heard_says j cs c ≡ a_drop
-  late_says cs c e = ap (λ (b : Bool). cond b a_drop (gives (closed j cs (rounded j c) (latest j cs) ++ filled j (rounded j c) (own_set j cs c)))) e
+  late_says cs c e =
+      ap (λ (b : Bool). cond b a_drop
+      (gives (closed j cs (rounded j c) (latest j cs) ++ filled j (rounded j c) (own_set j cs c)))) e
 
-  fresh_says : (cs : List Came) (c : Came) (before : List Body) → is_late j cs c ≡ false → closed j cs (rounded j c) (latest j cs) ≡ before
+  fresh_says : (cs : List Came) (c : Came) (before : List Body) → is_late j cs c ≡ false
+      → closed j cs (rounded j c) (latest j cs) ≡ before
       → heard_says j cs c ≡ gives (before ++ filled j (rounded j c) (own_set j cs c))
   fresh_says cs c before e is =
-      ap (λ (b : Bool). cond b a_drop (gives (closed j cs (rounded j c) (latest j cs) ++ filled j (rounded j c) (own_set j cs c)))) e
+      ap (λ (b : Bool). cond b a_drop
+      (gives (closed j cs (rounded j c) (latest j cs) ++ filled j (rounded j c) (own_set j cs c)))) e
       ∙ ap (λ (l : List Body). gives (l ++ filled j (rounded j c) (own_set j cs c))) is
 
   kept_late : (cs : List Came) (c : Came) → is_late j cs c ≡ true → kept_in (cs ++ c ∷ []) ≡ kept_in cs
-  kept_late cs c e = (λ i. option_map (λ (time : ℤ). record { time = time; queues = waiting (columns (parents j) (with_time j time (on_late cs c e i))) })
+  kept_late cs c e =
+      (λ i. option_map
+      (λ (time : ℤ). record {
+        time = time;
+        queues = waiting (columns (parents j) (with_time j time (on_late cs c e i)));
+      })
       (latest_late cs c e i))
 
   -- the greatest rounded time so far is this
@@ -208,7 +236,8 @@ module _ (j : JoinSpec) where
     c = (port, p)
 
     abbrev Right : Option ℤ → Type 0
-    Right o = moved j (option_map (kept_at j cs) o) (rounded j c) port p ≡ turn (kept_in (cs ++ c ∷ [])) (heard_says j cs c)
+    Right o = moved j (option_map (kept_at j cs) o) (rounded j c) port p
+        ≡ turn (kept_in (cs ++ c ∷ [])) (heard_says j cs c)
 
     late_by : (o : Option ℤ) → latest j cs ≡ o → is_late j cs c ≡ is_below (rounded j c) o
     late_by o e = latest_tells cs (rounded j c) ∙ ap (is_below (rounded j c)) e
@@ -232,33 +261,42 @@ module _ (j : JoinSpec) where
         ∙ (λ i. turn (sym (ap (option_map (kept_at j cs)) e) i) a_drop)
         ∙ (λ i. turn (sym (kept_late cs c is) i) (sym (late_says cs c is) i))
 
-    newer_comes : (t : ℤ) → latest j cs ≡ Some t → int_lt (rounded j c) t ≡ false → int_lt t (rounded j c) ≡ true → Right (Some t)
+    newer_comes : (t : ℤ) → latest j cs ≡ Some t → int_lt (rounded j c) t ≡ false → int_lt t (rounded j c) ≡ true
+        → Right (Some t)
     newer_comes t e fresh newer =
         let is : is_late j cs c ≡ false = late_by (Some t) e ∙ fresh in
         let none : with_time j (rounded j c) (on_time j cs) ≡ [] = none_above cs t (rounded j c) (ap (is_below t) e
         ∙ not_below t) (lt_fact t (rounded j c) newer) in
         let queues : emptied (waiting (columns_at j t cs)) ≡ waiting (columns_at j (rounded j c) cs) =
-        emptied_is (parents j) (with_time j t (on_time j cs)) ∙ ap (λ (l : List Came). waiting (columns (parents j) l)) (sym none) in
+        emptied_is (parents j) (with_time j t (on_time j cs))
+        ∙ ap (λ (l : List Came). waiting (columns (parents j) l)) (sym none) in
         let given : closed j cs (rounded j c) (latest j cs) ≡ unfilled j t (sets (waiting (columns_at j t cs))) =
-        ap (closed j cs (rounded j c)) e ∙ ap (λ (b : Bool). cond b (unfilled j t (filter is_open (sets (columns_at j t cs)))) []) newer
+        ap (closed j cs (rounded j c)) e
+        ∙ ap (λ (b : Bool). cond b (unfilled j t (filter is_open (sets (columns_at j t cs)))) []) newer
         ∙ ap (unfilled j t) (open_wait (columns_at j t cs)) in
         ap (λ (b : Bool). cond b (turn (Some (kept_at j cs t)) a_drop)
         (cond (int_lt t (rounded j c)) (risen j (kept_at j cs t) (rounded j c) port p)
         (arrived j (rounded j c) [] (waiting (columns_at j t cs)) port p))) fresh
-        ∙ ap (λ (b : Bool). cond b (risen j (kept_at j cs t) (rounded j c) port p) (arrived j (rounded j c) [] (waiting (columns_at j t cs)) port p)) newer
-        ∙ arrived_is cs port p (unfilled j t (sets (waiting (columns_at j t cs)))) (emptied (waiting (columns_at j t cs))) lt is queues
-        ∙ ap (turn (kept_in (cs ++ c ∷ []))) (sym (fresh_says cs c (unfilled j t (sets (waiting (columns_at j t cs)))) is given))
+        ∙ ap (λ (b : Bool). cond b (risen j (kept_at j cs t) (rounded j c) port p)
+        (arrived j (rounded j c) [] (waiting (columns_at j t cs)) port p)) newer
+        ∙ arrived_is cs port p (unfilled j t (sets (waiting (columns_at j t cs))))
+        (emptied (waiting (columns_at j t cs))) lt is queues
+        ∙ ap (turn (kept_in (cs ++ c ∷ [])))
+        (sym (fresh_says cs c (unfilled j t (sets (waiting (columns_at j t cs)))) is given))
 
-    same_comes : (t : ℤ) → latest j cs ≡ Some t → int_lt (rounded j c) t ≡ false → int_lt t (rounded j c) ≡ false → Right (Some t)
+    same_comes : (t : ℤ) → latest j cs ≡ Some t → int_lt (rounded j c) t ≡ false → int_lt t (rounded j c) ≡ false
+        → Right (Some t)
     same_comes t e fresh same =
         let is : is_late j cs c ≡ false = late_by (Some t) e ∙ fresh in
         let time : t ≡ rounded j c = same_number t (rounded j c) same fresh in
         let given : closed j cs (rounded j c) (latest j cs) ≡ [] =
-        ap (closed j cs (rounded j c)) e ∙ ap (λ (b : Bool). cond b (unfilled j t (filter is_open (sets (columns_at j t cs)))) []) same in
+        ap (closed j cs (rounded j c)) e
+        ∙ ap (λ (b : Bool). cond b (unfilled j t (filter is_open (sets (columns_at j t cs)))) []) same in
         ap (λ (b : Bool). cond b (turn (Some (kept_at j cs t)) a_drop)
         (cond (int_lt t (rounded j c)) (risen j (kept_at j cs t) (rounded j c) port p)
         (arrived j (rounded j c) [] (waiting (columns_at j t cs)) port p))) fresh
-        ∙ ap (λ (b : Bool). cond b (risen j (kept_at j cs t) (rounded j c) port p) (arrived j (rounded j c) [] (waiting (columns_at j t cs)) port p)) same
+        ∙ ap (λ (b : Bool). cond b (risen j (kept_at j cs t) (rounded j c) port p)
+        (arrived j (rounded j c) [] (waiting (columns_at j t cs)) port p)) same
         ∙ arrived_is cs port p [] (waiting (columns_at j t cs)) lt is (ap (λ (z : ℤ). waiting (columns_at j z cs)) time)
         ∙ ap (turn (kept_in (cs ++ c ∷ []))) (sym (fresh_says cs c [] is given))
 
@@ -275,7 +313,8 @@ module _ (j : JoinSpec) where
     moved_is : moved j (kept_in cs) (rounded j c) port p ≡ turn (kept_in (cs ++ c ∷ [])) (heard_says j cs c)
     moved_is = moved_by (latest j cs) refl
 
-  heard-more : (before : List Came) (c : Came) → heard j (before ++ c ∷ []) ≡ heard j before ++ cond (is_heard j c) (c ∷ []) []
+  heard-more : (before : List Came) (c : Came) → heard j (before ++ c ∷ []) ≡ heard j before
+      ++ cond (is_heard j c) (c ∷ []) []
   heard-more before c = filter-append (is_heard j) before (c ∷ [])
 
   port_below : (port : ℕ) (p : PointValue) → is_heard j (port, p) ≡ true → port < parents j
@@ -285,7 +324,8 @@ module _ (j : JoinSpec) where
 
   -- What is kept of a list goes on as the definition says.
   pub goes_on : (before : List Came) (port : ℕ) (p : PointValue)
-      → join_step j (join_kept j before) port p ≡ record { state = join_kept j (before ++ (port, p) ∷ []); said = join_says j before port p }
+      → join_step j (join_kept j before) port p
+      ≡ record { state = join_kept j (before ++ (port, p) ∷ []); said = join_says j before port p }
   goes_on before port p =
       let c : Came = (port, p) in
       elim (is_heard j c) as
@@ -295,11 +335,13 @@ module _ (j : JoinSpec) where
         | true ↦ λ e. moved_is (heard j before) port p (port_below port p e)
             ∙ ap (λ (l : List Came). turn (kept_in l) (heard_says j (heard j before) c)) (sym (heard-more before c
             ∙ ap (λ (b : Bool). heard j before ++ cond b (c ∷ []) []) e))
-        | false ↦ λ e. ap (λ (l : List Came). turn (kept_in l) a_drop) (sym (heard-more before c ∙ ap (λ (b : Bool). heard j before ++ cond b (c ∷ []) []) e
+        | false ↦ λ e. ap (λ (l : List Came). turn (kept_in l) a_drop)
+            (sym (heard-more before c ∙ ap (λ (b : Bool). heard j before ++ cond b (c ∷ []) []) e
             ∙ append-nil (heard j before)))
       ] refl
 
 -- what is kept, and what is said, of one point more
 pub join_goes_on : (j : JoinSpec) (before : List Came) (port : ℕ) (p : PointValue)
-    → join_step j (join_kept j before) port p ≡ record { state = join_kept j (before ++ (port, p) ∷ []); said = join_says j before port p }
+    → join_step j (join_kept j before) port p
+    ≡ record { state = join_kept j (before ++ (port, p) ∷ []); said = join_says j before port p }
 join_goes_on = goes_on

@@ -28,7 +28,8 @@ rounded_time tolerance time = if tolerance == 0 then time else round time (pos t
 abbrev pub rounded : JoinSpec → Came → ℤ
 rounded j c = rounded_time j.tolerance c.1.time
 
--- It came from a parent, and its rounded time is in range. The others are dropped and counted, and count for nothing else.
+-- It came from a parent, and its rounded time is in range. The others are dropped and counted, and count for nothing
+-- else.
 abbrev pub is_heard : JoinSpec → Came → Bool
 is_heard j c = nat_lt c.0 (parents j) && is_time (rounded j c)
 
@@ -81,10 +82,12 @@ fills_up (fills.Number number) = true
 abbrev pub unfilled : JoinSpec → ℤ → List Set → List Body
 unfilled j time ss = if fills_up j.fill then flat_map (result_of j time) ss else []
 
--- The point is the first with a rounded time greater than the greatest before it: the sets there that aren't full are given.
+-- The point is the first with a rounded time greater than the greatest before it: the sets there that aren't full are
+-- given.
 abbrev pub closed : JoinSpec → List Came → ℤ → Option ℤ → List Body
 closed j before time None = []
-closed j before time (Some greatest) = if int_lt greatest time then unfilled j greatest (filter is_open (sets (columns_at j greatest before))) else []
+closed j before time (Some greatest) =
+    if int_lt greatest time then unfilled j greatest (filter is_open (sets (columns_at j greatest before))) else []
 
 -- the set of a point: it has the number of its parent's points with its rounded time before it
 abbrev pub own_set : JoinSpec → List Came → Came → Set

@@ -1,4 +1,5 @@
--- What a join keeps of a group: of each parent the points that wait for those of others, with the greatest rounded time.
+-- What a join keeps of a group: of each parent the points that wait for those of others, with the greatest rounded
+-- time.
 use Rattle.std.specs.Prelude.{ℕ, zero, suc, ℤ, Bool, if◌then◌else◌, List, [], ◌∷◌, ◌++◌, map, drop, replicate, Option, Some, None, option_map, is_some, int_lt}
 use Rattle.std.specs.List.{list_any}
 use Rattle.kap_base.specs.Points.{PointValue}
@@ -41,7 +42,8 @@ pub record Placed : Type 0 where
 
 -- where each queue has a point the first ones are a full set, and go
 abbrev pub settled : Columns → Placed
-settled queues = if is_ready queues then record { queues = rests queues; filled = Some (set_at 0 queues) } else record { queues = queues; filled = None }
+settled queues = if is_ready queues then record { queues = rests queues; filled = Some (set_at 0 queues) }
+    else record { queues = queues; filled = None }
 
 -- the queues with a point behind those of its parent, and the set that it fills, which goes
 abbrev pub place : ℕ → PointValue → Columns → Placed
@@ -83,7 +85,10 @@ filled_by j time (Some s) = result_of j time s
 abbrev pub arrived : JoinSpec → ℤ → List Body → Columns → ℕ → PointValue → Turn (Option JoinKept)
 arrived j time before queues port p =
     let placed = place port p queues in
-    record { state = Some (record { time = time; queues = placed.queues }); said = gives (before ++ filled_by j time placed.filled) }
+    record {
+      state = Some (record { time = time; queues = placed.queues });
+      said = gives (before ++ filled_by j time placed.filled);
+    }
 
 -- a point with a greater rounded time comes: the sets there that aren't full are given
 abbrev pub risen : JoinSpec → JoinKept → ℤ → ℕ → PointValue → Turn (Option JoinKept)
@@ -99,4 +104,5 @@ moved j (Some kept) time port p =
 
 -- a step, by what is kept
 abbrev pub join_step : JoinSpec → Option JoinKept → ℕ → PointValue → Turn (Option JoinKept)
-join_step j kept port p = if is_heard j (port, p) then moved j kept (rounded j (port, p)) port p else record { state = kept; said = a_drop }
+join_step j kept port p =
+    if is_heard j (port, p) then moved j kept (rounded j (port, p)) port p else record { state = kept; said = a_drop }

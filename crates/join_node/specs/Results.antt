@@ -42,7 +42,8 @@ value_or (Some number) value = Int number
 abbrev pub named_fields : List ℕ → List ℕ → Option ℤ → List Entry → List Entry
 named_fields delimiter prefix number es = map (λ e. (field_name delimiter prefix e.0, value_or number e.1)) es
 
--- what makes up for the missing point of a parent: with `.fill(n)` that number for each field of the first present parent
+-- what makes up for the missing point of a parent: with `.fill(n)` that number for each field of the first present
+-- parent
 abbrev pub missing_fields : Fill → List ℕ → List ℕ → List Entry → List Entry
 missing_fields fills.None delimiter prefix firsts = []
 missing_fields fills.Null delimiter prefix firsts = []
@@ -73,8 +74,8 @@ abbrev pub name_or : Option (List ℕ) → List ℕ → List ℕ
 name_or None name = name
 name_or (Some other) name = other
 
--- It has the rounded time of its set, and the tags, the group and the measurement of the first present parent's point. Of fields of one name
--- that of the later parent counts.
+-- It has the rounded time of its set, and the tags, the group and the measurement of the first present parent's point.
+-- Of fields of one name that of the later parent counts.
 abbrev pub joined : JoinSpec → ℤ → Set → PointValue → PointValue
 joined j time s first = record {
   db = [];

@@ -1,4 +1,5 @@
--- Examples: what is said of points that come at these times, in milliseconds, from two parents, a and b. Times are rounded to seconds.
+-- Examples: what is said of points that come at these times, in milliseconds, from two parents, a and b. Times are
+-- rounded to seconds.
 use Rattle.std.specs.Prelude.{◌≡◌, ℕ, ◌*◌, pos, false, List, [], ◌∷◌, ◌++◌, Option, Some, None}
 use Rattle.std.specs.FinMap.{empty}
 use Rattle.kap_base.specs.Points.{PointValue}
@@ -14,11 +15,27 @@ use Rattle.join_node.specs.Results.{result_of}
 
 -- two parents, with a tolerance of a second
 abbrev pub seconds_joined : Fill → JoinSpec
-seconds_joined fill = record { prefixes = (97 ∷ []) ∷ (98 ∷ []) ∷ []; tolerance = 1000000000; fill = fill; stream_name = None; delimiter = None }
+seconds_joined fill =
+    record {
+      prefixes = (97 ∷ []) ∷ (98 ∷ []) ∷ [];
+      tolerance = 1000000000;
+      fill = fill;
+      stream_name = None;
+      delimiter = None;
+    }
 
 -- a point of this time
 abbrev pub at : ℕ → PointValue
-at millis = record { db = []; rp = []; name = []; tags = empty; fields = empty; dims = []; by_name = false; time = pos (millis * 1000000) }
+at millis = record {
+  db = [];
+  rp = [];
+  name = [];
+  tags = empty;
+  fields = empty;
+  dims = [];
+  by_name = false;
+  time = pos (millis * 1000000);
+}
 
 -- of a parent
 abbrev pub from_a : ℕ → Came
@@ -42,11 +59,13 @@ given j time (s ∷ ss) = result_of j (pos (time * 1000000000)) (s.0 ∷ s.1 ∷
 abbrev pub Says : Fill → List Came → List Said → Type 0
 Says fill cs said = said_behind (seconds_joined fill) [] cs ≡ said
 
--- The third point is late, since the second has a greater rounded time. The fourth fills the first set of its second, the last one the next.
+-- The third point is late, since the second has a greater rounded time. The fourth fills the first set of its second,
+-- the last one the next.
 abbrev pub LatePoint : Type 0
 LatePoint =
     Says fills.None (from_a 499 ∷ from_a 500 ∷ from_b 200 ∷ from_b 1100 ∷ from_a 900 ∷ from_b 1400 ∷ [])
-    (gives [] ∷ gives [] ∷ a_drop ∷ gives (given (seconds_joined fills.None) 1 ((Some (at 500), Some (at 1100)) ∷ [])) ∷ gives [] ∷ gives
+    (gives [] ∷ gives [] ∷ a_drop ∷ gives
+    (given (seconds_joined fills.None) 1 ((Some (at 500), Some (at 1100)) ∷ [])) ∷ gives [] ∷ gives
     (given (seconds_joined fills.None) 1 ((Some (at 900), Some (at 1400)) ∷ [])) ∷ [])
 
 -- the sets that aren't full are given at the first point of a later second, in order, and no sooner

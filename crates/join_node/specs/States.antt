@@ -31,5 +31,7 @@ read_kept = read_where (λ k. is_time k.time) (read_as kept_from (read_pair read
 
 -- what is spelled is read again, and only that
 pub kept_spelled : IsSpelling FitsKept spell_kept read_kept
-kept_spelled = tested_by (as_parts (pair_spelled i64_spelled (list_spelled (list_spelled point_spelled))) kept_from kept_parts (λ k. refl) (λ p. refl))
+kept_spelled =
+    tested_by (as_parts (pair_spelled i64_spelled (list_spelled (list_spelled point_spelled))) kept_from kept_parts
+    (λ k. refl) (λ p. refl))
     (λ k. is_time k.time)

@@ -25,7 +25,8 @@ union_says name port (bodies.Batch b) = silence
 -- ---- laws
 
 -- nothing is said of a batch
-pub union_silent : (name : Option (List ℕ)) (port : ℕ) (body : Body) → is_point body ≡ false → union_says name port body ≡ silence
+pub union_silent : (name : Option (List ℕ)) (port : ℕ) (body : Body) → is_point body ≡ false
+    → union_says name port body ≡ silence
 union_silent name port (bodies.Point p) e = absurd cc
 union_silent name port (bodies.Batch b) e = refl
 
@@ -36,8 +37,13 @@ regrouped name g = record g { name = option_map (λ old. name) g.name }
 -- a point under another measurement is of its group under that measurement
 pub group_renamed : (name : List ℕ) (p : PointValue) → group_of (renamed (Some name) p) ≡ regrouped name (group_of p)
 group_renamed name p = elim p.by_name as
-    (λ b. ◌≡◌ {A = GroupValue} (record { name = (if b then Some name else None); dims = (group_of p).dims; values = (group_of p).values })
-    (record { name = option_map (λ old. name) (if b then Some p.name else None); dims = (group_of p).dims; values = (group_of p).values })) [
+    (λ b. ◌≡◌ {A = GroupValue}
+    (record { name = (if b then Some name else None); dims = (group_of p).dims; values = (group_of p).values })
+    (record {
+      name = option_map (λ old. name) (if b then Some p.name else None);
+      dims = (group_of p).dims;
+      values = (group_of p).values;
+    })) [
       | true ↦ refl
       | false ↦ refl
     ]

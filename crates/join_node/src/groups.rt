@@ -11,8 +11,8 @@ use state_code::{CodeFault, Cursor, Spelled, put_items};
 use std::alloc::Global;
 use std::marker::Model;
 
-/// What is kept of a group from its first point with a rounded time in range on: the greatest rounded time, and of each parent
-/// the points with it that wait for those of others.
+/// What is kept of a group from its first point with a rounded time in range on: the greatest rounded time,
+/// and of each parent the points with it that wait for those of others.
 #[derive(Drop)]
 pub struct JoinGroup {
     pub(crate) time: i64,

@@ -16,8 +16,8 @@ use node_core::{Few, Rule, Said};
 use std::alloc::Global;
 use task_graph::{Fill, JoinSpec, Span};
 
-/// What `join` does (Kapacitor 1.6: join node): the points of all parents with one rounded time are put into sets, of which the
-/// k-th has each parent's k-th point, and a set becomes one point.
+/// What `join` does (Kapacitor 1.6: join node): the points of all parents with one rounded time are put into
+/// sets, of which the k-th has each parent's k-th point, and a set becomes one point.
 #[derive(Debug, Drop)]
 pub struct Join {
     /// The prefixes, of which there is one for each parent, and the other properties.

@@ -10,14 +10,16 @@ ghost use Rattle.join_node.specs.Latest.{IsGreatest};
 ghost use Rattle.join_node.specs.Rows.{LatePoint, NoFill, OpenSets};
 ghost use Rattle.join_node.specs.Unions.{regrouped, renamed};
 
-/// The group of a point under another measurement is its group under that measurement, where points are grouped by it.
+/// The group of a point under another measurement is its group under that measurement, where points are
+/// grouped by it.
 #[tactic(auto, using(crate::specs::Unions::group_renamed))]
 pub fn renamed_points_change_groups()
     ensures { (name : List ℕ) (p : PointValue)
         → group_of (renamed (Some name) p) ≡ regrouped name (group_of p) }
 {}
 
-/// The rounded time at which sets wait is the greatest of points: that of one of them, and none has a greater one.
+/// The rounded time at which sets wait is the greatest of points: that of one of them, and none has a greater
+/// one.
 pub fn sets_wait_at_the_greatest_time()
     ensures { (j : JoinSpec) (cs : List Came) (time : ℤ)
         → (latest j cs ≡ Some time) ↔ IsGreatest j cs time }

@@ -10,8 +10,8 @@ use node_core::{Plain, Said};
 use std::alloc::Global;
 use task_graph::Measurement;
 
-/// What `union` does (Kapacitor 1.6: union node): each point of each parent is given out as it comes, under another measurement
-/// where one is given.
+/// What `union` does (Kapacitor 1.6: union node): each point of each parent is given out as it comes, under
+/// another measurement where one is given.
 #[derive(Debug, Drop)]
 pub struct Union {
     /// How many parents it has.

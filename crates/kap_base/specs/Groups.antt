@@ -25,7 +25,8 @@ tag_value tags dim = unwrap_or (get tags dim) []
 
 -- the group of a point
 abbrev pub group_of : PointValue → GroupValue
-group_of p = record { name = (if p.by_name then Some p.name else None); dims = p.dims; values = map (tag_value p.tags) p.dims }
+group_of p =
+    record { name = (if p.by_name then Some p.name else None); dims = p.dims; values = map (tag_value p.tags) p.dims }
 
 -- the value of a dimension: empty, or both are name texts
 abbrev pub is_tag_value : List ℕ → List ℕ → Bool

@@ -7,7 +7,8 @@ use Rattle.kap_base.specs.Maps.{byte_order}
 pub record StandsAt {V : Type 0} (key : List ℕ) (entries : List (List ℕ × V)) (at : ℕ) : Type 0 where
   pub within : at < length entries
   pub value : (e : List ℕ × V) → find byte_order key entries ≡ Some (slice_index_or entries at e).1
-  pub put : (v : V) (e : List ℕ × V) → put byte_order key v entries ≡ slice_set entries at ((slice_index_or entries at e).0, v)
+  pub put : (v : V) (e : List ℕ × V)
+      → put byte_order key v entries ≡ slice_set entries at ((slice_index_or entries at e).0, v)
 
 -- no entry has the key, and one would stand at this place
 pub record WouldStandAt {V : Type 0} (key : List ℕ) (entries : List (List ℕ × V)) (at : ℕ) : Type 0 where

@@ -37,11 +37,13 @@ mutual
   back (GroupTree inner at) = ap (λ t. GroupTree t at) (back inner)
   back (NegTree operand at) = ap (λ t. NegTree t at) (back operand)
   back (NotTree operand at) = ap (λ t. NotTree t at) (back operand)
-  back (BinTree op left right at) = ap (λ t. BinTree op t (tree_of (of_tree right)) at) (back left) ∙ ap (λ t. BinTree op left t at) (back right)
+  back (BinTree op left right at) =
+      ap (λ t. BinTree op t (tree_of (of_tree right)) at) (back left) ∙ ap (λ t. BinTree op left t at) (back right)
 
   pub all_back : (ts : Trees) → trees_of (of_trees ts) ≡ ts
   all_back NoTrees = refl
-  all_back (MoreTrees first rest) = ap (λ t. MoreTrees t (trees_of (of_trees rest))) (back first) ∙ ap (MoreTrees first) (all_back rest)
+  all_back (MoreTrees first rest) =
+      ap (λ t. MoreTrees t (trees_of (of_trees rest))) (back first) ∙ ap (MoreTrees first) (all_back rest)
 
 -- trees as codes: each is that of one expression
 abbrev pub tree_code : Coded Tree

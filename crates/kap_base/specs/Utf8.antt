@@ -17,7 +17,8 @@ pub record BreaksAt (bytes : List ℕ) (at : ℕ) : Type 0 where
 
 -- how many bytes at the front could begin a character, where no character stands there whole
 unfoldable pub begun_len : List ℕ → ℕ
-begun_len bytes = if is_in_range 0xC2 0xF4 (slice_index bytes 0) then unwrap_or (utf8_error_len bytes) (length bytes) else 0
+begun_len bytes =
+    if is_in_range 0xC2 0xF4 (slice_index bytes 0) then unwrap_or (utf8_error_len bytes) (length bytes) else 0
 
 -- the place of the first byte that doesn't continue a character, and the length where the bytes end inside one;
 -- of bytes that aren't a text

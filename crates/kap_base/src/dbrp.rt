@@ -10,5 +10,6 @@ pub struct Dbrp {
     pub rp: Text,
 }
 
-/// The databases and retention policies that a task sees, in the order of the script; all where there are none.
+/// The databases and retention policies that a task sees, in the order of the script; all where there are
+/// none.
 pub type Dbrps = ItemList<Dbrp>;

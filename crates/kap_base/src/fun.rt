@@ -1,6 +1,6 @@
-/// A function of a lambda expression whose value follows from its arguments' values alone (Kapacitor 1.6 TICKscript
-/// language reference: lambda expressions, built-in functions). `isPresent`, `if` and `count` are no such functions, since
-/// they ask for a point, a part that isn't evaluated, or the evaluations before.
+/// A function of a lambda expression whose value follows from its arguments' values alone (Kapacitor 1.6
+/// TICKscript language reference: lambda expressions, built-in functions). `isPresent`, `if` and `count` are
+/// no such functions, since they ask for a point, a part that isn't evaluated, or the evaluations before.
 #[derive(Clone, Copy, Debug, PartialEq, Eq)]
 pub enum Fun {
     /// `int(x)`: an integer of an integer, a truth value or a text.
@@ -31,8 +31,8 @@ pub enum Fun {
     StrSubstring,
 }
 
-/// A part of a time in UTC, which a function of the same name gives of `"time"` (Kapacitor 1.6 TICKscript language
-/// reference: lambda expressions, time functions).
+/// A part of a time in UTC, which a function of the same name gives of `"time"` (Kapacitor 1.6 TICKscript
+/// language reference: lambda expressions, time functions).
 #[derive(Clone, Copy, Debug, PartialEq, Eq)]
 pub enum TimePart {
     /// The nanoseconds since 1970-01-01T00:00:00Z, negative before.

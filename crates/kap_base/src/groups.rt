@@ -11,8 +11,8 @@ use crate::{Names, SharedPoints, Tags};
 use std::alloc::Global;
 use std::marker::Model;
 
-/// What the points of a group have in common (Kapacitor 1.6: groupBy): their measurement, where they are grouped by it too,
-/// and for each dimension the value of that tag.
+/// What the points of a group have in common (Kapacitor 1.6: groupBy): their measurement, where they are
+/// grouped by it too, and for each dimension the value of that tag.
 #[derive(Debug, PartialEq, Eq, Drop)]
 pub struct Group {
     /// The measurement, where points are grouped by it.
@@ -106,8 +106,8 @@ fn group_name(alloc: Global, point: &Point) -> Result<Option<Text>, NoMemory>
     Ok(Some(point.name.copy(alloc)?))
 }
 
-/// The group of a point: its measurement, where it is grouped by it, and the value of each of its dimensions, empty where
-/// the tag is missing. `NoMemory` comes where an allocation fails.
+/// The group of a point: its measurement, where it is grouped by it, and the value of each of its dimensions,
+/// empty where the tag is missing. `NoMemory` comes where an allocation fails.
 pub fn group_of(alloc: Global, point: &Point) -> Result<Group, NoMemory>
     ensures { IfOk result (λ group. group ≡ group_of point.now) }
 {

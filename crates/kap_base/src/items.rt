@@ -9,7 +9,8 @@ use crate::text::Text;
 use std::alloc::Global;
 use std::fmt;
 
-/// The number of a source point in a run or a store, from 1. What a node gives has the stamp of the point that caused it.
+/// The number of a source point in a run or a store, from 1. What a node gives has the stamp of the point
+/// that caused it.
 #[derive(Clone, Copy, Debug, PartialEq, Eq, PartialOrd, Ord)]
 pub struct Stamp(pub u64);
 

@@ -175,8 +175,8 @@ impl<V: Drop> KeyMap<V> {
         }
     }
 
-    /// The map of these entries, put one after the other: of equal keys the last one counts. It takes n log n comparisons,
-    /// and n where the keys rise already.
+    /// The map of these entries, put one after the other: of equal keys the last one counts. It takes n log n
+    /// comparisons, and n where the keys rise already.
     pub fn from_entries(alloc: Global, entries: Vec<(Text, V)>) -> Result<KeyMap<V>, NoMemory>
         ensures { IfOk result (λ m. m ≡ with_entries map.empty entries.items) }
     {

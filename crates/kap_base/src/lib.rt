@@ -1,4 +1,5 @@
-//! The values that every other crate speaks of: texts, maps, points and what they are made of, and expressions.
+//! The values that every other crate speaks of: texts, maps, points and what they are made of, and
+//! expressions.
 #![tactic(auto)]
 
 mod bytes;
@@ -57,8 +58,10 @@ pub type Points = ItemList<Point>;
 /// A list of points, each of which others may share.
 pub type SharedPoints = ItemList<Shared<Point>>;
 
-/// The tags of a point: texts under texts, in byte order of the keys (InfluxDB 1.8 line protocol reference: tag set).
+/// The tags of a point: texts under texts, in byte order of the keys (InfluxDB 1.8 line protocol reference:
+/// tag set).
 pub type Tags = KeyMap<Text>;
 
-/// The fields of a point: values under texts, in byte order of the keys (InfluxDB 1.8 line protocol reference: field set).
+/// The fields of a point: values under texts, in byte order of the keys (InfluxDB 1.8 line protocol
+/// reference: field set).
 pub type Fields = KeyMap<Value>;

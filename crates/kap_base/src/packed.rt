@@ -6,10 +6,11 @@ use crate::short_text::{SHORT_LIMIT, ShortText};
 use std::alloc::{AllocError, Global};
 use std::marker::Model;
 
-/// A list of bytes that is UTF-8. One of up to `SHORT_LIMIT` bytes takes no allocation: the string is empty then, and the short
-/// text counts.
+/// A list of bytes that is UTF-8. One of up to `SHORT_LIMIT` bytes takes no allocation: the string is empty
+/// then, and the short text counts.
 ///
-/// It is no enum, since a value with an enum inside is moved part by part, and one without is moved as a whole.
+/// It is no enum, since a value with an enum inside is moved part by part, and one without is moved as a
+/// whole.
 #[derive(Drop)]
 pub(crate) struct Packed {
     string: String,

@@ -12,7 +12,8 @@ use crate::{Fields, Tags};
 use std::alloc::Global;
 use std::marker::Model;
 
-/// A point (InfluxDB 1.8: line protocol reference; Kapacitor 1.6: the dimensions and the name by which a task groups it).
+/// A point (InfluxDB 1.8: line protocol reference; Kapacitor 1.6: the dimensions and the name by which a task
+/// groups it).
 #[derive(Debug, PartialEq, Eq, Drop)]
 pub struct Point {
     /// The database.

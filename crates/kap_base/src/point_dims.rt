@@ -10,8 +10,8 @@ use crate::text::Text;
 use std::alloc::Global;
 use std::marker::Model;
 
-/// The names of the tags by which points are grouped, which many points share. Contracts see the list. No names take no room, and
-/// neither does a copy.
+/// The names of the tags by which points are grouped, which many points share. Contracts see the list. No
+/// names take no room, and neither does a copy.
 #[derive(Debug, Drop)]
 pub struct PointDims {
     names: Option<Shared<Names>>,

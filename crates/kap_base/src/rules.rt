@@ -49,8 +49,8 @@ impl Text {
         !has_line_feed(self.bytes())
     }
 
-    /// Whether it can be a key of a tag or a field, or the value of a tag: not empty, without a line feed, and not ending in
-    /// a backslash.
+    /// Whether it can be a key of a tag or a field, or the value of a tag: not empty, without a line feed,
+    /// and not ending in a backslash.
     pub fn is_name(&self) -> bool
         ensures { result ≡ is_name self.now }
     {
@@ -150,7 +150,8 @@ fn has_id_bytes(bytes: &[u8]) -> bool
     bytes.iter().all(|byte| is_id_byte(*byte))
 }
 
-/// Whether these bytes can be the id of a task: 1 to `ID_LIMIT` bytes, each an ASCII letter, a digit, `_`, `-` or `.`.
+/// Whether these bytes can be the id of a task: 1 to `ID_LIMIT` bytes, each an ASCII letter, a digit, `_`,
+/// `-` or `.`.
 pub fn is_task_id(id: &[u8]) -> bool
     ensures { result ≡ is_task_id id.now }
 {

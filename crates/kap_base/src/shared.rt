@@ -1,5 +1,5 @@
-//! Values with many owners. A point is handed on by many nodes and kept once; what a name of a script stands for is used many
-//! times and kept once.
+//! Values with many owners. A point is handed on by many nodes and kept once; what a name of a script stands
+//! for is used many times and kept once.
 
 ghost use Rattle.std.specs.Prelude.{◌≡◌, IfOk, IfSome, IsTrue, nat_eq};
 ghost use Rattle.std.specs.Cmp.{partial_equiv_from_equiv};
@@ -18,7 +18,8 @@ use std::marker::Model;
 use std::mem;
 use std::sync::Arc;
 
-/// A value that many owners share, which contracts see as the value. A copy is one owner more, and takes no room.
+/// A value that many owners share, which contracts see as the value. A copy is one owner more, and takes no
+/// room.
 #[derive(Debug, Drop)]
 pub struct Shared<T> {
     value: Arc<T, Global>,
@@ -49,8 +50,8 @@ impl<T: Drop> Shared<T> {
 }
 
 impl<T: Drop> Shared<T> {
-    /// Another value with one owner: in the place of this one, which is given back, where nobody else has it, and else in a new
-    /// place.
+    /// Another value with one owner: in the place of this one, which is given back, where nobody else has it,
+    /// and else in a new place.
     pub fn replace(self, alloc: Global, value: T) -> Result<(Shared<T>, Option<T>), NoMemory>
         ensures new { IfOk result (λ placed. placed.0 ≡ value) }
         ensures old { IfOk result (λ placed. IfSome placed.1 (λ old. old ≡ self)) }
@@ -77,8 +78,8 @@ impl<T: Duplicate + Drop> Shared<T> {
 }
 
 impl Shared<Point> {
-    /// The point with these dimensions in the place of its own, grouped by its measurement too or not: itself, where no other owner
-    /// shares it, else a copy.
+    /// The point with these dimensions in the place of its own, grouped by its measurement too or not:
+    /// itself, where no other owner shares it, else a copy.
     pub fn regrouped(
         self,
         alloc: Global,
@@ -123,7 +124,8 @@ impl<T: Drop> Duplicate for Shared<T> {
     }
 }
 
-/// A text that many owners share, which contracts see as its bytes. A copy is one owner more, and takes no room.
+/// A text that many owners share, which contracts see as its bytes. A copy is one owner more, and takes no
+/// room.
 #[derive(Debug, Drop)]
 pub struct SharedText {
     text: Arc<Text, Global>,
@@ -185,7 +187,8 @@ impl Duplicate for SharedText {
     }
 }
 
-/// An expression that many owners share, which contracts see as its tree. A copy is one owner more, and takes no room.
+/// An expression that many owners share, which contracts see as its tree. A copy is one owner more, and takes
+/// no room.
 #[derive(Drop)]
 pub struct SharedExpr {
     expr: Arc<Expr, Global>,

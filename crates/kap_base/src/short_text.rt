@@ -53,8 +53,8 @@ impl ShortText {
         }
     }
 
-    /// The short text of the first bytes of a line that has at least as many as a short text may have. It takes those all, and so
-    /// their number is known beforehand.
+    /// The short text of the first bytes of a line that has at least as many as a short text may have. It
+    /// takes those all, and so their number is known beforehand.
     pub(crate) fn from_front(line: &str, len: usize) -> ShortText
         requires short { len ≤ SHORT_LIMIT }
         requires long { SHORT_LIMIT ≤ length line.now }

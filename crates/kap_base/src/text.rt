@@ -15,7 +15,8 @@ use std::cmp::Ordering;
 use std::fmt;
 use std::marker::Model;
 
-/// A list of bytes that is UTF-8, which contracts see as those bytes. One of up to 16 bytes takes no allocation.
+/// A list of bytes that is UTF-8, which contracts see as those bytes. One of up to 16 bytes takes no
+/// allocation.
 #[derive(Drop)]
 pub struct Text {
     packed: Packed,

@@ -28,8 +28,9 @@ fn since_multiple(t: i64, d: i64) -> i64
     since.rem_euclid(i128::from(d)) as i64
 }
 
-/// The greatest multiple of the duration `d` not above the time `t`, counted from 0001-01-01T00:00:00Z (as Go's
-/// `Time.Truncate` counts); in nanoseconds. `t` lies from -9·10^18 to 9.2·10^18, and `d` from 1 to 2·10^17.
+/// The greatest multiple of the duration `d` not above the time `t`, counted from 0001-01-01T00:00:00Z (as
+/// Go's `Time.Truncate` counts); in nanoseconds. `t` lies from -9·10^18 to 9.2·10^18, and `d` from 1 to
+/// 2·10^17.
 pub fn trunc(t: i64, d: i64) -> i64
     requires reach { IsInReach t }
     requires duration { IsDuration d }
@@ -39,8 +40,8 @@ pub fn trunc(t: i64, d: i64) -> i64
     t - since_multiple(t, d)
 }
 
-/// The multiple of the duration `d` that is nearest to the time `t`, counted as by `trunc`; halves go up. In nanoseconds.
-/// `t` is a time within `TIME_LIMIT`, and `d` lies from 1 to 2·10^17.
+/// The multiple of the duration `d` that is nearest to the time `t`, counted as by `trunc`; halves go up. In
+/// nanoseconds. `t` is a time within `TIME_LIMIT`, and `d` lies from 1 to 2·10^17.
 pub fn round(t: i64, d: i64) -> i64
     requires time { IsTrue (is_time t) }
     requires duration { IsDuration d }

@@ -7,7 +7,8 @@ use crate::memory::NoMemory;
 use crate::text::Text;
 use std::alloc::Global;
 
-/// What a field holds (InfluxDB 1.8 line protocol reference, data types; this project's integer profile has no floats).
+/// What a field holds (InfluxDB 1.8 line protocol reference, data types; this project's integer profile has
+/// no floats).
 #[derive(Debug, PartialEq, Eq, Drop)]
 pub enum Value {
     /// A signed integer of 64 bits.

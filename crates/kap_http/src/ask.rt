@@ -33,8 +33,8 @@ pub enum TaskAct {
     Delete,
 }
 
-/// Points to be written. The names are on one line and no longer than a target, 16,384 bytes; the database's isn't
-/// empty, and the body has at most 8 MiB.
+/// Points to be written. The names are on one line and no longer than a target, 16,384 bytes; the database's
+/// isn't empty, and the body has at most 8 MiB.
 #[derive(Debug, PartialEq, Eq, Drop)]
 pub struct WriteAsk {
     /// The database.

@@ -8,8 +8,9 @@ use kap_base::{Bytes, NoMemory, Text};
 use std::alloc::Global;
 use std::marker::Model;
 
-/// The head of a request (RFC 9112), which tells how many bytes the request has. It has at most 16,384 bytes itself,
-/// and the body behind it is within the limit of its path, 8 MiB where points are written and 1 MiB elsewhere.
+/// The head of a request (RFC 9112), which tells how many bytes the request has. It has at most 16,384 bytes
+/// itself, and the body behind it is within the limit of its path, 8 MiB where points are written and 1 MiB
+/// elsewhere.
 #[derive(Debug, PartialEq, Eq, Drop)]
 pub struct Head {
     /// The method, whose letters have their case.
@@ -72,8 +73,8 @@ impl Head {
         self.len + self.size
     }
 
-    /// The request, of bytes that begin with those the head was read from and go on to the end of its body. They aren't
-    /// parsed again.
+    /// The request, of bytes that begin with those the head was read from and go on to the end of its body.
+    /// They aren't parsed again.
     pub fn request(self, alloc: Global, bytes: &[u8]) -> Result<Request, NoMemory>
         requires { total_of self ≤ length bytes.now }
         ensures { IfOk result (λ r. r ≡ request_in self bytes.now) }

@@ -45,8 +45,8 @@ fn skip_newlines(bytes: &[u8]) -> &[u8]
     rest
 }
 
-/// Whether bytes of a head go on behind its first line and as many fields as it may have, and no empty line begins
-/// there.
+/// Whether bytes of a head go on behind its first line and as many fields as it may have, and no empty line
+/// begins there.
 #[tactic(auto, unfolding(crate::specs::Lines::has_more_lines))]
 pub(crate) fn has_more_lines(bytes: &[u8]) -> bool
     ensures { result ≡ has_more_lines bytes.now }
@@ -93,9 +93,10 @@ fn empty_line_behind(bytes: &[u8], seen: usize) -> bool
     holds_empty_line(new)
 }
 
-/// Whether an empty line stands behind some line feed. Where none does, no whole head stands in the bytes: who reads
-/// a head that comes in many pieces looks for it, and calls `read_head` once it is there, or `HEAD_LIMIT` bytes are.
-/// The first `seen` bytes are known to have none, so that each byte is looked at once.
+/// Whether an empty line stands behind some line feed. Where none does, no whole head stands in the bytes:
+/// who reads a head that comes in many pieces looks for it, and calls `read_head` once it is there, or
+/// `HEAD_LIMIT` bytes are. The first `seen` bytes are known to have none, so that each byte is looked at
+/// once.
 #[tactic(auto, using(crate::proofs::EmptyLaws::no_head))]
 pub fn has_empty_line(bytes: &[u8], seen: usize) -> bool
     requires within { seen ≤ length bytes.now }

@@ -161,7 +161,8 @@ fn walk(path: &[u8]) -> Option<(Place, &[u8])>
     walk_version(rest)
 }
 
-/// Where a path leads, and the part that names a task or a topic there, with its escapes; it is empty elsewhere.
+/// Where a path leads, and the part that names a task or a topic there, with its escapes; it is empty
+/// elsewhere.
 #[tactic(auto, using(crate::proofs::WalkLaws::walk_is))]
 pub(crate) fn way_of(path: &[u8]) -> Option<(Place, &[u8])>
     ensures way { option_map (λ w. (w.0, w.1.now)) result ≡ way_of path.now }

@@ -136,15 +136,16 @@ fn first_head(alloc: Global, bytes: &[u8]) -> Result<Option<Head>, HttpFault>
     }
 }
 
-/// The head that stands at the front of the bytes: it tells how many bytes its request has in all, so that who gets
-/// them in pieces reads on until they are there and parses nothing again. `None` comes exactly where fewer than 16,384
-/// bytes are given, no whole head stands in them and some bytes behind them make a head of at most 64 fields. Heads are
-/// those of httparse, which alone says whether bytes that end inside a target can go on.
+/// The head that stands at the front of the bytes: it tells how many bytes its request has in all, so that
+/// who gets them in pieces reads on until they are there and parses nothing again. `None` comes exactly where
+/// fewer than 16,384 bytes are given, no whole head stands in them and some bytes behind them make a head of
+/// at most 64 fields. Heads are those of httparse, which alone says whether bytes that end inside a target
+/// can go on.
 ///
-/// `Bad` comes exactly where no head of at most 64 fields can come of the first 16,384 bytes; or where a whole head
-/// has a `Transfer-Encoding`, a `Content-Encoding` other than `identity`, more than one `Content-Length`, or one that
-/// isn't digits. `Large` comes exactly where none of these holds and the length is above the limit of the path. A
-/// refusal changes nothing. An `Expect` is ignored.
+/// `Bad` comes exactly where no head of at most 64 fields can come of the first 16,384 bytes; or where a
+/// whole head has a `Transfer-Encoding`, a `Content-Encoding` other than `identity`, more than one
+/// `Content-Length`, or one that isn't digits. `Large` comes exactly where none of these holds and the length
+/// is above the limit of the path. A refusal changes nothing. An `Expect` is ignored.
 pub fn read_head(alloc: Global, bytes: &[u8]) -> Result<Option<Head>, HttpFault>
     ensures gives { result ≢ Err HttpFault.NoMemory → GivesHead bytes.now result }
     ensures within { IfOk result (λ o. IfSome o
@@ -176,9 +177,9 @@ fn first_request(alloc: Global, bytes: &[u8]) -> Result<Option<(Request, usize)>
     }
 }
 
-/// The first request that stands at the front of the bytes, and its length. `None` comes exactly in two cases: those
-/// of `read_head`; and where a head without fault is whole and its body isn't. `Bad` and `Large` come exactly where
-/// `read_head` answers them. A refusal changes nothing.
+/// The first request that stands at the front of the bytes, and its length. `None` comes exactly in two
+/// cases: those of `read_head`; and where a head without fault is whole and its body isn't. `Bad` and `Large`
+/// come exactly where `read_head` answers them. A refusal changes nothing.
 pub fn read_request(alloc: Global, bytes: &[u8]) -> Result<Option<(Request, usize)>, HttpFault>
     ensures gives { result ≢ Err HttpFault.NoMemory → Gives bytes.now result }
     ensures within { IfOk result (λ o. IfSome o

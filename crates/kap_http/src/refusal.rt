@@ -85,8 +85,8 @@ fn error_body(alloc: Global, cause: &[u8]) -> Result<Bytes, NoMemory>
     Ok(body)
 }
 
-/// The reply of a status that refuses, for a cause without quotes, backslashes and control characters; at 503 it has
-/// no body. It isn't a last one. Where memory runs out it is the reply that says so.
+/// The reply of a status that refuses, for a cause without quotes, backslashes and control characters; at 503
+/// it has no body. It isn't a last one. Where memory runs out it is the reply that says so.
 pub fn error_reply(alloc: Global, status: u16, cause: &[u8]) -> Reply
     requires { IsTrue (refuses status) }
     ensures { result ≢ out_of_memory false → result ≡ error_reply status cause.now }

@@ -10,7 +10,8 @@ use kap_base::{Bytes, NoMemory};
 use std::alloc::Global;
 use std::marker::Model;
 
-/// A reply. Its status is one of 200, 204, 400, 404, 405, 409, 413, 500 and 503, and it has no body at 204 and 503.
+/// A reply. Its status is one of 200, 204, 400, 404, 405, 409, 413, 500 and 503, and it has no body at 204
+/// and 503.
 #[derive(Debug, PartialEq, Eq, Drop)]
 pub struct Reply {
     /// The status (RFC 9110).

@@ -218,10 +218,11 @@ fn ask_of(alloc: Global, request: &Request) -> Result<Ask, Refusal>
     }
 }
 
-/// What a request asks, or the reply to one that is refused: 404 for a path that leads nowhere; then 405 for a method
-/// that its path doesn't take; then 400 and 404 for what stands in its target and its body. 503 says that memory ran
-/// out. Query values and path parts are decoded (URL Standard: percent-decoding, `application/x-www-form-urlencoded`),
-/// a `+` being a space in a query alone; bodies are JSON as serde_json reads it.
+/// What a request asks, or the reply to one that is refused: 404 for a path that leads nowhere; then 405 for
+/// a method that its path doesn't take; then 400 and 404 for what stands in its target and its body. 503 says
+/// that memory ran out. Query values and path parts are decoded (URL Standard: percent-decoding,
+/// `application/x-www-form-urlencoded`), a `+` being a space in a query alone; bodies are JSON as serde_json
+/// reads it.
 pub fn route(alloc: Global, request: &Request) -> Result<Ask, Reply>
     ensures { Answers (out_of_memory false) result (as_reply (ask_of request.now)) }
 {

@@ -5,8 +5,8 @@ use Rattle.kap_io.specs.declared.disk.Part.{Part}
 use Rattle.kap_io.specs.declared.disk_work.DiskCall.{DiskCall}
 use Rattle.kap_io.specs.declared.disk_work.DiskWork.{DiskWork}
 
--- the calls in their order, the numbers of those that fail, the number from which on each fails, how many calls there were, how many
--- of them failed, and how many calls the record can hold before it has to ask for memory
+-- the calls in their order, the numbers of those that fail, the number from which on each fails, how many calls there
+-- were, how many of them failed, and how many calls the record can hold before it has to ask for memory
 pub record CallRecord : Type 0 where
   pub noted : List DiskCall
   pub fails : List ℕ

@@ -18,8 +18,8 @@ overwritten at piece file = take at (padded at file) ++ piece ++ drop (at + leng
 abbrev pub resized : ℕ → List ℕ → List ℕ
 resized size file = take size (padded size file)
 
--- What a crash may leave of a write of n bytes: any bytes in the range and past the old end, the same bytes elsewhere, and any
--- length from the old one to that behind the write.
+-- What a crash may leave of a write of n bytes: any bytes in the range and past the old end, the same bytes elsewhere,
+-- and any length from the old one to that behind the write.
 pub record Torn (at n : ℕ) (old new : List ℕ) : Type 0 where
   pub before : take (min at (length old)) new ≡ take at old
   pub after : drop (at + n) new ≡ drop (at + n) old
@@ -59,8 +59,8 @@ Narrows old new = (c : Image) → new c → old c
 abbrev pub OnlyIn : Part → List ℕ → (Image → Type 0) → Type 0
 OnlyIn part file images = (c : Image) → images c → c part ≡ file
 
--- A call takes time. From its end on, a crash since some moment before it may have left what one until its start may have left,
--- or one of the images of now.
+-- A call takes time. From its end on, a crash since some moment before it may have left what one until its start may
+-- have left, or one of the images of now.
 pub record Elapses (before now : ℕ) (past since : ℕ → Image → Type 0) (images : Image → Type 0) : Type 0 where
   pub later : before ≤ now
   pub nothing_else : (t : ℕ) (c : Image) → t ≤ before → since t c → past t c ⊎ images c

@@ -14,8 +14,8 @@ is_listed fails call = list_any (λ n. n == call) fails
 abbrev pub is_call_listed : List ℕ → ℕ → Bool
 is_call_listed fails calls = is_listed fails (next_count calls)
 
--- a source in memory: the bytes still to come, how many it gives a call at most, the numbers of the calls that fail, how many
--- calls there were, and how many of them failed
+-- a source in memory: the bytes still to come, how many it gives a call at most, the numbers of the calls that fail,
+-- how many calls there were, and how many of them failed
 pub record SourceState : Type 0 where
   pub left : List ℕ
   pub step : ℕ
@@ -23,8 +23,8 @@ pub record SourceState : Type 0 where
   pub calls : ℕ
   pub faults : ℕ
 
--- a sink in memory: the bytes that it has, how many it takes a call at most, the numbers of the calls that fail, how many calls
--- there were, how many of them failed, and how many bytes it can hold before it has to ask for memory
+-- a sink in memory: the bytes that it has, how many it takes a call at most, the numbers of the calls that fail, how
+-- many calls there were, how many of them failed, and how many bytes it can hold before it has to ask for memory
 pub record SinkState : Type 0 where
   pub bytes : List ℕ
   pub step : ℕ

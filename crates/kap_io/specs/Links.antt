@@ -2,7 +2,8 @@
 use Rattle.std.specs.Prelude.{◌≡◌, ◌⊎◌, ℕ, ◌+◌, ◌<◌, Bool, IsTrue, List, length, if◌then◌else◌}
 use Rattle.kap_io.specs.Fakes.{SinkState, SourceState, is_call_listed, next_count, taken_of}
 
--- what comes, what goes, the numbers of the calls that fail, how many calls there were, and how many reads and writes failed
+-- what comes, what goes, the numbers of the calls that fail, how many calls there were, and how many reads and writes
+-- failed
 pub record LinkState : Type 0 where
   pub source : SourceState
   pub sink : SinkState
@@ -11,7 +12,8 @@ pub record LinkState : Type 0 where
   pub read_faults : ℕ
   pub write_faults : ℕ
 
--- a read: it is counted, and so is its failure; what the connection was made with stays, and so do the failures of writes
+-- a read: it is counted, and so is its failure; what the connection was made with stays, and so do the failures of
+-- writes
 pub record LinkReads (old new : LinkState) (failed : Bool) : Type 0 where
   pub step : new.source.step ≡ old.source.step
   pub sink : new.sink ≡ old.sink
@@ -20,7 +22,8 @@ pub record LinkReads (old new : LinkState) (failed : Bool) : Type 0 where
   pub faults : new.read_faults ≡ (if failed then next_count old.read_faults else old.read_faults)
   pub others : new.write_faults ≡ old.write_faults
 
--- a write: it is counted, and so is its failure; what the connection was made with stays, and so do the failures of reads
+-- a write: it is counted, and so is its failure; what the connection was made with stays, and so do the failures of
+-- reads
 pub record LinkWrites (old new : LinkState) (failed : Bool) : Type 0 where
   pub step : new.sink.step ≡ old.sink.step
   pub source : new.source ≡ old.source

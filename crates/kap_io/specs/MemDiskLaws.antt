@@ -11,7 +11,8 @@ use Rattle.kap_io.specs.declared.disk_work.DiskWork.TheVariants.{Size, Read, Wri
 
 -- a file that is padded has at least so many bytes, and keeps all of its own
 pub length-padded : (n : ℕ) (file : List ℕ) → length (padded n file) ≡ max n (length file)
-length-padded n file = omega (arith, length-append file (replicate (n - length file) 0), length-replicate {A = ℕ} (n - length file) 0)
+length-padded n file =
+    omega (arith, length-append file (replicate (n - length file) 0), length-replicate {A = ℕ} (n - length file) 0)
 
 length-front : (n : ℕ) (file : List ℕ) → length (take n (padded n file)) ≡ n
 length-front n file = omega (arith, length-take n (padded n file), length-padded n file)
@@ -54,7 +55,8 @@ stretched_whole n file =
     shorter : (n m : ℕ) (l : List ℕ) → length l ≡ n → take (min n m) l ≡ take m l
     shorter n m l long = ap (λ (k : ℕ). take k l) (omega (arith, long)) ∙ take_min m l
 
-    front_of : (n : ℕ) (file : List ℕ) → length (resized n file) ≡ n → take (length file) (resized n file) ≡ take (length (resized n file)) file
+    front_of : (n : ℕ) (file : List ℕ) → length (resized n file) ≡ n
+        → take (length file) (resized n file) ≡ take (length (resized n file)) file
     front_of n file long =
         sym (shorter n (length file) (resized n file) long)
         ∙ front_same n file
@@ -62,7 +64,8 @@ stretched_whole n file =
 
 -- a write that isn't done
 pub torn_same : (at n : ℕ) (file : List ℕ) → Torn at n file file
-torn_same at n file = record { before = take_min at file; after = refl; no_shorter = omega arith; no_longer = omega arith }
+torn_same at n file =
+    record { before = take_min at file; after = refl; no_shorter = omega arith; no_longer = omega arith }
 
 -- a change of the length that isn't done
 pub stretched_same : (n : ℕ) (file : List ℕ) → Stretched n file file
@@ -78,13 +81,15 @@ becomes_changed Sync file = refl
 -- what a file reads as is one of what a crash may leave
 pub leaves_content : (start : List ℕ) (works : List DiskWork) → Leaves start works (content start works)
 leaves_content start [] = refl
-leaves_content start (work ∷ works) = (content start works, leaves_content start works, becomes_changed work (content start works))
+leaves_content start (work ∷ works) =
+    (content start works, leaves_content start works, becomes_changed work (content start works))
 
 -- what the disk holds is one of the images that it may leave
 pub memory_reads_as : (disk : MemDiskState) → leaves disk (holds disk)
 memory_reads_as disk = λ part. leaves_content (file_of disk.start part) (works part (newest_first disk.calls.noted))
 
-counts_now : (start : FileBytes) (t : ℕ) (calls : List DiskCall) (c : Image) → MayLeave start calls c → LeftSince start t calls c
+counts_now : (start : FileBytes) (t : ℕ) (calls : List DiskCall) (c : Image) → MayLeave start calls c
+    → LeftSince start t calls c
 counts_now start t [] c now = now
 counts_now start t (call ∷ calls) c now = inl now
 
@@ -92,7 +97,8 @@ counts_now start t (call ∷ calls) c now = inl now
 pub memory_counts_now : (disk : MemDiskState) (t : ℕ) (c : Image) → leaves disk c → left_from disk t c
 memory_counts_now disk t c now = counts_now disk.start t (newest_first disk.calls.noted) c now
 
-only_now : (start : FileBytes) (calls : List DiskCall) (c : Image) → LeftSince start (length calls) calls c → MayLeave start calls c
+only_now : (start : FileBytes) (calls : List DiskCall) (c : Image) → LeftSince start (length calls) calls c
+    → MayLeave start calls c
 only_now start [] c left = left
 only_now start (call ∷ calls) c (inl now) = now
 only_now start (call ∷ calls) c (inr earlier) = absurd (omega (arith, earlier.0))

@@ -110,8 +110,8 @@ refilled (Some byte) (Write at piece) = Write at (replicate (length piece) byte)
 refilled (Some byte) work = work
 refilled None work = work
 
--- What a crash leaves of a file by a pick: what it held at its last sync, what a read gives, or what a read gives with each byte
--- replaced that was written since the last sync.
+-- What a crash leaves of a file by a pick: what it held at its last sync, what a read gives, or what a read gives with
+-- each byte replaced that was written since the last sync.
 abbrev pub picked : Pick → List ℕ → List DiskWork → List ℕ
 picked Old start works = content start (synced works)
 picked New start works = content start works

@@ -5,13 +5,15 @@ use Rattle.kap_io.specs.Disk.{Image, On, OnlyIn, Reached, Elapses}
 use Rattle.kap_io.specs.declared.disk.Part.{Part}
 
 -- Each image at each moment from old to new is one that stood at the start, with this change.
-pub record Moments {D : Type 0} (moment : D → ℕ) (may_leave : D → Image → Type 0) (left_since : D → ℕ → Image → Type 0) (old new : D)
+pub record Moments {D : Type 0} (moment : D → ℕ) (may_leave : D → Image → Type 0) (left_since : D → ℕ → Image → Type 0)
+    (old new : D)
     (becomes : Image → Image → Type 0) : Type 0 where
   pub later : moment old ≤ moment new
   -- now
   pub now : (c : Image) → may_leave new c → Reached (may_leave old) becomes c
   -- at each moment of the run, also for a run that began earlier
-  pub each : (t : ℕ) (c : Image) → t ≤ moment old → left_since new t c → left_since old t c ⊎ Reached (may_leave old) becomes c
+  pub each : (t : ℕ) (c : Image) → t ≤ moment old → left_since new t c → left_since old t c
+      ⊎ Reached (may_leave old) becomes c
 
 module _ {D : Type 0} (moment : D → ℕ) (may_leave : D → Image → Type 0) (left_since : D → ℕ → Image → Type 0) where
   -- no call
@@ -24,8 +26,10 @@ module _ {D : Type 0} (moment : D → ℕ) (may_leave : D → Image → Type 0) 
   }
 
   -- one call of a disk
-  pub one_call : (old new : D) (becomes : Image → Image → Type 0) → Elapses (moment old) (moment new) (left_since old) (left_since new) (may_leave new)
-      → ((c : Image) → may_leave new c → Reached (may_leave old) becomes c) → Moments moment may_leave left_since old new becomes
+  pub one_call : (old new : D) (becomes : Image → Image → Type 0)
+      → Elapses (moment old) (moment new) (left_since old) (left_since new) (may_leave new)
+      → ((c : Image) → may_leave new c → Reached (may_leave old) becomes c)
+      → Moments moment may_leave left_since old new becomes
   one_call old new becomes time reached = record {
     later = time.later;
     now = reached;
@@ -33,14 +37,17 @@ module _ {D : Type 0} (moment : D → ℕ) (may_leave : D → Image → Type 0) 
   }
 
   -- one run, and then another
-  pub then_run : (old mid new : D) (first second both : Image → Image → Type 0) → Moments moment may_leave left_since old mid first
+  pub then_run : (old mid new : D) (first second both : Image → Image → Type 0)
+      → Moments moment may_leave left_since old mid first
       → Moments moment may_leave left_since mid new second
-      → ((a b : Image) → may_leave old a → first a b → both a b) → ((a b c : Image) → may_leave old a → first a b → may_leave mid b → second b c → both a c)
+      → ((a b : Image) → may_leave old a → first a b → both a b)
+      → ((a b c : Image) → may_leave old a → first a b → may_leave mid b → second b c → both a c)
       → Moments moment may_leave left_since old new both
   then_run old mid new first second both one two sooner later = record {
     later = omega (arith, one.later, two.later);
     now = λ c left. after c (two.now c left);
-    each = λ t c le left. ⊎_elim (λ past. ⊎_elim (λ gone. inl gone) (λ r. inr (before c r)) (one.each t c le past)) (λ r. inr (after c r))
+    each = λ t c le left. ⊎_elim (λ past. ⊎_elim (λ gone. inl gone) (λ r. inr (before c r)) (one.each t c le past))
+        (λ r. inr (after c r))
         (two.each t c (omega (arith, le, one.later)) left);
   }
     where
@@ -50,7 +57,11 @@ module _ {D : Type 0} (moment : D → ℕ) (may_leave : D → Image → Type 0) 
       after : (c : Image) → Reached (may_leave mid) second c → Reached (may_leave old) both c
       after c r =
           let start = one.now r.origin r.was in
-          record { origin = start.origin; was = start.was; how = later start.origin r.origin c start.was start.how r.was r.how }
+          record {
+            origin = start.origin;
+            was = start.was;
+            how = later start.origin r.origin c start.was start.how r.was r.how;
+          }
 
   -- a run, by what is known of the images at its start
   pub weaker : (old new : D) (fine coarse : Image → Image → Type 0) → Moments moment may_leave left_since old new fine
@@ -69,40 +80,49 @@ abbrev pub Same : Image → Image → Type 0
 Same old new = new ≡ old
 
 -- Calls that change nothing: what is read, and each image at each moment, is as before.
-pub record Quiet {D : Type 0} (seen : D → Image) (moment : D → ℕ) (may_leave : D → Image → Type 0) (left_since : D → ℕ → Image → Type 0)
+pub record Quiet {D : Type 0} (seen : D → Image) (moment : D → ℕ) (may_leave : D → Image → Type 0) (left_since : D → ℕ
+    → Image → Type 0)
     (old new : D) : Type 0 where
   pub reads : seen new ≡ seen old
   pub moments : Moments moment may_leave left_since old new Same
 
-module _ {D : Type 0} (seen : D → Image) (moment : D → ℕ) (may_leave : D → Image → Type 0) (left_since : D → ℕ → Image → Type 0) where
+module _ {D : Type 0} (seen : D → Image) (moment : D → ℕ) (may_leave : D → Image → Type 0) (left_since : D → ℕ → Image
+    → Type 0) where
   pub quiet_start : (disk : D) → Quiet seen moment may_leave left_since disk disk
   quiet_start disk = record { reads = refl; moments = no_call moment may_leave left_since disk Same (λ c left. refl) }
 
   pub quiet_call : (old new : D) → seen new ≡ seen old → ((c : Image) → may_leave new c → may_leave old c)
-      → Elapses (moment old) (moment new) (left_since old) (left_since new) (may_leave new) → Quiet seen moment may_leave left_since old new
+      → Elapses (moment old) (moment new) (left_since old) (left_since new) (may_leave new)
+      → Quiet seen moment may_leave left_since old new
   quiet_call old new reads images time = record {
     reads = reads;
-    moments = one_call moment may_leave left_since old new Same time (λ c left. record { origin = c; was = images c left; how = refl });
+    moments = one_call moment may_leave left_since old new Same time
+        (λ c left. record { origin = c; was = images c left; how = refl });
   }
 
-  pub quiet_then : (old mid new : D) → Quiet seen moment may_leave left_since old mid → Quiet seen moment may_leave left_since mid new
+  pub quiet_then : (old mid new : D) → Quiet seen moment may_leave left_since old mid
+      → Quiet seen moment may_leave left_since mid new
       → Quiet seen moment may_leave left_since old new
   quiet_then old mid new one two = record {
     reads = two.reads ∙ one.reads;
-    moments = then_run moment may_leave left_since old mid new Same Same Same one.moments two.moments (λ a b was same. same)
+    moments = then_run moment may_leave left_since old mid new Same Same Same one.moments two.moments
+        (λ a b was same. same)
         (λ a b c was first still second. second ∙ first);
   }
 
   -- each image after quiet calls is one from before them
-  pub quiet_images : (old new : D) → Quiet seen moment may_leave left_since old new → (c : Image) → may_leave new c → may_leave old c
+  pub quiet_images : (old new : D) → Quiet seen moment may_leave left_since old new → (c : Image) → may_leave new c
+      → may_leave old c
   quiet_images old new quiet c left =
       let from = quiet.moments.now c left in
       subst (may_leave old) (sym from.how) from.was
 
-module _ {D : Type 0} (moment : D → ℕ) (may_leave : D → Image → Type 0) (left_since : D → ℕ → Image → Type 0) (part : Part) (P : List ℕ → Type 0) where
+module _ {D : Type 0} (moment : D → ℕ) (may_leave : D → Image → Type 0) (left_since : D → ℕ → Image → Type 0)
+    (part : Part) (P : List ℕ → Type 0) where
   -- a call that changes nothing, where the file has P
   pub stays : (file : List ℕ) (old new : D) → OnlyIn part file (may_leave old) → P file
-      → Elapses (moment old) (moment new) (left_since old) (left_since new) (may_leave new) → ((c : Image) → may_leave new c → may_leave old c)
+      → Elapses (moment old) (moment new) (left_since old) (left_since new) (may_leave new)
+      → ((c : Image) → may_leave new c → may_leave old c)
       → Moments moment may_leave left_since old new (On part (λ _ f. P f))
   stays file old new only has time images =
       one_call moment may_leave left_since old new _ time
@@ -119,10 +139,14 @@ module _ {D : Type 0} (moment : D → ℕ) (may_leave : D → Image → Type 0) 
       → Moments moment may_leave left_since old new (On part (λ _ f. P f))
   first_step becomes file old new only run has =
       weaker moment may_leave left_since old new _ _ run
-      (λ a b was how. record { step = has (b part) (subst (λ (f : List ℕ). becomes f (b part)) (only a was) how.step); elsewhere = how.elsewhere })
+      (λ a b was how. record {
+        step = has (b part) (subst (λ (f : List ℕ). becomes f (b part)) (only a was) how.step);
+        elsewhere = how.elsewhere;
+      })
 
   -- the same, behind a run whose outcomes have P
-  pub then_step : (becomes : List ℕ → List ℕ → Type 0) (file : List ℕ) (old mid new : D) → Moments moment may_leave left_since old mid (On part (λ _ f. P f))
+  pub then_step : (becomes : List ℕ → List ℕ → Type 0) (file : List ℕ) (old mid new : D)
+      → Moments moment may_leave left_since old mid (On part (λ _ f. P f))
       → OnlyIn part file (may_leave mid) → Moments moment may_leave left_since mid new (On part becomes)
       → ((c : List ℕ) → becomes file c → P c) → Moments moment may_leave left_since old new (On part (λ _ f. P f))
   then_step becomes file old mid new one only two has = then_run moment may_leave left_since old mid new _ _ _ one two

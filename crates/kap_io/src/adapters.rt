@@ -38,8 +38,8 @@ impl<R: Read + Drop> Source for ReadSource<R> {
     }
 }
 
-/// A sink over std's writer. It tells the bytes that the writer tells, and counts each `Err` of it, and each write that takes
-/// nothing.
+/// A sink over std's writer. It tells the bytes that the writer tells, and counts each `Err` of it, and each
+/// write that takes nothing.
 #[derive(Drop)]
 pub struct WriteSink<W: Write + Drop> {
     writer: W,

@@ -8,7 +8,8 @@ use std::time::{Duration, SystemTime, UNIX_EPOCH};
 
 /// What tells the time.
 pub trait Clock {
-    /// The time of now, in nanoseconds from 1970-01-01T00:00:00Z on, within plus or minus 9,000,000,000,000,000,000.
+    /// The time of now, in nanoseconds from 1970-01-01T00:00:00Z on, within plus or minus
+    /// 9,000,000,000,000,000,000.
     fn now(&self) -> i64
         ensures { IsTrue (is_time result) };
 }
@@ -40,8 +41,8 @@ impl Clock for FixedClock {
     }
 }
 
-/// The clock of the system. A time outside the range is told as the end of the range that is next to it; where the clock can't be
-/// read, it tells 1970-01-01T00:00:00Z.
+/// The clock of the system. A time outside the range is told as the end of the range that is next to it;
+/// where the clock can't be read, it tells 1970-01-01T00:00:00Z.
 #[derive(Drop)]
 pub struct RealClock<C: time::Clock + Drop> {
     system: C,

@@ -12,12 +12,13 @@ use std::os::unix::fs::FileExt;
 use std::path::PathBuf;
 use std::{fs, io};
 
-/// A disk over the files `head`, `left` and `right` of a folder. It tells no contents. Its first call takes the exclusive lock of
-/// `head`, which is made where it isn't there, and holds it as long as the disk lives: so no two disks of this kind change a folder
-/// at a time, in one process or in two. Where another one has the lock each call fails. `left` or `right` that isn't there has size 0
-/// until the first write, cut or sync makes it. A folder that can't be used is a failed call, and so is a write that can't reach the
-/// disk. A sync reaches the disk, with data and length; the first one of a file also syncs the folder, so that the file can't vanish
-/// with the power. Each `Err` of the system is counted.
+/// A disk over the files `head`, `left` and `right` of a folder. It tells no contents. Its first call takes
+/// the exclusive lock of `head`, which is made where it isn't there, and holds it as long as the disk lives:
+/// so no two disks of this kind change a folder at a time, in one process or in two. Where another one has
+/// the lock each call fails. `left` or `right` that isn't there has size 0 until the first write, cut or sync
+/// makes it. A folder that can't be used is a failed call, and so is a write that can't reach the disk. A
+/// sync reaches the disk, with data and length; the first one of a file also syncs the folder, so that the
+/// file can't vanish with the power. Each `Err` of the system is counted.
 #[derive(Drop)]
 pub struct DirDisk<R: Files + Drop> {
     folder: Folder<R>,

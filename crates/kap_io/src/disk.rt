@@ -16,9 +16,10 @@ pub enum Part {
     Right,
 }
 
-/// Three files with one clock of moments. Between two syncs of a file a crash may leave any bytes in each range that was
-/// written and past the old end, and any length from the least to the greatest that the file had; the bytes outside stay. After a
-/// sync that succeeds it leaves what a read gives. `Failed` comes only where the count of faults rose in the call.
+/// Three files with one clock of moments. Between two syncs of a file a crash may leave any bytes in each
+/// range that was written and past the old end, and any length from the least to the greatest that the file
+/// had; the bytes outside stay. After a sync that succeeds it leaves what a read gives. `Failed` comes only
+/// where the count of faults rose in the call.
 pub trait Disk {
     /// Whether disks of this kind tell what a read gives and what a crash may leave.
     ghost tells: { Bool };
@@ -47,7 +48,8 @@ pub trait Disk {
             (left_since self.old) (left_since self.new) (may_leave self.new) }
         ensures cause { HasCause (faults self.old) (faults self.new) result };
 
-    /// Places bytes of a file from an offset on at the front of `buf`, and answers how many: 0 only at the file's end or past it.
+    /// Places bytes of a file from an offset on at the front of `buf`, and answers how many: 0 only at the
+    /// file's end or past it.
     fn read(&mut self, part: Part, at: u64, buf: &mut [u8]) -> Result<usize, Failed>
         requires { 0 < length buf.old }
         ensures bound { IfOk result (λ count. count ≤ length buf.new) }
@@ -58,8 +60,9 @@ pub trait Disk {
             (left_since self.old) (left_since self.new) (may_leave self.new) }
         ensures cause { HasCause (faults self.old) (faults self.new) result };
 
-    /// Writes all of these bytes at an offset, over what is there and past the end. A gap behind the old end reads as zeros.
-    /// After `Failed` the file reads as one of its images, and the other two are as they were.
+    /// Writes all of these bytes at an offset, over what is there and past the end. A gap behind the old end
+    /// reads as zeros. After `Failed` the file reads as one of its images, and the other two are as they
+    /// were.
     fn write_at(&mut self, part: Part, at: u64, piece: &[u8]) -> Result<(), Failed>
         ensures written { IsTrue tells
             → OnOk result (seen self.new part ≡ overwritten at piece.now (seen self.old part)) }
@@ -70,8 +73,8 @@ pub trait Disk {
             (left_since self.old) (left_since self.new) (may_leave self.new) }
         ensures cause { HasCause (faults self.old) (faults self.new) result };
 
-    /// Gives a file this length. A gap behind the old end reads as zeros. After `Failed` the file reads as one of its images, and
-    /// the other two are as they were.
+    /// Gives a file this length. A gap behind the old end reads as zeros. After `Failed` the file reads as
+    /// one of its images, and the other two are as they were.
     fn cut(&mut self, part: Part, size: u64) -> Result<(), Failed>
         ensures cut { IsTrue tells
             → OnOk result (seen self.new part ≡ resized size (seen self.old part)) }
@@ -82,7 +85,8 @@ pub trait Disk {
             (left_since self.old) (left_since self.new) (may_leave self.new) }
         ensures cause { HasCause (faults self.old) (faults self.new) result };
 
-    /// From its `Ok` on a crash leaves of this file what a read gives, until the file is written or cut again.
+    /// From its `Ok` on a crash leaves of this file what a read gives, until the file is written or cut
+    /// again.
     fn sync(&mut self, part: Part) -> Result<(), Failed>
         ensures durable { IsTrue tells
             → OnOk result (OnlyIn part (seen self.old part) (may_leave self.new)) }

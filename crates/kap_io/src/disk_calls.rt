@@ -73,8 +73,8 @@ impl DiskCalls {
         self.stop = Some(call);
     }
 
-    /// Counts a call and puts it on the record. It fails where it is one of those that fail, and else only where memory is
-    /// wanted for the record.
+    /// Counts a call and puts it on the record. It fails where it is one of those that fail, and else only
+    /// where memory is wanted for the record.
     pub(crate) fn admit(&mut self, part: Part, work: DiskWork) -> Result<(), Failed>
         ensures noted { Notes self.old.noted self.new.noted part work (is_err result) }
         ensures fails { IsTrue (is_next_failing self.old) → IsErr result }

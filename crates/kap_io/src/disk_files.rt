@@ -97,8 +97,8 @@ impl DiskFiles {
     }
 }
 
-/// Gives a file zeros up to this length, and says where the range of so many bytes from an offset on begins and ends in it. An
-/// `Err`, for want of memory, changes nothing.
+/// Gives a file zeros up to this length, and says where the range of so many bytes from an offset on begins
+/// and ends in it. An `Err`, for want of memory, changes nothing.
 fn make_room(file: &mut Vec<u8>, at: u64, count: usize) -> Result<(usize, usize), AllocError>
     ensures ok { OnOk result (file.new.items ≡ padded (at + count) file.old.items) }
     ensures range { IfOk result (λ range. (range.0 ≡ at) × (range.1 ≡ at + count)) }
@@ -115,7 +115,8 @@ fn make_room(file: &mut Vec<u8>, at: u64, count: usize) -> Result<(usize, usize)
     Ok((at, end))
 }
 
-/// Writes these bytes at an offset, over what is there and past the end. An `Err`, for want of memory, changes nothing.
+/// Writes these bytes at an offset, over what is there and past the end. An `Err`, for want of memory,
+/// changes nothing.
 pub(crate) fn overwrite(file: &mut Vec<u8>, at: u64, piece: &[u8]) -> Result<(), AllocError>
     ensures ok { OnOk result (file.new.items ≡ overwritten at piece.now file.old.items) }
     ensures err { OnErr result (file.new.items ≡ file.old.items) }

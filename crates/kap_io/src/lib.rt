@@ -1,6 +1,7 @@
-//! What the engine reads from and writes to: traits that say what was read and written, each with a count of its faults;
-//! fakes in memory for tests; and adapters over std's readers and writers. And a disk of three files, which says what a crash may
-//! leave of it, with its fake and the one over a folder; and clocks, and the gates that workers pass.
+//! What the engine reads from and writes to: traits that say what was read and written, each with a count of
+//! its faults; fakes in memory for tests; and adapters over std's readers and writers. And a disk of three
+//! files, which says what a crash may leave of it, with its fake and the one over a folder; and clocks, and
+//! the gates that workers pass.
 #![tactic(auto)]
 
 mod adapters;

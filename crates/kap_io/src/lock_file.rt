@@ -3,7 +3,8 @@ use std::io;
 
 /// A file that can be locked against each other handle of it, in this process or in another one.
 pub trait LockFile {
-    /// Takes the file's exclusive lock, without waiting. It is held until the handle is dropped. `false` where another handle has it.
+    /// Takes the file's exclusive lock, without waiting. It is held until the handle is dropped. `false`
+    /// where another handle has it.
     fn take_lock(&self) -> io::Result<bool>;
 }
 

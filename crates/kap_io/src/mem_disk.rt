@@ -19,8 +19,9 @@ use kap_base::{Bytes, NoMemory};
 use std::alloc::Global;
 use std::marker::Model;
 
-/// A disk in memory, which keeps a record of its calls, and fails at those that a list names. A call that fails does nothing.
-/// Where it finds no memory for a growth of its own, it counts a fault and answers `Failed`.
+/// A disk in memory, which keeps a record of its calls, and fails at those that a list names. A call that
+/// fails does nothing. Where it finds no memory for a growth of its own, it counts a fault and answers
+/// `Failed`.
 #[derive(Drop)]
 pub struct MemDisk {
     alloc: Global,
@@ -44,7 +45,8 @@ impl Model for MemDisk {
 }
 
 impl MemDisk {
-    /// Three empty files, with nothing pending. The calls with these numbers fail, the first call being number 1.
+    /// Three empty files, with nothing pending. The calls with these numbers fail, the first call being
+    /// number 1.
     pub fn new(alloc: Global, fails: Vec<u64>) -> Self
         ensures fails { (result.calls.fails ≡ fails.items) × (result.calls.stop ≡ None) }
         ensures no_calls { (result.calls.noted ≡ []) × (result.calls.count ≡ 0) }
@@ -75,8 +77,8 @@ impl MemDisk {
         self.calls.stop_at(call);
     }
 
-    /// The disk after a crash now, which may leave of the writes that aren't synced what is picked: a disk with nothing pending
-    /// and no failing calls.
+    /// The disk after a crash now, which may leave of the writes that aren't synced what is picked: a disk
+    /// with nothing pending and no failing calls.
     pub fn crashed(&self, pick: Pick) -> Result<MemDisk, NoMemory>
         ensures image { IfOk result (λ disk. leaves self.now (holds disk)) }
         ensures picked { IfOk result (λ disk. (part : Part) → holds disk part
@@ -128,7 +130,8 @@ impl Disk for MemDisk {
 
     ghost only_now = { λ d c _ left. memory_only_now d c left };
 
-    /// It fails where the call is one of those that fail, and else only where memory is wanted for the record.
+    /// It fails where the call is one of those that fail, and else only where memory is wanted for the
+    /// record.
     fn size(&mut self, part: Part) -> Result<u64, Failed>
         ensures size { IfOk result (λ size. size ≡ length (holds self.old part)) }
         ensures seen { holds self.new ≡ holds self.old }
@@ -146,8 +149,8 @@ impl Disk for MemDisk {
         Ok(self.files.get(part).len() as u64)
     }
 
-    /// It fails where the call is one of those that fail, and else only where memory is wanted for the record. Else it gives as
-    /// many bytes as there are and have room.
+    /// It fails where the call is one of those that fail, and else only where memory is wanted for the
+    /// record. Else it gives as many bytes as there are and have room.
     fn read(&mut self, part: Part, at: u64, buf: &mut [u8]) -> Result<usize, Failed>
         requires { 0 < length buf.old }
         ensures bound { IfOk result (λ count. count ≤ length buf.new) }
@@ -170,7 +173,8 @@ impl Disk for MemDisk {
         Ok(place(self.files.get(part), at, buf))
     }
 
-    /// It fails where the call is one of those that fail, and else only where memory is wanted for the record or the file.
+    /// It fails where the call is one of those that fail, and else only where memory is wanted for the record
+    /// or the file.
     fn write_at(&mut self, part: Part, at: u64, piece: &[u8]) -> Result<(), Failed>
         ensures written { OnOk result (holds self.new part
             ≡ overwritten at piece.now (holds self.old part)) }
@@ -202,7 +206,8 @@ impl Disk for MemDisk {
         }
     }
 
-    /// It fails where the call is one of those that fail, and else only where memory is wanted for the record or for a longer file.
+    /// It fails where the call is one of those that fail, and else only where memory is wanted for the record
+    /// or for a longer file.
     fn cut(&mut self, part: Part, size: u64) -> Result<(), Failed>
         ensures cut { OnOk result (holds self.new part ≡ resized size (holds self.old part)) }
         ensures elsewhere { Elsewhere part (holds self.old) (holds self.new) }
@@ -224,7 +229,8 @@ impl Disk for MemDisk {
         }
     }
 
-    /// It fails where the call is one of those that fail, and else only where memory is wanted for the record.
+    /// It fails where the call is one of those that fail, and else only where memory is wanted for the
+    /// record.
     fn sync(&mut self, part: Part) -> Result<(), Failed>
         ensures durable { OnOk result (OnlyIn part (holds self.old part) (leaves self.new)) }
         ensures seen { holds self.new ≡ holds self.old }

@@ -15,8 +15,8 @@ use crate::source::Source;
 use std::alloc::Global;
 use std::marker::Model;
 
-/// A connection in memory: it gives and takes a few bytes a call, and fails at the calls that a list names, reads and writes
-/// numbered together.
+/// A connection in memory: it gives and takes a few bytes a call, and fails at the calls that a list names,
+/// reads and writes numbered together.
 #[derive(Drop)]
 pub struct MemLink {
     source: MemSource,
@@ -46,8 +46,8 @@ impl Model for MemLink {
 }
 
 impl MemLink {
-    /// A connection over which these bytes come, at most `step` of them a call, which takes at most `step` bytes a call, and
-    /// fails at the calls with these numbers, the first call being number 1.
+    /// A connection over which these bytes come, at most `step` of them a call, which takes at most `step`
+    /// bytes a call, and fails at the calls with these numbers, the first call being number 1.
     pub fn new(alloc: Global, bytes: Vec<u8>, step: usize, fails: Vec<u64>) -> Self
         requires { 0 < step }
         ensures fails { result.fails ≡ fails.items }
@@ -85,8 +85,8 @@ impl Link for MemLink {
 
     ghost write_faults = { λ l. l.write_faults };
 
-    /// It fails exactly where the number of the call is listed. Else it gives as many bytes as its step, what is left and the
-    /// buffer allow.
+    /// It fails exactly where the number of the call is listed. Else it gives as many bytes as its step, what
+    /// is left and the buffer allow.
     fn read(&mut self, buf: &mut [u8]) -> Result<usize, Failed>
         requires { 0 < length buf.old }
         ensures bound { ReadsAtMost result buf.new }
@@ -113,8 +113,8 @@ impl Link for MemLink {
         }
     }
 
-    /// It fails where the number of the call is listed, and else only where it has no room for what it takes and finds no
-    /// memory. What it takes is a prefix of the piece, as long as its step allows.
+    /// It fails where the number of the call is listed, and else only where it has no room for what it takes
+    /// and finds no memory. What it takes is a prefix of the piece, as long as its step allows.
     fn write(&mut self, piece: &[u8]) -> Result<usize, Failed>
         requires { 0 < length piece.now }
         ensures bound { TakesSome result piece.now }

@@ -10,8 +10,8 @@ use crate::sink::Sink;
 use std::alloc::Global;
 use std::marker::Model;
 
-/// A sink in memory, which takes a few bytes a call, and fails at the calls that a list names. Where it finds no memory for
-/// what it takes, it counts a fault and answers `Failed`.
+/// A sink in memory, which takes a few bytes a call, and fails at the calls that a list names. Where it finds
+/// no memory for what it takes, it counts a fault and answers `Failed`.
 #[derive(Drop)]
 pub struct MemSink {
     bytes: Vec<u8>,
@@ -40,8 +40,8 @@ impl Model for MemSink {
 }
 
 impl MemSink {
-    /// An empty sink, which takes at most `step` bytes a call, and fails at the calls with these numbers, the first call being
-    /// number 1.
+    /// An empty sink, which takes at most `step` bytes a call, and fails at the calls with these numbers, the
+    /// first call being number 1.
     pub fn new(alloc: Global, step: usize, fails: Vec<u64>) -> Self
         requires { 0 < step }
         ensures made { (result.step ≡ step) × (result.fails ≡ fails.items) × (result.calls ≡ 0) }
@@ -71,8 +71,8 @@ impl Sink for MemSink {
 
     ghost faults = { λ s. s.faults };
 
-    /// It fails where the number of the call is listed, and else only where it has no room for what it takes and finds no
-    /// memory. What it takes is a prefix of the piece, as long as its step allows.
+    /// It fails where the number of the call is listed, and else only where it has no room for what it takes
+    /// and finds no memory. What it takes is a prefix of the piece, as long as its step allows.
     fn write(&mut self, piece: &[u8]) -> Result<usize, Failed>
         requires { 0 < length piece.now }
         ensures bound { TakesSome result piece.now }

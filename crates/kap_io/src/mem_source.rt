@@ -38,8 +38,8 @@ impl Model for MemSource {
 }
 
 impl MemSource {
-    /// A source of these bytes, which gives at most `step` of them a call, and fails at the calls with these numbers, the
-    /// first call being number 1.
+    /// A source of these bytes, which gives at most `step` of them a call, and fails at the calls with these
+    /// numbers, the first call being number 1.
     pub fn new(_alloc: Global, bytes: Vec<u8>, step: usize, fails: Vec<u64>) -> Self
         requires { 0 < step }
         ensures state { result ≡ record {
@@ -68,8 +68,8 @@ impl Source for MemSource {
 
     ghost faults = { λ s. s.faults };
 
-    /// It fails exactly where the number of the call is listed. Else it gives as many bytes as its step, what is left and the
-    /// buffer allow.
+    /// It fails exactly where the number of the call is listed. Else it gives as many bytes as its step, what
+    /// is left and the buffer allow.
     fn read(&mut self, buf: &mut [u8]) -> Result<usize, Failed>
         requires { 0 < length buf.old }
         ensures bound { ReadsAtMost result buf.new }

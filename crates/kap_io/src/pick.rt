@@ -5,6 +5,7 @@ pub enum Pick {
     Old,
     /// All: each file holds what a read gives.
     New,
-    /// Other bytes: each file holds what a read gives, with each byte that was written since its last sync replaced by this one.
+    /// Other bytes: each file holds what a read gives, with each byte that was written since its last sync
+    /// replaced by this one.
     Fill(u8),
 }

@@ -13,8 +13,9 @@ pub trait Sink {
     /// How often it has failed; a count at 2^64 - 1 stays there.
     ghost faults: { Self → ℕ };
 
-    /// Takes a prefix of the piece, and answers how many bytes that is, 1 at least. A device that takes nothing has failed.
-    /// `Failed` comes only where the count of faults rose in this call, and then nothing is taken.
+    /// Takes a prefix of the piece, and answers how many bytes that is, 1 at least. A device that takes
+    /// nothing has failed. `Failed` comes only where the count of faults rose in this call, and then nothing
+    /// is taken.
     fn write(&mut self, piece: &[u8]) -> Result<usize, Failed>
         requires { 0 < length piece.now }
         ensures bound { TakesSome result piece.now }
@@ -22,8 +23,8 @@ pub trait Sink {
         ensures cause { HasCause (faults self.old) (faults self.new) result };
 }
 
-/// Writes all of these bytes, in as many pieces as the sink wants. After `Failed`, which comes only where the sink's count of
-/// faults rose in this call, a prefix of them is written.
+/// Writes all of these bytes, in as many pieces as the sink wants. After `Failed`, which comes only where the
+/// sink's count of faults rose in this call, a prefix of them is written.
 pub fn write_all<K: Sink>(sink: &mut K, bytes: &[u8]) -> Result<(), Failed>
     ensures ok { OnOk result (Appends (K.written sink.old) (K.written sink.new) bytes.now) }
     ensures err { OnErr result (AppendsPrefix (K.written sink.old) (K.written sink.new) bytes.now) }

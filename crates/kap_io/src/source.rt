@@ -13,8 +13,8 @@ pub trait Source {
     /// How often it has failed; a count at 2^64 - 1 stays there.
     ghost faults: { Self → ℕ };
 
-    /// Reads the next bytes to the front of `buf`, and answers how many: 0 only at the end. `Failed` comes only where the
-    /// count of faults rose in this call, and then no byte is taken.
+    /// Reads the next bytes to the front of `buf`, and answers how many: 0 only at the end. `Failed` comes
+    /// only where the count of faults rose in this call, and then no byte is taken.
     fn read(&mut self, buf: &mut [u8]) -> Result<usize, Failed>
         requires { 0 < length buf.old }
         ensures bound { ReadsAtMost result buf.new }

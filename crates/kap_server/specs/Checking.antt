@@ -30,14 +30,15 @@ WritesForm text w v = (form : List ℕ) × HasForm text form × Appends w v form
 abbrev pub WritesFormPrefix : List ℕ → Option (List ℕ) → Option (List ℕ) → Type 0
 WritesFormPrefix text w v = (form : List ℕ) × HasForm text form × AppendsPrefix w v form
 
--- By the status, where `refused` is the pattern that was refused last, s and t are what was left of the input before and after, and
--- w and v what was written: at Ok the input is a task's script and its canonical form was appended; at a fault of the script that is
--- its first one; else it is too long or couldn't be read to its end, and then nothing was appended; after a write fault a prefix of
--- the form was.
+-- By the status, where `refused` is the pattern that was refused last, s and t are what was left of the input before
+-- and after, and w and v what was written: at Ok the input is a task's script and its canonical form was appended; at a
+-- fault of the script that is its first one; else it is too long or couldn't be read to its end, and then nothing was
+-- appended; after a write fault a prefix of the form was.
 abbrev pub Checked : List ℕ → Status → Option (List ℕ) → Option (List ℕ) → Option (List ℕ) → Option (List ℕ) → Type 0
 Checked refused Ok s t w v = IfSome s (λ text. WritesForm text w v)
 Checked refused Usage s t w v = ⊥
-Checked refused (Script fault) s t w v = IfSome s (λ text. IsShort text × Refuses (refusal_in fault refused) text fault) × Keeps w v
+Checked refused (Script fault) s t w v =
+    IfSome s (λ text. IsShort text × Refuses (refusal_in fault refused) text fault) × Keeps w v
 Checked refused (Line n fault) s t w v = ⊥
 Checked refused (Truncated n) s t w v = ⊥
 Checked refused (NotStore part offset) s t w v = ⊥

@@ -57,7 +57,8 @@ AsksForTasks words = request_in words ≡ Some Tasks
 
 -- the answer is this status, unless memory ran out or a device failed
 abbrev pub IsUnlessFailed : Status → Status → Type 0
-IsUnlessFailed result status = (result ≡ status) ⊎ ((result ≡ NoMemory) ⊎ ((result ≡ ReadFault) ⊎ (result ≡ WriteFault)))
+IsUnlessFailed result status =
+    (result ≡ status) ⊎ ((result ≡ NoMemory) ⊎ ((result ≡ ReadFault) ⊎ (result ≡ WriteFault)))
 
 -- the answer is this status, unless memory ran out or the disk failed
 abbrev pub IsUnlessDiskFailed : Status → Status → Type 0

@@ -24,7 +24,8 @@ pub record GoesOn (a b : ReaderState) (t u : Option (List ℕ)) (points : List P
   pub few : length b.given ≤ RECORDING_LIMIT
 
 -- behind the points the reader gave none, for this reason
-pub record StopsBehind (a b : ReaderState) (t u : Option (List ℕ)) (points : List PointValue) (why : ReaderState → ReaderState → Type 0) : Type 0 where
+pub record StopsBehind (a b : ReaderState) (t u : Option (List ℕ)) (points : List PointValue) (why : ReaderState
+    → ReaderState → Type 0) : Type 0 where
   pub last : ReaderState
   pub left : Option (List ℕ)
   pub gave : GavePoints a last t left points

@@ -13,8 +13,8 @@ use Rattle.kap_server.specs.Pairs.{AreTasks, task_names}
 use Rattle.kap_server.specs.Runs.{RanOut, RefusesPairs, lives_from}
 use Rattle.kap_server.specs.Words.{Pair}
 
--- By the status, where w and v are what was written before and after: at Ok the text was appended; after a write fault, and after want
--- of memory, a prefix of it.
+-- By the status, where w and v are what was written before and after: at Ok the text was appended; after a write fault,
+-- and after want of memory, a prefix of it.
 abbrev pub WritesText : List ℕ → Status → Option (List ℕ) → Option (List ℕ) → Type 0
 WritesText text Ok w v = Appends w v text
 WritesText text Usage w v = ⊥
@@ -30,15 +30,19 @@ WritesText text ReadFault w v = ⊥
 WritesText text WriteFault w v = AppendsPrefix w v text
 WritesText text DiskFault w v = ⊥
 
--- the pairs are tasks, which run in lives numbered from 1, and the summary of what they make of the first n points of the sample
--- recording was written, as the status says
-pub record SumsTasks {P : Type 0} (answer : P → Answer) (planned : Planned P) (n : ℕ) (pairs : List Pair) (result : Status) (w v : Option (List ℕ)) : Type 0 where
+-- the pairs are tasks, which run in lives numbered from 1, and the summary of what they make of the first n points of
+-- the sample recording was written, as the status says
+pub record SumsTasks {P : Type 0} (answer : P → Answer) (planned : Planned P) (n : ℕ) (pairs : List Pair)
+    (result : Status) (w v : Option (List ℕ)) : Type 0 where
   pub tasks : List Task
   pub are : AreTasks [] pairs tasks
-  pub written : WritesText (summary answer (task_names pairs tasks) (lives_from planned 1 pairs tasks) (samples n)) result w v
+  pub written : WritesText
+      (summary answer (task_names pairs tasks) (lives_from planned 1 pairs tasks) (samples n)) result w v
 
--- What stands after `gen` for pairs: their summary was written, as the status says; or the first pair that is no task is refused, or
--- memory ran out, and nothing was written. `refused` is the pattern that was refused last.
-abbrev pub Summed : {P : Type 0} → (P → Answer) → Planned P → List ℕ → ℕ → List Pair → Status → Option (List ℕ) → Option (List ℕ) → Type 0
+-- What stands after `gen` for pairs: their summary was written, as the status says; or the first pair that is no task
+-- is refused, or memory ran out, and nothing was written. `refused` is the pattern that was refused last.
+abbrev pub Summed : {P : Type 0} → (P → Answer) → Planned P → List ℕ → ℕ → List Pair → Status → Option (List ℕ)
+    → Option (List ℕ) → Type 0
 Summed answer planned refused n pairs result w v =
-    SumsTasks answer planned n pairs result w v ⊎ (RefusesPairs refused pairs result None None w v ⊎ RanOut result None None w v)
+    SumsTasks answer planned n pairs result w v
+    ⊎ (RefusesPairs refused pairs result None None w v ⊎ RanOut result None None w v)

@@ -23,9 +23,10 @@ tasks_text rs = flat_map task_line (held rs).tasks
 abbrev pub IsTextOf : Image → List Rec → List ℕ → Type 0
 IsTextOf files rs text = Stands rs files × (text ≡ tasks_text rs)
 
--- By the status, where the files read so, and w and v are what was written before and after: at Ok the files stand for a store, and the
--- lines of its tasks were appended; at NotStore they stand for none, told at its place, and nothing was appended; nor was it where the
--- disk failed or memory ran out; after a write fault a prefix of the lines was. `told` says that the disk tells its files.
+-- By the status, where the files read so, and w and v are what was written before and after: at Ok the files stand for
+-- a store, and the lines of its tasks were appended; at NotStore they stand for none, told at its place, and nothing
+-- was appended; nor was it where the disk failed or memory ran out; after a write fault a prefix of the lines was.
+-- `told` says that the disk tells its files.
 abbrev pub Listed : Type 0 → Status → Image → Option (List ℕ) → Option (List ℕ) → Type 0
 Listed told Ok files w v = told → (rs : List Rec) × Stands rs files × Appends w v (tasks_text rs)
 Listed told (NotStore part offset) files w v = (told → IsNoStore files part offset) × Keeps w v

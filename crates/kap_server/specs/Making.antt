@@ -21,9 +21,9 @@ HeadOrNot file (Err stores.DiskFault) = ⊤
 HeadOrNot file (Err stores.NoMemory) = ⊤
 HeadOrNot file (Err fault) = ⊥
 
--- By the status, where the files read as `old` before and as `new` behind, and a crash leaves these images then: at Ok no head stood
--- there, and the files and each image stand for a store of no records; at Exists a head stood there; else the disk failed or memory ran
--- out. `told` says that the disk tells its files.
+-- By the status, where the files read as `old` before and as `new` behind, and a crash leaves these images then: at Ok
+-- no head stood there, and the files and each image stand for a store of no records; at Exists a head stood there; else
+-- the disk failed or memory ran out. `told` says that the disk tells its files.
 abbrev pub Made : Type 0 → Status → Image → Image → (Image → Type 0) → Type 0
 Made told statuses.Ok old new images = told → HasNoHead (old Head) × IsMade new images
 Made told statuses.Exists old new images = told → HasHead (old Head)

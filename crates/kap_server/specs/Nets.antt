@@ -14,8 +14,10 @@ use Rattle.kap_server.specs.Runs.{lives_from}
 use Rattle.kap_server.specs.Words.{Pair}
 
 module _ {N P S : Type 0} (g : Ghosts N P S) where
-  -- there is a net of these lives, at rest, and each of its edges has carried, barriers aside, what its parent gives out for these points
-  pub record HoldsNet (lives : List (List (Placed P))) (points : List PointValue) (ran : Option (NetValue N)) : Type 0 where
+  -- there is a net of these lives, at rest, and each of its edges has carried, barriers aside, what its parent gives
+  -- out for these points
+  pub record HoldsNet (lives : List (List (Placed P))) (points : List PointValue)
+      (ran : Option (NetValue N)) : Type 0 where
     pub net : NetValue N
     pub is : ran ≡ Some net
     pub carried : HasCarried g lives points net
@@ -30,14 +32,17 @@ module _ {N P S : Type 0} (g : Ghosts N P S) where
   HoldsNetOf lives None ran = HoldsSomeNet lives ran
   HoldsNetOf lives (Some input) ran = HoldsNet lives (reading_of input).points ran
 
-  -- the pairs are tasks, and there is such a net of their lives, which are numbered from 1, for the points that the input gives
-  pub record HoldsNetOfTasks (planned : Planned P) (pairs : List Pair) (input : Option (List ℕ)) (ran : Option (NetValue N)) : Type 0 where
+  -- the pairs are tasks, and there is such a net of their lives, which are numbered from 1, for the points that the
+  -- input gives
+  pub record HoldsNetOfTasks (planned : Planned P) (pairs : List Pair) (input : Option (List ℕ))
+      (ran : Option (NetValue N)) : Type 0 where
     pub tasks : List Task
     pub are : AreTasks [] pairs tasks
     pub holds : HoldsNetOf (lives_from planned 1 pairs tasks) input ran
 
   -- the same for the first n points of the sample recording
-  pub record HoldsNetOfSamples (planned : Planned P) (pairs : List Pair) (n : ℕ) (ran : Option (NetValue N)) : Type 0 where
+  pub record HoldsNetOfSamples (planned : Planned P) (pairs : List Pair) (n : ℕ)
+      (ran : Option (NetValue N)) : Type 0 where
     pub tasks : List Task
     pub are : AreTasks [] pairs tasks
     pub holds : HoldsNet (lives_from planned 1 pairs tasks) (samples n) ran

@@ -24,7 +24,8 @@ ids_of names = map (λ task. task.id) names
 
 module _ {N P S : Type 0} (spec : N → P) (state : N → S) (first : P → S) (planned : Planned P) where
   -- a task was put behind others, as it runs in this life
-  pub record PutsTask (life : ℕ) (id : List ℕ) (task : Task) (names names_after : List TaskNames) (plans plans_after : List (PlanValue N)) : Type 0 where
+  pub record PutsTask (life : ℕ) (id : List ℕ) (task : Task) (names names_after : List TaskNames)
+      (plans plans_after : List (PlanValue N)) : Type 0 where
     pub plan : PlanValue N
     pub made : graph_of spec plan ≡ nodes_from planned id life 0 task.graph
     pub begins : AreFirstNodes spec state first plan.nodes
@@ -33,13 +34,15 @@ module _ {N P S : Type 0} (spec : N → P) (state : N → S) (first : P → S) (
     pub plans_are : plans_after ≡ plans ++ plan ∷ []
 
   -- the task of a pair was made ready for this life, behind others
-  pub record AddsTask (life : ℕ) (pair : Pair) (names names_after : List TaskNames) (plans plans_after : List (PlanValue N)) : Type 0 where
+  pub record AddsTask (life : ℕ) (pair : Pair) (names names_after : List TaskNames)
+      (plans plans_after : List (PlanValue N)) : Type 0 where
     pub task : Task
     pub is : IsTask (ids_of names) pair task
     pub puts : PutsTask life pair.id task names names_after plans plans_after
 
   -- the tasks of pairs were made ready for lives from this one on, one after the other, behind others
-  pub record AddsTasks (life : ℕ) (pairs : List Pair) (names names_after : List TaskNames) (plans plans_after : List (PlanValue N)) : Type 0 where
+  pub record AddsTasks (life : ℕ) (pairs : List Pair) (names names_after : List TaskNames)
+      (plans plans_after : List (PlanValue N)) : Type 0 where
     pub tasks : List Task
     pub are : AreTasks (ids_of names) pairs tasks
     pub names_are : names_after ≡ names ++ task_names pairs tasks

@@ -29,7 +29,8 @@ due_of text rest points Undecided = text points
 -- a prefix of what is due of the whole input was appended
 abbrev pub WritesPrefix : TextOf → TextOf → Option (List ℕ) → Option (List ℕ) → Option (List ℕ) → Type 0
 WritesPrefix text rest None w v = Unit {0}
-WritesPrefix text rest (Some input) w v = AppendsPrefix w v (due_of text rest (reading_of input).points (reading_of input).stop)
+WritesPrefix text rest (Some input) w v =
+    AppendsPrefix w v (due_of text rest (reading_of input).points (reading_of input).stop)
 
 -- the bytes that were read don't decide how reading goes on, and the text of the points in them was appended
 pub record WritesSoFar (text : TextOf) (s t w v : Option (List ℕ)) : Type 0 where
@@ -38,11 +39,12 @@ pub record WritesSoFar (text : TextOf) (s t w v : Option (List ℕ)) : Type 0 wh
   pub undecided : (reading_so_far got).stop ≡ Undecided
   pub written : Appends w v (text (reading_so_far got).points)
 
--- By the status, where s and t are what was left of the input before and after, and w and v what was written: at Ok the input
--- ends between two groups, and the text of its points was appended, and then the rest; at a fault of the input that is its first
--- fault, and the text of the points before it was appended; after a read fault that of the points that were read; after a write
--- fault, and after want of memory, a prefix of what is due.
-abbrev pub Replayed : TextOf → TextOf → Status → Option (List ℕ) → Option (List ℕ) → Option (List ℕ) → Option (List ℕ) → Type 0
+-- By the status, where s and t are what was left of the input before and after, and w and v what was written: at Ok the
+-- input ends between two groups, and the text of its points was appended, and then the rest; at a fault of the input
+-- that is its first fault, and the text of the points before it was appended; after a read fault that of the points
+-- that were read; after a write fault, and after want of memory, a prefix of what is due.
+abbrev pub Replayed : TextOf → TextOf → Status → Option (List ℕ) → Option (List ℕ) → Option (List ℕ) → Option (List ℕ)
+    → Type 0
 Replayed text rest Ok s t w v = Writes (λ points. text points ++ rest points) s w v Ended
 Replayed text rest Usage s t w v = ⊥
 Replayed text rest (Script fault) s t w v = ⊥

@@ -14,8 +14,9 @@ pub record Pair : Type 0 where
   pub id : List ℕ
   pub script : List ℕ
 
--- what the words of a command line ask for: to check a script; to replay a recording for these tasks, so as options say; to
--- write the sample recording of so many points, or the summary of its replay for these tasks; to make a store; or to list the tasks of one
+-- what the words of a command line ask for: to check a script; to replay a recording for these tasks, so as options
+-- say; to write the sample recording of so many points, or the summary of its replay for these tasks; to make a store;
+-- or to list the tasks of one
 pub data Request : Type 0 where
   Check : Request
   Replay : (options : ReplayOptions) (pairs : List Pair) → Request
@@ -53,14 +54,15 @@ are_pairs (id ∷ script ∷ words) = is_task_id id && are_pairs words
 abbrev pub request_of_pairs : ReplayOptions → List (List ℕ) → Option Request
 request_of_pairs options words = if are_pairs words then Some (Replay options (pairs_of words)) else None
 
--- The same with further options before it, each at most once: `--counts`, or another one with its value. The first id is no word
--- that begins as an option does.
+-- The same with further options before it, each at most once: `--counts`, or another one with its value. The first id
+-- is no word that begins as an option does.
 abbrev pub replay_request : ReplayOptions → List (List ℕ) → Option Request
 replay_request options [] = None
 replay_request options (word ∷ []) = if is_option word then None else request_of_pairs options (word ∷ [])
 replay_request options (word ∷ value ∷ words) =
     if not (is_option word) then request_of_pairs options (word ∷ value ∷ words) else
-    if bytes_eq word (codes "--counts") then option_and_then (λ o. replay_request o (value ∷ words)) (with_counts options)
+    if bytes_eq word (codes "--counts")
+    then option_and_then (λ o. replay_request o (value ∷ words)) (with_counts options)
     else option_and_then (λ o. replay_request o words) (with_value options word value)
 
 -- the sample recording of so many points, where no words stand behind the number, else `ID SCRIPT [ID SCRIPT]..`
@@ -129,7 +131,8 @@ runs_net (Some (Summarize n pairs)) = true
 runs_net (Some Init) = false
 runs_net (Some Tasks) = false
 
--- the options that a request gives are within their limits, and a number of points is one that a sample recording can have
+-- the options that a request gives are within their limits, and a number of points is one that a sample recording can
+-- have
 abbrev pub IsWithinLimits : LentRequest → Type 0
 IsWithinLimits lent.Check = ⊤
 IsWithinLimits (lent.Replay options words) = AreWithinLimits options

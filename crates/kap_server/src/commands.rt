@@ -107,27 +107,30 @@ fn replay_pairs<
 
 /// Does what the words of the command line ask for (this project; after Kapacitor 1.6's `replay`):
 ///
-/// - `check`: it reads a script from the input, and writes its canonical form, where it is a task's. A script has at most 65,536
-///   bytes.
-/// - `replay [--workers W] [--capacity C] [--schedule N] [--counts] ID SCRIPT [ID SCRIPT]..`, where each ID names a task (1 to 64 ASCII letters,
-///   digits, `_`, `-` and `.`; the first doesn't begin with `--`), and SCRIPT is the task's script: it reads a recording from the
-///   input, and writes the lines of the points that the tasks log and of the changes of level of their alerts, in order of the
-///   points that caused them, then of the tasks, then of their nodes; behind them, with `--counts`, how many points each node
-///   dropped. There are at most 64 tasks. The points go through a net of the nodes, whose edges have room for C messages, from 1 to
-///   65,536, or 64. W workers in threads move it, from 1 to 64, or one a task and at most 4; with `--schedule` one thread does, in
-///   the order that N gives, from 0 to 4,294,967,295. What is written is the same for each W, C and N. The options stand in any
-///   order, each at most once.
-/// - `gen N`: it writes the sample recording of N points, from 1 to 1,000,000: a point a second, of one of eight hosts in turn.
-/// - `gen N ID SCRIPT [ID SCRIPT]..`: it writes a summary of a replay of this recording: the numbers of points, of lines of logged
-///   points and of lines of changes of level, and how many bytes these lines have. Workers move the net, one a task and at most 4.
-/// - `init`: it makes an empty store on the disk, where no head of one stands there. After DiskFault and NoMemory nothing is known
-///   of the files, unless a head stood there: then they are as they were.
-/// - `tasks`: it writes a line `ID enabled` or `ID disabled` for each task of the store on the disk, in byte order of their ids, and
-///   changes nothing.
+/// - `check`: it reads a script from the input, and writes its canonical form, where it is a task's. A script
+///   has at most 65,536 bytes.
+/// - `replay [--workers W] [--capacity C] [--schedule N] [--counts] ID SCRIPT [ID SCRIPT]..`, where each ID
+///   names a task (1 to 64 ASCII letters, digits, `_`, `-` and `.`; the first doesn't begin with `--`), and
+///   SCRIPT is the task's script: it reads a recording from the input, and writes the lines of the points
+///   that the tasks log and of the changes of level of their alerts, in order of the points that caused them,
+///   then of the tasks, then of their nodes; behind them, with `--counts`, how many points each node dropped.
+///   There are at most 64 tasks. The points go through a net of the nodes, whose edges have room for C
+///   messages, from 1 to 65,536, or 64. W workers in threads move it, from 1 to 64, or one a task and at most
+///   4; with `--schedule` one thread does, in the order that N gives, from 0 to 4,294,967,295. What is
+///   written is the same for each W, C and N. The options stand in any order, each at most once.
+/// - `gen N`: it writes the sample recording of N points, from 1 to 1,000,000: a point a second, of one of
+///   eight hosts in turn.
+/// - `gen N ID SCRIPT [ID SCRIPT]..`: it writes a summary of a replay of this recording: the numbers of
+///   points, of lines of logged points and of lines of changes of level, and how many bytes these lines have.
+///   Workers move the net, one a task and at most 4.
+/// - `init`: it makes an empty store on the disk, where no head of one stands there. After DiskFault and
+///   NoMemory nothing is known of the files, unless a head stood there: then they are as they were.
+/// - `tasks`: it writes a line `ID enabled` or `ID disabled` for each task of the store on the disk, in byte
+///   order of their ids, and changes nothing.
 ///
-/// `now` is the time of now, in nanoseconds from 1970-01-01T00:00:00Z on; no command uses it yet. `rt` makes the threads of workers,
-/// and each of them passes `gate` before each of its turns. `ran` is None; at Ok of a replay, and of a `gen` for tasks, it is the net
-/// through which the points went.
+/// `now` is the time of now, in nanoseconds from 1970-01-01T00:00:00Z on; no command uses it yet. `rt` makes
+/// the threads of workers, and each of them passes `gate` before each of its turns. `ran` is None; at Ok of a
+/// replay, and of a `gen` for tasks, it is the net through which the points went.
 pub fn command<
     S: Source,
     K: Sink,
@@ -169,34 +172,35 @@ pub fn command<
         → AsksToCheck (map string_bytes words.now) → S.left input.old ≡ Some text
         → ChecksTo (refusal_of result (P.refused pats.new)) text status
         → IsUnlessFailed result status }
-    // Of a replay the text of what the nodes give for the points is written, as the status says, however many workers, or in
-    // whatever order, move the net, and whatever its capacity; or the first pair that is no task is refused, before
-    // anything is read or written.
+    // Of a replay the text of what the nodes give for the points is written, as the status says, however many
+    // workers, or in whatever order, move the net, and whatever its capacity; or the first pair that is no
+    // task is refused, before anything is read or written.
     ensures ran { (options : ReplayOptions) (pairs : List Pair)
         → AsksToReplay (map string_bytes words.now) options pairs
         → Ran N.answer N.planned (P.refused pats.new) options.counts pairs result
         (S.left input.old) (S.left input.new) (K.written out.old) (K.written out.new) }
-    // Of tasks its status is Ok where the input is a recording, and else that of its first fault, unless memory ran out, a
-    // device failed, or a pattern was refused.
+    // Of tasks its status is Ok where the input is a recording, and else that of its first fault, unless
+    // memory ran out, a device failed, or a pattern was refused.
     ensures status { (options : ReplayOptions) (pairs : List Pair) (tasks : List Task)
         (bytes : List ℕ)
         → AsksToReplay (map string_bytes words.now) options pairs → AreTasks [] pairs tasks
         → S.left input.old ≡ Some bytes → is_pattern_refused result ≡ false
         → IsUnlessFailed result (status_at (reading_of bytes).stop) }
-    // Where some pair is no task its status says why the first of them is none, unless memory ran out or a pattern was
-    // refused.
+    // Where some pair is no task its status says why the first of them is none, unless memory ran out or a
+    // pattern was refused.
     ensures refused { (options : ReplayOptions) (pairs : List Pair) (status : Status)
         → AsksToReplay (map string_bytes words.now) options pairs → AreNoTasks None [] pairs status
         → is_pattern_refused result ≡ false → (result ≡ status) ⊎ (result ≡ Status.NoMemory) }
-    // At Ok there is a net at rest, whose lives are those of the tasks, and each of its edges has carried what its parent gives
-    // out for the points of the recording.
+    // At Ok there is a net at rest, whose lives are those of the tasks, and each of its edges has carried
+    // what its parent gives out for the points of the recording.
     ensures net { (options : ReplayOptions) (pairs : List Pair)
         → AsksToReplay (map string_bytes words.now) options pairs → result ≡ Status.Ok
         → HoldsNetOfTasks N.Node N.planned pairs (S.left input.old) ran.new }
     // Of `gen` alone the sample recording is written, as the status says.
     ensures generated { (n : ℕ) → AsksToGenerate (map string_bytes words.now) n
         → WritesText (sample_text n) result (K.written out.old) (K.written out.new) }
-    // Of `gen` for tasks the summary of its replay is; or the first pair that is no task is refused, before anything is written.
+    // Of `gen` for tasks the summary of its replay is; or the first pair that is no task is refused, before
+    // anything is written.
     ensures summed { (n : ℕ) (pairs : List Pair) → AsksToSummarize (map string_bytes words.now) n pairs
         → Summed N.answer N.planned (P.refused pats.new) n pairs result
         (K.written out.old) (K.written out.new) }
@@ -219,7 +223,8 @@ pub fn command<
     ensures kept { AsksToInit (map string_bytes words.now) → IsTrue D.tells
         → HasHead (D.seen disk.old Part.Head)
         → Quiet D.seen D.moment D.may_leave D.left_since disk.old disk.new }
-    // Of `tasks` the lines of the tasks are written, or the place is told at which the files stand for no store.
+    // Of `tasks` the lines of the tasks are written, or the place is told at which the files stand for no
+    // store.
     ensures listed { AsksForTasks (map string_bytes words.now)
         → Listed (IsTrue D.tells) result (D.seen disk.old)
         (K.written out.old) (K.written out.new) }
@@ -244,7 +249,8 @@ pub fn command<
     // At Ok the input was read to its end, where the command reads it.
     ensures read { reads_input (request_in (map string_bytes words.now)) ≡ true
         → result ≡ Status.Ok → HasEnded (S.left input.old) (S.left input.new) }
-    // A fault of the input, the output or the disk comes only where its count rose in this call, and so does a refused pattern.
+    // A fault of the input, the output or the disk comes only where its count rose in this call, and so does
+    // a refused pattern.
     ensures read_fault { result ≡ Status.ReadFault
         → HasRisen (S.faults input.old) (S.faults input.new) }
     ensures write_fault { result ≡ Status.WriteFault

@@ -50,7 +50,8 @@ fn write_text<K: Sink>(out: &mut K, text: &[u8]) -> Status
     }
 }
 
-/// Writes the summary of what the tasks of these words make of the sample recording of so many points, by workers.
+/// Writes the summary of what the tasks of these words make of the sample recording of so many points, by
+/// workers.
 pub(crate) fn write_summary<
     K: Sink,
     P: Patterns,

@@ -1,4 +1,5 @@
-//! Each text is checked to one status, pairs are tasks or not, and the limits are these numbers: laws, and no code.
+//! Each text is checked to one status, pairs are tasks or not, and the limits are these numbers: laws, and no
+//! code.
 
 ghost use Rattle.std.specs.Prelude.{◌≡◌, ◌⊎◌, ◌≤◌, ◌^◌, ℕ, List, Option, None};
 ghost use Rattle.edge_queue.specs.declared.TheConstants.{CAPACITY_LIMIT};

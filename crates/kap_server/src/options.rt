@@ -53,8 +53,9 @@ pub(crate) fn capacity_of(options: ReplayOptions) -> u32
     }
 }
 
-/// How many workers move a net of so many tasks, where no option says it: one for each of the first four. More of them would share
-/// the nodes of a task, and to hand each point from thread to thread costs more than it saves.
+/// How many workers move a net of so many tasks, where no option says it: one for each of the first four.
+/// More of them would share the nodes of a task, and to hand each point from thread to thread costs more than
+/// it saves.
 fn workers_for(tasks: usize) -> u32
     ensures number { result ≡ workers_for tasks }
     ensures some { 0 < result }

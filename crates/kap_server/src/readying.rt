@@ -20,7 +20,8 @@ use task_graph::{Dims, Graph, Spec};
 use task_run::LifePlan;
 use tick_compile::{Task, compile};
 
-/// Tasks that are ready to run: the names by which lines tell of them, their lives, and whether a node of theirs may change a point.
+/// Tasks that are ready to run: the names by which lines tell of them, their lives, and whether a node of
+/// theirs may change a point.
 #[derive(Drop)]
 pub(crate) struct Ready<N: Node> {
     pub(crate) names: Vec<TaskNames>,
@@ -121,8 +122,8 @@ fn add_task<P: Patterns, N: ScriptNode>(
     Ok(())
 }
 
-/// Makes the tasks of ids, each with a script behind it, ready, to run in lives from this one on behind the others. An `Err` is that
-/// of the first that is no task.
+/// Makes the tasks of ids, each with a script behind it, ready, to run in lives from this one on behind the
+/// others. An `Err` is that of the first that is no task.
 pub(crate) fn add_tasks<P: Patterns, N: ScriptNode>(
     alloc: Global,
     life: u32,

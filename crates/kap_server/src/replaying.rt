@@ -44,7 +44,8 @@ fn write_due<K: Sink>(out: &mut K, text: &mut Bytes) -> Result<(), Failed>
     Ok(())
 }
 
-/// Writes the text that is due, where it is a whole piece, or where the reader may have to wait for the next point.
+/// Writes the text that is due, where it is a whole piece, or where the reader may have to wait for the next
+/// point.
 fn write_piece<K: Sink>(out: &mut K, text: &mut Bytes, reader: &Reader) -> Result<(), Failed>
     requires { reader.now.spent ≡ false }
     ensures ok { OnOk result
@@ -72,7 +73,8 @@ fn write_rest<K: Sink>(out: &mut K, text: &Bytes, status: Status) -> Status
     }
 }
 
-/// Writes the rest of the text of a whole recording, and the lines of what was dropped, where they are wanted.
+/// Writes the rest of the text of a whole recording, and the lines of what was dropped, where they are
+/// wanted.
 fn write_end<K: Sink, N: NumberingNode + Send>(
     alloc: Global,
     counts: bool,
@@ -94,8 +96,8 @@ fn write_end<K: Sink, N: NumberingNode + Send>(
     }
 }
 
-/// Writes the rest of the text of a whole recording, and the lines of what was dropped, where they are wanted. Where all was
-/// written it hands out the net.
+/// Writes the rest of the text of a whole recording, and the lines of what was dropped, where they are
+/// wanted. Where all was written it hands out the net.
 fn finish<K: Sink, N: NumberingNode + Send>(
     alloc: Global,
     counts: bool,
@@ -124,9 +126,10 @@ fn finish<K: Sink, N: NumberingNode + Send>(
     }
 }
 
-/// Replays the recording that the input gives, in this way: the text of what the nodes do, epoch by epoch, and behind it of what they
-/// dropped, where that is wanted. Where points are held, next ones are read in their memory. What is due is written before each read
-/// of the input that may wait. At Ok it hands out the net.
+/// Replays the recording that the input gives, in this way: the text of what the nodes do, epoch by epoch,
+/// and behind it of what they dropped, where that is wanted. Where points are held, next ones are read in
+/// their memory. What is due is written before each read of the input that may wait. At Ok it hands out the
+/// net.
 pub(crate) fn replay<
     S: Source,
     K: Sink,

@@ -19,12 +19,14 @@ pub enum Status {
     Usage,
     /// A script isn't one of a task: its first fault.
     Script { fault: ScriptFault },
-    /// This line of the recording, numbered from 1, is the first that is no database, no policy or no line of the line protocol.
+    /// This line of the recording, numbered from 1, is the first that is no database, no policy or no line of
+    /// the line protocol.
     Line { line: u64, fault: LineFault },
     /// The recording ends inside a group of three lines: this line is missing.
     Truncated { line: u64 },
-    /// The disk holds no store: this file isn't one of a store at this offset, which is 0 where the file doesn't begin as it should,
-    /// else that of the gate of the first record that isn't one, or may not stand there.
+    /// The disk holds no store: this file isn't one of a store at this offset, which is 0 where the file
+    /// doesn't begin as it should, else that of the gate of the first record that isn't one, or may not stand
+    /// there.
     NotStore { part: Part, offset: u64 },
     /// A task's id was given before; or a store is to be made, and one is there.
     Exists,

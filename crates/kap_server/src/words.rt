@@ -14,8 +14,8 @@ use sample_points::SAMPLE_LIMIT;
 pub(crate) enum Request<'a> {
     /// To check the script that the input gives.
     Check,
-    /// To replay the recording that the input gives, for the tasks of these words, each an id and a script behind it, so as the
-    /// options say.
+    /// To replay the recording that the input gives, for the tasks of these words, each an id and a script
+    /// behind it, so as the options say.
     Replay {
         options: ReplayOptions,
         words: &'a [String],
@@ -92,7 +92,8 @@ fn replay_request(options: ReplayOptions, words: &[String]) -> Option<Request<'_
     replay_request(with_value(options, word.as_str(), value.as_str())?, behind)
 }
 
-/// To write the sample recording of so many points, or the summary of its replay for the tasks of the words behind the number.
+/// To write the sample recording of so many points, or the summary of its replay for the tasks of the words
+/// behind the number.
 fn gen_request(words: &[String]) -> Option<Request<'_>>
     ensures request { option_map request_of result ≡ gen_request (map string_bytes words.now) }
     ensures limits { IfSome result IsWithinLimits }

@@ -14,8 +14,10 @@ abbrev pub place_of : LentPlace → Place
 place_of lent.Memory = Memory
 place_of (lent.Folder path) = Folder path.now
 
--- the place that the words begin with, which is `-` for memory and else a path that isn't empty, and the words behind it
+-- the place that the words begin with, which is `-` for memory and else a path that isn't empty, and the words behind
+-- it
 abbrev pub place_in : List (List ℕ) → Option (Place × List (List ℕ))
 place_in [] = None
 place_in ([] ∷ words) = None
-place_in ((byte ∷ bytes) ∷ words) = if bytes_eq (byte ∷ bytes) (codes "-") then Some (Memory, words) else Some (Folder (byte ∷ bytes), words)
+place_in ((byte ∷ bytes) ∷ words) =
+    if bytes_eq (byte ∷ bytes) (codes "-") then Some (Memory, words) else Some (Folder (byte ∷ bytes), words)

@@ -1,6 +1,6 @@
-//! `kapd - check` prints the canonical form of the script on standard input, and `kapd - replay ID SCRIPT` replays the recording
-//! there by the task of the script, and writes what it does to standard output. `kapd PLACE init` makes a store in the folder PLACE,
-//! and `kapd PLACE tasks` lists the tasks of the store there.
+//! `kapd - check` prints the canonical form of the script on standard input, and `kapd - replay ID SCRIPT`
+//! replays the recording there by the task of the script, and writes what it does to standard output. `kapd
+//! PLACE init` makes a store in the folder PLACE, and `kapd PLACE tasks` lists the tasks of the store there.
 #![tactic(auto)]
 
 mod places;

@@ -36,7 +36,8 @@ fn compare(expr: &Expr, point: &Point) -> Option<bool>
     }
 }
 
-/// The value of `"field" < 30` and the like at a point that has such a field, an integer. Of any other lambda, None.
+/// The value of `"field" < 30` and the like at a point that has such a field, an integer. Of any other
+/// lambda, None.
 pub(crate) fn compare_field(lambda: &Lambda, point: &Point) -> Option<bool>
     ensures { IfSome result (λ truth. (k : ℕ) → val lambda.now k point.now ≡ Ok (Truth truth)) }
 {

@@ -12,9 +12,10 @@ use lambda_fns::EvalFault;
 use lambda_types::Lambda;
 use std::alloc::Global;
 
-/// The value of a lambda at a point, or None where it has a fault. `k` is the number of earlier evaluations of the lambda in
-/// the point's group. `NoMemory` comes where memory runs out, and where `k` is `EVALUATION_LIMIT` or more. Whatever the
-/// answer, the lambda stays as it was. Only a text that is the value itself is copied.
+/// The value of a lambda at a point, or None where it has a fault. `k` is the number of earlier evaluations
+/// of the lambda in the point's group. `NoMemory` comes where memory runs out, and where `k` is
+/// `EVALUATION_LIMIT` or more. Whatever the answer, the lambda stays as it was. Only a text that is the value
+/// itself is copied.
 pub fn outcome(
     alloc: Global,
     lambda: &mut Lambda,
@@ -35,8 +36,8 @@ pub fn outcome(
     }
 }
 
-/// The same of conditions joined by `AND` in order, true where there are none. They are evaluated in order until one isn't
-/// true, all as one evaluation behind `k` earlier ones.
+/// The same of conditions joined by `AND` in order, true where there are none. They are evaluated in order
+/// until one isn't true, all as one evaluation behind `k` earlier ones.
 pub fn outcome_of_all(
     alloc: Global,
     lambdas: &mut [Lambda],

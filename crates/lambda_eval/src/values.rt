@@ -37,11 +37,11 @@ fn evaluate_whole(
     Ok(seen.into_value(alloc)?)
 }
 
-/// The value of a lambda at a point, or its first fault from left to right (Kapacitor 1.6 TICKscript language reference:
-/// lambda expressions). A reference is the field of its name, else the tag; sums, differences and products are brought into
-/// 64 bits; `OR`, `AND` and `if` evaluate only what decides. `k` is the number of earlier evaluations of the lambda in the
-/// point's group, below 2^62. Whatever the answer, the lambda stays as it was. The faults, each with its byte offset in the
-/// script:
+/// The value of a lambda at a point, or its first fault from left to right (Kapacitor 1.6 TICKscript language
+/// reference: lambda expressions). A reference is the field of its name, else the tag; sums, differences and
+/// products are brought into 64 bits; `OR`, `AND` and `if` evaluate only what decides. `k` is the number of
+/// earlier evaluations of the lambda in the point's group, below 2^62. Whatever the answer, the lambda stays
+/// as it was. The faults, each with its byte offset in the script:
 ///
 /// - `Missing` at a reference to what is neither a field nor a tag of the point;
 /// - `Kind` at an operator or the name of a function that doesn't take the type of a value that it is given;
@@ -49,9 +49,9 @@ fn evaluate_whole(
 /// - `Range` at a function that has no value, or at a `+` whose text would have more than 65,536 bytes;
 /// - `NoMemory` where memory ran out.
 ///
-/// At a point that has what a typed lambda needs, each with its type, neither `Missing` nor `Kind` comes. A text is made only
-/// by `+` and by functions, and copied only as a value or as a function's argument. The lambda keeps what its patterns have
-/// built while they searched.
+/// At a point that has what a typed lambda needs, each with its type, neither `Missing` nor `Kind` comes. A
+/// text is made only by `+` and by functions, and copied only as a value or as a function's argument. The
+/// lambda keeps what its patterns have built while they searched.
 pub fn value(alloc: Global, lambda: &mut Lambda, k: u64, point: &Point) -> Result<Value, EvalFault>
     requires early { k < 2 ^ 62 }
     ensures answer { Answers EvalFault.NoMemory result (val lambda.old k point.now) }
@@ -88,10 +88,10 @@ fn join_by_and(
     }
 }
 
-/// The value of conditions joined by `AND` in order, each `AND` at this place of the script, or its first fault; true where
-/// there are none. They are evaluated in order until one isn't true, all as the evaluation behind `k` earlier ones. Whatever
-/// the answer, they stay as they were. `Kind(at)` comes where there are two or more and one has a value that is no truth
-/// value; other faults are those of `value`.
+/// The value of conditions joined by `AND` in order, each `AND` at this place of the script, or its first
+/// fault; true where there are none. They are evaluated in order until one isn't true, all as the evaluation
+/// behind `k` earlier ones. Whatever the answer, they stay as they were. `Kind(at)` comes where there are two
+/// or more and one has a value that is no truth value; other faults are those of `value`.
 pub fn value_of_all(
     alloc: Global,
     lambdas: &mut [Lambda],
@@ -117,7 +117,8 @@ pub fn value_of_all(
     Ok(value)
 }
 
-/// A lambda of a type has a value of that type, or `ZeroDivisor` or `Range`, at each point that has what it needs.
+/// A lambda of a type has a value of that type, or `ZeroDivisor` or `Range`, at each point that has what it
+/// needs.
 pub fn types_hold()
     ensures { (tree : Tree) (ty : Ty) (needs : List Need) (k : ℕ) (point : PointValue)
         → Typed tree ty needs → HasNeeds point needs → HasType ty (val tree k point) }

@@ -24,7 +24,8 @@ is_true s = list_any (bytes_eq s) (codes "1" ∷ codes "t" ∷ codes "T" ∷ cod
 
 -- 0, and the spellings of false in the line protocol
 abbrev pub is_false : List ℕ → Bool
-is_false s = list_any (bytes_eq s) (codes "0" ∷ codes "f" ∷ codes "F" ∷ codes "false" ∷ codes "False" ∷ codes "FALSE" ∷ [])
+is_false s =
+    list_any (bytes_eq s) (codes "0" ∷ codes "f" ∷ codes "F" ∷ codes "false" ∷ codes "False" ∷ codes "FALSE" ∷ [])
 
 -- the truth value that a text spells
 abbrev pub truth_in : List ℕ → Option Bool

@@ -66,8 +66,8 @@ abbrev pub most : ℤ → List ℕ → ℕ
 most (pos n) s = n
 most (negsuc n) s = length s + 1
 
--- `strReplace`: s, cut at the first n places of a, with b between the pieces. An empty a has a place at the start of s and
--- one after each of its characters.
+-- `strReplace`: s, cut at the first n places of a, with b between the pieces. An empty a has a place at the start of s
+-- and one after each of its characters.
 abbrev pub replaced : List ℕ → List ℕ → List ℕ → ℤ → List ℕ
 replaced s [] b n = text_of_pieces b (pieces_between (most n s) (chars s))
 replaced s (a ∷ more) b n = text_of_pieces b (pieces (most n s) (a ∷ more) s)
@@ -80,7 +80,8 @@ IsGiven bytes whole None = TEXT_LIMIT < length whole
 -- white space, by the number of the character
 abbrev pub is_space : ℕ → Bool
 is_space c =
-    (nat_le 0x9 c && nat_le c 0xD) || c == 0x20 || c == 0x85 || c == 0xA0 || c == 0x1680 || (nat_le 0x2000 c && nat_le c 0x200A)
+    (nat_le 0x9 c && nat_le c 0xD) || c == 0x20 || c == 0x85 || c == 0xA0 || c == 0x1680
+    || (nat_le 0x2000 c && nat_le c 0x200A)
     || c == 0x2028 || c == 0x2029 || c == 0x202F || c == 0x205F || c == 0x3000
 
 -- characters without the white space at their start

@@ -187,11 +187,11 @@ fn call_substring(alloc: Global, args: &[Value], at: u32) -> Result<Value, EvalF
     }
 }
 
-/// What a function gives of these values (Kapacitor 1.6 TICKscript language reference: lambda expressions, built-in
-/// functions). `Kind(at)` exactly where they aren't of the function's types or not as many as it takes. `Range(at)` exactly
-/// where they are, and the function gives no value of them: a text that is no number or truth value, a number that is no
-/// truth value, places that aren't in the text, a replaced text above 65,536 bytes. `at` is the call's byte offset in the
-/// script.
+/// What a function gives of these values (Kapacitor 1.6 TICKscript language reference: lambda expressions,
+/// built-in functions). `Kind(at)` exactly where they aren't of the function's types or not as many as it
+/// takes. `Range(at)` exactly where they are, and the function gives no value of them: a text that is no
+/// number or truth value, a number that is no truth value, places that aren't in the text, a replaced text
+/// above 65,536 bytes. `at` is the call's byte offset in the script.
 pub fn call(alloc: Global, fun: Fun, args: &[Value], at: u32) -> Result<Value, EvalFault>
     ensures answer { Answers EvalFault.NoMemory result (fun_value fun args.now at) }
     ensures field { IsTrue (list_all is_value args.now) → IfOk result (λ v. IsTrue (is_value v)) }

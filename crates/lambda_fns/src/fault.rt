@@ -6,8 +6,8 @@ ghost use Rattle.lambda_fns.specs.declared.fault.EvalFault.TheVariants.{NoMemory
 use kap_base::NoMemory;
 use std::alloc::AllocError;
 
-/// Why a lambda has no value at a point (Kapacitor 1.6 TICKscript language reference: lambda expressions). Each number is
-/// a byte offset in the script.
+/// Why a lambda has no value at a point (Kapacitor 1.6 TICKscript language reference: lambda expressions).
+/// Each number is a byte offset in the script.
 #[derive(Clone, Copy, Debug, PartialEq, Eq)]
 pub enum EvalFault {
     /// The point has neither a field nor a tag of this name.
@@ -16,8 +16,8 @@ pub enum EvalFault {
     Kind(u32),
     /// A division by 0.
     ZeroDivisor(u32),
-    /// A value that the function doesn't take, or one that it can't give: a text that is no number or truth value, a number
-    /// that is no truth value, places that aren't in the text, a text above 65,536 bytes.
+    /// A value that the function doesn't take, or one that it can't give: a text that is no number or truth
+    /// value, a number that is no truth value, places that aren't in the text, a text above 65,536 bytes.
     Range(u32),
     /// Memory ran out.
     NoMemory,

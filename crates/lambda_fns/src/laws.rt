@@ -17,14 +17,15 @@ pub fn calls_are_typed()
         → takes fun (map sort_of args) ≡ false → fun_value fun args at ≡ Err (Kind at) }
 {}
 
-/// What `strIndex` finds: the first place of a text in another is one where it stands, and it stands at none before;
-/// where there is no first place, it stands nowhere.
+/// What `strIndex` finds: the first place of a text in another is one where it stands, and it stands at none
+/// before; where there is no first place, it stands nowhere.
 pub fn first_places_are_first()
     ensures { (a s : List ℕ) → MatchOption (first_place a s) (IsNowhere a s) (λ i. IsFirst a s i) }
 {}
 
-/// Where `strReplace` puts its text: between pieces that make the text again with what is replaced between them, at most
-/// so many places and one; and where there may be more places than bytes, no place is left in the last piece.
+/// Where `strReplace` puts its text: between pieces that make the text again with what is replaced between
+/// them, at most so many places and one; and where there may be more places than bytes, no place is left in
+/// the last piece.
 pub fn pieces_are_pieces()
     ensures again { (n : ℕ) (a s : List ℕ) → text_of_pieces a (pieces n a s) ≡ s }
     ensures at_most { (n : ℕ) (a s : List ℕ) → length (pieces n a s) ≤ n + 1 }

@@ -11,8 +11,8 @@ use std::alloc::{AllocError, Global};
 /// The most bytes that a text has which a function or an operator makes longer.
 pub const TEXT_LIMIT: usize = 65_536;
 
-/// The text with `to` for the first places of `from`, which isn't empty, as many as `count`, and none where that is too
-/// long.
+/// The text with `to` for the first places of `from`, which isn't empty, as many as `count`, and none where
+/// that is too long.
 fn replace_matches(
     alloc: Global,
     text: &str,
@@ -57,8 +57,8 @@ fn push_if_left(made: &mut String, to: &str, left: usize) -> Result<usize, Alloc
     Ok(left - 1)
 }
 
-/// The text with `to` before each of the first characters, as many as `count`, and at the end where there are fewer, and
-/// none where that is too long.
+/// The text with `to` before each of the first characters, as many as `count`, and at the end where there are
+/// fewer, and none where that is too long.
 fn insert_between(
     alloc: Global,
     text: &str,
@@ -84,8 +84,8 @@ fn insert_between(
     Ok(Some(made))
 }
 
-/// The text with `to` for the first places of `from`, as many as `count`, or all where that is negative; none where that is
-/// too long.
+/// The text with `to` for the first places of `from`, as many as `count`, or all where that is negative; none
+/// where that is too long.
 fn replace_string(
     alloc: Global,
     text: &str,
@@ -107,8 +107,8 @@ fn replace_string(
     }
 }
 
-/// The text with `to` for the first places of `from`, all where `count` is negative, and none where that is longer than a
-/// text may be made.
+/// The text with `to` for the first places of `from`, all where `count` is negative, and none where that is
+/// longer than a text may be made.
 #[tactic(auto, using(crate::proofs::LineLaws::replaced_line))]
 pub(crate) fn replace(
     alloc: Global,

@@ -37,9 +37,9 @@ fn number_of(part: TimePart, time: i64) -> i64
     }
 }
 
-/// A part of a time in UTC (Kapacitor 1.6 TICKscript language reference: time functions), by the Gregorian calendar. The
-/// time is in nanoseconds from 1970-01-01T00:00:00Z on, within plus or minus 9,000,000,000,000,000,000. No memory is
-/// needed, so the answer is always `Ok`.
+/// A part of a time in UTC (Kapacitor 1.6 TICKscript language reference: time functions), by the Gregorian
+/// calendar. The time is in nanoseconds from 1970-01-01T00:00:00Z on, within plus or minus
+/// 9,000,000,000,000,000,000. No memory is needed, so the answer is always `Ok`.
 pub fn time_part(part: TimePart, time: i64) -> Result<i64, NoMemory>
     requires { IsTrue (is_time time) }
     ensures { result ≡ Ok (value_of part time) }
@@ -50,5 +50,6 @@ pub fn time_part(part: TimePart, time: i64) -> Result<i64, NoMemory>
 /// The year, the month and the day of a time are a date of the calendar, and the time's day is that date's.
 pub fn parts_are_a_date()
     ensures { (time : ℤ) → IsTrue (is_time time)
-        → IsDateOf (day_number time) (year_of (day_number time)) (month_of (day_number time)) (day_of (day_number time)) }
+        → IsDateOf (day_number time) (year_of (day_number time)) (month_of (day_number time))
+        (day_of (day_number time)) }
 {}

@@ -1,5 +1,5 @@
--- Which fault of a lambda comes first: that of the first part, from left to right and parts before the whole, that breaks a
--- rule.
+-- Which fault of a lambda comes first: that of the first part, from left to right and parts before the whole, that
+-- breaks a rule.
 use Rattle.std.specs.Prelude.{◌≡◌, ◌≢◌, ℕ, zero, suc, true, List, [], ◌∷◌, ◌++◌, Option, Some, None}
 use Rattle.kap_base.specs.declared.expr.Lit.TheVariants as lits
 use Rattle.kap_base.specs.Texts.{has_line_feed}
@@ -23,14 +23,15 @@ pub record PartAt : Type 0 where
 abbrev pub part_at : Position → Tree → PartAt
 part_at position tree = record { position = position; tree = tree }
 
--- The parts of what stands there, in the order in which they end: from left to right, and each behind its own parts. A group
--- is neither an argument nor a side of an operator for what stands in it.
+-- The parts of what stands there, in the order in which they end: from left to right, and each behind its own parts. A
+-- group is neither an argument nor a side of an operator for what stands in it.
 abbrev mutual
   pub parts_of : Position → Tree → List PartAt
   parts_of position (LitTree lit at) = part_at position (LitTree lit at) ∷ []
   parts_of position (RefTree name at) = part_at position (RefTree name at) ∷ []
   parts_of position (NameTree name at) = part_at position (NameTree name at) ∷ []
-  parts_of position (CallTree name args at) = all_parts_of (argument_position (function_named name)) args ++ part_at position (CallTree name args at) ∷ []
+  parts_of position (CallTree name args at) =
+      all_parts_of (argument_position (function_named name)) args ++ part_at position (CallTree name args at) ∷ []
   parts_of position (GroupTree inner at) = parts_of Anywhere inner ++ part_at position (GroupTree inner at) ∷ []
   parts_of position (NegTree operand at) = parts_of Anywhere operand ++ part_at position (NegTree operand at) ∷ []
   parts_of position (NotTree operand at) = parts_of Anywhere operand ++ part_at position (NotTree operand at) ∷ []
@@ -68,7 +69,8 @@ IsPatternAt _ here = ⊥
 
 -- the pattern here is the refused one
 abbrev pub IsRefusedAt : Option Refusal → Tree → ℕ → Type 0
-IsRefusedAt refused (LitTree (lits.Regex text) at) here = (refused ≡ Some (record { text = text; at = at })) × (at ≡ here)
+IsRefusedAt refused (LitTree (lits.Regex text) at) here =
+    (refused ≡ Some (record { text = text; at = at })) × (at ≡ here)
 IsRefusedAt refused _ here = ⊥
 
 -- a call of no function is here
@@ -87,7 +89,8 @@ abbrev pub IsUntyped : Tree → ℕ → Type 0
 IsUntyped (LitTree (lits.Dur span) at) here = at ≡ here
 IsUntyped (NameTree name at) here = at ≡ here
 IsUntyped (CallTree name args at) here =
-    (function : Function) × (function_named name ≡ Some function) × (argument_count args ≡ arity function) × HasNoType (CallTree name args at) × (at ≡ here)
+    (function : Function) × (function_named name ≡ Some function) × (argument_count args ≡ arity function)
+    × HasNoType (CallTree name args at) × (at ≡ here)
 IsUntyped (NegTree operand at) here = HasNoType (NegTree operand at) × (at ≡ here)
 IsUntyped (NotTree operand at) here = HasNoType (NotTree operand at) × (at ≡ here)
 IsUntyped (BinTree op left right at) here = HasNoType (BinTree op left right at) × (at ≡ here)

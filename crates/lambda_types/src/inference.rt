@@ -17,18 +17,20 @@ use crate::walk::{Position, walk};
 use kap_base::{Duplicate, SharedExpr};
 use std::alloc::Global;
 
-/// The lambda of an expression (Kapacitor 1.6 TICKscript language reference: lambda expressions). There is one exactly where
-/// the expression has some type and none of its patterns was refused in this call. Each fault is the first that a walk
-/// finds which visits the parts of the expression from left to right before the whole:
+/// The lambda of an expression (Kapacitor 1.6 TICKscript language reference: lambda expressions). There is
+/// one exactly where the expression has some type and none of its patterns was refused in this call. Each
+/// fault is the first that a walk finds which visits the parts of the expression from left to right before
+/// the whole:
 ///
 /// - `NewLine` at a string or a reference that holds a line feed;
 /// - `TimeUse` at a `"time"` that isn't itself the argument of a function of the time;
 /// - `RegexUse` at a pattern that doesn't itself stand right of `=~` or `!~`;
-/// - `Pattern` at a pattern that was refused, only where the count of refusals of `pats` rose in this call, and the text
-///   refused last is that pattern's;
-/// - `NoFunction` at a call of no function, then `Arity` at one with more or fewer arguments than its function takes;
-/// - `Mismatch` at an operator or a call that has no type although its parts have, and at a duration or a name that the
-///   script was to define.
+/// - `Pattern` at a pattern that was refused, only where the count of refusals of `pats` rose in this call,
+///   and the text refused last is that pattern's;
+/// - `NoFunction` at a call of no function, then `Arity` at one with more or fewer arguments than its
+///   function takes;
+/// - `Mismatch` at an operator or a call that has no type although its parts have, and at a duration or a
+///   name that the script was to define.
 pub fn infer<P: Patterns>(
     alloc: Global,
     expr: &SharedExpr,
@@ -59,8 +61,8 @@ pub fn typed_without_fault()
     ensures no_fault { (tree : Tree) → HasSomeType tree → first_fault None tree ≡ None }
 {}
 
-/// The fault of an expression is that of its first part, from left to right and parts before the whole, that breaks a rule;
-/// and one where no part breaks one has a type.
+/// The fault of an expression is that of its first part, from left to right and parts before the whole, that
+/// breaks a rule; and one where no part breaks one has a type.
 pub fn first_fault_is_first()
     ensures first { (refused : Option Refusal) (tree : Tree) (f : TypeFault)
         → first_fault refused tree ≡ Some f → IsFirstFault refused tree f }

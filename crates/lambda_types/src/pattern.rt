@@ -17,9 +17,9 @@ use std::alloc::{AllocFailed, Global};
 use std::marker::Model;
 use std::sync::Arc;
 
-/// A pattern: what Rust's crate `regex` reads in a text, by its syntax and default options. It keeps what it needs to search
-/// many texts. A copy shares the text and the program, and has a cache of its own. Contracts see it as the text that it was
-/// read in.
+/// A pattern: what Rust's crate `regex` reads in a text, by its syntax and default options. It keeps what it
+/// needs to search many texts. A copy shares the text and the program, and has a cache of its own. Contracts
+/// see it as the text that it was read in.
 pub struct Pattern {
     text: SharedText,
     program: Arc<Program, Global>,
@@ -73,7 +73,8 @@ impl<T: Drop> From<AllocFailed<T>> for PatternFault {
     }
 }
 
-/// About how many bytes a state of a program takes, with its transitions and with the room that a search needs for it.
+/// About how many bytes a state of a program takes, with its transitions and with the room that a search
+/// needs for it.
 const STATE_SIZE: usize = 128;
 
 impl Pattern {

@@ -19,9 +19,9 @@ pub trait Patterns {
     /// The text that was refused last.
     ghost refused: { Self → List ℕ };
 
-    /// The pattern of a text. `Refused` only where the count of refusals rose in this call, by one; the text refused last is
-    /// then this one. The count never falls, and stands still where a pattern is built. A count that stands at its end counts
-    /// as risen.
+    /// The pattern of a text. `Refused` only where the count of refusals rose in this call, by one; the text
+    /// refused last is then this one. The count never falls, and stands still where a pattern is built. A
+    /// count that stands at its end counts as risen.
     fn build(&mut self, alloc: Global, text: &Text) -> Result<Pattern, PatternFault>
         ensures pattern { IfOk result (λ pattern. pattern ≡ text.now) }
         ensures kept { IfOk result (λ pattern. refusals self.new ≡ refusals self.old) }
@@ -30,12 +30,12 @@ pub trait Patterns {
         ensures counted { AtMostOneMore (refusals self.old) (refusals self.new) };
 }
 
-/// About how many bytes all patterns that were built may take together. So a script that uses a large pattern again and
-/// again is refused, and doesn't take the machine's memory.
+/// About how many bytes all patterns that were built may take together. So a script that uses a large pattern
+/// again and again is refused, and doesn't take the machine's memory.
 const PATTERN_ROOM: usize = 64 << 20;
 
-/// Patterns by `regex`. It numbers its builds from 1, and refuses besides those whose numbers it was given, and those that
-/// would take too much beside the ones that it built.
+/// Patterns by `regex`. It numbers its builds from 1, and refuses besides those whose numbers it was given,
+/// and those that would take too much beside the ones that it built.
 #[derive(Drop)]
 pub struct RegexPatterns {
     fails: Vec<u64>,

@@ -50,15 +50,17 @@ module _ {P : Type 0} where
   open_courses [] graphs points = []
   open_courses (life ∷ lives) [] points = []
   open_courses (life ∷ lives) (nodes ∷ graphs) points =
-      if is_open life then course_of life nodes points ∷ open_courses lives graphs points else open_courses lives graphs points
+      if is_open life then course_of life nodes points ∷ open_courses lives graphs points
+      else open_courses lives graphs points
 
   -- All that the lives have done on the points of their stamps: by stamp, then by life, then by node, then by place.
   abbrev pub stored_effects : (P → Answer) → List Life → List (List (Placed P)) → List PointValue → List Effect
   stored_effects answer lives graphs points = course_effects answer (length points) (courses_of lives graphs points)
 
--- The number of the life of a task that ends where the task is disabled or deleted, where the first life has this number: the last
--- one that is open.
+-- The number of the life of a task that ends where the task is disabled or deleted, where the first life has this
+-- number: the last one that is open.
 abbrev pub ending_from : List ℕ → ℕ → List Life → Option ℕ
 ending_from id n [] = None
 ending_from id n (life ∷ lives) =
-    if list_any (is_open_of id) lives then ending_from id (n + 1) lives else (if is_open_of id life then Some n else None)
+    if list_any (is_open_of id) lives then ending_from id (n + 1) lives
+    else (if is_open_of id life then Some n else None)

@@ -19,7 +19,8 @@ ghost use Rattle.life_effects.specs.Times.{times_fit};
 
 use node_core::Node;
 
-/// The effects of a store's lives go on: with more points by what the open lives do with them, and not where a life begins or ends.
+/// The effects of a store's lives go on: with more points by what the open lives do with them, and not where
+/// a life begins or ends.
 pub fn stores_go_on<N: Node>()
     ensures fit { (rs : List Rec) → LivesFit (length (held rs).points) (held rs).lives }
     ensures ends { (points : List PointValue) (lives : List Life) (graphs : List (List (Placed N.Spec)))
@@ -52,8 +53,9 @@ pub fn stores_go_on<N: Node>()
         ≡ stored_effects N.answer lives graphs points }
 {}
 
-/// The open lives of a store, as a net has them. One that begins comes behind the others, and has seen no points. Where the life of
-/// a task ends, which stands by its number at a place among the open ones, just this one is gone.
+/// The open lives of a store, as a net has them. One that begins comes behind the others, and has seen no
+/// points. Where the life of a task ends, which stands by its number at a place among the open ones, just
+/// this one is gone.
 pub fn open_lives_come_and_go<N: Node>()
     ensures begun { (points : List PointValue) (lives : List Life) (task : StoredTask)
         (graphs : List (List (Placed N.Spec))) (nodes : List (Placed N.Spec))
@@ -74,8 +76,8 @@ pub fn open_lives_come_and_go<N: Node>()
         → open_from 1 (end_life id n lives) ≡ remove (open_from 1 lives) place }
 {}
 
-/// The transitions of events go on with more events; and those behind some of them may be stored behind these, where they are fewer
-/// than 2^64 and each time lies within the range of times.
+/// The transitions of events go on with more events; and those behind some of them may be stored behind
+/// these, where they are fewer than 2^64 and each time lies within the range of times.
 pub fn transitions_go_on()
     ensures more { (es fs : List Event) → Trans (es ++ fs)
         ≡ Trans es ++ drop (length (Trans es)) (Trans (es ++ fs)) }

@@ -1,5 +1,6 @@
--- Which fault a line has: the table of faults, row by row. Nothing here reads: a row says up to where the line is spelled
--- as the grammar has it, and what stands there in the place of what must. So it is the first fault from left to right.
+-- Which fault a line has: the table of faults, row by row. Nothing here reads: a row says up to where the line is
+-- spelled as the grammar has it, and what stands there in the place of what must. So it is the first fault from left to
+-- right.
 use Rattle.std.specs.Prelude.{◌≡◌, ◌≤◌, ◌<◌, ℕ, ◌*◌, Bool, true, false, not, ◌&&◌, ◌||◌, ◌==◌, List, [], ◌∷◌, ◌++◌, ◌⊎◌, length, nat_le, codes}
 use Rattle.std.specs.Char.{is_ascii_digit}
 use Rattle.std.specs.List.{list_all}
@@ -45,8 +46,8 @@ pub data TagsBefore (rest : List ℕ) : List Tag → List ℕ → Type 0 where
       TagsBefore rest ts more →
       TagsBefore rest ((k, v) ∷ ts) (comma ∷ (key ++ (equals ∷ (value ++ more))))
 
--- The line is spelled up to `rest`: spaces, the measurement, and these tags under different keys. There a comma, a space
--- or nothing follows.
+-- The line is spelled up to `rest`: spaces, the measurement, and these tags under different keys. There a comma, a
+-- space or nothing follows.
 pub record SpelledUpTo (line : List ℕ) (ts : List Tag) (rest : List ℕ) : Type 0 where
   pub before : ℕ
   pub text : List ℕ

@@ -65,16 +65,17 @@ pub data SpellsFields : List Field → List ℕ → Type 0 where
 abbrev pub spaces : ℕ → List ℕ
 spaces n = replicate n space
 
--- A spelling of a time behind the fields: one space or more and a number of the mode's unit, within the range of times; nothing,
--- where the mode is Live, for its `now`.
+-- A spelling of a time behind the fields: one space or more and a number of the mode's unit, within the range of times;
+-- nothing, where the mode is Live, for its `now`.
 pub data SpellsTime : Mode → ℤ → List ℕ → Type 0 where
   no_time : (unit : Unit) (now : ℤ) → SpellsTime (Live unit now) now []
   some_time : (mode : Mode) (n : ℕ) (negative : Bool) (digits : List ℕ) → is_digits digits ≡ true →
       nat_le (digits_value 10 digits * nanoseconds (unit_of mode)) TIME_LIMIT ≡ true →
-      SpellsTime mode (with_sign (negative, digits_value 10 digits * nanoseconds (unit_of mode))) (space ∷ (spaces n ++ (minus negative ++ digits)))
+      SpellsTime mode (with_sign (negative, digits_value 10 digits * nanoseconds (unit_of mode)))
+      (space ∷ (spaces n ++ (minus negative ++ digits)))
 
--- A line spells a point: spaces, the measurement, the tags, one space or more, the fields, the time, spaces. Each part is
--- a spelling of the point's part.
+-- A line spells a point: spaces, the measurement, the tags, one space or more, the fields, the time, spaces. Each part
+-- is a spelling of the point's part.
 pub record Spelled (mode : Mode) (p : PointValue) (line : List ℕ) : Type 0 where
   pub before : ℕ
   pub name : List ℕ
@@ -83,7 +84,8 @@ pub record Spelled (mode : Mode) (p : PointValue) (line : List ℕ) : Type 0 whe
   pub fields : List ℕ
   pub time : List ℕ
   pub behind : ℕ
-  pub line_is : line ≡ spaces before ++ (name ++ (tags ++ (space ∷ (spaces between ++ (fields ++ (time ++ spaces behind))))))
+  pub line_is : line ≡ spaces before
+      ++ (name ++ (tags ++ (space ∷ (spaces between ++ (fields ++ (time ++ spaces behind))))))
   -- the measurement is not empty, and begins no comment
   pub some_name : is_empty p.name ≡ false
   pub no_comment : begins_with number_sign p.name ≡ false

@@ -136,7 +136,8 @@ missing_time Recording = Err faults.NoTime
 
 -- a number of units, within the range of times
 abbrev pub time_of_units : Unit → Bool × ℕ → Result ℤ LineFault
-time_of_units unit n = if nat_le (n.1 * nanoseconds unit) TIME_LIMIT then Ok (with_sign (n.0, n.1 * nanoseconds unit)) else Err faults.TimeRange
+time_of_units unit n = if nat_le (n.1 * nanoseconds unit) TIME_LIMIT then Ok (with_sign (n.0, n.1 * nanoseconds unit))
+    else Err faults.TimeRange
 
 -- the time that a word spells
 abbrev pub word_time : Mode → List ℕ → Result ℤ LineFault
@@ -159,7 +160,16 @@ point_of db rp mode bytes = do
   tags ← tags_at name.1
   fields ← fields_at tags.1
   time ← time_of mode (without_spaces fields.1)
-  Ok (record { db = db; rp = rp; name = name.0; tags = tags.0; fields = fields.0; dims = []; by_name = false; time = time })
+  Ok (record {
+    db = db;
+    rp = rp;
+    name = name.0;
+    tags = tags.0;
+    fields = fields.0;
+    dims = [];
+    by_name = false;
+    time = time;
+  })
 
 -- the point of a line of any length
 unfoldable pub stored_of : List ℕ → List ℕ → Mode → List ℕ → Result PointValue LineFault

@@ -40,9 +40,12 @@ abbrev pub fields_text : List Field → List ℕ
 fields_text [] = []
 fields_text (f ∷ fs) = field_text f ++ flat_map (λ g. comma ∷ field_text g) fs
 
--- the measurement, the tags and the fields in byte order of their keys, one space before the fields and one before the time
+-- the measurement, the tags and the fields in byte order of their keys, one space before the fields and one before the
+-- time
 abbrev pub Print : PointValue → List ℕ
-Print p = part_text parts.Measurement p.name ++ (flat_map tag_text (entries p.tags) ++ (space ∷ (fields_text (entries p.fields) ++ (space ∷ signed_decimal p.time))))
+Print p = part_text parts.Measurement p.name
+    ++ (flat_map tag_text (entries p.tags)
+    ++ (space ∷ (fields_text (entries p.fields) ++ (space ∷ signed_decimal p.time))))
 
 -- the point without what it is grouped by
 abbrev pub without_grouping : PointValue → PointValue

@@ -55,13 +55,15 @@ cut p bytes = option_map (λ i. (take i bytes, drop (i + 1) bytes)) (position p 
 
 -- digits; or digits or nothing, a point and digits
 abbrev pub is_mantissa : List ℕ → Bool
-is_mantissa bytes = option_map_or (λ p. (is_empty p.0 || is_digits p.0) && is_digits p.1) (cut is_point bytes) (is_digits bytes)
+is_mantissa bytes =
+    option_map_or (λ p. (is_empty p.0 || is_digits p.0) && is_digits p.1) (cut is_point bytes) (is_digits bytes)
 
 -- an optional minus, a mantissa, and optionally an exponent: its mark, an optional sign and digits
 abbrev pub is_float : List ℕ → Bool
 is_float word =
     let number = without is_minus word in
-    option_map_or (λ p. is_mantissa p.0 && is_digits (without is_sign p.1)) (cut is_exponent_mark number) (is_mantissa number)
+    option_map_or (λ p. is_mantissa p.0 && is_digits (without is_sign p.1)) (cut is_exponent_mark number)
+    (is_mantissa number)
 
 -- the number of a word that ends in 'i'
 abbrev pub integer_of : List ℕ → Option (Bool × ℕ)

@@ -56,8 +56,9 @@ fn add_line(
     Ok(())
 }
 
-/// The points of all lines of a body, in their order, or the first faulty line. A line ends before a line feed, and one
-/// carriage return at its end isn't part of it. `NoMemory` comes with the line that was reached.
+/// The points of all lines of a body, in their order, or the first faulty line. A line ends before a line
+/// feed, and one carriage return at its end isn't part of it. `NoMemory` comes with the line that was
+/// reached.
 pub fn read_body(
     alloc: Global,
     body: &[u8],

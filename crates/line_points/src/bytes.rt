@@ -89,8 +89,8 @@ pub fn word_len(bytes: &[u8]) -> usize
     }
 }
 
-/// How many commas there are, at most 16: a guess alone where there are more than 255. Those that are escaped or quoted count, too.
-/// It looks at each byte, so that it can look at many at once.
+/// How many commas there are, at most 16: a guess alone where there are more than 255. Those that are escaped
+/// or quoted count, too. It looks at each byte, so that it can look at many at once.
 pub fn comma_count(bytes: &[u8]) -> usize
     ensures { result ≤ 16 }
 {

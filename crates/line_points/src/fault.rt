@@ -9,7 +9,8 @@ use std::alloc::{AllocError, AllocFailed};
 pub enum LineFault {
     /// The measurement is empty, or the line is a comment outside Live mode.
     Measurement,
-    /// A tag has no `=`, a further `=` without an escape in its value, an empty key or value, or a key that was given before.
+    /// A tag has no `=`, a further `=` without an escape in its value, an empty key or value, or a key that
+    /// was given before.
     Tag,
     /// Behind measurement and tags stands nothing but spaces.
     NoField,

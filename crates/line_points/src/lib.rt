@@ -1,5 +1,5 @@
-//! Points in InfluxDB's line protocol, the integer profile: lines are read, bodies of lines are read, points are printed
-//! (InfluxDB 1.8 line protocol reference).
+//! Points in InfluxDB's line protocol, the integer profile: lines are read, bodies of lines are read, points
+//! are printed (InfluxDB 1.8 line protocol reference).
 #![tactic(auto)]
 
 mod body;

@@ -88,11 +88,11 @@ fn read(
     Ok(Some(point))
 }
 
-/// The point of a line, of this database and policy and ungrouped; `None` for a blank or comment line in Live mode; else the
-/// line's first fault (InfluxDB 1.8 line protocol reference).
+/// The point of a line, of this database and policy and ungrouped; `None` for a blank or comment line in Live
+/// mode; else the line's first fault (InfluxDB 1.8 line protocol reference).
 ///
-/// `Long` comes where the line has more than `LINE_LIMIT` bytes, and before `NotUtf8`; neither comes in a blank or comment line of
-/// Live mode. The other faults come from left to right.
+/// `Long` comes where the line has more than `LINE_LIMIT` bytes, and before `NotUtf8`; neither comes in a
+/// blank or comment line of Live mode. The other faults come from left to right.
 pub fn read_line(
     alloc: Global,
     line: &[u8],
@@ -132,8 +132,8 @@ fn recorded_point(
     stored_point(alloc, line, db, rp, &Mode::Recording, room)
 }
 
-/// The point of a line of a recording, as `read_line` gives it in Recording mode, in the memory of a point of the pool, where one is
-/// left; else the line's first fault.
+/// The point of a line of a recording, as `read_line` gives it in Recording mode, in the memory of a point of
+/// the pool, where one is left; else the line's first fault.
 pub fn read_recorded(
     alloc: Global,
     line: &[u8],
@@ -153,8 +153,8 @@ pub fn read_recorded(
     Ok(placed)
 }
 
-/// The point of a line of any length, read as in Recording mode, of this database and policy and ungrouped; else the line's
-/// first fault, which is never `Long`.
+/// The point of a line of any length, read as in Recording mode, of this database and policy and ungrouped;
+/// else the line's first fault, which is never `Long`.
 pub fn read_stored(alloc: Global, line: &[u8], db: &Text, rp: &Text) -> Result<Point, LineFault>
     requires line { IsTrue (not (has_line_feed line.now)) }
     requires db { IsTrue (not (has_line_feed db.now)) }

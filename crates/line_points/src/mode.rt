@@ -32,8 +32,8 @@ impl Unit {
 /// How lines are read.
 #[derive(Clone, Copy, Debug, PartialEq, Eq)]
 pub enum Mode {
-    /// Lines as clients write them: a time counts the unit, a missing time is `now` (nanoseconds from 1970-01-01T00:00:00Z on),
-    /// and a line of nothing but spaces or of a comment holds no point.
+    /// Lines as clients write them: a time counts the unit, a missing time is `now` (nanoseconds from
+    /// 1970-01-01T00:00:00Z on), and a line of nothing but spaces or of a comment holds no point.
     Live { unit: Unit, now: i64 },
     /// Lines of a recording: each holds a point, with a time in nanoseconds.
     Recording,

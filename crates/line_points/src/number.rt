@@ -67,7 +67,8 @@ fn capped_magnitude(digits: &[u8]) -> u64
     value
 }
 
-/// The number of digits, or the greatest one of 64 bits where it is greater; `None` where a byte is no digit, or there is none.
+/// The number of digits, or the greatest one of 64 bits where it is greater; `None` where a byte is no digit,
+/// or there is none.
 fn magnitude(bytes: &[u8]) -> Option<u64>
     ensures { result ≡ (if is_digits bytes.now
         then Some (min (digits_value 10 bytes.now) u64.MAX) else None) }

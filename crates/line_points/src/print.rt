@@ -135,8 +135,8 @@ fn put_parts(point: &Point, out: &mut Bytes) -> Result<(), NoMemory>
     put_number(point.time, out)
 }
 
-/// Adds the canonical line of a point, with its time in nanoseconds and without a line feed. After `NoMemory` the bytes are as
-/// before.
+/// Adds the canonical line of a point, with its time in nanoseconds and without a line feed. After `NoMemory`
+/// the bytes are as before.
 pub fn put_line(point: &Point, out: &mut Bytes) -> Result<(), NoMemory>
     ensures line { OnOk result (out.new ≡ out.old ++ Print point.now) }
     ensures point { OnOk result (IsPoint point.now) }
@@ -156,7 +156,8 @@ pub fn put_line(point: &Point, out: &mut Bytes) -> Result<(), NoMemory>
 pub fn print_line(alloc: Global, point: &Point) -> Result<Bytes, NoMemory>
     ensures line { IfOk result (λ line. line ≡ Print point.now) }
     ensures one_line { IfOk result (λ line. IsTrue (is_line line)) }
-    // Read again it gives the point, ungrouped: by `read_line` in Recording mode up to `LINE_LIMIT` bytes, by `read_stored` always.
+    // Read again it gives the point, ungrouped: by `read_line` in Recording mode up to `LINE_LIMIT` bytes, by
+    // `read_stored` always.
     ensures again { IfOk result (λ line. length line ≤ LINE_LIMIT →
         Reads point.now.db point.now.rp Mode.Recording line (without_grouping point.now)) }
     ensures stored_again { IfOk result (λ line.

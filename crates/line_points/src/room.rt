@@ -18,7 +18,8 @@ pub(crate) struct Room {
     fields: Vec<(Text, Value)>,
 }
 
-/// The list without its items; where it has no room, with some for as many as the bytes have commas, and `more`.
+/// The list without its items; where it has no room, with some for as many as the bytes have commas, and
+/// `more`.
 fn emptied<T: Drop>(
     alloc: Global,
     mut list: Vec<T>,
@@ -78,7 +79,8 @@ impl Room {
     }
 }
 
-/// Adds a point to the spare ones, where there are fewer than `SPARE_LIMIT`; else, or where memory is short, it is let go.
+/// Adds a point to the spare ones, where there are fewer than `SPARE_LIMIT`; else, or where memory is short,
+/// it is let go.
 fn add_spare(spares: &mut Vec<Shared<Point>>, point: Shared<Point>)
     requires { length spares.old.items ≤ SPARE_LIMIT }
     ensures { length spares.new.items ≤ SPARE_LIMIT }
@@ -102,8 +104,8 @@ fn add_spares(spares: &mut Vec<Shared<Point>>, points: Vec<Shared<Point>>)
     }
 }
 
-/// Points that their owner doesn't need any more, in whose memory next ones are read, as far as nobody else has them then. It keeps
-/// at most `SPARE_LIMIT` of them, however many it is given.
+/// Points that their owner doesn't need any more, in whose memory next ones are read, as far as nobody else
+/// has them then. It keeps at most `SPARE_LIMIT` of them, however many it is given.
 #[derive(Drop)]
 pub struct Pool {
     spares: Vec<Shared<Point>>,

@@ -47,7 +47,8 @@ fn word_time(mode: &Mode, word: &[u8]) -> Result<i64, LineFault>
     }
 }
 
-/// The time of a line, of which these bytes stand behind its fields, where they are a number and nothing else.
+/// The time of a line, of which these bytes stand behind its fields, where they are a number and nothing
+/// else.
 fn number_time(mode: &Mode, bytes: &[u8]) -> Option<Result<i64, LineFault>>
     ensures { IfSome result (λ time. time ≡ time_of mode.now bytes.now) }
 {

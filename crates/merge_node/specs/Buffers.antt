@@ -23,7 +23,8 @@ lower None g = g
 lower (Some f) None = Some f
 lower (Some f) (Some g) = if nat_lt g.stamp.0 f.stamp.0 then Some g else Some f
 
--- the item least by stamp and parent among the fronts of parents that are numbered from here on, if some front is an item
+-- the item least by stamp and parent among the fronts of parents that are numbered from here on, if some front is an
+-- item
 abbrev pub least : ℕ → Lists → Option Front
 least k [] = None
 least k ([] ∷ ls) = least (k + 1) ls
@@ -57,8 +58,8 @@ abbrev pub next_by : Option Front → Lists → Option Taken
 next_by (Some f) ls = taken f.parent (front f.parent ls) (without_front f.parent ls)
 next_by None ls = taken 0 (front 0 ls) (without_fronts ls)
 
--- The message that is next. It is determined where each parent has one buffered: it is the item least by stamp and parent
--- among the fronts, or where all of them are barriers, that of parent 0, and one is taken from each.
+-- The message that is next. It is determined where each parent has one buffered: it is the item least by stamp and
+-- parent among the fronts, or where all of them are barriers, that of parent 0, and one is taken from each.
 unfoldable pub next : Lists → Option Taken
 next ls = if has_empty ls then None else next_by (least 0 ls) ls
 
@@ -79,13 +80,16 @@ put k m ls = slice_set ls k (slice_index_or ls k [] ++ m ∷ [])
 -- what is given of buffers, message by message, and what is left
 pub data Merges : Lists → List Entry → Lists → Type 0 where
   done : {ls : Lists} → Merges ls [] ls
-  more : {ls rest : Lists} {ms : List Entry} (t : Taken) → next ls ≡ Some t → Merges t.rest ms rest → Merges ls ((t.parent, t.msg) ∷ ms) rest
+  more : {ls rest : Lists} {ms : List Entry} (t : Taken) → next ls ≡ Some t → Merges t.rest ms rest
+      → Merges ls ((t.parent, t.msg) ∷ ms) rest
 
 -- what calls of `put` and `next` in any order make: what was put for each parent, what was given, and what is buffered
 pub data Calls : Lists → List Entry → Lists → Type 0 where
   start : (parents : ℕ) → Calls (replicate parents []) [] (replicate parents [])
-  putting : {all buffered : Lists} {given : List Entry} (k : ℕ) (m : Msg) → Calls all given buffered → Calls (put k m all) given (put k m buffered)
-  taking : {all buffered : Lists} {given : List Entry} (t : Taken) → next buffered ≡ Some t → Calls all given buffered → Calls all (given ++ (t.parent, t.msg) ∷ []) t.rest
+  putting : {all buffered : Lists} {given : List Entry} (k : ℕ) (m : Msg) → Calls all given buffered
+      → Calls (put k m all) given (put k m buffered)
+  taking : {all buffered : Lists} {given : List Entry} (t : Taken) → next buffered ≡ Some t → Calls all given buffered
+      → Calls all (given ++ (t.parent, t.msg) ∷ []) t.rest
 
 -- each list is the front of another
 abbrev pub AreFronts : Lists → Lists → Type 0

@@ -63,7 +63,8 @@ merge ls = sorted (gathered ls)
 
 -- ---- which lists can be merged
 
--- no message stands before an earlier one, from this rank on: stamps don't fall, and behind a barrier they are above its own
+-- no message stands before an earlier one, from this rank on: stamps don't fall, and behind a barrier they are above
+-- its own
 abbrev pub RisesFrom : ℕ → List Msg → Type 0
 RisesFrom r [] = ⊤
 RisesFrom r (m ∷ l) = (r ≤ rank m) × RisesFrom (rank m) l

@@ -115,8 +115,8 @@ impl MergeBuf {
         are_clear(&self.buffers)
     }
 
-    /// Puts a message behind the others of its parent, which are numbered from 0. `NoMemory` comes where an allocation
-    /// fails, and changes nothing.
+    /// Puts a message behind the others of its parent, which are numbered from 0. `NoMemory` comes where an
+    /// allocation fails, and changes nothing.
     pub fn put(&mut self, parent: u32, msg: Msg) -> Result<(), NoMemory>
         requires { parent < length self.old }
         ensures ok { OnOk result (self.new ≡ put parent msg self.old) }
@@ -125,10 +125,10 @@ impl MergeBuf {
         put_at(&mut self.buffers, parent, msg)
     }
 
-    /// Takes the message that is next, and gives it behind the number of its parent: where each parent has one
-    /// buffered, the front item least by stamp and parent, or where all fronts are barriers, that of parent 0, and one
-    /// is taken from each. `None` comes where a parent has nothing buffered, and changes nothing. It takes one look at
-    /// each front, and no memory.
+    /// Takes the message that is next, and gives it behind the number of its parent: where each parent has
+    /// one buffered, the front item least by stamp and parent, or where all fronts are barriers, that of
+    /// parent 0, and one is taken from each. `None` comes where a parent has nothing buffered, and changes
+    /// nothing. It takes one look at each front, and no memory.
     pub fn next(&mut self) -> Option<(u32, Msg)>
         ensures gives { result ≡ said (next self.old) }
         ensures left { self.new ≡ left_of (next self.old) self.old }

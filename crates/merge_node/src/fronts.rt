@@ -47,8 +47,8 @@ fn lower(best: Option<Front>, other: Option<Front>) -> Option<Front>
     }
 }
 
-/// The item least by stamp and parent among the fronts, if some front is an item; `None` where a parent has nothing
-/// buffered.
+/// The item least by stamp and parent among the fronts, if some front is an item; `None` where a parent has
+/// nothing buffered.
 pub(crate) fn least_front(buffers: &[Queue]) -> Option<Option<Front>>
     requires { length buffers.now ≤ PARENT_LIMIT }
     ensures { result ≡ looked buffers.now }

@@ -6,9 +6,9 @@ ghost use Rattle.kap_base.specs.declared.items.Stamp.{Stamp};
 ghost use Rattle.merge_node.specs.Buffers.{AreFronts, Calls, next};
 ghost use Rattle.merge_node.specs.Merge.{AreClosed, AreMergeable, AreOrdered, Entry, Lists, from_parent, merge};
 
-/// In whatever order messages are put and taken, what was given is the front of the whole lists merged. It is all of it
-/// where all was put, a barrier stands behind each item, and nothing more is next. And what is given of what was put is
-/// always the same.
+/// In whatever order messages are put and taken, what was given is the front of the whole lists merged. It is
+/// all of it where all was put, a barrier stands behind each item, and nothing more is next. And what is
+/// given of what was put is always the same.
 #[tactic(auto, using(crate::proofs::CallLaws::calls_front, crate::proofs::CallLaws::calls_whole, crate::proofs::CallLaws::calls_same))]
 pub fn calls_give_the_merged_list()
     ensures front { (bs : List Stamp) (all whole buffered : Lists) (given : List Entry)
@@ -22,8 +22,8 @@ pub fn calls_give_the_merged_list()
         → next buffered ≡ None → next others ≡ None → given ≡ again }
 {}
 
-/// A merged list stands by stamp, then by parent, with each barrier behind the items up to it; and of each parent it
-/// has the list that was merged, in its order.
+/// A merged list stands by stamp, then by parent, with each barrier behind the items up to it; and of each
+/// parent it has the list that was merged, in its order.
 #[tactic(auto, using(crate::proofs::OrderLaws::merge_ordered, crate::proofs::OrderLaws::merge_has))]
 pub fn merging_orders()
     ensures ordered { (lists : Lists) → AreOrdered (merge lists) }

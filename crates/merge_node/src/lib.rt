@@ -1,4 +1,5 @@
-//! The messages of a node's parents as one list: by stamp, then by parent, then by place, and each barrier once.
+//! The messages of a node's parents as one list: by stamp, then by parent, then by place, and each barrier
+//! once.
 #![tactic(auto)]
 
 ghost use Rattle.std.specs.Prelude.{◌≡◌};

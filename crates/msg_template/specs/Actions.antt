@@ -55,7 +55,8 @@ is_allowed of_id (actions.Field key) = true
 -- the action of a name, where it is listed and allowed
 abbrev pub listed : Bool → ℕ → List ℕ → Result Action TemplateFault
 listed of_id at name =
-    option_map_or (λ action. if is_allowed of_id action then Ok action else Err (faults.Field at)) (named name) (Err (faults.Field at))
+    option_map_or (λ action. if is_allowed of_id action then Ok action else Err (faults.Field at)) (named name)
+    (Err (faults.Field at))
 
 -- behind a dot: a name, and spaces
 abbrev pub dotted : Bool → ℕ → List ℕ → Result Action TemplateFault
@@ -70,7 +71,8 @@ is_quote b = b == 34
 
 -- what stands before the first quote, and what stands behind it
 abbrev pub cut_at_quote : List ℕ → Option (List ℕ × List ℕ)
-cut_at_quote bytes = if nat_lt (position_or_len is_quote bytes) (length bytes) then Some (before_first is_quote bytes, after_first is_quote bytes) else None
+cut_at_quote bytes = if nat_lt (position_or_len is_quote bytes) (length bytes)
+    then Some (before_first is_quote bytes, after_first is_quote bytes) else None
 
 -- of a key: the action that the words before it stand for
 abbrev pub of_key : ℕ → List ℕ → List ℕ → Result Action TemplateFault
@@ -82,7 +84,9 @@ of_key at words key =
 -- spaces, words, a key between quotes, and spaces
 abbrev pub indexed : ℕ → List ℕ → Result Action TemplateFault
 indexed at body =
-    option_map_or (λ p. option_map_or (λ q. if are_spaces q.1 then of_key at (without_spaces p.0) q.0 else Err (faults.Action at)) (cut_at_quote p.1) (Err (faults.Action at)))
+    option_map_or
+    (λ p. option_map_or (λ q. if are_spaces q.1 then of_key at (without_spaces p.0) q.0 else Err (faults.Action at))
+    (cut_at_quote p.1) (Err (faults.Action at)))
     (cut_at_quote body) (Err (faults.Action at))
 
 -- the same by what stands behind the first spaces: a name behind a dot, or an indexed key

@@ -36,15 +36,16 @@ pub record OneAction (text before body rest : List ℕ) : Type 0 where
 abbrev pub words : List ℕ → List Part
 words text = if is_empty text then [] else parts.Words text ∷ []
 
--- The parts of a template, `of_id` where it is that of an id: words without `{{`; or words, an action, and the parts of the rest.
+-- The parts of a template, `of_id` where it is that of an id: words without `{{`; or words, an action, and the parts of
+-- the rest.
 pub data Reads (of_id : Bool) : List ℕ → List Part → Type 0 where
   last_words : (text : List ℕ) → Lacks opening text → Reads of_id text (words text)
   next_action : (text before body rest : List ℕ) (at : ℕ) (action : Action) (others : List Part) →
       OneAction text before body rest → action_at of_id at body ≡ Ok action → Reads of_id rest others →
       Reads of_id text (words before ++ parts.Action action ∷ others)
 
--- The first fault from the left of a text that stands at the place `at`: `{{` without `}}`; the fault of the action; or, behind
--- an action that has none, the first fault of the rest.
+-- The first fault from the left of a text that stands at the place `at`: `{{` without `}}`; the fault of the action;
+-- or, behind an action that has none, the first fault of the rest.
 pub data Refuses (of_id : Bool) : List ℕ → ℕ → TemplateFault → Type 0 where
   no_end : (text before behind : List ℕ) (at : ℕ) → Cut opening text before behind → Lacks closing behind →
       Refuses of_id text at (faults.Action (at + length before))

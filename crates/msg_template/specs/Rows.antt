@@ -23,7 +23,8 @@ NoSpaces = action_at true 7 (codes ".Time") ≡ Ok actions.Time
 
 -- a key may hold spaces
 abbrev pub SpaceInAKey : Type 0
-SpaceInAKey = action_at true 7 (keyed (codes " index .Fields ") (codes "a b") ++ codes " ") ≡ Ok (actions.Field (codes "a b"))
+SpaceInAKey =
+    action_at true 7 (keyed (codes " index .Fields ") (codes "a b") ++ codes " ") ≡ Ok (actions.Field (codes "a b"))
 
 -- exactly one space stands before a key
 abbrev pub TwoSpacesBeforeAKey : Type 0
@@ -62,11 +63,14 @@ critical = record {
 
 -- one of two dimensions
 abbrev pub of_two : Facts
-of_two = record critical { group = record { name = None; dims = codes "dc" ∷ codes "host" ∷ []; values = codes "b" ∷ codes "a" ∷ [] } }
+of_two = record critical
+    { group = record { name = None; dims = codes "dc" ∷ codes "host" ∷ []; values = codes "b" ∷ codes "a" ∷ [] } }
 
 -- `{{ .Name }}:{{ .Group }}`, of no dimensions
 abbrev pub NameAndGroup : Type 0
-NameAndGroup = whole_text critical (parts.Action actions.Name ∷ parts.Words (codes ":") ∷ parts.Action actions.Group ∷ []) ≡ codes "cpu:nil"
+NameAndGroup =
+    whole_text critical (parts.Action actions.Name ∷ parts.Words (codes ":") ∷ parts.Action actions.Group ∷ [])
+    ≡ codes "cpu:nil"
 
 -- and of two
 abbrev pub TwoDimensions : Type 0
@@ -74,11 +78,15 @@ TwoDimensions = whole_text of_two (parts.Action actions.Group ∷ []) ≡ codes 
 
 -- `{{ .ID }} is {{ .Level }}`
 abbrev pub IdAndLevel : Type 0
-IdAndLevel = whole_text critical (parts.Action actions.Id ∷ parts.Words (codes " is ") ∷ parts.Action actions.Level ∷ []) ≡ codes "cpu:nil is CRITICAL"
+IdAndLevel =
+    whole_text critical (parts.Action actions.Id ∷ parts.Words (codes " is ") ∷ parts.Action actions.Level ∷ [])
+    ≡ codes "cpu:nil is CRITICAL"
 
 -- a field, and a tag that is missing
 abbrev pub FieldAndNoTag : Type 0
-FieldAndNoTag = whole_text critical (parts.Action (actions.Field (codes "up")) ∷ parts.Action (actions.Tag (codes "host")) ∷ []) ≡ codes "true"
+FieldAndNoTag =
+    whole_text critical (parts.Action (actions.Field (codes "up")) ∷ parts.Action (actions.Tag (codes "host")) ∷ [])
+    ≡ codes "true"
 
 -- the time in nanoseconds
 abbrev pub TimeInDigits : Type 0

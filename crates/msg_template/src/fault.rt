@@ -4,7 +4,8 @@ ghost use Rattle.msg_template.specs.declared.fault.TemplateFault.TheVariants.{No
 use kap_base::NoMemory;
 use std::alloc::{AllocError, AllocFailed};
 
-/// Why a text is no template: its first fault from the left, with the place of the action's braces in the text.
+/// Why a text is no template: its first fault from the left, with the place of the action's braces in the
+/// text.
 #[derive(Clone, Copy, Debug, PartialEq, Eq)]
 pub enum TemplateFault {
     /// `{{` without `}}`, or an action of another form.

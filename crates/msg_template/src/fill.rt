@@ -164,8 +164,8 @@ fn cut_to_limit(alloc: Global, text: String) -> Result<Text, NoMemory>
 }
 
 impl Template {
-    /// The text of the template with these facts, cut to the longest front of whole characters within `TEMPLATE_LIMIT` bytes. A tag
-    /// or a field that is missing gives nothing.
+    /// The text of the template with these facts, cut to the longest front of whole characters within
+    /// `TEMPLATE_LIMIT` bytes. A tag or a field that is missing gives nothing.
     pub fn fill(&self, alloc: Global, facts: &Facts) -> Result<Text, NoMemory>
         ensures { IfOk result (λ text.
             IsCutTo TEMPLATE_LIMIT (whole_text facts.now self.now) text) }

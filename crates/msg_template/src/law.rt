@@ -19,15 +19,16 @@ pub fn one_meaning()
         Reads of_id text ps → Refuses of_id text at f → ⊥ }
 {}
 
-/// A text that is read as parts is their spelling: words as they are, and each action between braces, with spaces around it.
+/// A text that is read as parts is their spelling: words as they are, and each action between braces, with
+/// spaces around it.
 pub fn parts_are_spelled()
     ensures { (of_id : Bool) (text : List ℕ) (ps : List Part) →
         Reads of_id text ps → Spells text ps }
 {}
 
-/// What stands between braces is an action exactly where it is its spelling, with any spaces around it, and the action is
-/// allowed in such a template. Where it is none there is one of two faults: `Field` for a dot and a name that is not listed, or
-/// not allowed, and `Action` for any other form.
+/// What stands between braces is an action exactly where it is its spelling, with any spaces around it, and
+/// the action is allowed in such a template. Where it is none there is one of two faults: `Field` for a dot
+/// and a name that is not listed, or not allowed, and `Action` for any other form.
 pub fn actions_are_read_by_form()
     ensures action { (of_id : Bool) (at : ℕ) (body : List ℕ) (action : Action) →
         (action_at of_id at body ≡ Ok action) ↔ IsAction of_id body action }

@@ -1,5 +1,5 @@
-//! Templates of the ids and messages of alerts (Kapacitor 1.6: alert node, message): text with actions, which are filled with the
-//! facts of an alert.
+//! Templates of the ids and messages of alerts (Kapacitor 1.6: alert node, message): text with actions, which
+//! are filled with the facts of an alert.
 #![tactic(auto)]
 
 mod action;

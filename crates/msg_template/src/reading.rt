@@ -46,8 +46,9 @@ fn read_parts(alloc: Global, of_id: bool, text: &str) -> Result<Vec<Part>, Templ
     Ok(parts)
 }
 
-/// Reads the template of a message, of at most `TEMPLATE_LIMIT` bytes, as a text of a script always is. A text is a template or has
-/// a first fault from the left: `Action` or `Field`, with its place, a byte counted from 0.
+/// Reads the template of a message, of at most `TEMPLATE_LIMIT` bytes, as a text of a script always is. A
+/// text is a template or has a first fault from the left: `Action` or `Field`, with its place, a byte counted
+/// from 0.
 pub fn read(alloc: Global, text: &Text) -> Result<Template, TemplateFault>
     requires { length text.now ≤ TEMPLATE_LIMIT }
     ensures ok { IfOk result (λ template. Reads false text.now template) }
@@ -57,7 +58,8 @@ pub fn read(alloc: Global, text: &Text) -> Result<Template, TemplateFault>
     Ok(Template { parts })
 }
 
-/// Reads the template of an id, of at most `TEMPLATE_LIMIT` bytes, in which `.ID` and `.Level` are not allowed.
+/// Reads the template of an id, of at most `TEMPLATE_LIMIT` bytes, in which `.ID` and `.Level` are not
+/// allowed.
 pub fn read_id(alloc: Global, text: &Text) -> Result<Template, TemplateFault>
     requires { length text.now ≤ TEMPLATE_LIMIT }
     ensures ok { IfOk result (λ template. Reads true text.now template) }

@@ -30,9 +30,9 @@ module _ {N P S : Type 0} (g : Ghosts N P S) where
   abbrev pub AreNumberedBy : List ℕ → List (Course P) → Type 0
   AreNumberedBy numbers courses = AllZip IsNumbered numbers courses
 
-  -- A net stands behind n points: it is at rest, all that its nodes did was collected, and its last barrier isn't above them. Its
-  -- lives have seen the points up to there, and are where these have brought them. Their numbers rise, so that no two have the
-  -- same one.
+  -- A net stands behind n points: it is at rest, all that its nodes did was collected, and its last barrier isn't above
+  -- them. Its lives have seen the points up to there, and are where these have brought them. Their numbers rise, so
+  -- that no two have the same one.
   pub record StandsAt (n : ℕ) (courses : List (Course P)) (net : NetValue N) : Type 0 where
     pub unspent : net.spent ≡ false
     pub rest : Each IsResting net.lives

@@ -16,8 +16,8 @@ ghost use Rattle.net_epochs.specs.Epochs.{IsOnCourse, NumbersRise, StandsAt, nod
 
 use node_core::Node;
 
-/// Lives that are where their points have brought them, that were loaded with more points and are at rest, are where these bring
-/// them, and what they have done since is what stands with the later stamps.
+/// Lives that are where their points have brought them, that were loaded with more points and are at rest,
+/// are where these bring them, and what they have done since is what stands with the later stamps.
 pub fn epochs_go_on<N: Node>()
     ensures stands { (n : ℕ) (new : List PointValue) (upto : Stamp) (marks : List Stamp)
         (courses : List (Course N.Spec)) (before after : List (NumberedLife N))
@@ -42,10 +42,10 @@ pub fn epochs_go_on<N: Node>()
         → AreRising (later_effects N.answer n k courses) }
 {}
 
-/// Where nets stand. One that is made of plans in first states, whose numbers rise, stands behind no points. Where a life of a
-/// further plan begins, whose number is above the others, it has seen none, and the others stay where they are. Where a life ends,
-/// the others stay. An epoch of points brings all lives on by these. And no two lives have one number, so that a number names the
-/// life that ends.
+/// Where nets stand. One that is made of plans in first states, whose numbers rise, stands behind no points.
+/// Where a life of a further plan begins, whose number is above the others, it has seen none, and the others
+/// stay where they are. Where a life ends, the others stay. An epoch of points brings all lives on by these.
+/// And no two lives have one number, so that a number names the life that ends.
 pub fn nets_stand<N: Node>()
     ensures made { (plans : List (PlanValue N)) (net : NetValue N)
         → AreLivesOf N.Node plans net.lives → AreFirstStates N.spec N.state N.first plans

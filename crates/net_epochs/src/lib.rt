@@ -1,4 +1,5 @@
-//! Nets whose lives began behind different points: where they stand, and what an epoch of points makes of them. Laws, and no code.
+//! Nets whose lives began behind different points: where they stand, and what an epoch of points makes of
+//! them. Laws, and no code.
 #![tactic(auto)]
 
 mod laws;

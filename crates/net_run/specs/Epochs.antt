@@ -11,7 +11,8 @@ use Rattle.flow_core.specs.Nets.{IsResting, NetValue}
 use Rattle.flow_core.specs.Ran.{HasRun, IsNew}
 
 module _ {N P S : Type 0} (g : Ghosts N P S) where
-  -- before the first epoch a net is new; later it has run these points, and their effects, in their order, were collected
+  -- before the first epoch a net is new; later it has run these points, and their effects, in their order, were
+  -- collected
   abbrev pub HasCome : List (PlanValue N) → List PointValue → NetValue N → Type 0
   HasCome plans points net =
       ((points ≡ []) × IsNew g plans net)
@@ -25,5 +26,6 @@ module _ {N P S : Type 0} (g : Ghosts N P S) where
     pub come : HasCome plans points net
     pub carried : HasCarried g (map (graph_of g.spec) plans) points net
     pub none : net.gathered ≡ []
-    pub all : IsPermutation (effects_by_node g.answer (map (graph_of g.spec) plans) points) (effects_of g.answer (map (graph_of g.spec) plans) points)
+    pub all : IsPermutation (effects_by_node g.answer (map (graph_of g.spec) plans) points)
+        (effects_of g.answer (map (graph_of g.spec) plans) points)
     pub rise : LivesRise g.life g.number 1 (map (graph_of g.spec) plans)

@@ -8,4 +8,6 @@ use Rattle.node_set.specs.Nodes.{AnySpec}
 
 -- its effects with one stamp rise, whatever its kind
 pub any_numbers : (spec : AnySpec) → NumbersEffects (any.answer spec)
-any_numbers spec = subst (λ (answer : Answer). NumbersEffects answer) (sym (any.answers spec)) (stamped_numbers (any.life spec) (any.number spec) (any.saying spec))
+any_numbers spec =
+    subst (λ (answer : Answer). NumbersEffects answer) (sym (any.answers spec))
+    (stamped_numbers (any.life spec) (any.number spec) (any.saying spec))

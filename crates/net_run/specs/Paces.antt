@@ -11,8 +11,8 @@ is_much effects bytes = nat_lt EFFECT_LIMIT effects || nat_lt TEXT_LIMIT bytes
 abbrev pub is_little : ℕ → ℕ → Bool
 is_little effects bytes = nat_le effects (EFFECT_LIMIT / 2) && nat_le bytes (TEXT_LIMIT / 2)
 
--- How many points the next epoch may have, where one that could have so many had this many: half as many, but one at least, after one
--- that did much; twice as many, up to the limit, after a full one that did little.
+-- How many points the next epoch may have, where one that could have so many had this many: half as many, but one at
+-- least, after one that did much; twice as many, up to the limit, after a full one that did little.
 abbrev pub next_limit : ℕ → ℕ → ℕ → ℕ → ℕ
 next_limit limit points effects bytes =
     if is_much effects bytes then max 1 (limit / 2) else

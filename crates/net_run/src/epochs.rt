@@ -21,7 +21,8 @@ use node_core::Effects;
 use std::alloc::Global;
 use std::thread::Threads;
 
-/// The points, where they are held. Otherwise there are none from here on, and whoever else has them has them alone.
+/// The points, where they are held. Otherwise there are none from here on, and whoever else has them has them
+/// alone.
 fn held_points(alloc: Global, points: Vec<Shared<Point>>, hold: bool) -> Vec<Shared<Point>>
     ensures held { IsTrue hold → result.items ≡ points.items }
     ensures none { IsFalse hold → result.items ≡ [] }
@@ -34,10 +35,10 @@ fn held_points(alloc: Global, points: Vec<Shared<Point>>, hold: bool) -> Vec<Sha
     }
 }
 
-/// Loads an epoch of points, with stamps that end at `upto`, into a net whose lives may have begun behind different points, has it
-/// come to rest in this way, and answers the effects with these stamps: by stamp, then by life, then by node, then in the order in
-/// which the node gives them. At rest each edge has carried its stream, and each life is where its points have brought it. After
-/// NoMemory the net is spent.
+/// Loads an epoch of points, with stamps that end at `upto`, into a net whose lives may have begun behind
+/// different points, has it come to rest in this way, and answers the effects with these stamps: by stamp,
+/// then by life, then by node, then in the order in which the node gives them. At rest each edge has carried
+/// its stream, and each life is where its points have brought it. After NoMemory the net is spent.
 pub fn run_epoch<N: NumberingNode + Send, R: Threads + Sync, G: Gate + Sync>(
     alloc: Global,
     net: &mut Net<N>,
@@ -76,9 +77,9 @@ pub fn run_epoch<N: NumberingNode + Send, R: Threads + Sync, G: Gate + Sync>(
     Ok(net.collect(alloc))
 }
 
-/// Loads an epoch of points into lives that all began at the first one, with stamps that end at `upto`, and answers its effects at
-/// rest, and the points, where they are held. Else they are let go before the net moves, so that whoever has them has them alone.
-/// After NoMemory the net can't go on.
+/// Loads an epoch of points into lives that all began at the first one, with stamps that end at `upto`, and
+/// answers its effects at rest, and the points, where they are held. Else they are let go before the net
+/// moves, so that whoever has them has them alone. After NoMemory the net can't go on.
 pub(crate) fn run_held<N: NumberingNode + Send, R: Threads + Sync, G: Gate + Sync>(
     alloc: Global,
     net: &mut Net<N>,

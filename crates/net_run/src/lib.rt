@@ -1,5 +1,5 @@
-//! Lives that run through a net, one epoch of points after the other, and that this gives what the nodes' functions give of whole
-//! lists.
+//! Lives that run through a net, one epoch of points after the other, and that this gives what the nodes'
+//! functions give of whole lists.
 #![tactic(auto)]
 
 ghost use Rattle.std.specs.Prelude.{◌≡◌, ◌^◌};
@@ -18,8 +18,9 @@ pub use numbering::NumberingNode;
 pub use pace::{EFFECT_LIMIT, Pace, TEXT_LIMIT};
 pub use runs::NetRun;
 
-/// How many points an epoch has at most: so few that they stay in a processor's cache from their reading to their end, and so many
-/// that what each epoch costs besides, as the threads that are started for it, is little a point.
+/// How many points an epoch has at most: so few that they stay in a processor's cache from their reading to
+/// their end, and so many that what each epoch costs besides, as the threads that are started for it, is
+/// little a point.
 pub const EPOCH_LIMIT: usize = 1_280;
 
 /// The limits of an epoch as numbers: of points, of effects, and of bytes of their text.

@@ -27,7 +27,8 @@ pub struct Workers<'a, R, G> {
 }
 
 impl<'a, R, G> Workers<'a, R, G> {
-    /// So many workers, 1 to 64. An epoch of fewer points than `least` isn't worth the making of threads, and one worker moves it.
+    /// So many workers, 1 to 64. An epoch of fewer points than `least` isn't worth the making of threads, and
+    /// one worker moves it.
     pub fn new(rt: &'a R, count: u32, gate: &'a G, least: usize) -> Workers<'a, R, G>
         requires some { 0 < count }
         requires limit { count ≤ WORKER_LIMIT }
@@ -58,8 +59,8 @@ pub enum Way<'a, R, G> {
     Workers(Workers<'a, R, G>),
 }
 
-/// Makes steps of a net that was loaded with so many points, in this way, until nothing is left to do. After NoMemory the net is
-/// spent.
+/// Makes steps of a net that was loaded with so many points, in this way, until nothing is left to do. After
+/// NoMemory the net is spent.
 pub(crate) fn move_to_rest<N: Node + Send, R: Threads + Sync, G: Gate + Sync>(
     alloc: Global,
     net: &mut Net<N>,

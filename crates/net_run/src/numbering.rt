@@ -6,7 +6,8 @@ ghost use Rattle.net_run.specs.Numbering.{any_numbers};
 use node_core::Node;
 use node_set::AnyNode;
 
-/// A node that numbers its effects: where the stamps of its inputs don't fall, the numbers of its effects with one stamp rise.
+/// A node that numbers its effects: where the stamps of its inputs don't fall, the numbers of its effects
+/// with one stamp rise.
 pub trait NumberingNode: Node {
     ghost numbers: { (p : Self.Spec) → NumbersEffects (Self.answer p) };
 }

@@ -15,9 +15,9 @@ use std::snapshot::Snapshot;
 use std::thread::Threads;
 use task_run::{Counts, LifePlan};
 
-/// Lives that run through a net, one epoch of points after the other. Contracts see the nodes of each life, the points of all
-/// epochs, how many messages each edge has room for, and whether memory ran out. It keeps the states of the nodes, and no points
-/// once their epoch is done.
+/// Lives that run through a net, one epoch of points after the other. Contracts see the nodes of each life,
+/// the points of all epochs, how many messages each edge has room for, and whether memory ran out. It keeps
+/// the states of the nodes, and no points once their epoch is done.
 #[derive(Drop)]
 pub struct NetRun<N: Node> {
     net: Net<N>,
@@ -67,8 +67,8 @@ impl<N: NumberingNode + Send> NetRun<N> {
     ghost use Rattle.flow_core.specs.Making.{HasFewParents};
     ghost use Rattle.flow_core.specs.Rooms.{HasRoomIn};
 
-    /// A net of lives whose nodes are in their first states, before the first point. Their numbers rise from 1 on, and their edges
-    /// have room for just `capacity` messages, 1 to 65,536.
+    /// A net of lives whose nodes are in their first states, before the first point. Their numbers rise from
+    /// 1 on, and their edges have room for just `capacity` messages, 1 to 65,536.
     pub fn new(alloc: Global, plans: Vec<LifePlan<N>>, capacity: u32) -> Result<NetRun<N>, NoMemory>
         requires first { AreFirstStates N.spec N.state N.first plans.items }
         requires rise { LivesRise N.life N.number 1 (map (graph_of N.spec) plans.items) }
@@ -101,10 +101,11 @@ impl<N: NumberingNode + Send> NetRun<N> {
         self.spent
     }
 
-    /// Loads an epoch of points into the net, has it come to rest in this way, and answers what the nodes do for them. A point's
-    /// stamp is its place among all points so far, from 1 on. The effects of all points, in their order, go on by these. Where the
-    /// points are to be held they are given back, so that whoever reads the next ones may use their memory; a node that changes a
-    /// point then copies it. Else none are given back. After NoMemory the run is spent.
+    /// Loads an epoch of points into the net, has it come to rest in this way, and answers what the nodes do
+    /// for them. A point's stamp is its place among all points so far, from 1 on. The effects of all points,
+    /// in their order, go on by these. Where the points are to be held they are given back, so that whoever
+    /// reads the next ones may use their memory; a node that changes a point then copies it. Else none are
+    /// given back. After NoMemory the run is spent.
     pub fn run<R: Threads + Sync, G: Gate + Sync>(
         &mut self,
         alloc: Global,
@@ -144,8 +145,8 @@ impl<N: NumberingNode + Send> NetRun<N> {
         self.net.counts(alloc)
     }
 
-    /// The net itself. It is at rest, its lives are those of the run, and over all epochs each of its edges has carried, barriers
-    /// aside, what its parent gives out for all points. It takes no memory.
+    /// The net itself. It is at rest, its lives are those of the run, and over all epochs each of its edges
+    /// has carried, barriers aside, what its parent gives out for all points. It takes no memory.
     pub fn into_net(self) -> Net<N>
         requires { self.spent ≡ false }
         ensures carried { HasCarried N.Node self.lives self.points result }

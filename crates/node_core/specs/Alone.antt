@@ -9,5 +9,6 @@ abbrev pub NothingKept : List Arrival → Unit {0} → Type 0
 NothingKept before s = ⊤
 
 -- where nothing is said, nothing changes
-pub alone_stays : (s : Unit {0}) (said : Said) → said ≡ silence → ◌≡◌ {A = Turn (Unit {0})} (record { state = s; said = said }) (record { state = s; said = silence })
+pub alone_stays : (s : Unit {0}) (said : Said) → said ≡ silence
+    → ◌≡◌ {A = Turn (Unit {0})} (record { state = s; said = said }) (record { state = s; said = silence })
 alone_stays s said e = ap (λ (x : Said). record { state = s; said = x }) e

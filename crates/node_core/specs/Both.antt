@@ -28,7 +28,8 @@ abbrev pub move_other : {A B : Type 0} → Move B → Move (Both A B)
 move_other m = record { state = Other m.state; given = m.given }
 
 -- a state of the other kind doesn't occur, and stays
-abbrev pub step_both : {P Q A B : Type 0} → (P → A → Input → Move A) → (Q → B → Input → Move B) → Both P Q → Both A B → Input → Move (Both A B)
+abbrev pub step_both : {P Q A B : Type 0} → (P → A → Input → Move A) → (Q → B → Input → Move B) → Both P Q → Both A B
+    → Input → Move (Both A B)
 step_both f g (One p) (One s) x = move_one (f p s x)
 step_both f g (One p) (Other s) x = stay (Other s)
 step_both f g (Other q) (One s) x = stay (One s)
@@ -58,37 +59,60 @@ read_both f g (Other q) = read_as Other (g q)
 module _ {P Q A B : Type 0} (f : P → A → Input → Move A) (g : Q → B → Input → Move B) where
   fold-one : (p : P) (s : A) (xs : List Input) → fold (step_both f g (One p)) (One s) xs ≡ move_one (fold (f p) s xs)
   fold-one p s [] = refl
-  fold-one p s (x ∷ xs) = ap (λ (m : Move (Both A B)). record { state = m.state; given = also (f p s x).given m.given }) (fold-one p (f p s x).state xs)
+  fold-one p s (x ∷ xs) =
+      ap (λ (m : Move (Both A B)). record { state = m.state; given = also (f p s x).given m.given })
+      (fold-one p (f p s x).state xs)
 
-  fold-other : (q : Q) (s : B) (xs : List Input) → fold (step_both f g (Other q)) (Other s) xs ≡ move_other (fold (g q) s xs)
+  fold-other : (q : Q) (s : B) (xs : List Input)
+      → fold (step_both f g (Other q)) (Other s) xs ≡ move_other (fold (g q) s xs)
   fold-other q s [] = refl
-  fold-other q s (x ∷ xs) = ap (λ (m : Move (Both A B)). record { state = m.state; given = also (g q s x).given m.given }) (fold-other q (g q s x).state xs)
+  fold-other q s (x ∷ xs) =
+      ap (λ (m : Move (Both A B)). record { state = m.state; given = also (g q s x).given m.given })
+      (fold-other q (g q s x).state xs)
 
   -- fed a list, a node of either kind gives what its answers are
   pub folds_both : (first_one : P → A) (first_other : Q → B) (one : P → Answer) (other : Q → Answer)
-      → ((p : P) (xs : List Input) → (fold (f p) (first_one p) xs).given ≡ given (one p) xs) → ((q : Q) (xs : List Input) → (fold (g q) (first_other q) xs).given ≡ given (other q) xs)
-      → (spec : Both P Q) (xs : List Input) → (fold (step_both f g spec) (of_both first_one first_other spec) xs).given ≡ given (either one other spec) xs
-  folds_both first_one first_other one other h k (One p) xs = ap (λ (m : Move (Both A B)). m.given) (fold-one p (first_one p) xs) ∙ h p xs
-  folds_both first_one first_other one other h k (Other q) xs = ap (λ (m : Move (Both A B)). m.given) (fold-other q (first_other q) xs) ∙ k q xs
+      → ((p : P) (xs : List Input) → (fold (f p) (first_one p) xs).given ≡ given (one p) xs)
+      → ((q : Q) (xs : List Input) → (fold (g q) (first_other q) xs).given ≡ given (other q) xs)
+      → (spec : Both P Q) (xs : List Input)
+      → (fold (step_both f g spec) (of_both first_one first_other spec) xs).given ≡ given (either one other spec) xs
+  folds_both first_one first_other one other h k (One p) xs =
+      ap (λ (m : Move (Both A B)). m.given) (fold-one p (first_one p) xs) ∙ h p xs
+  folds_both first_one first_other one other h k (Other q) xs =
+      ap (λ (m : Move (Both A B)). m.given) (fold-other q (first_other q) xs) ∙ k q xs
 
   -- and has counted what it dropped
-  pub counts_both : (first_one : P → A) (first_other : Q → B) (drops_one : A → ℕ) (drops_other : B → ℕ) (one : P → Answer) (other : Q → Answer)
-      → ((p : P) (xs : List Input) → drops_one (fold (f p) (first_one p) xs).state ≡ (given (one p) xs).drops) → ((q : Q) (xs : List Input) → drops_other (fold (g q) (first_other q) xs).state ≡ (given (other q) xs).drops)
-      → (spec : Both P Q) (xs : List Input) → either drops_one drops_other (fold (step_both f g spec) (of_both first_one first_other spec) xs).state ≡ (given (either one other spec) xs).drops
-  counts_both first_one first_other drops_one drops_other one other h k (One p) xs = ap (λ (m : Move (Both A B)). either drops_one drops_other m.state) (fold-one p (first_one p) xs) ∙ h p xs
-  counts_both first_one first_other drops_one drops_other one other h k (Other q) xs = ap (λ (m : Move (Both A B)). either drops_one drops_other m.state) (fold-other q (first_other q) xs) ∙ k q xs
+  pub counts_both : (first_one : P → A) (first_other : Q → B) (drops_one : A → ℕ) (drops_other : B → ℕ) (one : P
+      → Answer) (other : Q → Answer)
+      → ((p : P) (xs : List Input) → drops_one (fold (f p) (first_one p) xs).state ≡ (given (one p) xs).drops)
+      → ((q : Q) (xs : List Input) → drops_other (fold (g q) (first_other q) xs).state ≡ (given (other q) xs).drops)
+      → (spec : Both P Q) (xs : List Input)
+      → either drops_one drops_other (fold (step_both f g spec) (of_both first_one first_other spec) xs).state
+      ≡ (given (either one other spec) xs).drops
+  counts_both first_one first_other drops_one drops_other one other h k (One p) xs =
+      ap (λ (m : Move (Both A B)). either drops_one drops_other m.state) (fold-one p (first_one p) xs) ∙ h p xs
+  counts_both first_one first_other drops_one drops_other one other h k (Other q) xs =
+      ap (λ (m : Move (Both A B)). either drops_one drops_other m.state) (fold-other q (first_other q) xs) ∙ k q xs
 
 -- what it answers has the stamp, the life and the number
-pub stamped_both : {P Q : Type 0} (life_one node_one : P → ℕ) (life_other node_other : Q → ℕ) (one : P → Answer) (other : Q → Answer)
-    → ((p : P) (before : List Input) (x : Input) → IsStamped (life_one p) (node_one p) x.1.stamp.0 (one p before x)) → ((q : Q) (before : List Input) (x : Input) → IsStamped (life_other q) (node_other q) x.1.stamp.0 (other q before x))
-    → (spec : Both P Q) (before : List Input) (x : Input) → IsStamped (either life_one life_other spec) (either node_one node_other spec) x.1.stamp.0 (either one other spec before x)
+pub stamped_both : {P Q : Type 0} (life_one node_one : P → ℕ) (life_other node_other : Q → ℕ) (one : P → Answer)
+    (other : Q → Answer)
+    → ((p : P) (before : List Input) (x : Input) → IsStamped (life_one p) (node_one p) x.1.stamp.0 (one p before x))
+    → ((q : Q) (before : List Input) (x : Input)
+    → IsStamped (life_other q) (node_other q) x.1.stamp.0 (other q before x))
+    → (spec : Both P Q) (before : List Input) (x : Input)
+    → IsStamped (either life_one life_other spec) (either node_one node_other spec) x.1.stamp.0
+    (either one other spec before x)
 stamped_both life_one node_one life_other node_other one other h k (One p) before x = h p before x
 stamped_both life_one node_one life_other node_other one other h k (Other q) before x = k q before x
 
 -- a body that is not for it changes nothing
-pub stays_both : {P Q A B : Type 0} (takes_one : P → Body → Bool) (takes_other : Q → Body → Bool) (one : P → A → Input → Move A) (other : Q → B → Input → Move B)
-    → ((p : P) (s : A) (x : Input) → takes_one p x.1.body ≡ false → one p s x ≡ stay s) → ((q : Q) (s : B) (x : Input) → takes_other q x.1.body ≡ false → other q s x ≡ stay s)
-    → (spec : Both P Q) (s : Both A B) (x : Input) → either takes_one takes_other spec x.1.body ≡ false → step_both one other spec s x ≡ stay s
+pub stays_both : {P Q A B : Type 0} (takes_one : P → Body → Bool) (takes_other : Q → Body → Bool) (one : P → A → Input
+    → Move A) (other : Q → B → Input → Move B)
+    → ((p : P) (s : A) (x : Input) → takes_one p x.1.body ≡ false → one p s x ≡ stay s)
+    → ((q : Q) (s : B) (x : Input) → takes_other q x.1.body ≡ false → other q s x ≡ stay s)
+    → (spec : Both P Q) (s : Both A B) (x : Input) → either takes_one takes_other spec x.1.body ≡ false
+    → step_both one other spec s x ≡ stay s
 stays_both takes_one takes_other one other h k (One p) (One s) x e = ap move_one (h p s x e)
 stays_both takes_one takes_other one other h k (One p) (Other s) x e = refl
 stays_both takes_one takes_other one other h k (Other q) (One s) x e = refl
@@ -96,31 +120,48 @@ stays_both takes_one takes_other one other h k (Other q) (Other s) x e = ap move
 
 -- ---- spellings
 
-module _ {A C : Type 0} {Fits : A → Type 0} {spell : A → List ℕ} {read : Reading A} (is : IsSpelling Fits spell read) (made : A → C) (FitsC : C → Type 0) (spell_c : C → List ℕ) (fits : (a : A) → Fits a → FitsC (made a)) (spells : (a : A) → spell_c (made a) ≡ spell a) where
+module _ {A C : Type 0} {Fits : A → Type 0} {spell : A → List ℕ} {read : Reading A} (is : IsSpelling Fits spell read)
+    (made : A → C) (FitsC : C → Type 0) (spell_c : C → List ℕ) (fits : (a : A) → Fits a → FitsC (made a))
+    (spells : (a : A) → spell_c (made a) ≡ spell a) where
   -- what is read is of this kind
-  only-made : (r : Option (A × List ℕ)) (bytes : List ℕ) (c : C) (rest : List ℕ) → ((a : A) (t : List ℕ) → r ≡ value_then a t → Stands Fits spell bytes a t) → read_then r (λ x t. value_then (made x) t) ≡ value_then c rest → Stands FitsC spell_c bytes c rest
+  only-made : (r : Option (A × List ℕ)) (bytes : List ℕ) (c : C) (rest : List ℕ)
+      → ((a : A) (t : List ℕ) → r ≡ value_then a t → Stands Fits spell bytes a t)
+      → read_then r (λ x t. value_then (made x) t) ≡ value_then c rest → Stands FitsC spell_c bytes c rest
   only-made None bytes c rest h e = absurd cc
   only-made (Some r) bytes c rest h e =
       let both = same_pair {A = C} (made r.0, r.1) (c, rest) e in
       let s = h r.0 r.1 refl in
-      subst (λ (p : C × List ℕ). Stands FitsC spell_c bytes p.0 p.1) both (record { fits = fits r.0 s.fits; parts = rw spells s.parts; rest_bytes = s.rest_bytes })
+      subst (λ (p : C × List ℕ). Stands FitsC spell_c bytes p.0 p.1) both
+      (record { fits = fits r.0 s.fits; parts = rw spells s.parts; rest_bytes = s.rest_bytes })
 
   -- what is read as a state of one of the two is spelled so
-  pub made_only : (bytes : List ℕ) (c : C) (rest : List ℕ) → IsBytes bytes → read_as made read bytes ≡ value_then c rest → Stands FitsC spell_c bytes c rest
+  pub made_only : (bytes : List ℕ) (c : C) (rest : List ℕ) → IsBytes bytes → read_as made read bytes ≡ value_then c rest
+      → Stands FitsC spell_c bytes c rest
   made_only bytes c rest h e = only-made (read bytes) bytes c rest (λ a t r. is.only bytes a t h r) e
 
-module _ {P Q A B : Type 0} (fits_one : P → A → Type 0) (fits_other : Q → B → Type 0) (spell_one : P → A → List ℕ) (spell_other : Q → B → List ℕ) (read_one : P → Reading A) (read_other : Q → Reading B)
-    (one : (p : P) → IsSpelling (fits_one p) (spell_one p) (read_one p)) (other : (q : Q) → IsSpelling (fits_other q) (spell_other q) (read_other q)) where
-  again-both : (spec : Both P Q) (s : Both A B) (rest : List ℕ) → FitsBoth fits_one fits_other spec s → read_both read_one read_other spec (spell_both spell_one spell_other spec s ++ rest) ≡ value_then s rest
+module _ {P Q A B : Type 0} (fits_one : P → A → Type 0) (fits_other : Q → B → Type 0) (spell_one : P → A → List ℕ)
+    (spell_other : Q → B → List ℕ) (read_one : P → Reading A) (read_other : Q → Reading B)
+    (one : (p : P) → IsSpelling (fits_one p) (spell_one p) (read_one p)) (other : (q : Q)
+    → IsSpelling (fits_other q) (spell_other q) (read_other q)) where
+  again-both : (spec : Both P Q) (s : Both A B) (rest : List ℕ) → FitsBoth fits_one fits_other spec s
+      → read_both read_one read_other spec (spell_both spell_one spell_other spec s ++ rest) ≡ value_then s rest
   again-both (One p) (One s) rest h = rw ((one p).again s rest h) refl
   again-both (One p) (Other s) rest h = absurd h
   again-both (Other q) (One s) rest h = absurd h
   again-both (Other q) (Other s) rest h = rw ((other q).again s rest h) refl
 
-  only-both : (spec : Both P Q) (bytes : List ℕ) (s : Both A B) (rest : List ℕ) → IsBytes bytes → read_both read_one read_other spec bytes ≡ value_then s rest → Stands (FitsBoth fits_one fits_other spec) (spell_both spell_one spell_other spec) bytes s rest
-  only-both (One p) bytes s rest h e = made_only (one p) One (FitsBoth fits_one fits_other (One p)) (spell_both spell_one spell_other (One p)) (λ a f. f) (λ a. refl) bytes s rest h e
-  only-both (Other q) bytes s rest h e = made_only (other q) Other (FitsBoth fits_one fits_other (Other q)) (spell_both spell_one spell_other (Other q)) (λ a f. f) (λ a. refl) bytes s rest h e
+  only-both : (spec : Both P Q) (bytes : List ℕ) (s : Both A B) (rest : List ℕ) → IsBytes bytes
+      → read_both read_one read_other spec bytes ≡ value_then s rest
+      → Stands (FitsBoth fits_one fits_other spec) (spell_both spell_one spell_other spec) bytes s rest
+  only-both (One p) bytes s rest h e =
+      made_only (one p) One (FitsBoth fits_one fits_other (One p)) (spell_both spell_one spell_other (One p)) (λ a f. f)
+      (λ a. refl) bytes s rest h e
+  only-both (Other q) bytes s rest h e =
+      made_only (other q) Other (FitsBoth fits_one fits_other (Other q)) (spell_both spell_one spell_other (Other q))
+      (λ a f. f) (λ a. refl) bytes s rest h e
 
   -- what is spelled is read again, and only that
-  pub both_spelled : (spec : Both P Q) → IsSpelling (FitsBoth fits_one fits_other spec) (spell_both spell_one spell_other spec) (read_both read_one read_other spec)
+  pub both_spelled : (spec : Both P Q)
+      → IsSpelling (FitsBoth fits_one fits_other spec) (spell_both spell_one spell_other spec)
+      (read_both read_one read_other spec)
   both_spelled spec = record { again = again-both spec; only = only-both spec }

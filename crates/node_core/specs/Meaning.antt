@@ -89,6 +89,7 @@ fold step s (x ∷ xs) =
     record { state = rest.state; given = also first.given rest.given }
 
 -- The machine is in the state that its inputs so far make, and answers as the node does.
-pub record Follows {S : Type 0} (step : S → Input → Move S) (answer : Answer) (Kept : List Input → S → Type 0) : Type 0 where
+pub record Follows {S : Type 0} (step : S → Input → Move S) (answer : Answer) (Kept : List Input → S
+    → Type 0) : Type 0 where
   pub state : (before : List Input) (s : S) (x : Input) → Kept before s → Kept (before ++ x ∷ []) (step s x).state
   pub given : (before : List Input) (s : S) (x : Input) → Kept before s → (step s x).given ≡ answer before x

@@ -26,7 +26,8 @@ pub fn rule_node<R: Rule + Drop>(alloc: Global, life: u32, node: u32, rule: R) -
     Numbered::new(alloc, Seat { life, node, kind })
 }
 
-/// The node of a rule that keeps nothing, in its first state: in a life of its task, and with its number there.
+/// The node of a rule that keeps nothing, in its first state: in a life of its task, and with its number
+/// there.
 pub fn plain_node<P: Plain + Drop>(alloc: Global, life: u32, node: u32, plain: P) -> PlainNode<P>
     ensures spec { ⟦<PlainNode<P> as Node>⟧.spec result ≡ plain_seat life node plain }
     ensures first { ⟦<PlainNode<P> as Node>⟧.state result

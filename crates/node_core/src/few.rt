@@ -5,7 +5,8 @@ use kap_base::NoMemory;
 use std::alloc::Global;
 use std::marker::Model;
 
-/// A list that mostly has one item at most, and takes memory from the second one on. Contracts see its items in order.
+/// A list that mostly has one item at most, and takes memory from the second one on. Contracts see its items
+/// in order.
 #[derive(Debug, Drop)]
 pub struct Few<T> {
     first: Option<T>,

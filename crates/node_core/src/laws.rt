@@ -8,7 +8,8 @@ ghost use Rattle.node_core.specs.Keys.{group_key};
 ghost use Rattle.node_core.specs.Meaning.{Saying, Input};
 ghost use Rattle.node_core.specs.Numbering.{given_with, number_at, tally};
 
-/// Where stamps don't fall, the next effect's number is the number of all effects that were given before with its stamp.
+/// Where stamps don't fall, the next effect's number is the number of all effects that were given before with
+/// its stamp.
 #[tactic(auto, using(crate::proofs::SeqLaws::numbers_count))]
 pub fn numbers_count_effects()
     ensures { (saying : Saying) (before : List Input) (stamp : ℕ)

@@ -1,5 +1,5 @@
-//! What a node is: what it says of what arrives, how this is stamped and numbered, and how a node is made of a rule for one
-//! group, or of what is done with each body by itself.
+//! What a node is: what it says of what arrives, how this is stamped and numbered, and how a node is made of
+//! a rule for one group, or of what is done with each body by itself.
 #![tactic(auto)]
 
 mod alone;

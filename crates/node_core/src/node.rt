@@ -54,8 +54,8 @@ pub trait Node: Drop {
     /// The state of a node of this spec that bytes begin with, and the bytes behind it.
     ghost read: { Self.Spec → Reading Self.State };
 
-    /// Takes an item that came at a port. After NoMemory the node is spent: what it keeps, and what of this item stands in `out`
-    /// and `effects`, is unknown.
+    /// Takes an item that came at a port. After NoMemory the node is spent: what it keeps, and what of this
+    /// item stands in `out` and `effects`, is unknown.
     fn feed(
         &mut self,
         alloc: Global,
@@ -79,8 +79,9 @@ pub trait Node: Drop {
         ensures fits { OnOk result (fits (spec self.now) (state self.now)) }
         ensures err { OnErr result (to.new ≡ to.old) };
 
-    /// Takes the state whose spelling stands at the cursor. `At` the cursor's offset exactly where no spelling of a state of a
-    /// node of this spec stands there. After any `Err` the cursor stays, and so does the state.
+    /// Takes the state whose spelling stands at the cursor. `At` the cursor's offset exactly where no
+    /// spelling of a state of a node of this spec stands there. After any `Err` the cursor stays, and so does
+    /// the state.
     fn load(&mut self, alloc: Global, from: &mut Cursor) -> Result<(), CodeFault>
         ensures spec { spec self.new ≡ spec self.old }
         ensures loaded { Loads (read (spec self.old)) from.old from.new

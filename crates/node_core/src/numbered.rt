@@ -23,7 +23,8 @@ pub struct Seat<K> {
     pub kind: K,
 }
 
-/// The node of a kind: it stamps what the kind says, counts what is dropped, and numbers the effects over all groups.
+/// The node of a kind: it stamps what the kind says, counts what is dropped, and numbers the effects over all
+/// groups.
 #[derive(Drop)]
 pub struct Numbered<K: Kind> {
     /// What it does, in which life, and its number.

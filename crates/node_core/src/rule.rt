@@ -8,7 +8,8 @@ use kap_base::{NoMemory, Point, Shared};
 use state_code::Spelled;
 use std::alloc::Global;
 
-/// What a node does in each group by itself. It owes one equation, `goes_on`, and the spelling of what it keeps of a group.
+/// What a node does in each group by itself. It owes one equation, `goes_on`, and the spelling of what it
+/// keeps of a group.
 pub trait Rule {
     /// What is kept of a group.
     type Cell: Spelled + Drop;
@@ -29,8 +30,8 @@ pub trait Rule {
     fn first(&self, alloc: Global) -> Self::Cell
         ensures { result ≡ kept self.now [] };
 
-    /// Takes a point that came at a port. The rule stays: `&mut` is for what an expression keeps ready for its next use. After
-    /// NoMemory the cell is any.
+    /// Takes a point that came at a port. The rule stays: `&mut` is for what an expression keeps ready for
+    /// its next use. After NoMemory the cell is any.
     fn feed(
         &mut self,
         alloc: Global,

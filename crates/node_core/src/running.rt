@@ -37,7 +37,8 @@ impl Tally {
     }
 }
 
-/// The state of a node: how far its effects are numbered, how many inputs were dropped and counted, and what its kind keeps.
+/// The state of a node: how far its effects are numbered, how many inputs were dropped and counted, and what
+/// its kind keeps.
 #[derive(Debug, Drop)]
 pub struct Running<S> {
     /// How far its effects are numbered.
@@ -48,7 +49,8 @@ pub struct Running<S> {
     pub inner: S,
 }
 
-/// The last stamp with which effects were given, their number, the number of inputs dropped, and what the kind keeps.
+/// The last stamp with which effects were given, their number, the number of inputs dropped, and what the
+/// kind keeps.
 impl<S: Spelled + Drop> Spelled for Running<S> {
     ghost fits = { FitsRunning S.fits };
 

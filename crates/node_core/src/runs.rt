@@ -6,8 +6,8 @@ use crate::node::Node;
 use kap_base::{Effect, Item, ItemList, NoMemory};
 use std::alloc::Global;
 
-/// Feeds a whole list to a node in its first state. `up_to`: what is given up to a stamp is what the inputs up to it give. After
-/// NoMemory the node can't go on, and what stands in `out` and `effects` is unknown.
+/// Feeds a whole list to a node in its first state. `up_to`: what is given up to a stamp is what the inputs
+/// up to it give. After NoMemory the node can't go on, and what stands in `out` and `effects` is unknown.
 pub fn run<N: Node>(
     alloc: Global,
     node: &mut N,

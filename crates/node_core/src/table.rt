@@ -104,8 +104,9 @@ fn place_behind(at: usize, count: usize) -> usize {
     }
 }
 
-/// Where the key's cell is; a key that has none gets the first one. Points often come from one group after the other in the same
-/// order, or from one group, so the place behind the last key's and the last key's are looked at before the key is hashed.
+/// Where the key's cell is; a key that has none gets the first one. Points often come from one group after
+/// the other in the same order, or from one group, so the place behind the last key's and the last key's are
+/// looked at before the key is hashed.
 fn cell_at<R: Rule>(
     rule: &R,
     alloc: Global,

@@ -21,10 +21,12 @@ module _ {N P S : Type 0} (spec : N → P) (state : N → S) (first : P → S) (
   AreNodesOf task life number [] [] = ⊤
   AreNodesOf task life number [] (n ∷ ns) = ⊥
   AreNodesOf task life number (node ∷ nodes) [] = ⊥
-  AreNodesOf task life number (node ∷ nodes) (n ∷ ns) = IsNodeOf task life number node n × AreNodesOf task life (number + 1) nodes ns
+  AreNodesOf task life number (node ∷ nodes) (n ∷ ns) =
+      IsNodeOf task life number node n × AreNodesOf task life (number + 1) nodes ns
 
   -- the nodes of a script were added, numbered from here on
-  pub record AddsNodes (task : List ℕ) (life number : ℕ) (nodes : List (NodeSpec Tree)) (before after : DraftValue N) : Type 0 where
+  pub record AddsNodes (task : List ℕ) (life number : ℕ) (nodes : List (NodeSpec Tree))
+      (before after : DraftValue N) : Type 0 where
     pub added : List N
     pub are : AreNodesOf task life number nodes added
     pub nodes_are : after.nodes ≡ before.nodes ++ added

@@ -68,25 +68,35 @@ abbrev pub Cells : Type 0 → Type 0
 Cells C = Running (KeyMap C)
 
 abbrev pub state_count : Behaviour (Seat (Grouped CountRule)) (Cells (ℕ × ℕ))
-state_count = grouped (λ r. 1) (λ r. state_count_says r.spec) (λ r. counts_in r.spec) (λ r. state_count_step r.spec) (λ r. state_count_goes_on r.spec) (pair_spelled u64_spelled u64_spelled)
+state_count =
+    grouped (λ r. 1) (λ r. state_count_says r.spec) (λ r. counts_in r.spec) (λ r. state_count_step r.spec)
+    (λ r. state_count_goes_on r.spec) (pair_spelled u64_spelled u64_spelled)
 
 abbrev pub change_detect : Behaviour (Seat (Grouped DetectRule)) (Cells (Option (List (Option Value))))
-change_detect = grouped (λ r. 1) (λ r. change_detect_says r.names) (λ r. last_values r.names) (λ r. change_detect_step r.names) (λ r. change_detect_goes_on r.names) (option_spelled (list_spelled (option_spelled value_spelled)))
+change_detect =
+    grouped (λ r. 1) (λ r. change_detect_says r.names) (λ r. last_values r.names) (λ r. change_detect_step r.names)
+    (λ r. change_detect_goes_on r.names) (option_spelled (list_spelled (option_spelled value_spelled)))
 
 abbrev pub difference : Behaviour (Seat (Grouped DifferenceRule)) (Cells (Option ℤ))
-difference = grouped (λ r. 1) (λ r. difference_says r.spec) (λ r. last_int r.spec) (λ r. difference_step r.spec) (λ r. difference_goes_on r.spec) (option_spelled i64_spelled)
+difference =
+    grouped (λ r. 1) (λ r. difference_says r.spec) (λ r. last_int r.spec) (λ r. difference_step r.spec)
+    (λ r. difference_goes_on r.spec) (option_spelled i64_spelled)
 
 abbrev pub cumulative_sum : Behaviour (Seat (Grouped SumRule)) (Cells ℤ)
-cumulative_sum = grouped (λ r. 1) (λ r. cumulative_sum_says r.spec) (λ r. sum_in r.spec) (λ r. cumulative_sum_step r.spec) (λ r. cumulative_sum_goes_on r.spec) i64_spelled
+cumulative_sum =
+    grouped (λ r. 1) (λ r. cumulative_sum_says r.spec) (λ r. sum_in r.spec) (λ r. cumulative_sum_step r.spec)
+    (λ r. cumulative_sum_goes_on r.spec) i64_spelled
 
 abbrev pub elapsed : Behaviour (Seat (Grouped ElapsedRule)) (Cells (Option ℤ))
-elapsed = grouped (λ r. 1) (λ r. elapsed_says r.spec) (λ r. last_time r.spec) (λ r. elapsed_step r.spec) (λ r. elapsed_goes_on r.spec) (option_spelled i64_spelled)
+elapsed = grouped (λ r. 1) (λ r. elapsed_says r.spec) (λ r. last_time r.spec) (λ r. elapsed_step r.spec)
+    (λ r. elapsed_goes_on r.spec) (option_spelled i64_spelled)
 
 abbrev pub edge_window : Behaviour (Seat (Grouped EdgeRule)) (Cells (Option EdgeKept))
 edge_window = grouped (λ r. 1) edge_says edge_kept edge_step edge_goes_on (option_spelled edge_spelled)
 
 abbrev pub sliding_window : Behaviour (Seat (Grouped SlidingRule)) (Cells (Option SlidingKept))
-sliding_window = grouped (λ r. 1) sliding_says sliding_kept sliding_step sliding_goes_on (option_spelled sliding_spelled)
+sliding_window =
+    grouped (λ r. 1) sliding_says sliding_kept sliding_step sliding_goes_on (option_spelled sliding_spelled)
 
 abbrev pub counted_window : Behaviour (Seat (Grouped CountedRule)) (Cells CountedKept)
 counted_window = grouped (λ r. 1) counted_says counted_kept counted_step counted_goes_on counted_spelled
@@ -101,7 +111,8 @@ abbrev pub eval : Behaviour (Seat (Grouped (EvalSpec Tree))) (Cells (List ℕ))
 eval = grouped (λ r. 1) eval_says evals_in eval_step eval_goes_on (list_spelled u64_spelled)
 
 abbrev pub join : Behaviour (Seat (Grouped JoinRule)) (Cells (Option JoinKept))
-join = grouped (λ r. parents r.spec) (λ r. join_says r.spec) (λ r. join_kept r.spec) (λ r. join_step r.spec) (λ r. join_goes_on r.spec) (option_spelled kept_spelled)
+join = grouped (λ r. parents r.spec) (λ r. join_says r.spec) (λ r. join_kept r.spec) (λ r. join_step r.spec)
+    (λ r. join_goes_on r.spec) (option_spelled kept_spelled)
 
 -- ---- nodes that keep nothing
 
@@ -118,9 +129,12 @@ select = alone (λ r. 1) is_batch (λ r. select_says r.spec) (λ r. silent r.spe
 
 -- what a node of any kind keeps
 abbrev pub AnyState : Type 0
-AnyState = Both (Both (Cells (ℕ × ℕ)) (Both (Cells (Option (List (Option Value)))) (Both (Cells (Option ℤ)) (Both (Cells ℤ) (Cells (Option ℤ))))))
+AnyState = Both
+    (Both (Cells (ℕ × ℕ))
+    (Both (Cells (Option (List (Option Value)))) (Both (Cells (Option ℤ)) (Both (Cells ℤ) (Cells (Option ℤ))))))
     (Both (Both (Both (Cells (Option EdgeKept)) (Both (Cells (Option SlidingKept)) (Cells CountedKept))) (Cells Watch))
-    (Both (Both (Both (Running (Unit {0})) (Cells ℕ)) (Cells (List ℕ))) (Both (Both (Running (Unit {0})) (Cells (Option JoinKept))) (Running (Unit {0})))))
+    (Both (Both (Both (Running (Unit {0})) (Cells ℕ)) (Cells (List ℕ)))
+    (Both (Both (Running (Unit {0})) (Cells (Option JoinKept))) (Running (Unit {0})))))
 
 -- what a node of any kind does
 abbrev pub any : Behaviour AnySpec AnyState

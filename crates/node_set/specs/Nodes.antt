@@ -34,9 +34,14 @@ use Rattle.window_node.specs.declared.sliding.SlidingWindow.{SlidingWindow as Sl
 
 -- a kind with what a script hands to it, the life in which it runs, and the number of the node
 abbrev pub AnySpec : Type 0
-AnySpec = Both (Both (Seat (Grouped CountRule)) (Both (Seat (Grouped DetectRule)) (Both (Seat (Grouped DifferenceRule)) (Both (Seat (Grouped SumRule)) (Seat (Grouped ElapsedRule))))))
-    (Both (Both (Both (Seat (Grouped EdgeRule)) (Both (Seat (Grouped SlidingRule)) (Seat (Grouped CountedRule)))) (Seat (Grouped AlertRule)))
-    (Both (Both (Both (Seat (Alone PointKind)) (Seat (Grouped GroupKind))) (Seat (Grouped (EvalSpec Tree)))) (Both (Both (Seat (Alone UnionRule)) (Seat (Grouped JoinRule))) (Seat (Alone Selection)))))
+AnySpec = Both
+    (Both (Seat (Grouped CountRule))
+    (Both (Seat (Grouped DetectRule))
+    (Both (Seat (Grouped DifferenceRule)) (Both (Seat (Grouped SumRule)) (Seat (Grouped ElapsedRule))))))
+    (Both (Both (Both (Seat (Grouped EdgeRule)) (Both (Seat (Grouped SlidingRule)) (Seat (Grouped CountedRule))))
+    (Seat (Grouped AlertRule)))
+    (Both (Both (Both (Seat (Alone PointKind)) (Seat (Grouped GroupKind))) (Seat (Grouped (EvalSpec Tree))))
+    (Both (Both (Seat (Alone UnionRule)) (Seat (Grouped JoinRule))) (Seat (Alone Selection)))))
 
 -- ---- of each kind
 
@@ -90,34 +95,46 @@ abbrev pub timed_spec : ℕ → ℕ → ℕ → ℕ → Bool → Bool → AnySpe
 timed_spec life number period every align fill_period =
     if every == 0
     then in_sliding_window (rule_seat life number (record { period = period; fill_period = fill_period }))
-    else in_edge_window (rule_seat life number (record { period = period; every = every; align = align; fill_period = fill_period }))
+    else in_edge_window
+    (rule_seat life number (record { period = period; every = every; align = align; fill_period = fill_period }))
 
 -- a window, in this life and with this number
 abbrev pub window_spec : ℕ → ℕ → WindowSpec → AnySpec
 window_spec life number (Timed period every align fill_period) = timed_spec life number period every align fill_period
 window_spec life number (Counted period_count every_count fill_period) =
-    in_counted_window (rule_seat life number (record { period_count = period_count; every_count = every_count; fill_period = fill_period }))
+    in_counted_window
+    (rule_seat life number
+    (record { period_count = period_count; every_count = every_count; fill_period = fill_period }))
 
 -- ---- of any kind
 
--- the node of what a script hands to the node of this name with so many parents, in a task of this id, in a life of it and with a number there
+-- the node of what a script hands to the node of this name with so many parents, in a task of this id, in a life of it
+-- and with a number there
 abbrev pub any_spec : List ℕ → ℕ → ℕ → List ℕ → ℕ → Spec Tree → AnySpec
 any_spec task life number name parents (Stream dbrps) = in_point (plain_seat life number (points.Stream dbrps))
 any_spec task life number name parents (From from) = in_group (rule_seat life number (groups.From (selection_of from)))
 any_spec task life number name parents (Where condition) = in_group (rule_seat life number (groups.Where condition))
-any_spec task life number name parents (GroupBy group) = in_point (plain_seat life number (points.GroupBy (regrouping_of group)))
+any_spec task life number name parents (GroupBy group) =
+    in_point (plain_seat life number (points.GroupBy (regrouping_of group)))
 any_spec task life number name parents (Log log) = in_point (plain_seat life number points.Log)
 any_spec task life number name parents (Default settings) = in_point (plain_seat life number (points.Default settings))
-any_spec task life number name parents (Delete settings) = in_point (plain_seat life number (points.Delete (deletion_of settings)))
+any_spec task life number name parents (Delete settings) =
+    in_point (plain_seat life number (points.Delete (deletion_of settings)))
 any_spec task life number name parents (Shift by) = in_point (plain_seat life number (points.Shift by))
 any_spec task life number name parents (Sample n) = in_group (rule_seat life number (groups.Sample n))
 any_spec task life number name parents (Eval eval) = in_eval (rule_seat life number eval)
-any_spec task life number name parents (StateCount count) = in_state_count (rule_seat life number (record { spec = count }))
-any_spec task life number name parents (ChangeDetect fields) = in_change_detect (rule_seat life number (record { names = fields }))
-any_spec task life number name parents (Difference field) = in_difference (rule_seat life number (record { spec = field }))
-any_spec task life number name parents (CumulativeSum field) = in_cumulative_sum (rule_seat life number (record { spec = field }))
-any_spec task life number name parents (Elapsed elapsed) = in_elapsed (rule_seat life number (record { spec = elapsed }))
-any_spec task life number name parents (Union rename) = in_union (plain_seat life number (record { parents = parents; rename = rename }))
+any_spec task life number name parents (StateCount count) =
+    in_state_count (rule_seat life number (record { spec = count }))
+any_spec task life number name parents (ChangeDetect fields) =
+    in_change_detect (rule_seat life number (record { names = fields }))
+any_spec task life number name parents (Difference field) =
+    in_difference (rule_seat life number (record { spec = field }))
+any_spec task life number name parents (CumulativeSum field) =
+    in_cumulative_sum (rule_seat life number (record { spec = field }))
+any_spec task life number name parents (Elapsed elapsed) =
+    in_elapsed (rule_seat life number (record { spec = elapsed }))
+any_spec task life number name parents (Union rename) =
+    in_union (plain_seat life number (record { parents = parents; rename = rename }))
 any_spec task life number name parents (Join join) = in_join (rule_seat life number (record { spec = join }))
 any_spec task life number name parents (Window window) = window_spec life number window
 any_spec task life number name parents (Select select) = in_select (plain_seat life number (record { spec = select }))

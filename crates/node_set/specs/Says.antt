@@ -52,7 +52,8 @@ timed_says period every align fill_period =
 -- a window, by time or by number
 abbrev pub window_says : WindowSpec → GroupAnswer
 window_says (Timed period every align fill_period) = timed_says period every align fill_period
-window_says (Counted period_count every_count fill_period) = counted_says (record { period_count = period_count; every_count = every_count; fill_period = fill_period })
+window_says (Counted period_count every_count fill_period) =
+    counted_says (record { period_count = period_count; every_count = every_count; fill_period = fill_period })
 
 -- of what a script hands to the node of this name, in a task of this id
 abbrev pub says_of : List ℕ → List ℕ → Spec Tree → Saying

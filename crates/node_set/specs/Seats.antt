@@ -22,7 +22,8 @@ any_life =
     either
     (either (λ s. s.life) (either (λ s. s.life) (either (λ s. s.life) (either (λ s. s.life) (λ s. s.life)))))
     (either (either (either (λ s. s.life) (either (λ s. s.life) (λ s. s.life))) (λ s. s.life))
-    (either (either (either (λ s. s.life) (λ s. s.life)) (λ s. s.life)) (either (either (λ s. s.life) (λ s. s.life)) (λ s. s.life))))
+    (either (either (either (λ s. s.life) (λ s. s.life)) (λ s. s.life))
+    (either (either (λ s. s.life) (λ s. s.life)) (λ s. s.life))))
 
 -- the number of a node in its task
 abbrev pub any_number : AnySpec → ℕ
@@ -30,7 +31,8 @@ any_number =
     either
     (either (λ s. s.node) (either (λ s. s.node) (either (λ s. s.node) (either (λ s. s.node) (λ s. s.node)))))
     (either (either (either (λ s. s.node) (either (λ s. s.node) (λ s. s.node))) (λ s. s.node))
-    (either (either (either (λ s. s.node) (λ s. s.node)) (λ s. s.node)) (either (either (λ s. s.node) (λ s. s.node)) (λ s. s.node))))
+    (either (either (either (λ s. s.node) (λ s. s.node)) (λ s. s.node))
+    (either (either (λ s. s.node) (λ s. s.node)) (λ s. s.node))))
 
 -- how many ports a node has: a union and a join one for each parent, each other node one
 abbrev pub any_ports : AnySpec → ℕ
@@ -38,7 +40,8 @@ any_ports =
     either
     (either (λ s. 1) (either (λ s. 1) (either (λ s. 1) (either (λ s. 1) (λ s. 1)))))
     (either (either (either (λ s. 1) (either (λ s. 1) (λ s. 1))) (λ s. 1))
-    (either (either (either (λ s. 1) (λ s. 1)) (λ s. 1)) (either (either (λ s. s.kind.plain.parents) (λ s. parents s.kind.rule.spec)) (λ s. 1))))
+    (either (either (either (λ s. 1) (λ s. 1)) (λ s. 1))
+    (either (either (λ s. s.kind.plain.parents) (λ s. parents s.kind.rule.spec)) (λ s. 1))))
 
 is_one : (n : ℕ) → IsTrue (nat_eq n 1) → n ≡ 1
 is_one n h = grind (arith, nat_tests)
@@ -57,14 +60,18 @@ join_port n k differ h =
     equal ∙ some_port n (first_of (nat_lt 0 n) (nat_eq k n) both)
 
 -- what is seen of each of two is seen of either
-of_either : {A : Type 0} (f : AnySpec → A) (x : A) (t : Bool) (one other : AnySpec) → f one ≡ x → f other ≡ x → f (if t then one else other) ≡ x
+of_either : {A : Type 0} (f : AnySpec → A) (x : A) (t : Bool) (one other : AnySpec) → f one ≡ x → f other ≡ x
+    → f (if t then one else other) ≡ x
 of_either f x true one other p q = p
 of_either f x false one other p q = q
 
 module _ (task : List ℕ) (life number : ℕ) (name : List ℕ) (n : ℕ) where
   -- a node of one port, whose kind asks for one parent
-  one_port : (spec : Spec Tree) → any_life (any_spec task life number name n spec) ≡ life → any_number (any_spec task life number name n spec) ≡ number → any_ports (any_spec task life number name n spec) ≡ 1
-      → (IsTrue (is_fit n spec) → n ≡ 1) → Sits any_ports any_life any_number life number n spec (any_spec task life number name n spec)
+  one_port : (spec : Spec Tree) → any_life (any_spec task life number name n spec) ≡ life
+      → any_number (any_spec task life number name n spec) ≡ number
+      → any_ports (any_spec task life number name n spec) ≡ 1
+      → (IsTrue (is_fit n spec) → n ≡ 1)
+      → Sits any_ports any_life any_number life number n spec (any_spec task life number name n spec)
   one_port spec lives numbers port one = record {
     life_is = lives;
     number_is = numbers;
@@ -72,19 +79,30 @@ module _ (task : List ℕ) (life number : ℕ) (name : List ℕ) (n : ℕ) where
     stream_port = λ h. port;
   }
 
-  window_sits : (window : WindowSpec) → Sits any_ports any_life any_number life number n (Window window) (any_spec task life number name n (Window window))
+  window_sits : (window : WindowSpec)
+      → Sits any_ports any_life any_number life number n (Window window)
+      (any_spec task life number name n (Window window))
   window_sits (Timed period every align fill_period) =
-      let sliding : AnySpec = in_sliding_window (rule_seat life number (record { period = period; fill_period = fill_period })) in
-      let edges : AnySpec = in_edge_window (rule_seat life number (record { period = period; every = every; align = align; fill_period = fill_period })) in
-      one_port (Window (Timed period every align fill_period)) (of_either any_life life (every == 0) sliding edges refl refl) (of_either any_number number (every == 0) sliding edges refl refl) (of_either any_ports 1 (every == 0) sliding edges refl refl) (is_one n)
-  window_sits (Counted period_count every_count fill_period) = one_port (Window (Counted period_count every_count fill_period)) refl refl refl (is_one n)
+      let sliding : AnySpec = in_sliding_window
+      (rule_seat life number (record { period = period; fill_period = fill_period })) in
+      let edges : AnySpec = in_edge_window
+      (rule_seat life number
+      (record { period = period; every = every; align = align; fill_period = fill_period })) in
+      one_port (Window (Timed period every align fill_period))
+      (of_either any_life life (every == 0) sliding edges refl refl)
+      (of_either any_number number (every == 0) sliding edges refl refl)
+      (of_either any_ports 1 (every == 0) sliding edges refl refl) (is_one n)
+  window_sits (Counted period_count every_count fill_period) =
+      one_port (Window (Counted period_count every_count fill_period)) refl refl refl (is_one n)
 
   -- the node of what a script hands to one sits where it is made to
-  pub spec_sits : (spec : Spec Tree) → Sits any_ports any_life any_number life number n spec (any_spec task life number name n spec)
+  pub spec_sits : (spec : Spec Tree)
+      → Sits any_ports any_life any_number life number n spec (any_spec task life number name n spec)
   spec_sits (Stream dbrps) = one_port (Stream dbrps) refl refl refl (is_one n)
   spec_sits (From from) = one_port (From from) refl refl refl (is_one n)
   spec_sits (Where condition) = one_port (Where condition) refl refl refl (is_one n)
-  spec_sits (Eval eval) = one_port (Eval eval) refl refl refl (λ h. is_one n (first_of (nat_eq n 1) (nat_lt 0 (length eval.results)) h))
+  spec_sits (Eval eval) =
+      one_port (Eval eval) refl refl refl (λ h. is_one n (first_of (nat_eq n 1) (nat_lt 0 (length eval.results)) h))
   spec_sits (GroupBy group) = one_port (GroupBy group) refl refl refl (is_one n)
   spec_sits (Log log) = one_port (Log log) refl refl refl (is_one n)
   spec_sits (Default settings) = one_port (Default settings) refl refl refl (is_one n)
@@ -99,8 +117,15 @@ module _ (task : List ℕ) (life number : ℕ) (name : List ℕ) (n : ℕ) where
   spec_sits (Elapsed elapsed) = one_port (Elapsed elapsed) refl refl refl (is_one n)
   spec_sits (Alert alert) = one_port (Alert alert) refl refl refl (is_one n)
   spec_sits (Window window) = window_sits window
-  spec_sits (Union rename) = record { life_is = refl; number_is = refl; ports_are = some_port n; stream_port = λ h. absurd cc }
-  spec_sits (Join join) = record { life_is = refl; number_is = refl; ports_are = join_port n (length join.prefixes) (are_different join.prefixes); stream_port = λ h. absurd cc }
+  spec_sits (Union rename) =
+      record { life_is = refl; number_is = refl; ports_are = some_port n; stream_port = λ h. absurd cc }
+  spec_sits (Join join) =
+      record {
+        life_is = refl;
+        number_is = refl;
+        ports_are = join_port n (length join.prefixes) (are_different join.prefixes);
+        stream_port = λ h. absurd cc;
+      }
 
 -- each node of a script sits where it is made to
 pub each_sits : (task : List ℕ) (life number : ℕ) (node : NodeSpec Tree)

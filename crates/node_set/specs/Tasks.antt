@@ -22,8 +22,8 @@ module _ {P : Type 0} (planned : Planned P) where
   nodes_from task life number (node ∷ nodes) = placed task life number node ∷ nodes_from task life (number + 1) nodes
 
 module _ {P : Type 0} (ports life_of number_of : P → ℕ) where
-  -- The node of what a script hands to one with so many parents sits in this life with this number, and has a port for each of the
-  -- parents, where it fits them; the stream has one.
+  -- The node of what a script hands to one with so many parents sits in this life with this number, and has a port for
+  -- each of the parents, where it fits them; the stream has one.
   pub record Sits (life number parents : ℕ) (spec : Spec Tree) (at : P) : Type 0 where
     pub life_is : life_of at ≡ life
     pub number_is : number_of at ≡ number

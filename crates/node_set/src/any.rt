@@ -285,8 +285,9 @@ fn alert(
     }
 }
 
-/// The node that a script makes by handing this to its node of this name with these parents, in its first state: in a life of
-/// the task of this id, and with its number there. `NoMemory` comes where an allocation fails.
+/// The node that a script makes by handing this to its node of this name with these parents, in its first
+/// state: in a life of the task of this id, and with its number there. `NoMemory` comes where an allocation
+/// fails.
 pub fn any_node(
     alloc: Global,
     task: &Text,

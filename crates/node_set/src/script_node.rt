@@ -16,8 +16,9 @@ pub trait ScriptNode: Node {
     /// What it is, by the node of a script: in a task of an id, in a life of it, and with a number there.
     ghost planned: { List ℕ → ℕ → ℕ → NodeSpec Tree → Self.Spec };
 
-    /// The node that a script makes by handing this to its node of this name with these parents, in its first state: in a life
-    /// of the task of this id, and with its number there. `NoMemory` comes where an allocation fails.
+    /// The node that a script makes by handing this to its node of this name with these parents, in its first
+    /// state: in a life of the task of this id, and with its number there. `NoMemory` comes where an
+    /// allocation fails.
     fn of_script(
         alloc: Global,
         task: &Text,

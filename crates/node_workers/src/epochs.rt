@@ -45,10 +45,11 @@ fn finish<N: Node>(alloc: Global, net: &mut Net<N>) -> Result<(), NoMemory>
     net.run(alloc)
 }
 
-/// Runs a net to its rest by 1 to 64 workers, in whatever order their moves come. Each worker has cells of its own, which no
-/// other one has, and passes the gate before each of its turns. Workers end after a bounded number of turns, and the caller makes
-/// the moves that are left; so it waits for nobody but their end, and a thread that can't be made changes nothing. At rest each
-/// edge has carried its stream, and each cell is in the state in which one thread alone leaves it. After NoMemory the net is spent.
+/// Runs a net to its rest by 1 to 64 workers, in whatever order their moves come. Each worker has cells of
+/// its own, which no other one has, and passes the gate before each of its turns. Workers end after a bounded
+/// number of turns, and the caller makes the moves that are left; so it waits for nobody but their end, and a
+/// thread that can't be made changes nothing. At rest each edge has carried its stream, and each cell is in
+/// the state in which one thread alone leaves it. After NoMemory the net is spent.
 pub fn work_to_rest<N: Node + Send, G: Gate + Sync, R: Threads + Sync>(
     rt: &R,
     alloc: Global,

@@ -12,11 +12,13 @@ pub use epochs::work_to_rest;
 /// How many workers there are at most.
 pub const WORKER_LIMIT: u32 = 64;
 
-/// How many turns a worker has on its cells, or on those of each of its lives, at most. The caller makes the moves that are left.
+/// How many turns a worker has on its cells, or on those of each of its lives, at most. The caller makes the
+/// moves that are left.
 pub const TURN_LIMIT: u64 = 1_000_000;
 
-/// After so many turns in a row that moved nothing a worker ends that has a part of a life. One that has a whole life ends after one.
-/// Each such turn yields, which on a busy machine costs a slice of time, and the caller makes the moves that are left.
+/// After so many turns in a row that moved nothing a worker ends that has a part of a life. One that has a
+/// whole life ends after one. Each such turn yields, which on a busy machine costs a slice of time, and the
+/// caller makes the moves that are left.
 pub const IDLE_LIMIT: u32 = 4;
 
 /// How often a cell puts and takes in one turn at most.

@@ -137,8 +137,8 @@ fn split_lives<N: Node + Send, G: Gate + Sync, R: Threads + Sync>(
     );
 }
 
-/// Has the cells of lives moved by at most so many workers. Where there are at least as many lives, each worker has whole
-/// lives; else a life's cells are shared among as many workers as there are for each.
+/// Has the cells of lives moved by at most so many workers. Where there are at least as many lives, each
+/// worker has whole lives; else a life's cells are shared among as many workers as there are for each.
 pub(crate) fn run_workers<N: Node + Send, G: Gate + Sync, R: Threads + Sync>(
     rt: &R,
     alloc: Global,

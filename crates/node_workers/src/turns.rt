@@ -29,7 +29,8 @@ pub(crate) fn short(n: usize) -> u32 {
     u32::try_from(n).unwrap_or(u32::MAX)
 }
 
-/// Puts the first message that waits at each out on its edge, where that has room, and says whether it put one.
+/// Puts the first message that waits at each out on its edge, where that has room, and says whether it put
+/// one.
 fn put_each<N: Node>(cell: &mut Cell<N>) -> bool
     requires { cell.old.spent ≡ false }
     ensures { HasMoved cell.old cell.new }
@@ -58,8 +59,8 @@ fn take_each<N: Node>(alloc: Global, cell: &mut Cell<N>) -> Result<bool, NoMemor
     Ok(moved)
 }
 
-/// A cell's part of a turn: it puts and takes as long as it can, and says whether it did. After NoMemory it is spent, and
-/// then it has no part.
+/// A cell's part of a turn: it puts and takes as long as it can, and says whether it did. After NoMemory it
+/// is spent, and then it has no part.
 fn move_cell<N: Node>(alloc: Global, cell: &mut Cell<N>) -> Result<bool, NoMemory>
     ensures { HasStood cell.old cell.new }
 {
@@ -92,8 +93,8 @@ fn turn<N: Node>(alloc: Global, cells: &mut [Cell<N>]) -> Result<bool, NoMemory>
     Ok(moved || more)
 }
 
-/// The turns of a worker on cells. It passes the gate before each. It ends after so many turns, or when some in a row moved
-/// nothing, or where memory is wanted.
+/// The turns of a worker on cells. It passes the gate before each. It ends after so many turns, or when some
+/// in a row moved nothing, or where memory is wanted.
 pub(crate) fn work<N: Node, G: Gate>(
     alloc: Global,
     cells: &mut [Cell<N>],

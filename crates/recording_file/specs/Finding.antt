@@ -9,8 +9,8 @@ use Rattle.recording_file.specs.declared.lines.TheConstants.{RECORDING_LIMIT}
 use Rattle.recording_file.specs.Lines.{is_feed, is_long}
 use Rattle.recording_file.specs.Reading.{ReadsOn}
 
--- the bytes that were read and not yet passed, all bytes that were read, the number of the next line, how many bytes were passed,
--- and whether the source has ended, so that it isn't asked again
+-- the bytes that were read and not yet passed, all bytes that were read, the number of the next line, how many bytes
+-- were passed, and whether the source has ended, so that it isn't asked again
 pub record ReadPlace : Type 0 where
   pub bytes : List ℕ
   pub got : List ℕ

@@ -49,8 +49,8 @@ pub record Gives (old new : ReaderState) (p : PointValue) : Type 0 where
   pub few : length new.given ≤ RECORDING_LIMIT
   pub next : (more : List ℕ) → (IsTrue new.ended → more ≡ []) → BeginsWith new new.given more
 
--- the three lines of the group behind those of the points that were given are closed by line feeds in the bytes that were read, or
--- these are all
+-- the three lines of the group behind those of the points that were given are closed by line feeds in the bytes that
+-- were read, or these are all
 abbrev pub HoldsGroup : ReaderState → Type 0
 HoldsGroup reader =
     IsTrue reader.ended ⊎ (3 * (1 + length reader.given) ≤ count_by is_feed reader.got)

@@ -80,8 +80,8 @@ abbrev pub unless_fault : {A : Type 0} → Result A RecFault → (A → Reading)
 unless_fault (Ok x) follows = follows x
 unless_fault (Err fault) follows = no_points (Faulty fault)
 
--- what the groups of these lines give, the first line with the number n; `stop` says, of the first line that is missing, how
--- reading stops there: whether it would begin a group, and its number
+-- what the groups of these lines give, the first line with the number n; `stop` says, of the first line that is
+-- missing, how reading stops there: whether it would begin a group, and its number
 abbrev pub groups : (Bool → ℕ → Stop) → ℕ → List (List ℕ) → Reading
 groups stop n [] = no_points (stop true n)
 groups stop n (db ∷ []) =

@@ -35,8 +35,8 @@ read_policy d r n seen = behind_policy d r seen.stop n seen.lines
 abbrev pub read_database : List ℕ → ℕ → LinesRead → Reading
 read_database d n seen = behind_database d seen.stop n seen.lines
 
--- Whatever may follow the bytes that were read, reading them all gives these points first, and then what R reads ahead of this
--- place.
+-- Whatever may follow the bytes that were read, reading them all gives these points first, and then what R reads ahead
+-- of this place.
 pub record Ahead
     (R : ℕ → LinesRead → Reading) (points : List PointValue) (at : ReadPlace) : Type 0 where
   pub whole : (more : List ℕ) → (IsTrue at.ended → more ≡ [])

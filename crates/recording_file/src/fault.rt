@@ -13,7 +13,8 @@ pub enum RecFault {
     Line { line: u64, fault: LineFault },
     /// The recording ends inside a group of three lines: the line with this number is missing.
     Truncated { line: u64 },
-    /// The recording has more than `RECORDING_LIMIT` bytes, and the point that is due isn't complete within these.
+    /// The recording has more than `RECORDING_LIMIT` bytes, and the point that is due isn't complete within
+    /// these.
     Long,
     /// The source failed.
     ReadFault,

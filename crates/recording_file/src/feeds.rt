@@ -10,7 +10,8 @@ use kap_base::are_same;
 use line_points::without_return;
 use memchr::{memchr, memrchr};
 
-/// Where the first line feed stands in the bytes, none of which stands in their first `searched`; their length where there is none.
+/// Where the first line feed stands in the bytes, none of which stands in their first `searched`; their
+/// length where there is none.
 pub fn line_end(bytes: &[u8], searched: usize) -> usize
     requires within { searched ≤ length bytes.now }
     requires searched { searched ≤ position_or_len is_feed bytes.now }
@@ -24,8 +25,8 @@ pub fn line_end(bytes: &[u8], searched: usize) -> usize
     }
 }
 
-/// Whether the bytes begin with this text, which has no line feed, and a line feed behind it; false where a carriage return ends
-/// the text.
+/// Whether the bytes begin with this text, which has no line feed, and a line feed behind it; false where a
+/// carriage return ends the text.
 pub fn begins_line(bytes: &[u8], text: &[u8]) -> bool
     requires within { length text.now < length bytes.now }
     requires text { IsTrue (not (has_line_feed text.now)) }
@@ -40,7 +41,8 @@ pub fn begins_line(bytes: &[u8], text: &[u8]) -> bool
     are_same(without_return(line), text)
 }
 
-/// How many bytes stand before and in each of the last three line feeds that were read; 0 where there is none.
+/// How many bytes stand before and in each of the last three line feeds that were read; 0 where there is
+/// none.
 #[derive(Clone, Copy)]
 pub struct LastFeeds {
     pub last: u64,

@@ -197,8 +197,9 @@ impl Lines {
         self.fill(source, size)
     }
 
-    /// Reads on until the next line is there, and answers its size without its line feed; `None` at the end. `Line` with `Long`
-    /// and `Long` come as soon as the bytes that are there decide it; `ReadFault` only where they don't.
+    /// Reads on until the next line is there, and answers its size without its line feed; `None` at the end.
+    /// `Line` with `Long` and `Long` come as soon as the bytes that are there decide it; `ReadFault` only
+    /// where they don't.
     pub fn find<S: Source>(&mut self, source: &mut S) -> Result<Option<usize>, RecFault>
         ensures stays { Stays self.old self.new (S.left source.old) (S.left source.new) }
         ensures line { IfOk result (λ o. IfSome o (IsLine self.new)) }
@@ -223,8 +224,8 @@ impl Lines {
         }
     }
 
-    /// Whether the first line is this text, which has no line feed: it is there with its line feed, both may be passed, and it is
-    /// no longer than a line. False leaves it open.
+    /// Whether the first line is this text, which has no line feed: it is there with its line feed, both may
+    /// be passed, and it is no longer than a line. False leaves it open.
     pub fn begins_with(&self, text: &[u8]) -> bool
         requires { IsTrue (not (has_line_feed text.now)) }
         ensures line { OnTrue result (IsLine self.now (length text.now)) }

@@ -5,7 +5,8 @@ use kap_base::{Bytes, NoMemory, Point};
 use line_points::put_line;
 use std::alloc::Global;
 
-/// The three lines of a point in a recording: its database, its policy and its canonical line, each with its line feed.
+/// The three lines of a point in a recording: its database, its policy and its canonical line, each with its
+/// line feed.
 pub fn print_record(alloc: Global, point: &Point) -> Result<Bytes, NoMemory>
     ensures { IfOk result (λ text. text ≡ record_text point.now) }
 {

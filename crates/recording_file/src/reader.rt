@@ -13,9 +13,10 @@ use std::alloc::Global;
 use std::marker::Model;
 use std::snapshot::Snapshot;
 
-/// Reads a recording point by point (this project: uncompressed recordings of three lines a point, after Kapacitor 1.6's
-/// stream recordings: the database, the retention policy, and the point in line protocol with its time in nanoseconds). A line ends
-/// before a line feed, and one carriage return before that isn't part of it; the last line feed may be missing.
+/// Reads a recording point by point (this project: uncompressed recordings of three lines a point, after
+/// Kapacitor 1.6's stream recordings: the database, the retention policy, and the point in line protocol with
+/// its time in nanoseconds). A line ends before a line feed, and one carriage return before that isn't part
+/// of it; the last line feed may be missing.
 #[derive(Drop)]
 pub struct Reader {
     lines: Lines,
@@ -74,8 +75,8 @@ impl Reader {
         self.spent
     }
 
-    /// Whether `next` surely answers without asking the source: where the next three lines were read, or all. It takes the same
-    /// time always.
+    /// Whether `next` surely answers without asking the source: where the next three lines were read, or all.
+    /// It takes the same time always.
     pub fn holds_point(&self) -> bool
         ensures { self.now.spent ≡ false → IsTrue result → HoldsGroup self.now }
     {
@@ -89,14 +90,15 @@ impl Reader {
         self.pool.fill(points);
     }
 
-    /// The next point, or `None` where the source ended between two groups, and again whenever it is asked behind that; a source
-    /// that has ended isn't asked again.
+    /// The next point, or `None` where the source ended between two groups, and again whenever it is asked
+    /// behind that; a source that has ended isn't asked again.
     ///
-    /// `Line` comes where that line, numbered from 1, is no database or policy (UTF-8 of at most `LINE_LIMIT` bytes) or no line of
-    /// the line protocol; `Truncated` where the source ended inside a group and that line is missing; `Long` where the group isn't
-    /// complete within the recording's first `RECORDING_LIMIT` bytes, and more follow. Whichever comes first in the bytes is given.
-    /// `ReadFault` comes only where the source's count of faults rose in this call, and the bytes read before leave open how the
-    /// recording goes on. After any `Err` the reader is spent.
+    /// `Line` comes where that line, numbered from 1, is no database or policy (UTF-8 of at most `LINE_LIMIT`
+    /// bytes) or no line of the line protocol; `Truncated` where the source ended inside a group and that
+    /// line is missing; `Long` where the group isn't complete within the recording's first `RECORDING_LIMIT`
+    /// bytes, and more follow. Whichever comes first in the bytes is given. `ReadFault` comes only where the
+    /// source's count of faults rose in this call, and the bytes read before leave open how the recording
+    /// goes on. After any `Err` the reader is spent.
     pub fn next<S: Source>(
         &mut self,
         alloc: Global,

@@ -51,8 +51,8 @@ impl Window {
         held
     }
 
-    /// Reads a piece of the source behind the bytes that it holds, and answers how many bytes came: 0 only at the source's end.
-    /// `ReadFault` comes only where the source's count of faults rose in this call.
+    /// Reads a piece of the source behind the bytes that it holds, and answers how many bytes came: 0 only at
+    /// the source's end. `ReadFault` comes only where the source's count of faults rose in this call.
     pub fn fill<S: Source>(&mut self, source: &mut S) -> Result<usize, RecFault>
         ensures kept { take (length self.old) self.new ≡ self.old }
         ensures len { IfOk result (λ n. length self.new ≡ length self.old + n) }

@@ -33,7 +33,8 @@ sample_of i = record {
 
 -- the same, letter by letter: its three lines, each with its line feed
 unfoldable pub sample_record : ℕ → List ℕ
-sample_record i = codes "telegraf\nautogen\ncpu,host=h" ++ decimal (i % 8) ++ codes " usage_idle=" ++ decimal (37 * i % 101) ++ codes "i " ++ decimal (i * 10 ^ 9) ++ line_feed ∷ []
+sample_record i = codes "telegraf\nautogen\ncpu,host=h" ++ decimal (i % 8) ++ codes " usage_idle="
+    ++ decimal (37 * i % 101) ++ codes "i " ++ decimal (i * 10 ^ 9) ++ line_feed ∷ []
 
 -- the points of the numbers from 1 to n, in order
 unfoldable pub samples : ℕ → List PointValue

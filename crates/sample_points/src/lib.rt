@@ -1,4 +1,5 @@
-//! The sample recording: a point for each number from 1 on, with which operators try scripts before they have a recording.
+//! The sample recording: a point for each number from 1 on, with which operators try scripts before they have
+//! a recording.
 #![tactic(auto)]
 
 mod laws;

@@ -38,8 +38,8 @@ fn fields(alloc: Global, idle: i64) -> Result<Fields, NoMemory>
     Ok(fields)
 }
 
-/// The point of a number from 1 to 1,000,000, in database `telegraf` and policy `autogen`: of measurement `cpu` and of one of eight
-/// hosts, each second one.
+/// The point of a number from 1 to 1,000,000, in database `telegraf` and policy `autogen`: of measurement
+/// `cpu` and of one of eight hosts, each second one.
 #[tactic(auto, unfolding(crate::specs::Samples::sample_of))]
 pub fn sample_point(alloc: Global, number: u64) -> Result<Point, NoMemory>
     requires { number ≤ SAMPLE_LIMIT }

@@ -22,17 +22,21 @@ is_point (what.Event e) = false
 abbrev pub logged : List Effect → ℕ
 logged effects = count_by (λ e. is_point e.what) effects
 
--- the four lines of a summary: how many points there were, how many lines of each kind they gave, and how long these are together
+-- the four lines of a summary: how many points there were, how many lines of each kind they gave, and how long these
+-- are together
 abbrev pub summary_lines : ℕ → ℕ → ℕ → ℕ → List ℕ
 summary_lines points out alerts bytes =
-    codes "points " ++ decimal points ++ codes "\nout " ++ decimal out ++ codes "\nalerts " ++ decimal alerts ++ codes "\nbytes " ++ decimal bytes ++ codes "\n"
+    codes "points " ++ decimal points ++ codes "\nout " ++ decimal out ++ codes "\nalerts " ++ decimal alerts
+    ++ codes "\nbytes " ++ decimal bytes ++ codes "\n"
 
 -- the summary of the text of these effects of so many points
 abbrev pub summary_of : List TaskNames → ℕ → List Effect → List ℕ
-summary_of names points effects = summary_lines points (logged effects) (length (Trans (events_of effects))) (length (text_of names effects))
+summary_of names points effects =
+    summary_lines points (logged effects) (length (Trans (events_of effects))) (length (text_of names effects))
 
 -- so many logged points, so many bytes and these topics are those of these effects
-pub record HasCounted (names : List TaskNames) (effects : List Effect) (points bytes : ℕ) (topics : TopicsValue) : Type 0 where
+pub record HasCounted (names : List TaskNames) (effects : List Effect) (points bytes : ℕ)
+    (topics : TopicsValue) : Type 0 where
   pub points_are : points ≡ logged effects
   pub bytes_are : bytes ≡ length (text_of names effects)
   pub topics_are : StandsFor (events_of effects) topics

@@ -10,7 +10,8 @@ use kap_base::{Bytes, Effect, NoMemory, What};
 use std::alloc::Global;
 use topic_core::Topics;
 
-/// How many lines tell of points, how many bytes all lines have, and the topics of the events, of all effects so far.
+/// How many lines tell of points, how many bytes all lines have, and the topics of the events, of all effects
+/// so far.
 #[derive(Drop)]
 pub(crate) struct Counts {
     pub(crate) points: u64,

@@ -40,8 +40,9 @@ fn records_behind(alloc: Global, from: u64, to: u64) -> Result<Bytes, NoMemory>
     Ok(text)
 }
 
-/// Writes the sample recording of so many points, 1,000,000 at most: the three lines of each, in the order of their numbers from 1
-/// on. WriteFault comes only where the output counted a fault in this call. After an `Err` a prefix of the recording is written.
+/// Writes the sample recording of so many points, 1,000,000 at most: the three lines of each, in the order of
+/// their numbers from 1 on. WriteFault comes only where the output counted a fault in this call. After an
+/// `Err` a prefix of the recording is written.
 pub fn write_samples<K: Sink>(alloc: Global, count: u64, out: &mut K) -> Result<(), SampleFault>
     requires { count ≤ SAMPLE_LIMIT }
     ensures ok { OnOk result

@@ -31,8 +31,8 @@ use task_run::LifePlan;
 /// The summary of a replay, and the net through which its points went.
 #[derive(Drop)]
 pub struct Summary<N: Node> {
-    /// Four lines: how many points there are, how many lines of logged points and of transitions, and how many bytes these lines have
-    /// together.
+    /// Four lines: how many points there are, how many lines of logged points and of transitions, and how
+    /// many bytes these lines have together.
     pub text: Bytes,
     /// The net, at rest.
     pub net: Net<N>,
@@ -115,9 +115,10 @@ fn run_samples<N: NumberingNode + Send, R: Threads + Sync, G: Gate + Sync>(
     Ok(())
 }
 
-/// The summary of a replay of the sample recording of so many points, 1,000,000 at most, by lives of tasks that are named so, in a
-/// net that comes to rest in this way and whose edges have room for 1 to 65,536 messages; and that net, each of whose edges has
-/// carried, barriers aside, what its parent gives out for these points. The lives' numbers rise from 1 on.
+/// The summary of a replay of the sample recording of so many points, 1,000,000 at most, by lives of tasks
+/// that are named so, in a net that comes to rest in this way and whose edges have room for 1 to 65,536
+/// messages; and that net, each of whose edges has carried, barriers aside, what its parent gives out for
+/// these points. The lives' numbers rise from 1 on.
 pub fn summarize<N: NumberingNode + Send, R: Threads + Sync, G: Gate + Sync>(
     alloc: Global,
     count: u64,

@@ -58,14 +58,21 @@ timed_reading point_times tmax r = timed point_times tmax (record { value = Int 
 abbrev pub choices : Select → List ℕ → Bool → ℤ → List PointValue → List PickValue
 choices Sum field point_times tmax ps = option_to_list (option_map (int_at_end tmax) (sum_in (readings_at field ps)))
 choices Count field point_times tmax ps = int_at_end tmax (pos (length (values_at field ps))) ∷ []
-choices Min field point_times tmax ps = option_to_list (option_map (timed_reading point_times tmax) (first (by_rank Lowest (readings_at field ps))))
-choices Max field point_times tmax ps = option_to_list (option_map (timed_reading point_times tmax) (first (by_rank Highest (readings_at field ps))))
-choices First field point_times tmax ps = option_to_list (option_map (timed point_times tmax) (first (picks_at field ps)))
-choices Last field point_times tmax ps = option_to_list (option_map (timed point_times tmax) (last_or None (picks_at field ps)))
-choices Spread field point_times tmax ps = option_to_list (option_map (int_at_end tmax) (spread_in (readings_at field ps)))
+choices Min field point_times tmax ps =
+    option_to_list (option_map (timed_reading point_times tmax) (first (by_rank Lowest (readings_at field ps))))
+choices Max field point_times tmax ps =
+    option_to_list (option_map (timed_reading point_times tmax) (first (by_rank Highest (readings_at field ps))))
+choices First field point_times tmax ps =
+    option_to_list (option_map (timed point_times tmax) (first (picks_at field ps)))
+choices Last field point_times tmax ps =
+    option_to_list (option_map (timed point_times tmax) (last_or None (picks_at field ps)))
+choices Spread field point_times tmax ps =
+    option_to_list (option_map (int_at_end tmax) (spread_in (readings_at field ps)))
 choices Distinct field point_times tmax ps = map (at_end tmax) (distinct (values_at field ps))
-choices (Top n) field point_times tmax ps = map (timed_reading point_times tmax) (take n (by_rank Highest (readings_at field ps)))
-choices (Bottom n) field point_times tmax ps = map (timed_reading point_times tmax) (take n (by_rank Lowest (readings_at field ps)))
+choices (Top n) field point_times tmax ps =
+    map (timed_reading point_times tmax) (take n (by_rank Highest (readings_at field ps)))
+choices (Bottom n) field point_times tmax ps =
+    map (timed_reading point_times tmax) (take n (by_rank Lowest (readings_at field ps)))
 
 -- what is chosen from the points of a batch that ends then
 abbrev pub chosen : SelectSpec → ℤ → List PointValue → List PickValue

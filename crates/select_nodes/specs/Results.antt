@@ -60,7 +60,8 @@ result_of name group field pick = record {
 
 -- a point for each of these
 abbrev pub results : List ℕ → GroupValue → List ℕ → List PickValue → Said
-results name group field picks = record { bodies = map (λ pick. bodies.Point (result_of name group field pick)) picks; deeds = []; drops = 0 }
+results name group field picks =
+    record { bodies = map (λ pick. bodies.Point (result_of name group field pick)) picks; deeds = []; drops = 0 }
 
 -- what is said of a batch: a point for each value that is chosen, of the batch's measurement and group
 abbrev pub batch_says : SelectSpec → BatchValue → Said

@@ -30,7 +30,8 @@ TopThree = take 3 (by_rank Highest five) ≡ at 2 (pos 7) ∷ at 4 (pos 7) ∷ a
 
 -- the least first, and of equal ones the earlier place; and no more than there are
 abbrev pub BottomNine : Type 0
-BottomNine = take 9 (by_rank Lowest five) ≡ at 3 (pos 2) ∷ at 5 (pos 2) ∷ at 1 (pos 3) ∷ at 2 (pos 7) ∷ at 4 (pos 7) ∷ []
+BottomNine =
+    take 9 (by_rank Lowest five) ≡ at 3 (pos 2) ∷ at 5 (pos 2) ∷ at 1 (pos 3) ∷ at 2 (pos 7) ∷ at 4 (pos 7) ∷ []
 
 -- `max` takes the first of the greatest
 abbrev pub Greatest : Type 0

@@ -13,8 +13,8 @@ ghost use Rattle.select_nodes.specs.Results.{IsNamed, result_of};
 ghost use Rattle.select_nodes.specs.Rows.{BottomNine, Greatest, Kinds, Least, NoSum, TopThree, WrappedSpread, WrappedSum};
 ghost use Rattle.select_nodes.specs.declared.readings.Rank.{Rank};
 
-/// Readings by rank are sorted, and those of one number stand as they came; and they are the only list of which both
-/// hold.
+/// Readings by rank are sorted, and those of one number stand as they came; and they are the only list of
+/// which both hold.
 pub fn ranks_are_sorted()
     ensures sorted { (rank : Rank) (rs : List ReadingValue)
         → IsSortedBy (goes_before rank) (by_rank rank rs) }
@@ -25,8 +25,8 @@ pub fn ranks_are_sorted()
         → sorted ≡ by_rank rank rs }
 {}
 
-/// The first reading by rank, which is the one of `min` and `max` and the first of `top` and `bottom`, goes before all
-/// that came earlier, and none that came later goes before it.
+/// The first reading by rank, which is the one of `min` and `max` and the first of `top` and `bottom`, goes
+/// before all that came earlier, and none that came later goes before it.
 pub fn first_goes_before_all()
     ensures { (rank : Rank) (rs : List ReadingValue) (r : ReadingValue)
         → first (by_rank rank rs) ≡ Some r → IsFirst (goes_before rank) rs r }

@@ -1,5 +1,5 @@
-//! The nodes that choose of a batch (Kapacitor 1.6: InfluxQL nodes): `sum`, `count`, `min`, `max`, `first`, `last`,
-//! `spread`, `distinct`, `top` and `bottom`.
+//! The nodes that choose of a batch (Kapacitor 1.6: InfluxQL nodes): `sum`, `count`, `min`, `max`, `first`,
+//! `last`, `spread`, `distinct`, `top` and `bottom`.
 #![tactic(auto)]
 
 mod choices;

@@ -19,7 +19,8 @@ read_unit bytes = value_then tt bytes
 abbrev pub FitsUnit : Unit {0} → Type 0
 FitsUnit x = ⊤
 
-unit_only : (bytes : List ℕ) (x : Unit {0}) (rest : List ℕ) → IsBytes bytes → read_unit bytes ≡ value_then x rest → Stands FitsUnit spell_unit bytes x rest
+unit_only : (bytes : List ℕ) (x : Unit {0}) (rest : List ℕ) → IsBytes bytes → read_unit bytes ≡ value_then x rest
+    → Stands FitsUnit spell_unit bytes x rest
 unit_only bytes x rest fits e =
     let is = ap (λ (p : Unit {0} × List ℕ). p.1) (same_pair (tt, bytes) (x, rest) e) in
     record { fits = tt; parts = is; rest_bytes = rw (← is) fits }
@@ -54,12 +55,16 @@ level_again Info rest fits = refl
 level_again Warning rest fits = refl
 level_again Critical rest fits = refl
 
-level_only : (bytes : List ℕ) (l : Level) (rest : List ℕ) → IsBytes bytes → read_level bytes ≡ value_then l rest → Stands FitsLevel spell_level bytes l rest
+level_only : (bytes : List ℕ) (l : Level) (rest : List ℕ) → IsBytes bytes → read_level bytes ≡ value_then l rest
+    → Stands FitsLevel spell_level bytes l rest
 level_only [] l rest fits e = absurd cc
 level_only (zero ∷ bytes) l rest fits e = variant unit_spelled 0 (λ x. Fine) (λ x h. tt) (λ x. refl) bytes l rest fits e
-level_only (suc zero ∷ bytes) l rest fits e = variant unit_spelled 1 (λ x. Info) (λ x h. tt) (λ x. refl) bytes l rest fits e
-level_only (suc (suc zero) ∷ bytes) l rest fits e = variant unit_spelled 2 (λ x. Warning) (λ x h. tt) (λ x. refl) bytes l rest fits e
-level_only (suc (suc (suc zero)) ∷ bytes) l rest fits e = variant unit_spelled 3 (λ x. Critical) (λ x h. tt) (λ x. refl) bytes l rest fits e
+level_only (suc zero ∷ bytes) l rest fits e =
+    variant unit_spelled 1 (λ x. Info) (λ x h. tt) (λ x. refl) bytes l rest fits e
+level_only (suc (suc zero) ∷ bytes) l rest fits e =
+    variant unit_spelled 2 (λ x. Warning) (λ x h. tt) (λ x. refl) bytes l rest fits e
+level_only (suc (suc (suc zero)) ∷ bytes) l rest fits e =
+    variant unit_spelled 3 (λ x. Critical) (λ x h. tt) (λ x. refl) bytes l rest fits e
 level_only (suc (suc (suc (suc n))) ∷ bytes) l rest fits e = absurd cc
 
 -- what is spelled is read again, and only that

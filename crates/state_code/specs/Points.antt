@@ -24,7 +24,8 @@ are_named db rp name = is_line db && (is_line rp && is_measurement name)
 
 -- tags, some fields, dimensions, and a time
 abbrev pub are_held : KeyMap (List ℕ) → KeyMap Value → List (List ℕ) → ℤ → Bool
-are_held tags fields dims time = are_tags tags && (are_fields fields && (nat_lt 0 (len fields) && (are_dimensions dims && is_time time)))
+are_held tags fields dims time =
+    are_tags tags && (are_fields fields && (nat_lt 0 (len fields) && (are_dimensions dims && is_time time)))
 
 -- what holds of each point, as a test
 abbrev pub is_point : PointValue → Bool
@@ -40,7 +41,17 @@ point_parts p = ((p.db, (p.rp, p.name)), ((p.tags, p.fields), (p.dims, (p.by_nam
 
 -- and the point of such a tuple
 abbrev pub point_of : Parts → PointValue
-point_of x = record { db = x.0.0; rp = x.0.1.0; name = x.0.1.1; tags = x.1.0.0; fields = x.1.0.1; dims = x.1.1.0; by_name = x.1.1.1.0; time = x.1.1.1.1 }
+point_of x =
+    record {
+      db = x.0.0;
+      rp = x.0.1.0;
+      name = x.0.1.1;
+      tags = x.1.0.0;
+      fields = x.1.0.1;
+      dims = x.1.1.0;
+      by_name = x.1.1.1.0;
+      time = x.1.1.1.1;
+    }
 
 -- texts of fewer than 2^32 bytes
 abbrev pub FitsNamed : List ℕ × (List ℕ × List ℕ) → Type 0
@@ -93,5 +104,9 @@ read_point = read_where is_point (read_as point_of (read_pair read_named (read_p
 -- what is spelled is read again, and only that
 pub point_spelled : IsSpelling FitsPoint spell_point read_point
 point_spelled = tested_by (as_parts
-    (pair_spelled (pair_spelled text_spelled (pair_spelled text_spelled text_spelled)) (pair_spelled (pair_spelled (map_spelled byte_order text_spelled text_spelled) (map_spelled byte_order text_spelled value_spelled)) (pair_spelled (list_spelled text_spelled) (pair_spelled bool_spelled i64_spelled))))
+    (pair_spelled (pair_spelled text_spelled (pair_spelled text_spelled text_spelled))
+    (pair_spelled
+    (pair_spelled (map_spelled byte_order text_spelled text_spelled)
+    (map_spelled byte_order text_spelled value_spelled))
+    (pair_spelled (list_spelled text_spelled) (pair_spelled bool_spelled i64_spelled))))
     point_of point_parts (λ p. refl) (λ x. refl)) is_point

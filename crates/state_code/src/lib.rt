@@ -1,5 +1,5 @@
-//! Values as bytes: the fields that saved states and stored records are made of, the cursor that reads them back, and
-//! the spelling that a value has, of which none begins another.
+//! Values as bytes: the fields that saved states and stored records are made of, the cursor that reads them
+//! back, and the spelling that a value has, of which none begins another.
 #![tactic(auto)]
 
 mod cursor;

@@ -12,8 +12,8 @@ use crate::spelled::Spelled;
 use kap_base::{Bytes, ItemList, NoMemory};
 use std::alloc::Global;
 
-/// Appends the number of items as a `u32`, and the items, one after the other. After NoMemory some of them may stand at the end
-/// of `to`. 2^32 items or more are want of memory.
+/// Appends the number of items as a `u32`, and the items, one after the other. After NoMemory some of them
+/// may stand at the end of `to`. 2^32 items or more are want of memory.
 pub fn put_items<T: Spelled>(items: &[T], to: &mut Bytes) -> Result<(), NoMemory>
     ensures bytes { OnOk result (to.new ≡ to.old ++ spell_list T.spell items.now) }
     ensures fits { OnOk result (FitsList T.fits items.now) }

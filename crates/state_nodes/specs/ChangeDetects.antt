@@ -65,8 +65,10 @@ is_change_from names None p = true
 is_change_from names (Some values) p = not (are_still names values p)
 
 -- a step, by what is kept
-abbrev pub change_detect_step : List (List ℕ) → Option (List (Option Value)) → ℕ → PointValue → Turn (Option (List (Option Value)))
-change_detect_step names values port p = record { state = Some (values_at names p); said = passed_if (is_change_from names values p) p }
+abbrev pub change_detect_step : List (List ℕ) → Option (List (Option Value)) → ℕ → PointValue
+    → Turn (Option (List (Option Value)))
+change_detect_step names values port p =
+    record { state = Some (values_at names p); said = passed_if (is_change_from names values p) p }
 
 -- ---- laws
 
@@ -74,13 +76,15 @@ not-and : (a b : Bool) → not (a && b) ≡ (not a || not b)
 not-and true b = refl
 not-and false b = refl
 
-still_or_differ : (names : List (List ℕ)) (q p : PointValue) → not (are_still names (values_at names q) p) ≡ differ names q p
+still_or_differ : (names : List (List ℕ)) (q p : PointValue)
+    → not (are_still names (values_at names q) p) ≡ differ names q p
 still_or_differ [] q p = refl
 still_or_differ (name ∷ names) q p =
     not-and (is_same (value_at q name) (value_at p name)) (are_still names (values_at names q) p)
     ∙ ap (λ (b : Bool). not (is_same (value_at q name) (value_at p name)) || b) (still_or_differ names q p)
 
-change_is : (names : List (List ℕ)) (o : Option PointValue) (p : PointValue) → is_change_from names (option_map (values_at names) o) p ≡ is_change names o p
+change_is : (names : List (List ℕ)) (o : Option PointValue) (p : PointValue)
+    → is_change_from names (option_map (values_at names) o) p ≡ is_change names o p
 change_is names None p = refl
 change_is names (Some q) p = still_or_differ names q p
 
@@ -89,9 +93,11 @@ made values b p = record { state = values; said = passed_if b p }
 
 -- what is kept, and what is said, of one point more
 pub change_detect_goes_on : (names : List (List ℕ)) (before : List Came) (port : ℕ) (p : PointValue)
-    → change_detect_step names (last_values names before) port p ≡ record { state = last_values names (before ++ (port, p) ∷ []); said = change_detect_says names before port p }
+    → change_detect_step names (last_values names before) port p
+    ≡ record { state = last_values names (before ++ (port, p) ∷ []); said = change_detect_says names before port p }
 unfolding made
 change_detect_goes_on names before port p =
     let newest : Some (values_at names p) ≡ last_values names (before ++ (port, p) ∷ []) =
-    ap (λ (o : Option Came). option_map (values_at names) (option_map (λ c. c.1) o)) (sym (last_push before (port, p))) in
+    ap (λ (o : Option Came). option_map (values_at names) (option_map (λ c. c.1) o))
+    (sym (last_push before (port, p))) in
     (λ i. made (newest i) (change_is names (last_point before) p i) p)

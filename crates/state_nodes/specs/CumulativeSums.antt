@@ -47,7 +47,8 @@ summed_behind name sum (Some n) p = passed (with_sum name (int_wrap w64 (sum +�
 
 -- a step, by what is kept
 abbrev pub cumulative_sum_step : FieldSpec → ℤ → ℕ → PointValue → Turn ℤ
-cumulative_sum_step spec sum port p = record { state = sum_behind sum (int_at spec.field p); said = summed_behind spec.name sum (int_at spec.field p) p }
+cumulative_sum_step spec sum port p =
+    record { state = sum_behind sum (int_at spec.field p); said = summed_behind spec.name sum (int_at spec.field p) p }
 
 -- ---- laws
 
@@ -66,7 +67,8 @@ unfolding ints_of
 sum_more ns None = ap sum_of (sym (append-nil ns))
 sum_more ns (Some n) = sum_push ns n
 
-summed_is : (name : Option (List ℕ)) (ns : List ℤ) (o : Option ℤ) (p : PointValue) → summed_behind name (sum_of ns) o p ≡ summed name ns o p
+summed_is : (name : Option (List ℕ)) (ns : List ℤ) (o : Option ℤ) (p : PointValue)
+    → summed_behind name (sum_of ns) o p ≡ summed name ns o p
 summed_is name ns None p = refl
 summed_is name ns (Some n) p = ap (λ (sum : ℤ). passed (with_sum name sum p)) (sum_push ns n)
 
@@ -75,7 +77,8 @@ made sum said = record { state = sum; said = said }
 
 -- what is kept, and what is said, of one point more
 pub cumulative_sum_goes_on : (spec : FieldSpec) (before : List Came) (port : ℕ) (p : PointValue)
-    → cumulative_sum_step spec (sum_in spec before) port p ≡ record { state = sum_in spec (before ++ (port, p) ∷ []); said = cumulative_sum_says spec before port p }
+    → cumulative_sum_step spec (sum_in spec before) port p
+    ≡ record { state = sum_in spec (before ++ (port, p) ∷ []); said = cumulative_sum_says spec before port p }
 unfolding made ints_of
 cumulative_sum_goes_on spec before port p =
     let n = int_at spec.field p in

@@ -34,10 +34,13 @@ number n = LitTree (lits.Int (pos n)) 0
 abbrev pub count : Tree
 count = CallTree (codes "count") NoTrees 0
 
--- the lambda `if(count() == 3, 1 / 0 == 1, count() != 5)`: it has a fault where it is evaluated for the third time, is false for the
--- fifth time, and else true
+-- the lambda `if(count() == 3, 1 / 0 == 1, count() != 5)`: it has a fault where it is evaluated for the third time, is
+-- false for the fifth time, and else true
 abbrev pub condition : Tree
-condition = CallTree (codes "if") (MoreTrees (BinTree Eq count (number 3) 0) (MoreTrees (BinTree Eq (BinTree Div (number 1) (number 0) 0) (number 1) 0) (MoreTrees (BinTree Ne count (number 5) 0) NoTrees))) 0
+condition = CallTree (codes "if")
+    (MoreTrees (BinTree Eq count (number 3) 0)
+    (MoreTrees (BinTree Eq (BinTree Div (number 1) (number 0) 0) (number 1) 0)
+    (MoreTrees (BinTree Ne count (number 5) 0) NoTrees))) 0
 
 -- a `stateCount` of it
 abbrev pub counting : StateCountSpec Tree
@@ -57,11 +60,14 @@ FaultIsDropped = state_count_says counting (came ∷ came ∷ []) 0 point ≡ a_
 
 -- and the row goes on behind it; its evaluation counts for `count()`
 abbrev pub RowGoesOn : Type 0
-RowGoesOn = state_count_says counting (came ∷ came ∷ came ∷ []) 0 point ≡ passed (with_number (codes "state_count") (pos 3) point)
+RowGoesOn = state_count_says counting (came ∷ came ∷ came ∷ []) 0 point
+    ≡ passed (with_number (codes "state_count") (pos 3) point)
 
 -- a false point has -1
 abbrev pub FalseEndsARow : Type 0
-FalseEndsARow = state_count_says counting (came ∷ came ∷ came ∷ came ∷ []) 0 point ≡ passed (with_number (codes "state_count") (negsuc 0) point)
+FalseEndsARow =
+    state_count_says counting (came ∷ came ∷ came ∷ came ∷ []) 0 point
+    ≡ passed (with_number (codes "state_count") (negsuc 0) point)
 
 -- ---- `changeDetect`
 
@@ -85,11 +91,15 @@ FirstInteger = difference_from None None (Some (pos 5)) point ≡ silence
 
 -- behind 5, at 3
 abbrev pub LessThanBefore : Type 0
-LessThanBefore = difference_from None (Some (pos 5)) (Some (pos 3)) point ≡ passed (with_number_alone (codes "difference") (negsuc 1) point)
+LessThanBefore =
+    difference_from None (Some (pos 5)) (Some (pos 3)) point
+    ≡ passed (with_number_alone (codes "difference") (negsuc 1) point)
 
 -- from the least integer to the greatest the difference wraps
 abbrev pub DifferenceWraps : Type 0
-DifferenceWraps = difference_from None (Some (negsuc 9223372036854775807)) (Some (pos 9223372036854775807)) point ≡ passed (with_number_alone (codes "difference") (negsuc 0) point)
+DifferenceWraps =
+    difference_from None (Some (negsuc 9223372036854775807)) (Some (pos 9223372036854775807)) point
+    ≡ passed (with_number_alone (codes "difference") (negsuc 0) point)
 
 -- ---- `cumulativeSum`
 
@@ -113,4 +123,5 @@ FallingTimes = units_between 1000 (pos 5000) (pos 3001) ≡ negsuc 0
 
 -- the first point with the field gives nothing, and isn't counted
 abbrev pub FirstWithTheField : Type 0
-FirstWithTheField = elapsed_from (record { field = codes "x"; unit = 1000; name = None }) None (Some (pos 7)) point ≡ silence
+FirstWithTheField =
+    elapsed_from (record { field = codes "x"; unit = 1000; name = None }) None (Some (pos 7)) point ≡ silence

@@ -38,8 +38,8 @@ truths condition points = filter_map (λ e. truth_at condition e.0 e.1.1) (enume
 abbrev pub true_run : List Bool → ℕ
 true_run truths = suffix_len (λ b. b) truths
 
--- the number at a point without a fault, by what the condition was before: of the points in a row up to this one at which it is
--- true, or -1 where it is false here
+-- the number at a point without a fault, by what the condition was before: of the points in a row up to this one at
+-- which it is true, or -1 where it is false here
 abbrev pub state_number : List Bool → Bool → ℤ
 state_number before true = pos (true_run (before ++ true ∷ []))
 state_number before false = negsuc 0
@@ -47,11 +47,13 @@ state_number before false = negsuc 0
 -- the point with the number among its fields; where the condition has a fault it is dropped and counted
 abbrev pub numbered : Option (List ℕ) → List Bool → Option Bool → PointValue → Said
 numbered name before None p = a_drop
-numbered name before (Some b) p = passed (with_number (result_name (codes "state_count") name) (state_number before b) p)
+numbered name before (Some b) p =
+    passed (with_number (result_name (codes "state_count") name) (state_number before b) p)
 
 -- what is said of a point, by the points of its group before it
 abbrev pub state_count_says : StateCountSpec Tree → GroupAnswer
-state_count_says spec before port p = numbered spec.name (truths spec.condition before) (truth_at spec.condition (length before) p) p
+state_count_says spec before port p =
+    numbered spec.name (truths spec.condition before) (truth_at spec.condition (length before) p) p
 
 -- ---- what is kept of a group: how often the condition was evaluated, and at how many points in a row it was true
 
@@ -73,7 +75,8 @@ number_behind run false = negsuc 0
 -- what is said of a point by the truth of its condition, behind so many true ones
 abbrev pub numbered_behind : Option (List ℕ) → ℕ → Option Bool → PointValue → Said
 numbered_behind name run None p = a_drop
-numbered_behind name run (Some b) p = passed (with_number (result_name (codes "state_count") name) (number_behind run b) p)
+numbered_behind name run (Some b) p =
+    passed (with_number (result_name (codes "state_count") name) (number_behind run b) p)
 
 -- a step, by what is kept
 abbrev pub state_count_step : StateCountSpec Tree → ℕ × ℕ → ℕ → PointValue → Turn (ℕ × ℕ)
@@ -83,7 +86,8 @@ state_count_step spec kept port p =
 
 -- ---- laws
 
-enumerate_push : {A : Type 0} (n : ℕ) (xs : List A) (x : A) → enumerate_from n (xs ++ x ∷ []) ≡ enumerate_from n xs ++ (n + length xs, x) ∷ []
+enumerate_push : {A : Type 0} (n : ℕ) (xs : List A) (x : A) → enumerate_from n (xs ++ x ∷ []) ≡ enumerate_from n xs
+    ++ (n + length xs, x) ∷ []
 enumerate_push n [] x = let e : n ≡ n + 0 = omega arith in ap (λ (k : ℕ). (k, x) ∷ []) e
 enumerate_push n (y ∷ xs) x =
     let e : n + 1 + length xs ≡ n + length (y ∷ xs) = omega arith in
@@ -93,7 +97,8 @@ truths_at : Option Bool → List Bool
 truths_at o = filter_map (λ (p : Option Bool). p) (o ∷ [])
 
 -- the truths of points, and of one more
-truths_more : (condition : Tree) (cs : List Came) (c : Came) → truths condition (cs ++ c ∷ []) ≡ truths condition cs ++ truths_at (truth_at condition (length cs) c.1)
+truths_more : (condition : Tree) (cs : List Came) (c : Came) → truths condition (cs ++ c ∷ []) ≡ truths condition cs
+    ++ truths_at (truth_at condition (length cs) c.1)
 unfolding truths_at
 truths_more condition cs c =
     let h : ℕ × Came → Option Bool = λ e. truth_at condition e.0 e.1.1 in
@@ -120,21 +125,25 @@ number_is : (truths : List Bool) (b : Bool) → number_behind (true_run truths) 
 number_is truths true = ap pos (sym (true_run-true truths))
 number_is truths false = refl
 
-numbered_is : (name : Option (List ℕ)) (truths : List Bool) (o : Option Bool) (p : PointValue) → numbered_behind name (true_run truths) o p ≡ numbered name truths o p
+numbered_is : (name : Option (List ℕ)) (truths : List Bool) (o : Option Bool) (p : PointValue)
+    → numbered_behind name (true_run truths) o p ≡ numbered name truths o p
 numbered_is name truths None p = refl
-numbered_is name truths (Some b) p = ap (λ (n : ℤ). passed (with_number (result_name (codes "state_count") name) n p)) (number_is truths b)
+numbered_is name truths (Some b) p =
+    ap (λ (n : ℤ). passed (with_number (result_name (codes "state_count") name) n p)) (number_is truths b)
 
 made : ℕ → ℕ → Said → Turn (ℕ × ℕ)
 made k run said = record { state = (k, run); said = said }
 
 -- what is kept, and what is said, of one point more
 pub state_count_goes_on : (spec : StateCountSpec Tree) (before : List Came) (port : ℕ) (p : PointValue)
-    → state_count_step spec (counts_in spec before) port p ≡ record { state = counts_in spec (before ++ (port, p) ∷ []); said = state_count_says spec before port p }
+    → state_count_step spec (counts_in spec before) port p
+    ≡ record { state = counts_in spec (before ++ (port, p) ∷ []); said = state_count_says spec before port p }
 unfolding made
 state_count_goes_on spec before port p =
     let truth = truth_at spec.condition (length before) p in
     let ts = truths spec.condition before in
-    let more : length before + 1 ≡ length (before ++ (port, p) ∷ []) = omega (arith, length-append before ((port, p) ∷ [])) in
+    let more : length before + 1
+    ≡ length (before ++ (port, p) ∷ []) = omega (arith, length-append before ((port, p) ∷ [])) in
     let run : run_behind (true_run ts) truth ≡ true_run (truths spec.condition (before ++ (port, p) ∷ [])) =
     run_more ts truth ∙ ap true_run (sym (truths_more spec.condition before (port, p))) in
     (λ i. made (more i) (run i) (numbered_is spec.name ts truth p i))

@@ -51,10 +51,12 @@ latest before (Some x) = Some x
 pub last_push : {A : Type 0} (xs : List A) (x : A) → last (xs ++ x ∷ []) ≡ Some x
 last_push xs x = last_or-push None xs x
 
-last_one_more : {B : Type 0} (ys : List B) (o : Option B) → last (ys ++ filter_map (λ (p : Option B). p) (o ∷ [])) ≡ latest (last ys) o
+last_one_more : {B : Type 0} (ys : List B) (o : Option B)
+    → last (ys ++ filter_map (λ (p : Option B). p) (o ∷ [])) ≡ latest (last ys) o
 last_one_more ys None = ap last (append-nil ys)
 last_one_more ys (Some y) = last_push ys y
 
 -- the last of what stands at points, with one point more
-pub last_more : {A B : Type 0} (h : A → Option B) (xs : List A) (x : A) → last (filter_map h (xs ++ x ∷ [])) ≡ latest (last (filter_map h xs)) (h x)
+pub last_more : {A B : Type 0} (h : A → Option B) (xs : List A) (x : A)
+    → last (filter_map h (xs ++ x ∷ [])) ≡ latest (last (filter_map h xs)) (h x)
 last_more h xs x = ap last (filter_map-append h xs (x ∷ [])) ∙ last_one_more (filter_map h xs) (h x)

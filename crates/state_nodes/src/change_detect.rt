@@ -8,8 +8,9 @@ use node_core::{Rule, Said, pass};
 use std::alloc::Global;
 use task_graph::SharedNames;
 
-/// What `changeDetect` does (Kapacitor 1.6: change detect node): it passes a group's first point, and each one at which one of
-/// these fields has another kind or value than at the group's point before, or is at one of the two alone.
+/// What `changeDetect` does (Kapacitor 1.6: change detect node): it passes a group's first point, and each
+/// one at which one of these fields has another kind or value than at the group's point before, or is at one
+/// of the two alone.
 #[derive(Debug, Drop)]
 pub struct ChangeDetect {
     /// The fields.

@@ -9,8 +9,9 @@ use node_core::{Rule, Said, pass_new};
 use std::alloc::Global;
 use task_graph::FieldSpec;
 
-/// What `cumulativeSum` does (Kapacitor 1.6: cumulative sum node): a point with an integer at the field becomes the sum of the
-/// group's integers up to it, brought into 64 bits. A point without one is dropped and counted.
+/// What `cumulativeSum` does (Kapacitor 1.6: cumulative sum node): a point with an integer at the field
+/// becomes the sum of the group's integers up to it, brought into 64 bits. A point without one is dropped and
+/// counted.
 #[derive(Debug, Drop)]
 pub struct CumulativeSum {
     /// The field, and the name of the result.

@@ -9,8 +9,9 @@ use node_core::{Rule, Said, pass_new};
 use std::alloc::Global;
 use task_graph::FieldSpec;
 
-/// What `difference` does (Kapacitor 1.6: difference node): a point with an integer at the field becomes that integer less the
-/// one before in the group, brought into 64 bits; the first one gives nothing. A point without one is dropped and counted.
+/// What `difference` does (Kapacitor 1.6: difference node): a point with an integer at the field becomes that
+/// integer less the one before in the group, brought into 64 bits; the first one gives nothing. A point
+/// without one is dropped and counted.
 #[derive(Debug, Drop)]
 pub struct Difference {
     /// The field, and the name of the result.

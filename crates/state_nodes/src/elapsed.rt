@@ -8,9 +8,9 @@ use node_core::{Rule, Said, pass};
 use std::alloc::Global;
 use task_graph::{ElapsedSpec, ElapsedUnit};
 
-/// What `elapsed` does (Kapacitor 1.6: elapsed node): a point with the field becomes the time since the group's point before
-/// that has it, in units, without the part of a unit that is left; the first one gives nothing. A point without the field is
-/// dropped and counted.
+/// What `elapsed` does (Kapacitor 1.6: elapsed node): a point with the field becomes the time since the
+/// group's point before that has it, in units, without the part of a unit that is left; the first one gives
+/// nothing. A point without the field is dropped and counted.
 #[derive(Debug, Drop)]
 pub struct Elapsed {
     /// The field, the unit, and the name of the result.
@@ -25,8 +25,8 @@ fn nanos_between(since: i64, time: i64) -> i128
     i128::from(time) - i128::from(since)
 }
 
-/// How many units so many nanoseconds are, without the part of a unit that is left. Since a unit is no less than a microsecond,
-/// this is an integer of 64 bits.
+/// How many units so many nanoseconds are, without the part of a unit that is left. Since a unit is no less
+/// than a microsecond, this is an integer of 64 bits.
 fn units_in(nanos: i128, unit: &ElapsedUnit) -> i64
     requires { unsigned_abs nanos ≤ 2 ^ 64 }
     ensures { result ≡ int_div nanos (pos unit.now) }

@@ -5,7 +5,8 @@ ghost use Rattle.kap_base.specs.declared.value.Value.{Value};
 ghost use Rattle.state_nodes.specs.ChangeDetects.{is_same};
 ghost use Rattle.state_nodes.specs.Rows.{DifferenceWraps, FallingTimes, FalseEndsARow, FaultIsDropped, FirstInteger, FirstIsAChange, FirstTrue, FirstWithTheField, KindsDiffer, LessThanBefore, MissingDiffers, NoInteger, RowGoesOn, SecondTrue, SumWraps, WholeUnits};
 
-/// What stands at a field is the same at two points exactly where it is of one kind and equal, or is missing at both.
+/// What stands at a field is the same at two points exactly where it is of one kind and equal, or is missing
+/// at both.
 #[tactic(auto, using(crate::proofs::ChangeLaws::same_exactly))]
 pub fn fields_are_told_apart()
     ensures { (a b : Option Value) → IsTrue (is_same a b) ↔ (a ≡ b) }

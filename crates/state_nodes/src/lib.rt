@@ -1,4 +1,5 @@
-//! The nodes that keep a small state of each group: `stateCount`, `changeDetect`, `difference`, `cumulativeSum` and `elapsed`.
+//! The nodes that keep a small state of each group: `stateCount`, `changeDetect`, `difference`,
+//! `cumulativeSum` and `elapsed`.
 #![tactic(auto)]
 
 mod change_detect;

@@ -9,9 +9,9 @@ use node_core::{Rule, Said, pass_new};
 use std::alloc::Global;
 use task_graph::{Name, StateCountSpec};
 
-/// What `stateCount` does (Kapacitor 1.6: state count node): at how many points of the group in a row, up to this one, the
-/// condition is true becomes a field of the point, -1 where it is false. A point at which the condition has a fault is dropped
-/// and counted, and breaks no row.
+/// What `stateCount` does (Kapacitor 1.6: state count node): at how many points of the group in a row, up to
+/// this one, the condition is true becomes a field of the point, -1 where it is false. A point at which the
+/// condition has a fault is dropped and counted, and breaks no row.
 #[derive(Drop)]
 pub struct StateCount {
     /// The condition, and the name of the field.

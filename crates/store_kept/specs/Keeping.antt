@@ -55,7 +55,8 @@ pub record AreValid (k : KeptValue) : Type 0 where
   pub tasks : AreValidTasks k.tasks
   pub lives : AreValidLives k.lives
 
--- What is kept is of a store that holds this: its tasks, lives and last snapshot, and how many points, transitions and changes it has.
+-- What is kept is of a store that holds this: its tasks, lives and last snapshot, and how many points, transitions and
+-- changes it has.
 pub record Keeps (h : Held) (k : KeptValue) : Type 0 where
   pub tasks : k.tasks ≡ h.tasks
   pub lives : k.lives ≡ h.lives

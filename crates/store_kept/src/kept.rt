@@ -17,8 +17,8 @@ pub struct Mark {
     pub transitions: u64,
 }
 
-/// What is kept: the tasks, lives and numbers of a store, and the places of some records, one about every 4,096
-/// points or transitions.
+/// What is kept: the tasks, lives and numbers of a store, and the places of some records, one about every
+/// 4,096 points or transitions.
 #[derive(Debug, Drop)]
 pub struct Kept {
     /// The tasks in byte order of their ids.

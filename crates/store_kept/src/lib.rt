@@ -1,4 +1,5 @@
-//! What a store keeps in memory of its records: its tasks and lives, its numbers, the last snapshot, and the places of some records.
+//! What a store keeps in memory of its records: its tasks and lives, its numbers, the last snapshot, and the
+//! places of some records.
 #![tactic(auto)]
 
 mod kept;

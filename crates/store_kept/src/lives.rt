@@ -26,7 +26,8 @@ fn is_open_of(id: &Text, life: &Life) -> bool
     is_open(life)
 }
 
-/// Where the last of the task's lives stands that is open. It goes from the end, where a life that ends mostly stands.
+/// Where the last of the task's lives stands that is open. It goes from the end, where a life that ends
+/// mostly stands.
 fn last_open(lives: &[Life], id: &Text) -> Option<usize>
     ensures { IsLastOpen id.now lives.now result }
 {

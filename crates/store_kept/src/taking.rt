@@ -52,8 +52,9 @@ fn may_follow(alloc: Global, kept: &Kept, topics: &mut Topics, rec: &Rec) -> Res
     }
 }
 
-/// Takes in the next record, whose gate stands at this offset, where the body is that of one that may follow; else `false`. The
-/// topics are those of the transitions before. Whatever is kept, tasks and lives that are valid stay so.
+/// Takes in the next record, whose gate stands at this offset, where the body is that of one that may follow;
+/// else `false`. The topics are those of the transitions before. Whatever is kept, tasks and lives that are
+/// valid stay so.
 pub fn take_body(
     alloc: Global,
     gate: u64,

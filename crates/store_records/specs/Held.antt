@@ -49,16 +49,19 @@ remove_task id tasks = remove tasks (position_or_len (is_called id) tasks)
 -- where the task of this id is enabled or isn't
 abbrev pub set_enabled : List ℕ → Bool → List StoredTask → List StoredTask
 set_enabled id enabled [] = []
-set_enabled id enabled (task ∷ tasks) = if is_called id task then record task { enabled = enabled } ∷ tasks else task ∷ set_enabled id enabled tasks
+set_enabled id enabled (task ∷ tasks) =
+    if is_called id task then record task { enabled = enabled } ∷ tasks else task ∷ set_enabled id enabled tasks
 
 -- the task that the record, whose gate stands at this offset, defines
 abbrev pub defined : ℕ → Rec → List StoredTask
-defined at (kinds.Define id script enabled) = record { id = id; script = script; enabled = enabled; define_at = at } ∷ []
+defined at (kinds.Define id script enabled) =
+    record { id = id; script = script; enabled = enabled; define_at = at } ∷ []
 defined at r = []
 
 -- the tasks behind the record
 abbrev pub tasks_after : ℕ → Rec → List StoredTask → List StoredTask
-tasks_after at (kinds.Define id script enabled) tasks = put_task (record { id = id; script = script; enabled = enabled; define_at = at }) tasks
+tasks_after at (kinds.Define id script enabled) tasks =
+    put_task (record { id = id; script = script; enabled = enabled; define_at = at }) tasks
 tasks_after at (kinds.Enable id) tasks = set_enabled id true tasks
 tasks_after at (kinds.Disable id) tasks = set_enabled id false tasks
 tasks_after at (kinds.Delete id) tasks = remove_task id tasks
@@ -68,7 +71,8 @@ tasks_after at r tasks = tasks
 
 -- a life of the task that begins behind n points
 abbrev pub life_from : ℕ → StoredTask → Life
-life_from n task = record { task = task.id; script = task.script; first = n + 1; last = None; define_at = task.define_at }
+life_from n task =
+    record { task = task.id; script = task.script; first = n + 1; last = None; define_at = task.define_at }
 
 -- the life that begins where the task is enabled, unless it was so before
 abbrev pub life_of : ℕ → Option StoredTask → List Life
@@ -114,11 +118,12 @@ open_from n (life ∷ lives) = if is_open life then n ∷ open_from (n + 1) live
 abbrev pub level_of : List ℕ → List ℕ → List Transition → Level
 level_of topic id before = last_level topic id Fine (map event_of before)
 
--- The transition goes on from so many others, where this is the level of its topic and id: its number is the next one, its old level
--- is that level, its new level another one, and its time lies in the range of times.
+-- The transition goes on from so many others, where this is the level of its topic and id: its number is the next one,
+-- its old level is that level, its new level another one, and its time lies in the range of times.
 abbrev pub goes_on : ℕ → Level → Transition → Bool
 goes_on count level t =
-    (t.number == count + 1) && (same_level t.old_level level && (not (same_level t.old_level t.new_level) && is_time t.time))
+    (t.number == count + 1)
+    && (same_level t.old_level level && (not (same_level t.old_level t.new_level) && is_time t.time))
 
 -- it goes on from these
 abbrev pub is_next : List Transition → Transition → Bool
@@ -131,8 +136,8 @@ are_next before (t ∷ ts) = is_next before t && are_next (before ++ t ∷ []) t
 
 -- ---- what a store holds
 
--- Its tasks in byte order of their ids, the lives in the order of their enabling, all points and transitions, the last snapshot, and how
--- many records there are of the kinds that clients ask for: all but transitions and snapshots.
+-- Its tasks in byte order of their ids, the lives in the order of their enabling, all points and transitions, the last
+-- snapshot, and how many records there are of the kinds that clients ask for: all but transitions and snapshots.
 pub record Held : Type 0 where
   pub tasks : List StoredTask
   pub lives : List Life
@@ -157,7 +162,8 @@ transitions_in r = []
 
 -- the snapshot that the record is
 abbrev pub snap_in : ℕ → Rec → List Life → Option Snapshot
-snap_in at (kinds.Snap points trans states) lives = Some (record { at = at; points = points; transitions = trans; lives = open_from 1 lives })
+snap_in at (kinds.Snap points trans states) lives =
+    Some (record { at = at; points = points; transitions = trans; lives = open_from 1 lives })
 snap_in at r lives = None
 
 -- the later of two snapshots, if there is a later one
@@ -187,7 +193,8 @@ after h at r = record {
 -- a task may be defined: its id is free and valid, there is room, and the script isn't too long
 abbrev pub may_define : List ℕ → List ℕ → List StoredTask → Bool
 may_define id script tasks =
-    is_task_id id && (not (has_task id tasks) && (nat_lt (length tasks) TASK_LIMIT && nat_le (length script) SCRIPT_LIMIT))
+    is_task_id id
+    && (not (has_task id tasks) && (nat_lt (length tasks) TASK_LIMIT && nat_le (length script) SCRIPT_LIMIT))
 
 -- a snapshot of what is stored
 pub record IsSnap (h : Held) (points trans : ℕ) (states : List ℕ) : Type 0 where

@@ -4,7 +4,8 @@ use Rattle.store_records.specs.Held.{Held, MayFollow, after, nothing}
 use Rattle.store_records.specs.Records.{FitsRecord, spell_record}
 use Rattle.store_records.specs.declared.rec.Rec.{Rec}
 
--- the offset of the gate behind a record whose own gate stands at this offset: the gate, the body's length in four bytes, the body
+-- the offset of the gate behind a record whose own gate stands at this offset: the gate, the body's length in four
+-- bytes, the body
 abbrev pub next_gate : ℕ → Rec → ℕ
 next_gate at r = at + (5 + length (spell_record r))
 

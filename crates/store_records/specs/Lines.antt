@@ -40,21 +40,24 @@ spell_point p = spell_bytes (Print p)
 abbrev pub read_point : List ℕ → List ℕ → Reading PointValue
 read_point db rp = read_some (canonical_point db rp) read_text
 
-there : (db rp : List ℕ) (p : PointValue) → FitsPoint db rp p → FitsText (Print p) × (canonical_point db rp (Print p) ≡ Some p)
+there : (db rp : List ℕ) (p : PointValue) → FitsPoint db rp p → FitsText (Print p)
+    × (canonical_point db rp (Print p) ≡ Some p)
 there db rp p fits = (fits.text, rw (fits.line, fits.reads, (bytes_decides (Print p) (Print p)).1 refl) refl)
 
 tested : (b : Bool) (o : Option PointValue) (p : PointValue) → cond b o None ≡ Some p → (b ≡ true) × (o ≡ Some p)
 tested true o p e = (refl, e)
 tested false o p e = absurd cc
 
-canonical_is : (line : List ℕ) (r : Result PointValue LineFault) (p : PointValue) → if_canonical line r ≡ Some p → (r ≡ Ok p) × (Print p ≡ line)
+canonical_is : (line : List ℕ) (r : Result PointValue LineFault) (p : PointValue) → if_canonical line r ≡ Some p
+    → (r ≡ Ok p) × (Print p ≡ line)
 canonical_is line (Ok q) p e =
     let passed = tested (bytes_eq (Print q) line) (Some q) p e in
     let same : q ≡ p = cc in
     (cc, subst (λ (x : PointValue). Print x ≡ line) same ((bytes_decides (Print q) line).0 passed.0))
 canonical_is line (Err fault) p e = absurd cc
 
-back : (db rp line : List ℕ) (p : PointValue) → FitsText line → canonical_point db rp line ≡ Some p → FitsPoint db rp p × (Print p ≡ line)
+back : (db rp line : List ℕ) (p : PointValue) → FitsText line → canonical_point db rp line ≡ Some p → FitsPoint db rp p
+    × (Print p ≡ line)
 back db rp line p fits e =
     let passed = tested (is_line line) (if_canonical line (stored_of db rp Recording line)) p e in
     let is = canonical_is line (stored_of db rp Recording line) p passed.1 in (
@@ -68,7 +71,8 @@ back db rp line p fits e =
 
 -- what is spelled is read again, and only that
 pub point_spelled : (db rp : List ℕ) → IsSpelling (FitsPoint db rp) spell_point (read_point db rp)
-point_spelled db rp = some_spelled text_spelled (FitsPoint db rp) (canonical_point db rp) Print (there db rp) (back db rp)
+point_spelled db rp =
+    some_spelled text_spelled (FitsPoint db rp) (canonical_point db rp) Print (there db rp) (back db rp)
 
 -- a database and a policy
 abbrev pub Names : Type 0
@@ -108,4 +112,7 @@ read_batch = read_behind read_names (λ names. read_list (read_point names.0 nam
 
 -- what is spelled is read again, and only that
 pub batch_spelled : IsSpelling FitsBatch spell_batch read_batch
-batch_spelled = behind_spelled (tested_by (pair_spelled text_spelled text_spelled) are_lines) (λ names. FitsList (FitsPoint names.0 names.1)) (spell_list spell_point) (λ names. read_list (read_point names.0 names.1)) (λ names. list_spelled (point_spelled names.0 names.1))
+batch_spelled =
+    behind_spelled (tested_by (pair_spelled text_spelled text_spelled) are_lines)
+    (λ names. FitsList (FitsPoint names.0 names.1)) (spell_list spell_point)
+    (λ names. read_list (read_point names.0 names.1)) (λ names. list_spelled (point_spelled names.0 names.1))

@@ -44,8 +44,8 @@ pub record IsSnapWithin (h : Held) (s : Snapshot) : Type 0 where
 abbrev pub HasOpenLives : Held → Type 0
 HasOpenLives h = (id : List ℕ) → length (filter (is_open_of id) h.lives) ≡ (if is_enabled id h.tasks then 1 else 0)
 
--- What a store holds is in order: its tasks are valid, at most 64, with rising ids; its lives are of valid tasks, and one is open for
--- each enabled task; its last snapshot lies within it.
+-- What a store holds is in order: its tasks are valid, at most 64, with rising ids; its lives are of valid tasks, and
+-- one is open for each enabled task; its last snapshot lies within it.
 pub record IsInOrder (h : Held) : Type 0 where
   pub rise : IdsRise h.tasks
   pub few : length h.tasks ≤ TASK_LIMIT

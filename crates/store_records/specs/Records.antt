@@ -59,8 +59,8 @@ batch_of x = kinds.Batch x.0.0 x.0.1 x.1
 abbrev pub snap_of : Snapshot → Rec
 snap_of x = kinds.Snap x.0 x.1.0 x.1.1
 
--- A record has a spelling: its texts and lists are shorter than 2^32, the points of a batch are those that its lines read as, and the
--- states of a snapshot are those of cells.
+-- A record has a spelling: its texts and lists are shorter than 2^32, the points of a batch are those that its lines
+-- read as, and the states of a snapshot are those of cells.
 abbrev pub FitsRecord : Rec → Type 0
 FitsRecord (kinds.Define id script enabled) = FitsDefinition (id, (script, enabled))
 FitsRecord (kinds.Enable id) = FitsText id
@@ -121,8 +121,8 @@ read_record (suc (suc (suc (suc (suc (suc zero))))) ∷ bytes) = read_trans byte
 read_record (suc (suc (suc (suc (suc (suc (suc zero)))))) ∷ bytes) = read_snap bytes
 read_record (suc (suc (suc (suc (suc (suc (suc (suc n))))))) ∷ bytes) = None
 
--- What a record holds is of its kind's form: a batch has a database and a policy without line feeds, and points of these, ungrouped;
--- a snapshot has the states of cells.
+-- What a record holds is of its kind's form: a batch has a database and a policy without line feeds, and points of
+-- these, ungrouped; a snapshot has the states of cells.
 abbrev pub HasForm : Rec → Type 0
 HasForm (kinds.Batch db rp points) = IsTrue (are_lines (db, rp)) × IsTrue (list_all (is_of db rp) points)
 HasForm (kinds.Snap points trans states) = AreStates states
@@ -153,24 +153,34 @@ snapshot_spelled : IsSpelling FitsSnapshot spell_snapshot read_snapshot
 snapshot_spelled = pair_spelled u64_spelled (pair_spelled u64_spelled states_spelled)
 
 record_again : (r : Rec) (rest : List ℕ) → FitsRecord r → read_record (spell_record r ++ rest) ≡ value_then r rest
-record_again (kinds.Define id script enabled) rest fits = rw (definition_spelled.again (id, (script, enabled)) rest fits) refl
+record_again (kinds.Define id script enabled) rest fits =
+    rw (definition_spelled.again (id, (script, enabled)) rest fits) refl
 record_again (kinds.Enable id) rest fits = rw (text_spelled.again id rest fits) refl
 record_again (kinds.Disable id) rest fits = rw (text_spelled.again id rest fits) refl
 record_again (kinds.Delete id) rest fits = rw (text_spelled.again id rest fits) refl
 record_again (kinds.Batch db rp points) rest fits = rw (batch_spelled.again ((db, rp), points) rest fits) refl
 record_again (kinds.Trans transitions) rest fits = rw (transitions_spelled.again transitions rest fits) refl
-record_again (kinds.Snap points trans states) rest fits = rw (snapshot_spelled.again (points, (trans, states)) rest fits) refl
+record_again (kinds.Snap points trans states) rest fits =
+    rw (snapshot_spelled.again (points, (trans, states)) rest fits) refl
 
-record_only : (bytes : List ℕ) (r : Rec) (rest : List ℕ) → IsBytes bytes → read_record bytes ≡ value_then r rest → Stands FitsRecord spell_record bytes r rest
+record_only : (bytes : List ℕ) (r : Rec) (rest : List ℕ) → IsBytes bytes → read_record bytes ≡ value_then r rest
+    → Stands FitsRecord spell_record bytes r rest
 record_only [] r rest fits e = absurd cc
 record_only (zero ∷ bytes) r rest fits e = absurd cc
-record_only (suc zero ∷ bytes) r rest fits e = variant definition_spelled 1 define_of (λ x h. h) (λ x. refl) bytes r rest fits e
-record_only (suc (suc zero) ∷ bytes) r rest fits e = variant text_spelled 2 kinds.Enable (λ x h. h) (λ x. refl) bytes r rest fits e
-record_only (suc (suc (suc zero)) ∷ bytes) r rest fits e = variant text_spelled 3 kinds.Disable (λ x h. h) (λ x. refl) bytes r rest fits e
-record_only (suc (suc (suc (suc zero))) ∷ bytes) r rest fits e = variant text_spelled 4 kinds.Delete (λ x h. h) (λ x. refl) bytes r rest fits e
-record_only (suc (suc (suc (suc (suc zero)))) ∷ bytes) r rest fits e = variant batch_spelled 5 batch_of (λ x h. h) (λ x. refl) bytes r rest fits e
-record_only (suc (suc (suc (suc (suc (suc zero))))) ∷ bytes) r rest fits e = variant transitions_spelled 6 kinds.Trans (λ x h. h) (λ x. refl) bytes r rest fits e
-record_only (suc (suc (suc (suc (suc (suc (suc zero)))))) ∷ bytes) r rest fits e = variant snapshot_spelled 7 snap_of (λ x h. h) (λ x. refl) bytes r rest fits e
+record_only (suc zero ∷ bytes) r rest fits e =
+    variant definition_spelled 1 define_of (λ x h. h) (λ x. refl) bytes r rest fits e
+record_only (suc (suc zero) ∷ bytes) r rest fits e =
+    variant text_spelled 2 kinds.Enable (λ x h. h) (λ x. refl) bytes r rest fits e
+record_only (suc (suc (suc zero)) ∷ bytes) r rest fits e =
+    variant text_spelled 3 kinds.Disable (λ x h. h) (λ x. refl) bytes r rest fits e
+record_only (suc (suc (suc (suc zero))) ∷ bytes) r rest fits e =
+    variant text_spelled 4 kinds.Delete (λ x h. h) (λ x. refl) bytes r rest fits e
+record_only (suc (suc (suc (suc (suc zero)))) ∷ bytes) r rest fits e =
+    variant batch_spelled 5 batch_of (λ x h. h) (λ x. refl) bytes r rest fits e
+record_only (suc (suc (suc (suc (suc (suc zero))))) ∷ bytes) r rest fits e =
+    variant transitions_spelled 6 kinds.Trans (λ x h. h) (λ x. refl) bytes r rest fits e
+record_only (suc (suc (suc (suc (suc (suc (suc zero)))))) ∷ bytes) r rest fits e =
+    variant snapshot_spelled 7 snap_of (λ x h. h) (λ x. refl) bytes r rest fits e
 record_only (suc (suc (suc (suc (suc (suc (suc (suc n))))))) ∷ bytes) r rest fits e = absurd cc
 
 -- what is spelled is read again, and only that

@@ -27,11 +27,14 @@ read_states = read_as (spell_list spell_bytes) (read_list read_bytes)
 states_again : (bytes rest : List ℕ) → AreStates bytes → read_states (bytes ++ rest) ≡ value_then bytes rest
 states_again bytes rest are =
     ap (λ (t : List ℕ). read_states (t ++ rest)) are.is
-    ∙ rw ((list_spelled bytes_spelled).again are.cells rest are.fits) (ap (λ (t : List ℕ). value_then t rest) (sym are.is))
+    ∙ rw ((list_spelled bytes_spelled).again are.cells rest are.fits)
+    (ap (λ (t : List ℕ). value_then t rest) (sym are.is))
 
-states_only : (whole bytes rest : List ℕ) → IsBytes whole → read_states whole ≡ value_then bytes rest → Stands AreStates spell_states whole bytes rest
+states_only : (whole bytes rest : List ℕ) → IsBytes whole → read_states whole ≡ value_then bytes rest
+    → Stands AreStates spell_states whole bytes rest
 states_only whole bytes rest fits e =
-    let one = parted (read_list read_bytes whole) (λ cells rest. value_then (spell_list spell_bytes cells) rest) (bytes, rest) e in
+    let one = parted (read_list read_bytes whole) (λ cells rest. value_then (spell_list spell_bytes cells) rest)
+    (bytes, rest) e in
     let first = (list_spelled bytes_spelled).only whole one.value one.rest fits one.first in
     stands_at whole (spell_list spell_bytes one.value) bytes one.rest rest one.second (record {
       fits = record { cells = one.value; fits = first.fits; is = refl };

@@ -19,7 +19,16 @@ parts_of t = ((t.number, (t.topic, t.id)), ((t.old_level, t.new_level), (t.time,
 
 -- the transition of these parts
 abbrev pub transition_of : Parts → Transition
-transition_of x = record { number = x.0.0; topic = x.0.1.0; id = x.0.1.1; old_level = x.1.0.0; new_level = x.1.0.1; time = x.1.1.0; message = x.1.1.1 }
+transition_of x =
+    record {
+      number = x.0.0;
+      topic = x.0.1.0;
+      id = x.0.1.1;
+      old_level = x.1.0.0;
+      new_level = x.1.0.1;
+      time = x.1.1.0;
+      message = x.1.1.1;
+    }
 
 -- the number is below 2^64, and topic and id have a spelling
 abbrev pub FitsNamed : ℕ × (List ℕ × List ℕ) → Type 0
@@ -48,10 +57,12 @@ spell_transition t = spell_pair spell_named (spell_pair (spell_pair spell_level 
 -- and the transition whose parts stand there
 abbrev pub read_transition : Reading Transition
 read_transition = read_as transition_of
-    (read_pair (read_pair (read_number w64) (read_pair read_text read_text)) (read_pair (read_pair read_level read_level) (read_pair read_i64 read_text)))
+    (read_pair (read_pair (read_number w64) (read_pair read_text read_text))
+    (read_pair (read_pair read_level read_level) (read_pair read_i64 read_text)))
 
 -- what is spelled is read again, and only that
 pub transition_spelled : IsSpelling FitsTransition spell_transition read_transition
 transition_spelled = as_parts
-    (pair_spelled (pair_spelled u64_spelled (pair_spelled text_spelled text_spelled)) (pair_spelled (pair_spelled level_spelled level_spelled) (pair_spelled i64_spelled text_spelled)))
+    (pair_spelled (pair_spelled u64_spelled (pair_spelled text_spelled text_spelled))
+    (pair_spelled (pair_spelled level_spelled level_spelled) (pair_spelled i64_spelled text_spelled)))
     transition_of parts_of (λ t. refl) (λ x. refl)

@@ -33,8 +33,8 @@ pub fn has_task(tasks: &[StoredTask], id: &Text) -> bool
     tasks.iter().any(|task| is_called(task, id))
 }
 
-/// Whether a task may be defined beside these: its id is free and valid, there are fewer than `TASK_LIMIT`, and the script has at
-/// most `SCRIPT_LIMIT` bytes.
+/// Whether a task may be defined beside these: its id is free and valid, there are fewer than `TASK_LIMIT`,
+/// and the script has at most `SCRIPT_LIMIT` bytes.
 pub fn may_define(tasks: &[StoredTask], id: &Text, script: &Text) -> bool
     ensures { result ≡ may_define id.now script.now tasks.now }
 {
@@ -59,8 +59,8 @@ fn are_lines(db: &Text, rp: &Text) -> bool
     rp.is_line()
 }
 
-/// Whether these points may be stored as a batch: the database and the policy hold no line feed, and each point is of them and
-/// ungrouped.
+/// Whether these points may be stored as a batch: the database and the policy hold no line feed, and each
+/// point is of them and ungrouped.
 pub fn is_batch(db: &Text, rp: &Text, points: &[Point]) -> bool
     ensures { result ≡ (are_lines (db.now, rp.now) && list_all (is_of db.now rp.now) points.now) }
 {
@@ -115,9 +115,9 @@ fn take_transition(
     Ok(next)
 }
 
-/// Whether these transitions may follow `count` others, of which `topics` are kept: their numbers go on, the old level of each is
-/// that of its topic and id, its new level another one, and its time lies in the range of times. Where they may, `topics` are kept of
-/// them too; else, and after `NoMemory`, of some of them.
+/// Whether these transitions may follow `count` others, of which `topics` are kept: their numbers go on, the
+/// old level of each is that of its topic and id, its new level another one, and its time lies in the range
+/// of times. Where they may, `topics` are kept of them too; else, and after `NoMemory`, of some of them.
 pub fn take_transitions(
     alloc: Global,
     topics: &mut Topics,

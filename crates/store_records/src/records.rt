@@ -95,9 +95,9 @@ fn put_record(alloc: Global, rec: &Rec, to: &mut Bytes) -> Result<(), NoMemory>
     }
 }
 
-/// The body of a record: the byte of its kind, and what it holds. The points of a batch are ungrouped and of its database and policy,
-/// which hold no line feed, and the states of a snapshot are those of cells. A text of 2^32 bytes or more, and a list of as many
-/// items, are want of memory.
+/// The body of a record: the byte of its kind, and what it holds. The points of a batch are ungrouped and of
+/// its database and policy, which hold no line feed, and the states of a snapshot are those of cells. A text
+/// of 2^32 bytes or more, and a list of as many items, are want of memory.
 pub fn record_body(alloc: Global, rec: &Rec) -> Result<Bytes, NoMemory>
     requires { HasForm rec.now }
     ensures { IfOk result (λ body. IsBodyOf rec.now body) }

@@ -31,7 +31,8 @@ is_stream _ = false
 abbrev pub ends_chain : {L : Type 0} → Spec L → Bool
 ends_chain parent = is_none (gives parent)
 
--- A `from` stands under the stream or a `from` alone, and any other node not under the stream. The stream stands under nothing.
+-- A `from` stands under the stream or a `from` alone, and any other node not under the stream. The stream stands under
+-- nothing.
 abbrev pub cannot_stand : {L : Type 0} → Spec L → Spec L → Bool
 cannot_stand (Stream dbrps) parent = true
 cannot_stand (From f) (Stream dbrps) = false

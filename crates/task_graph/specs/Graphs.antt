@@ -17,8 +17,8 @@ abbrev pub are_different : List (List ℕ) → Bool
 are_different [] = true
 are_different (x ∷ xs) = not (list_any (bytes_eq x) xs) && are_different xs
 
--- What a node is given fits so many parents: a union has one or more, a join one for each of its prefixes, which differ, and
--- any other node one. And an `eval` has a lambda.
+-- What a node is given fits so many parents: a union has one or more, a join one for each of its prefixes, which
+-- differ, and any other node one. And an `eval` has a lambda.
 abbrev pub is_fit : {L : Type 0} → ℕ → Spec L → Bool
 is_fit parents (Union rename) = nat_lt 0 parents
 is_fit parents (Join join) = nat_lt 0 parents && nat_eq (length join.prefixes) parents && are_different join.prefixes
@@ -29,7 +29,8 @@ is_fit parents spec = nat_eq parents 1
 abbrev pub are_behind : {L : Type 0} → ℕ → List (NodeSpec L) → Bool
 are_behind number [] = true
 are_behind number (node ∷ nodes) =
-    is_fit (length node.parents) node.spec && list_all (λ p. nat_lt p number) node.parents && are_behind (number + 1) nodes
+    is_fit (length node.parents) node.spec && list_all (λ p. nat_lt p number) node.parents
+    && are_behind (number + 1) nodes
 
 -- node 0 is the stream, which has no parent
 abbrev pub has_shape : {L : Type 0} → List (NodeSpec L) → Bool
@@ -51,7 +52,8 @@ abbrev pub node_fault : {L : Type 0} → List (NodeSpec L) → ℕ → NodeSpec 
 node_fault nodes number node =
     if nat_le NODE_LIMIT number then Some TooManyNodes else (
     if some_parent ends_chain nodes node.parents then Some (Chain number) else (
-    if some_parent (cannot_stand node.spec) nodes node.parents || nat_lt PARENT_LIMIT (length node.parents) then Some (Parents number) else (
+    if some_parent (cannot_stand node.spec) nodes node.parents || nat_lt PARENT_LIMIT (length node.parents)
+    then Some (Parents number) else (
     if some_parent (is_wrong_kind node.spec) nodes node.parents then Some (Kind number) else None)))
 
 -- the first of two faults

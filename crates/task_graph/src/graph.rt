@@ -31,8 +31,8 @@ pub enum GraphFault {
     TooManyNodes,
     /// It stands under an alert.
     Chain(u32),
-    /// It is a `from` and stands under anything but the stream or a `from`, is no `from` and stands under the stream, or has
-    /// more than `PARENT_LIMIT` parents.
+    /// It is a `from` and stands under anything but the stream or a `from`, is no `from` and stands under the
+    /// stream, or has more than `PARENT_LIMIT` parents.
     Parents(u32),
     /// It takes points and meets batches, or the reverse.
     Kind(u32),
@@ -174,8 +174,9 @@ fn first_fault(nodes: &[NodeSpec]) -> Option<GraphFault>
     None
 }
 
-/// The graph of a task, which contracts see as its nodes (Kapacitor 1.6: pipeline of a task). Each node's parents stand before
-/// it, node 0 is the stream and the only one without parents, and what a parent gives is what its child takes.
+/// The graph of a task, which contracts see as its nodes (Kapacitor 1.6: pipeline of a task). Each node's
+/// parents stand before it, node 0 is the stream and the only one without parents, and what a parent gives is
+/// what its child takes.
 #[derive(Drop)]
 pub struct Graph {
     nodes: NodeSpecs,
@@ -199,10 +200,11 @@ impl Model for Graph {
 }
 
 impl Graph {
-    /// The graph of these nodes, or the fault of the lowest node that has one: `TooManyNodes` at the node with the number
-    /// `NODE_LIMIT`, `Chain`, `Parents` and `Kind` in this order at each node. Node 0 is the stream and has no parent; each
-    /// other node has earlier ones as parents, a union at least one, a join as many as prefixes, which differ, and any other
-    /// node one; an `eval` has a lambda. It takes no memory, and time in the number of nodes and edges.
+    /// The graph of these nodes, or the fault of the lowest node that has one: `TooManyNodes` at the node
+    /// with the number `NODE_LIMIT`, `Chain`, `Parents` and `Kind` in this order at each node. Node 0 is the
+    /// stream and has no parent; each other node has earlier ones as parents, a union at least one, a join as
+    /// many as prefixes, which differ, and any other node one; an `eval` has a lambda. It takes no memory,
+    /// and time in the number of nodes and edges.
     pub fn make(nodes: NodeSpecs) -> Result<Graph, GraphFault>
         requires { IsTrue (has_shape nodes) }
         ensures graph { IfOk result (λ graph. graph ≡ nodes) }

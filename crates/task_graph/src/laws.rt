@@ -8,8 +8,8 @@ ghost use Rattle.task_graph.specs.declared.graph.TheConstants.{NODE_LIMIT, PAREN
 ghost use Rattle.task_graph.specs.declared.sorts.TheConstants.{SPAN_LIMIT, UNIT_LIMIT};
 ghost use Rattle.task_graph.specs.declared.spec.NodeSpec.{NodeSpec};
 
-/// A graph begins with the stream. Each other node has as many parents as fit what it is given, 64 at most, which stand before
-/// it and give what it takes.
+/// A graph begins with the stream. Each other node has as many parents as fit what it is given, 64 at most,
+/// which stand before it and give what it takes.
 pub fn graphs_hang_together()
     ensures stream { (nodes : List (NodeSpec Tree)) → IsGraph nodes → BeginsWithStream nodes }
     ensures others { (nodes : List (NodeSpec Tree)) (number : ℕ) (node : NodeSpec Tree)
@@ -17,7 +17,8 @@ pub fn graphs_hang_together()
         → HangsTogether nodes number node }
 {}
 
-/// The fault of nodes is that of the lowest node that has one, and there is none exactly where no node has one.
+/// The fault of nodes is that of the lowest node that has one, and there is none exactly where no node has
+/// one.
 pub fn lowest_fault_is_first()
     ensures fault { (nodes : List (NodeSpec Tree)) (fault : GraphFault)
         → first_graph_fault nodes ≡ Some fault → IsLowestFault nodes fault }
@@ -25,8 +26,8 @@ pub fn lowest_fault_is_first()
         → first_graph_fault nodes ≡ None → IsFaultless nodes }
 {}
 
-/// The limits as numbers: nodes of a graph with the stream, parents of a node, and in nanoseconds the longest duration and
-/// the least unit of `elapsed`.
+/// The limits as numbers: nodes of a graph with the stream, parents of a node, and in nanoseconds the longest
+/// duration and the least unit of `elapsed`.
 pub fn limits_are_numbers()
     ensures nodes { NODE_LIMIT ≡ 256 }
     ensures parents { PARENT_LIMIT ≡ 64 }

@@ -13,8 +13,8 @@ pub const SPAN_LIMIT: u64 = 200_000_000_000_000_000;
 /// The least unit in which `elapsed` counts, in nanoseconds.
 pub const UNIT_LIMIT: u64 = 1_000;
 
-/// A text that can be the key of a tag or a field, or the value of a tag: not empty, without a line feed, and not ending in a
-/// backslash.
+/// A text that can be the key of a tag or a field, or the value of a tag: not empty, without a line feed, and
+/// not ending in a backslash.
 #[derive(Debug, Drop)]
 pub struct Name {
     text: SharedText,

@@ -41,7 +41,8 @@ module _ {P : Type 0} where
   abbrev pub grown : List PointValue → Course P → Course P
   grown new c = record { nodes = c.nodes; base = c.base; points = c.points ++ new }
 
-  -- Behind n points new ones came: a life that is open has seen them; one that has ended hasn't, nor has one that begins later.
+  -- Behind n points new ones came: a life that is open has seen them; one that has ended hasn't, nor has one that
+  -- begins later.
   abbrev pub Goes : ℕ → List PointValue → Course P → Course P → Type 0
   Goes n new c d = ((end_of c ≡ n) × (d ≡ grown new c)) ⊎ (((end_of c ≤ n) ⊎ (c.points ≡ [])) × (d ≡ c))
 
@@ -63,6 +64,7 @@ module _ {P : Type 0} where
     later_effects n k courses = laters n k (λ s. course_effects_with s courses)
 
     -- The nodes of a life are in the states that its points have made.
-    pub record IsWhere {S : Type 0} (first : P → S) (step : P → S → Input → Move S) (c : Course P) (acts : List (Active P S)) : Type 0 where
+    pub record IsWhere {S : Type 0} (first : P → S) (step : P → S → Input → Move S) (c : Course P)
+        (acts : List (Active P S)) : Type 0 where
       pub nodes : map placed acts ≡ c.nodes
       pub at : AreAt answer first step (end_of c) (items_of c) [] acts

@@ -5,7 +5,8 @@ use Rattle.task_run.specs.Graphs.{Placed}
 
 -- by stamp, with one stamp by life, and in one life by node
 abbrev pub Comes : Effect → Effect → Type 0
-Comes a b = (a.stamp.0 < b.stamp.0) ⊎ ((a.stamp.0 ≡ b.stamp.0) × ((a.life < b.life) ⊎ ((a.life ≡ b.life) × (a.node ≤ b.node))))
+Comes a b = (a.stamp.0 < b.stamp.0)
+    ⊎ ((a.stamp.0 ≡ b.stamp.0) × ((a.life < b.life) ⊎ ((a.life ≡ b.life) × (a.node ≤ b.node))))
 
 -- it comes before each of these effects
 abbrev pub ComesBefore : Effect → List Effect → Type 0
@@ -21,7 +22,8 @@ module _ {P : Type 0} (life number : P → ℕ) where
   -- nodes of this life, numbered from here on
   abbrev pub NodesNumbered : ℕ → ℕ → List (Placed P) → Type 0
   NodesNumbered which at [] = ⊤
-  NodesNumbered which at (node ∷ nodes) = ((life node.spec ≡ which) × (number node.spec ≡ at)) × NodesNumbered which (at + 1) nodes
+  NodesNumbered which at (node ∷ nodes) =
+      ((life node.spec ≡ which) × (number node.spec ≡ at)) × NodesNumbered which (at + 1) nodes
 
   -- lives numbered from here on
   abbrev pub LivesNumbered : ℕ → List (List (Placed P)) → Type 0

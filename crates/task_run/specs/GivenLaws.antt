@@ -36,11 +36,13 @@ have-items : (s : ℕ) (items : List Item) → AreStamped s items → HaveStamp 
 have-items s [] are = tt
 have-items s (i ∷ items) are = (are.0, have-items s items are.1)
 
-have-effects : (s life node : ℕ) (effects : List Effect) → AreEffectsOf life node s effects → HaveStamp of_effect s effects
+have-effects : (s life node : ℕ) (effects : List Effect) → AreEffectsOf life node s effects
+    → HaveStamp of_effect s effects
 have-effects s life node [] are = tt
 have-effects s life node (e ∷ effects) are = (are.0.stamp_is, have-effects s life node effects are.1)
 
-module _ (life node : ℕ) (answer : Answer) (stamped : (before : List Input) (x : Input) → IsStamped life node x.1.stamp.0 (answer before x)) where
+module _ (life node : ℕ) (answer : Answer) (stamped : (before : List Input) (x : Input)
+    → IsStamped life node x.1.stamp.0 (answer before x)) where
   items-at : (before : List Input) (x : Input) → HaveStamp of_item x.1.stamp.0 (answer before x).items
   items-at before x = have-items x.1.stamp.0 (answer before x).items (stamped before x).items
 
@@ -52,26 +54,33 @@ module _ (life node : ℕ) (answer : Answer) (stamped : (before : List Input) (x
   after_at n before (x ∷ xs) at =
       let rest = after_at n (before ++ x ∷ []) xs at.1 in
       record {
-        items = have_append of_item n _ _ (subst (λ (s : ℕ). HaveStamp of_item s (answer before x).items) at.0 (items-at before x)) rest.items;
-        effects = have_append of_effect n _ _ (subst (λ (s : ℕ). HaveStamp of_effect s (answer before x).effects) at.0 (effects-at before x)) rest.effects;
+        items = have_append of_item n _ _
+            (subst (λ (s : ℕ). HaveStamp of_item s (answer before x).items) at.0 (items-at before x)) rest.items;
+        effects = have_append of_effect n _ _
+            (subst (λ (s : ℕ). HaveStamp of_effect s (answer before x).effects) at.0
+            (effects-at before x)) rest.effects;
       }
 
-  pub after_up_to : (n : ℕ) (before xs : List Input) → StampsUpTo of_input n xs → GivenUpTo n (given_after answer before xs)
+  pub after_up_to : (n : ℕ) (before xs : List Input) → StampsUpTo of_input n xs
+      → GivenUpTo n (given_after answer before xs)
   after_up_to n before [] up_to = record { items = tt; effects = tt }
   after_up_to n before (x ∷ xs) up_to =
       let rest = after_up_to n (before ++ x ∷ []) xs up_to.1 in
       record {
         items = up_to_append of_item n _ _ (have_up_to of_item n x.1.stamp.0 _ up_to.0 (items-at before x)) rest.items;
-        effects = up_to_append of_effect n _ _ (have_up_to of_effect n x.1.stamp.0 _ up_to.0 (effects-at before x)) rest.effects;
+        effects = up_to_append of_effect n _ _
+            (have_up_to of_effect n x.1.stamp.0 _ up_to.0 (effects-at before x)) rest.effects;
       }
 
-  pub after_from : (s : ℕ) (before xs : List Input) → StampsFrom of_input s xs → GivenFrom s (given_after answer before xs)
+  pub after_from : (s : ℕ) (before xs : List Input) → StampsFrom of_input s xs
+      → GivenFrom s (given_after answer before xs)
   after_from s before [] from = record { items = tt; effects = tt }
   after_from s before (x ∷ xs) from =
       let rest = after_from s (before ++ x ∷ []) xs from.1 in
       record {
         items = from_append of_item s _ _ (have_from of_item s x.1.stamp.0 _ from.0 (items-at before x)) rest.items;
-        effects = from_append of_effect s _ _ (have_from of_effect s x.1.stamp.0 _ from.0 (effects-at before x)) rest.effects;
+        effects = from_append of_effect s _ _
+            (have_from of_effect s x.1.stamp.0 _ from.0 (effects-at before x)) rest.effects;
       }
 
   pub after_rises : (before xs : List Input) → StampsRise of_input xs → GivenRises (given_after answer before xs)

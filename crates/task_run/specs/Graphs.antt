@@ -6,7 +6,8 @@ use Rattle.kap_base.specs.declared.items.Body.TheVariants as bodies
 use Rattle.node_core.specs.Meaning.{Given, Answer, given}
 use Rattle.task_run.specs.Merging.{merged}
 
--- A node of a graph: what it is, and the numbers of the earlier nodes whose items it takes, port by port. The stream has none.
+-- A node of a graph: what it is, and the numbers of the earlier nodes whose items it takes, port by port. The stream
+-- has none.
 pub record Placed (P : Type 0) : Type 0 where
   pub spec : P
   pub parents : List ℕ
@@ -14,7 +15,8 @@ pub record Placed (P : Type 0) : Type 0 where
 -- points as items, stamped from here on
 abbrev pub stamped_from : ℕ → List PointValue → List Item
 stamped_from stamp [] = []
-stamped_from stamp (p ∷ ps) = record { stamp = record { 0 = stamp }; body = bodies.Point p } ∷ stamped_from (stamp + 1) ps
+stamped_from stamp (p ∷ ps) =
+    record { stamp = record { 0 = stamp }; body = bodies.Point p } ∷ stamped_from (stamp + 1) ps
 
 -- what earlier nodes give out, node by node
 abbrev pub outs_of : List Given → List (List Item)
@@ -28,7 +30,8 @@ lists_of points outs (p ∷ ps) = map (λ i. slice_index_or outs i []) (p ∷ ps
 module _ {P : Type 0} (answer : P → Answer) where
   -- what a node gives for the merged lists that it takes, where the earlier nodes give this
   abbrev pub node_gives : ℕ → List Item → List Given → Placed P → Given
-  node_gives n points earlier node = given (answer node.spec) (merged n (lists_of points (outs_of earlier) node.parents))
+  node_gives n points earlier node =
+      given (answer node.spec) (merged n (lists_of points (outs_of earlier) node.parents))
 
   -- what nodes give that come behind earlier ones
   abbrev pub gives_behind : ℕ → List Item → List Given → List (Placed P) → List Given

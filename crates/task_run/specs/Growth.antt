@@ -26,16 +26,25 @@ with_old n s old more new le g =
 pub with_new : (n : ℕ) (old more new : List Item) → Grows n old more new → items_with (suc n) new ≡ more
 with_new n old more new g =
     let above : n < suc n = omega arith in
-    rw (g.is, filter-append, none_above of_item (suc n) n old above g.before, all_with of_item (suc n) more g.behind) refl
+    rw (
+      g.is,
+      filter-append,
+      none_above of_item (suc n) n old above g.before,
+      all_with of_item
+          (suc n) more g.behind,
+    ) refl
 
 -- ---- lists that are picked by their numbers
 
 module _ (n : ℕ) (old more new : ℕ → List Item) (grow : (i : ℕ) → Grows n (old i) (more i) (new i)) where
-  picked-old : (s port : ℕ) (is : List ℕ) → s ≤ n → at_ports port (map (items_with s) (map new is)) ≡ at_ports port (map (items_with s) (map old is))
+  picked-old : (s port : ℕ) (is : List ℕ) → s ≤ n
+      → at_ports port (map (items_with s) (map new is)) ≡ at_ports port (map (items_with s) (map old is))
   picked-old s port [] le = refl
-  picked-old s port (i ∷ is) le = rw (with_old n s (old i) (more i) (new i) le (grow i), picked-old s (port + 1) is le) refl
+  picked-old s port (i ∷ is) le =
+      rw (with_old n s (old i) (more i) (new i) le (grow i), picked-old s (port + 1) is le) refl
 
-  picked-new : (port : ℕ) (is : List ℕ) → at_ports port (map (items_with (suc n)) (map new is)) ≡ at_ports port (map more is)
+  picked-new : (port : ℕ) (is : List ℕ)
+      → at_ports port (map (items_with (suc n)) (map new is)) ≡ at_ports port (map more is)
   picked-new port [] = refl
   picked-new port (i ∷ is) = rw (with_new n (old i) (more i) (new i) (grow i), picked-new (port + 1) is) refl
 
@@ -43,7 +52,8 @@ module _ (n : ℕ) (old more new : ℕ → List Item) (grow : (i : ℕ) → Grow
   merged-old zero is le = refl
   merged-old (suc m) is le =
       let low : m ≤ n = omega arith in
-      rw (flat_map-append, merged-old m is low, picked-old (suc m) 0 is le) (sym (flat_map-append _ (stamps m) (suc m ∷ [])))
+      rw (flat_map-append, merged-old m is low, picked-old (suc m) 0 is le)
+      (sym (flat_map-append _ (stamps m) (suc m ∷ [])))
 
   -- the merged lists grow by what was added, port by port
   pub merged_more : (is : List ℕ) → merged (suc n) (map new is) ≡ merged n (map old is) ++ at_ports 0 (map more is)
@@ -54,9 +64,11 @@ module _ (n : ℕ) (old more new : ℕ → List Item) (grow : (i : ℕ) → Grow
   -- what was added has the next stamp
   pub added_at : (port : ℕ) (is : List ℕ) → HaveStamp of_input (suc n) (at_ports port (map more is))
   added_at port [] = tt
-  added_at port (i ∷ is) = have_append of_input (suc n) _ _ (at-port port (more i) (grow i).behind) (added_at (port + 1) is)
+  added_at port (i ∷ is) =
+      have_append of_input (suc n) _ _ (at-port port (more i) (grow i).behind) (added_at (port + 1) is)
     where
-      at-port : (port : ℕ) (items : List Item) → HaveStamp of_item (suc n) items → HaveStamp of_input (suc n) (at_port port items)
+      at-port : (port : ℕ) (items : List Item) → HaveStamp of_item (suc n) items
+          → HaveStamp of_input (suc n) (at_port port items)
       at-port port [] have = tt
       at-port port (x ∷ items) have = (have.0, at-port port items have.1)
 
@@ -64,20 +76,26 @@ module _ (n : ℕ) (old more new : ℕ → List Item) (grow : (i : ℕ) → Grow
 
 with-up_to : (n s port : ℕ) (items : List Item) → s ≤ n → StampsUpTo of_input n (at_port port (items_with s items))
 with-up_to n s port [] le = tt
-with-up_to n s port (i ∷ items) le = elim (i.stamp.0 == s) as (λ b. (i.stamp.0 == s) ≡ b → StampsUpTo of_input n (at_port port (cond b (i ∷ items_with s items) (items_with s items)))) [
-  | true ↦ λ e. let same : i.stamp.0 ≡ s = grind (arith, nat_tests) in ((omega arith), with-up_to n s port items le)
-  | false ↦ λ e. with-up_to n s port items le
-] refl
+with-up_to n s port (i ∷ items) le =
+    elim (i.stamp.0 == s) as (λ b. (i.stamp.0 == s) ≡ b
+    → StampsUpTo of_input n (at_port port (cond b (i ∷ items_with s items) (items_with s items)))) [
+      | true ↦ λ e. let same : i.stamp.0 ≡ s = grind (arith, nat_tests) in ((omega arith), with-up_to n s port items le)
+      | false ↦ λ e. with-up_to n s port items le
+    ] refl
 
-ports-up_to : (n s port : ℕ) (lists : List (List Item)) → s ≤ n → StampsUpTo of_input n (at_ports port (map (items_with s) lists))
+ports-up_to : (n s port : ℕ) (lists : List (List Item)) → s ≤ n
+    → StampsUpTo of_input n (at_ports port (map (items_with s) lists))
 ports-up_to n s port [] le = tt
-ports-up_to n s port (l ∷ lists) le = up_to_append of_input n _ _ (with-up_to n s port l le) (ports-up_to n s (port + 1) lists le)
+ports-up_to n s port (l ∷ lists) le =
+    up_to_append of_input n _ _ (with-up_to n s port l le) (ports-up_to n s (port + 1) lists le)
 
 merged-below : (n m : ℕ) (lists : List (List Item)) → m ≤ n → StampsUpTo of_input n (merged m lists)
 merged-below n zero lists le = tt
 merged-below n (suc m) lists le =
     let low : m ≤ n = omega arith in
-    rw flat_map-append (up_to_append of_input n _ _ (merged-below n m lists low) (up_to_append of_input n _ _ (ports-up_to n (suc m) 0 lists le) tt))
+    rw flat_map-append
+    (up_to_append of_input n _ _ (merged-below n m lists low)
+    (up_to_append of_input n _ _ (ports-up_to n (suc m) 0 lists le) tt))
 
 -- lists merged up to a stamp have no stamp above it
 pub merged_up_to : (n : ℕ) (lists : List (List Item)) → StampsUpTo of_input n (merged n lists)

@@ -18,7 +18,8 @@ node_effects_with stamp gives = flat_map (λ g. effects_with stamp g.effects) gi
 module _ {P : Type 0} (answer : P → Answer) where
   -- the effects with a stamp of all lives, by life, then by node, then by place
   abbrev pub life_effects_with : ℕ → List (List (Placed P)) → List PointValue → List Effect
-  life_effects_with stamp lives points = flat_map (λ nodes. node_effects_with stamp (graph_gives answer points nodes)) lives
+  life_effects_with stamp lives points =
+      flat_map (λ nodes. node_effects_with stamp (graph_gives answer points nodes)) lives
 
   -- all effects of all lives: by stamp, then by life, then by node, then by place
   abbrev pub effects_of : List (List (Placed P)) → List PointValue → List Effect

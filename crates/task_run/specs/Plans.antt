@@ -13,8 +13,8 @@ abbrev pub AreBelow : ℕ → List ℕ → Type 0
 AreBelow number [] = ⊤
 AreBelow number (p ∷ ps) = (p < number) × AreBelow number ps
 
--- The node with this number in this life: it takes the items of earlier nodes, of one at least unless it is the stream, and is
--- made for as many ports.
+-- The node with this number in this life: it takes the items of earlier nodes, of one at least unless it is the stream,
+-- and is made for as many ports.
 pub record IsNodeAt (life number ports its_life its_number : ℕ) (parents : List ℕ) : Type 0 where
   pub life_is : its_life ≡ life
   pub number_is : its_number ≡ number

@@ -7,15 +7,18 @@ use Rattle.task_run.specs.Merging.{stamps}
 use Rattle.task_run.specs.Stamps.{with_stamp, HaveStamp, StampsUpTo, StampsFrom, StampsRise, IsStream}
 
 module _ {A : Type 0} (stamp_of : A → ℕ) where
-  pub up_to_append : (n : ℕ) (xs ys : List A) → StampsUpTo stamp_of n xs → StampsUpTo stamp_of n ys → StampsUpTo stamp_of n (xs ++ ys)
+  pub up_to_append : (n : ℕ) (xs ys : List A) → StampsUpTo stamp_of n xs → StampsUpTo stamp_of n ys
+      → StampsUpTo stamp_of n (xs ++ ys)
   up_to_append n [] ys a b = b
   up_to_append n (x ∷ xs) ys a b = (a.0, up_to_append n xs ys a.1 b)
 
-  pub from_append : (s : ℕ) (xs ys : List A) → StampsFrom stamp_of s xs → StampsFrom stamp_of s ys → StampsFrom stamp_of s (xs ++ ys)
+  pub from_append : (s : ℕ) (xs ys : List A) → StampsFrom stamp_of s xs → StampsFrom stamp_of s ys
+      → StampsFrom stamp_of s (xs ++ ys)
   from_append s [] ys a b = b
   from_append s (x ∷ xs) ys a b = (a.0, from_append s xs ys a.1 b)
 
-  pub have_append : (s : ℕ) (xs ys : List A) → HaveStamp stamp_of s xs → HaveStamp stamp_of s ys → HaveStamp stamp_of s (xs ++ ys)
+  pub have_append : (s : ℕ) (xs ys : List A) → HaveStamp stamp_of s xs → HaveStamp stamp_of s ys
+      → HaveStamp stamp_of s (xs ++ ys)
   have_append s [] ys a b = b
   have_append s (x ∷ xs) ys a b = (a.0, have_append s xs ys a.1 b)
 
@@ -27,10 +30,13 @@ module _ {A : Type 0} (stamp_of : A → ℕ) where
   have_from s t [] le have = tt
   have_from s t (x ∷ xs) le have = let same = have.0 in ((omega arith), have_from s t xs le have.1)
 
-  pub rise_append : (s : ℕ) (xs ys : List A) → HaveStamp stamp_of s xs → StampsFrom stamp_of s ys → StampsRise stamp_of ys → StampsRise stamp_of (xs ++ ys)
+  pub rise_append : (s : ℕ) (xs ys : List A) → HaveStamp stamp_of s xs → StampsFrom stamp_of s ys
+      → StampsRise stamp_of ys → StampsRise stamp_of (xs ++ ys)
   rise_append s [] ys have from rising = rising
-  rise_append s (x ∷ xs) ys have from rising =
-      (rw have.0 (from_append s xs ys (have_from s s xs (omega arith) have.1) from), rise_append s xs ys have.1 from rising)
+  rise_append s (x ∷ xs) ys have from rising = (
+    rw have.0 (from_append s xs ys (have_from s s xs (omega arith) have.1) from),
+    rise_append s xs ys have.1 from rising,
+  )
 
   -- ---- those with a stamp
 
@@ -65,26 +71,32 @@ module _ {A : Type 0} (stamp_of : A → ℕ) where
       let above : nat_le (stamp_of x) n ≡ false = grind (arith, nat_tests) in
       rw above (until-none n m xs lt from.1)
 
-  until-more : (n : ℕ) (xs : List A) → StampsRise stamp_of xs → until (suc n) xs ≡ until n xs ++ with_stamp stamp_of (suc n) xs
+  until-more : (n : ℕ) (xs : List A) → StampsRise stamp_of xs → until (suc n) xs ≡ until n xs
+      ++ with_stamp stamp_of (suc n) xs
   until-more n [] rising = refl
-  until-more n (x ∷ xs) rising = elim (nat_le (stamp_of x) n) as (λ b. nat_le (stamp_of x) n ≡ b → until (suc n) (x ∷ xs) ≡ cond b (x ∷ until n xs) (until n xs) ++ with_stamp stamp_of (suc n) (x ∷ xs)) [
-    | true ↦ λ e.
-        let low : nat_le (stamp_of x) (suc n) ≡ true = grind (arith, nat_tests) in
-        let other : (stamp_of x == suc n) ≡ false = grind (arith, nat_tests) in
-        rw (low, other) (ap (λ (l : List A). x ∷ l) (until-more n xs rising.1))
-    | false ↦ λ e. elim (stamp_of x == suc n) as (λ b. (stamp_of x == suc n) ≡ b → until (suc n) (x ∷ xs) ≡ until n xs ++ cond b (x ∷ with_stamp stamp_of (suc n) xs) (with_stamp stamp_of (suc n) xs)) [
-      | true ↦ λ f.
-          let low : nat_le (stamp_of x) (suc n) ≡ true = grind (arith, nat_tests) in
-          let above : n < stamp_of x = grind (arith, nat_tests) in
-          let none : until n xs ≡ [] = until-none n (stamp_of x) xs above rising.0 in
-          rw (low, until-more n xs rising.1, none) refl
-      | false ↦ λ f.
-          let high : nat_le (stamp_of x) (suc n) ≡ false = grind (arith, nat_tests) in
-          rw high (until-more n xs rising.1)
-    ] refl
-  ] refl
+  until-more n (x ∷ xs) rising =
+      elim (nat_le (stamp_of x) n) as (λ b. nat_le (stamp_of x) n ≡ b
+      → until (suc n) (x ∷ xs) ≡ cond b (x ∷ until n xs) (until n xs) ++ with_stamp stamp_of (suc n) (x ∷ xs)) [
+        | true ↦ λ e.
+            let low : nat_le (stamp_of x) (suc n) ≡ true = grind (arith, nat_tests) in
+            let other : (stamp_of x == suc n) ≡ false = grind (arith, nat_tests) in
+            rw (low, other) (ap (λ (l : List A). x ∷ l) (until-more n xs rising.1))
+        | false ↦ λ e. elim (stamp_of x == suc n) as (λ b. (stamp_of x == suc n) ≡ b
+            → until (suc n) (x ∷ xs) ≡ until n xs
+            ++ cond b (x ∷ with_stamp stamp_of (suc n) xs) (with_stamp stamp_of (suc n) xs)) [
+              | true ↦ λ f.
+                  let low : nat_le (stamp_of x) (suc n) ≡ true = grind (arith, nat_tests) in
+                  let above : n < stamp_of x = grind (arith, nat_tests) in
+                  let none : until n xs ≡ [] = until-none n (stamp_of x) xs above rising.0 in
+                  rw (low, until-more n xs rising.1, none) refl
+              | false ↦ λ f.
+                  let high : nat_le (stamp_of x) (suc n) ≡ false = grind (arith, nat_tests) in
+                  rw high (until-more n xs rising.1)
+            ] refl
+      ] refl
 
-  by-stamp : (n : ℕ) (xs : List A) → StampsFrom stamp_of 1 xs → StampsRise stamp_of xs → flat_map (λ s. with_stamp stamp_of s xs) (stamps n) ≡ until n xs
+  by-stamp : (n : ℕ) (xs : List A) → StampsFrom stamp_of 1 xs → StampsRise stamp_of xs
+      → flat_map (λ s. with_stamp stamp_of s xs) (stamps n) ≡ until n xs
   by-stamp zero xs from rising = sym (until-none 0 1 xs (omega arith) from)
   by-stamp (suc n) xs from rising =
       flat_map-append (λ s. with_stamp stamp_of s xs) (stamps n) (suc n ∷ [])
@@ -98,5 +110,6 @@ module _ {A : Type 0} (stamp_of : A → ℕ) where
       rw in' (ap (λ (l : List A). x ∷ l) (until-all n xs up_to.1))
 
   -- a stream is what has its first stamp, then what has the next one, and so on
-  pub stream_by_stamp : (n : ℕ) (xs : List A) → IsStream stamp_of n xs → flat_map (λ s. with_stamp stamp_of s xs) (stamps n) ≡ xs
+  pub stream_by_stamp : (n : ℕ) (xs : List A) → IsStream stamp_of n xs
+      → flat_map (λ s. with_stamp stamp_of s xs) (stamps n) ≡ xs
   stream_by_stamp n xs is = by-stamp n xs is.from_one is.rising ∙ until-all n xs is.up_to

@@ -16,8 +16,8 @@ ghost use Rattle.task_run.specs.Stamps.{IsStream, of_item};
 
 use node_core::Node;
 
-/// Merged lists stand by stamp, then by port, and each list is what came at its port, in order, where its stamps are those of n
-/// points and don't fall.
+/// Merged lists stand by stamp, then by port, and each list is what came at its port, in order, where its
+/// stamps are those of n points and don't fall.
 #[tactic(auto, using(crate::proofs::OrderLaws::merged_ordered, crate::proofs::OrderLaws::merged_has))]
 pub fn merging_orders()
     ensures ordered { (n : ℕ) (lists : List (List Item)) → AreOrdered (merged n lists) }
@@ -26,8 +26,8 @@ pub fn merging_orders()
         → from_port port (merged n lists) ≡ slice_index_or lists port [] }
 {}
 
-/// What a node gives is its function of the merged lists that its parents give out, which are earlier nodes; and the stamps of
-/// what it gives out are those of the points and don't fall.
+/// What a node gives is its function of the merged lists that its parents give out, which are earlier nodes;
+/// and the stamps of what it gives out are those of the points and don't fall.
 pub fn nodes_give_by_parents<N: Node>()
     ensures parents { (points : List PointValue) (nodes : List (Placed N.Spec)) (i : ℕ)
         (d : Placed N.Spec) → i < length nodes → AreBelow i (slice_index_or nodes i d).parents
@@ -39,9 +39,9 @@ pub fn nodes_give_by_parents<N: Node>()
         (slice_index_or (outs_of (graph_gives N.answer points nodes)) i []) }
 {}
 
-/// The effects of one point more are those with its stamp, behind the others. Those of lives that are numbered from 1 on, each
-/// with its nodes numbered by their places, stand by stamp, with one stamp by life, and in one life by node. And the effects of a
-/// node with one stamp after the other are all that it gives.
+/// The effects of one point more are those with its stamp, behind the others. Those of lives that are
+/// numbered from 1 on, each with its nodes numbered by their places, stand by stamp, with one stamp by life,
+/// and in one life by node. And the effects of a node with one stamp after the other are all that it gives.
 pub fn effects_go_on<N: Node>()
     ensures more { (lives : List (List (Placed N.Spec))) (points : List PointValue) (p : PointValue)
         → effects_of N.answer lives (points ++ p ∷ [])
@@ -56,9 +56,9 @@ pub fn effects_go_on<N: Node>()
         ≡ (slice_index_or (graph_gives N.answer points nodes) i nothing).effects }
 {}
 
-/// Behind so many points lives have given effects. Where more points come, which the open lives see, the effects of all are those
-/// before, and then those with the later stamps. A life that begins has given none. And the effects of lives that all begin at the
-/// first point are those of the lives on all points.
+/// Behind so many points lives have given effects. Where more points come, which the open lives see, the
+/// effects of all are those before, and then those with the later stamps. A life that begins has given none.
+/// And the effects of lives that all begin at the first point are those of the lives on all points.
 pub fn courses_go_on<N: Node>()
     ensures more { (n : ℕ) (new : List PointValue) (before after : List (Course N.Spec))
         → AllZip (Goes n new) before after

@@ -3,8 +3,9 @@ use kap_base::ItemList;
 use node_core::Node;
 use std::marker::Model;
 
-/// The nodes of a life, each with its parents. Node 0 is the stream and has no parent; every other node has earlier ones, one at
-/// least, and is made for as many ports. Each node is made for this life, with its place as its number.
+/// The nodes of a life, each with its parents. Node 0 is the stream and has no parent; every other node has
+/// earlier ones, one at least, and is made for as many ports. Each node is made for this life, with its place
+/// as its number.
 #[derive(Drop)]
 pub struct LifePlan<N: Node> {
     /// The number of the life.

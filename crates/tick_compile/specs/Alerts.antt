@@ -27,14 +27,18 @@ level_rows =
 -- the conditions of leaving them
 abbrev pub reset_rows : {L : Type 0} → List (Row L (AlertSpec L))
 reset_rows =
-    row (codes "infoReset") (one as_lambda) (λ l alert. record alert { resets = record (alert.resets) { info = Some l } })
-    ∷ row (codes "warnReset") (one as_lambda) (λ l alert. record alert { resets = record (alert.resets) { warn = Some l } })
-    ∷ row (codes "critReset") (one as_lambda) (λ l alert. record alert { resets = record (alert.resets) { crit = Some l } })
+    row (codes "infoReset") (one as_lambda)
+    (λ l alert. record alert { resets = record (alert.resets) { info = Some l } })
+    ∷ row (codes "warnReset") (one as_lambda)
+    (λ l alert. record alert { resets = record (alert.resets) { warn = Some l } })
+    ∷ row (codes "critReset") (one as_lambda)
+    (λ l alert. record alert { resets = record (alert.resets) { crit = Some l } })
     ∷ []
 
 -- a property that takes a template, of an id or not
 abbrev pub template_row : {L S : Type 0} → List ℕ → Bool → (List Part → S → S) → Row L S
-template_row name of_id puts = record { name = name; sets = λ at args so_far. template_given of_id at args >>= λ t. Ok (puts t so_far) }
+template_row name of_id puts =
+    record { name = name; sets = λ at args so_far. template_given of_id at args >>= λ t. Ok (puts t so_far) }
 
 -- the other properties
 abbrev pub other_rows : {L : Type 0} → List (Row L (AlertSpec L))
@@ -54,7 +58,8 @@ alert_rows = level_rows ++ (reset_rows ++ other_rows)
 -- the handlers that an alert has in Kapacitor, and not here
 abbrev pub handlers : List (List ℕ)
 handlers =
-    codes "email" ∷ codes "slack" ∷ codes "pagerDuty" ∷ codes "post" ∷ codes "tcp" ∷ codes "exec" ∷ codes "telegram" ∷ codes "victorOps"
+    codes "email" ∷ codes "slack" ∷ codes "pagerDuty" ∷ codes "post" ∷ codes "tcp" ∷ codes "exec" ∷ codes "telegram" ∷
+    codes "victorOps"
     ∷ codes "opsGenie" ∷ codes "hipChat" ∷ codes "sensu" ∷ codes "snmpTrap" ∷ []
 
 -- the name is that of a handler that an alert has in Kapacitor, and not here
@@ -84,4 +89,5 @@ no_alert = record {
 
 -- alert()
 abbrev pub alert_spec : {L : Type 0} → Node L → Result (Spec L) NodeFault
-alert_spec node = needed node.at (nothing node.args) >>= λ _. all_set alert_sets no_alert node.props >>= λ alert. Ok (specs.Alert alert)
+alert_spec node = needed node.at (nothing node.args) >>= λ _. all_set alert_sets no_alert node.props
+    >>= λ alert. Ok (specs.Alert alert)

@@ -45,7 +45,8 @@ eval_results (lambda ∷ lambdas) (name ∷ names) = record { lambda = lambda; n
 abbrev pub eval_spec : {L : Type 0} → Node L → Result (Spec L) NodeFault
 eval_spec node =
     needed node.at (each as_lambda node.args) >>= λ lambdas. all_set (set_by eval_rows) no_eval node.props >>= λ eval.
-    fitting node.at (nat_lt 0 (length lambdas) && nat_eq (length lambdas) (length eval.names)) (specs.Eval (record { results = eval_results lambdas eval.names; keep = eval.keep }))
+    fitting node.at (nat_lt 0 (length lambdas) && nat_eq (length lambdas) (length eval.names))
+    (specs.Eval (record { results = eval_results lambdas eval.names; keep = eval.keep }))
 
 -- groupBy(s..) or groupBy(*)
 abbrev pub group_by_rows : {L : Type 0} → List (Row L GroupBySpec)
@@ -54,7 +55,9 @@ group_by_rows = row (codes "byMeasurement") nothing (λ _ group. record group { 
 -- what a groupBy node is given, or its first fault
 abbrev pub group_by_spec : {L : Type 0} → Node L → Result (Spec L) NodeFault
 group_by_spec node =
-    needed node.at (dimensions node.args) >>= λ d. all_set (set_by group_by_rows) (record { dims = d; by_measurement = false }) node.props >>= λ group. Ok (specs.GroupBy group)
+    needed node.at (dimensions node.args)
+    >>= λ d. all_set (set_by group_by_rows) (record { dims = d; by_measurement = false }) node.props
+    >>= λ group. Ok (specs.GroupBy group)
 
 -- log()
 abbrev pub log_rows : {L : Type 0} → List (Row L LogSpec)
@@ -69,7 +72,8 @@ no_log = record { level = None; prefix = None }
 
 -- what a log node is given, or its first fault
 abbrev pub log_spec : {L : Type 0} → Node L → Result (Spec L) NodeFault
-log_spec node = needed node.at (nothing node.args) >>= λ _. all_set (set_by log_rows) no_log node.props >>= λ log. Ok (specs.Log log)
+log_spec node = needed node.at (nothing node.args) >>= λ _. all_set (set_by log_rows) no_log node.props
+    >>= λ log. Ok (specs.Log log)
 
 -- default()
 abbrev pub default_rows : {L : Type 0} → List (Row L (List DefaultSetting))
@@ -80,7 +84,8 @@ default_rows =
 
 -- what a default node is given, or its first fault: its settings in the order of the script
 abbrev pub default_spec : {L : Type 0} → Node L → Result (Spec L) NodeFault
-default_spec node = needed node.at (nothing node.args) >>= λ _. all_set (set_by default_rows) [] node.props >>= λ settings. Ok (specs.Default settings)
+default_spec node = needed node.at (nothing node.args) >>= λ _. all_set (set_by default_rows) [] node.props
+    >>= λ settings. Ok (specs.Default settings)
 
 -- delete()
 abbrev pub delete_rows : {L : Type 0} → List (Row L (List DeleteSetting))
@@ -91,7 +96,8 @@ delete_rows =
 
 -- what a delete node is given, or its first fault: its settings in the order of the script
 abbrev pub delete_spec : {L : Type 0} → Node L → Result (Spec L) NodeFault
-delete_spec node = needed node.at (nothing node.args) >>= λ _. all_set (set_by delete_rows) [] node.props >>= λ settings. Ok (specs.Delete settings)
+delete_spec node = needed node.at (nothing node.args) >>= λ _. all_set (set_by delete_rows) [] node.props
+    >>= λ settings. Ok (specs.Delete settings)
 
 -- shift(d)
 abbrev pub shift_spec : {L : Type 0} → Node L → Result (Spec L) NodeFault

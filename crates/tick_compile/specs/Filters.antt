@@ -24,11 +24,19 @@ from_rows =
 
 -- a from node of which no property is set
 abbrev pub no_from : {L : Type 0} → FromSpec L
-no_from = record { database = None; retention_policy = None; measurement = None; conditions = []; dims = dims.Names []; by_measurement = false }
+no_from = record {
+  database = None;
+  retention_policy = None;
+  measurement = None;
+  conditions = [];
+  dims = dims.Names [];
+  by_measurement = false;
+}
 
 -- what a from node is given, or its first fault
 abbrev pub from_spec : {L : Type 0} → Node L → Result (Spec L) NodeFault
-from_spec node = needed node.at (nothing node.args) >>= λ _. all_set (set_by from_rows) no_from node.props >>= λ from. Ok (specs.From from)
+from_spec node = needed node.at (nothing node.args) >>= λ _. all_set (set_by from_rows) no_from node.props
+    >>= λ from. Ok (specs.From from)
 
 -- where(l)
 abbrev pub where_spec : {L : Type 0} → Node L → Result (Spec L) NodeFault

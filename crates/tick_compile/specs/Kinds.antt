@@ -17,7 +17,9 @@ use Rattle.tick_compile.specs.Joins.{join_spec, union_spec}
 
 -- the kind of a name, where it is one of many alike
 abbrev pub family_named : List ℕ → Option Kind
-family_named name = option_or (option_map State (state_named name)) (option_or (option_map Select (select_named name)) (option_map Rank (rank_named name)))
+family_named name =
+    option_or (option_map State (state_named name))
+    (option_or (option_map Select (select_named name)) (option_map Rank (rank_named name)))
 
 -- the kind of a name
 abbrev pub kind_named : List ℕ → Option Kind
@@ -36,7 +38,8 @@ kind_named name =
     if bytes_eq name (codes "union") then Some Union else (
     if bytes_eq name (codes "join") then Some Join else family_named name))))))))))))
 
--- what a node of a kind is given, or its first fault: of its arguments, of its properties in the order of the script, or of the whole
+-- what a node of a kind is given, or its first fault: of its arguments, of its properties in the order of the script,
+-- or of the whole
 abbrev pub spec_by : {L : Type 0} → Option Kind → Node L → Result (Spec L) NodeFault
 spec_by None node = Err (NoKind node.at)
 spec_by (Some From) node = from_spec node

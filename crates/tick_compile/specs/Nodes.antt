@@ -38,11 +38,14 @@ node_name kind number = kind ++ decimal number
 
 -- node 0 is the stream, without parents
 abbrev pub stream_node : {L : Type 0} → List Dbrp → Node L → Result (NodeSpec L) NodeFault
-stream_node dbrps node = stream_spec dbrps node >>= λ spec. Ok (record { name = node_name node.kind 0; spec = spec; parents = [] })
+stream_node dbrps node =
+    stream_spec dbrps node >>= λ spec. Ok (record { name = node_name node.kind 0; spec = spec; parents = [] })
 
 -- a node of this number that isn't the stream
 abbrev pub other_node : {L : Type 0} → ℕ → Node L → Result (NodeSpec L) NodeFault
-other_node number node = spec_of node >>= λ spec. Ok (record { name = node_name node.kind number; spec = spec; parents = parents_of spec (nodes_above node) })
+other_node number node = spec_of node
+    >>= λ spec. Ok
+    (record { name = node_name node.kind number; spec = spec; parents = parents_of spec (nodes_above node) })
 
 -- the node of this number
 abbrev pub node_spec : {L : Type 0} → List Dbrp → ℕ → Node L → Result (NodeSpec L) NodeFault
@@ -50,6 +53,8 @@ node_spec dbrps zero node = stream_node dbrps node
 node_spec dbrps (suc n) node = other_node (suc n) node
 
 -- all nodes in order, or the first fault, behind those that are read
-abbrev pub specs_from : {L : Type 0} → List Dbrp → List (NodeSpec L) → List (Node L) → Result (List (NodeSpec L)) NodeFault
+abbrev pub specs_from : {L : Type 0} → List Dbrp → List (NodeSpec L) → List (Node L)
+    → Result (List (NodeSpec L)) NodeFault
 specs_from dbrps read [] = Ok read
-specs_from dbrps read (node ∷ nodes) = node_spec dbrps (length read) node >>= λ spec. specs_from dbrps (read ++ spec ∷ []) nodes
+specs_from dbrps read (node ∷ nodes) =
+    node_spec dbrps (length read) node >>= λ spec. specs_from dbrps (read ++ spec ∷ []) nodes

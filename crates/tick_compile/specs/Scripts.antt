@@ -34,11 +34,12 @@ abbrev pub named : {A : Type 0} → Result A VarFault → Result A ScriptFault
 named (Ok x) = Ok x
 named (Err fault) = Err (Name fault)
 
--- The task of a script, where this pattern is refused, or none is: each name is replaced by what it stands for, the nodes are the
--- task's, and it sees what the script names. Or its first fault: of its names, else of its nodes.
+-- The task of a script, where this pattern is refused, or none is: each name is replaced by what it stands for, the
+-- nodes are the task's, and it sees what the script names. Or its first fault: of its names, else of its nodes.
 abbrev pub task_of : Option Refusal → List StmtTree → Result Task ScriptFault
 task_of refused script =
-    named (bound_of script) >>= λ made. compiled refused made >>= λ nodes. Ok (record { graph = nodes; dbrps = made.dbrps })
+    named (bound_of script) >>= λ made. compiled refused made
+    >>= λ nodes. Ok (record { graph = nodes; dbrps = made.dbrps })
 
 -- the text is a script of this task, where this pattern is refused, or none is
 pub record Accepts (refused : Option Refusal) (text : List ℕ) (task : Task) : Type 0 where
@@ -52,7 +53,8 @@ pub record IsMiswritten (refused : Option Refusal) (text : List ℕ) (fault : Sc
   pub parsed : Parses text script
   pub is : task_of refused script ≡ Err fault
 
--- the first fault of a text that is no task, where this pattern is refused, or none is: where it is no script's, else of the script
+-- the first fault of a text that is no task, where this pattern is refused, or none is: where it is no script's, else
+-- of the script
 abbrev pub Refuses : Option Refusal → List ℕ → ScriptFault → Type 0
 Refuses refused text fault = IsMisread text fault ⊎ IsMiswritten refused text fault
 

@@ -28,7 +28,8 @@ select_named name =
 
 -- of which rank the points are that a node of a name chooses
 abbrev pub rank_named : List ℕ → Option Rank
-rank_named name = if bytes_eq name (codes "top") then Some Top else (if bytes_eq name (codes "bottom") then Some Bottom else None)
+rank_named name =
+    if bytes_eq name (codes "top") then Some Top else (if bytes_eq name (codes "bottom") then Some Bottom else None)
 
 -- the properties of a select node
 abbrev pub select_rows : {L : Type 0} → List (Row L SelectProps)
@@ -43,12 +44,14 @@ no_select = record { name = None; use_point_times = false }
 
 -- a select node that chooses so from this field, with these properties
 abbrev pub selected : {L : Type 0} → Select → List ℕ → SelectProps → Spec L
-selected select field props = specs.Select (record { select = select; field = field; name = props.name; use_point_times = props.use_point_times })
+selected select field props =
+    specs.Select (record { select = select; field = field; name = props.name; use_point_times = props.use_point_times })
 
 -- sum(f), and each other that takes a field alone
 abbrev pub select_spec : {L : Type 0} → Select → Node L → Result (Spec L) NodeFault
 select_spec select node =
-    needed node.at (one as_text node.args) >>= λ field. all_set (set_by select_rows) no_select node.props >>= λ props. Ok (selected select field props)
+    needed node.at (one as_text node.args) >>= λ field. all_set (set_by select_rows) no_select node.props
+    >>= λ props. Ok (selected select field props)
 
 -- the first so many points of a rank
 abbrev pub ranked : Rank → ℕ → Select
@@ -58,5 +61,6 @@ ranked Bottom n = selects.Bottom n
 -- top(n, f) and bottom(n, f)
 abbrev pub rank_spec : {L : Type 0} → Rank → Node L → Result (Spec L) NodeFault
 rank_spec rank node =
-    needed node.at (pair as_count as_text node.args) >>= λ given. all_set (set_by select_rows) no_select node.props >>= λ props.
+    needed node.at (pair as_count as_text node.args) >>= λ given. all_set (set_by select_rows) no_select node.props
+    >>= λ props.
     Ok (selected (ranked rank given.0) given.1 props)

@@ -65,7 +65,8 @@ as_default _ = None
 
 -- what stands for a point that is missing, by its name: 'none' or 'null'
 abbrev pub fill_named : List ℕ → Option Fill
-fill_named text = if bytes_eq text (codes "none") then Some fills.None else (if bytes_eq text (codes "null") then Some fills.Null else None)
+fill_named text = if bytes_eq text (codes "none") then Some fills.None
+    else (if bytes_eq text (codes "null") then Some fills.Null else None)
 
 -- what stands for a point that is missing: 'none', 'null' or a number
 abbrev pub as_fill : {L : Type 0} → Given L → Option Fill

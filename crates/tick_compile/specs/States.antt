@@ -28,15 +28,18 @@ as_rows = row (codes "as") (one as_name) (λ s _. Some s) ∷ []
 -- stateCount(l)
 abbrev pub state_count_spec : {L : Type 0} → Node L → Result (Spec L) NodeFault
 state_count_spec node =
-    needed node.at (one as_lambda node.args) >>= λ l. all_set (set_by as_rows) None node.props >>= λ name. Ok (specs.StateCount (record { condition = l; name = name }))
+    needed node.at (one as_lambda node.args) >>= λ l. all_set (set_by as_rows) None node.props
+    >>= λ name. Ok (specs.StateCount (record { condition = l; name = name }))
 
 -- changeDetect(f..)
 abbrev pub change_detect_spec : {L : Type 0} → Node L → Result (Spec L) NodeFault
-change_detect_spec node = needed node.at (each as_text node.args) >>= λ fields. no_props node.props >>= λ _. Ok (specs.ChangeDetect fields)
+change_detect_spec node =
+    needed node.at (each as_text node.args) >>= λ fields. no_props node.props >>= λ _. Ok (specs.ChangeDetect fields)
 
 -- a field, and the name of the result
 abbrev pub field_spec : {L : Type 0} → Node L → Result FieldSpec NodeFault
-field_spec node = needed node.at (one as_text node.args) >>= λ field. all_set (set_by as_rows) None node.props >>= λ name. Ok (record { field = field; name = name })
+field_spec node = needed node.at (one as_text node.args) >>= λ field. all_set (set_by as_rows) None node.props
+    >>= λ name. Ok (record { field = field; name = name })
 
 -- difference(f)
 abbrev pub difference_spec : {L : Type 0} → Node L → Result (Spec L) NodeFault

@@ -60,12 +60,13 @@ with_from specs = if has_from specs then Ok specs else Err NoFrom
 abbrev pub finished : {L : Type 0} → List (NodeSpec L) → Result (List (NodeSpec L)) ScriptFault
 finished specs = well_joined (first_graph_fault specs) >>= λ _. with_from specs
 
--- The nodes of the task of a bound script's nodes and of what it sees, where this pattern is refused, or its first fault: of its
--- nodes, each with its kind, its arguments and its properties; else of its lambdas' types in the same order; else of its graph;
--- else that there is no `from`.
+-- The nodes of the task of a bound script's nodes and of what it sees, where this pattern is refused, or its first
+-- fault: of its nodes, each with its kind, its arguments and its properties; else of its lambdas' types in the same
+-- order; else of its graph; else that there is no `from`.
 abbrev pub compiled_nodes : Option Refusal → List Dbrp → List NodeTree → Result (List (NodeSpec Tree)) ScriptFault
 compiled_nodes refused dbrps nodes =
-    raised (specs_from dbrps [] (map node_of nodes)) >>= λ specs. typed (type_fault refused nodes) >>= λ _. finished specs
+    raised (specs_from dbrps [] (map node_of nodes)) >>= λ specs. typed (type_fault refused nodes)
+    >>= λ _. finished specs
 
 -- the nodes of the task of a bound script, where this pattern is refused, or its first fault
 abbrev pub compiled : Option Refusal → BoundTree → Result (List (NodeSpec Tree)) ScriptFault

@@ -1,4 +1,5 @@
--- What lambdas a script's nodes take, and the first fault of their types; nodes without the places of what they are given.
+-- What lambdas a script's nodes take, and the first fault of their types; nodes without the places of what they are
+-- given.
 use Rattle.std.specs.Prelude.{◌≡◌, ◌&&◌, ℕ, Bool, not, if◌then◌else◌, List, [], ◌∷◌, map, Option, Some, None, Result, Ok, Err, codes, bytes_eq}
 use Rattle.kap_base.specs.Tree.{Tree}
 use Rattle.lambda_types.specs.Builds.{AtMostOneMore}
@@ -12,15 +13,16 @@ use Rattle.tick_compile.specs.declared.given.Given.TheVariants as givens
 use Rattle.tick_compile.specs.declared.given.Node.{Node}
 use Rattle.tick_compile.specs.declared.given.Setting.{Setting}
 
--- The lambdas of every kind but `eval` are conditions. One of `eval` may be of any type: each lambda that has one has that of an
--- integer, a truth value or a text.
+-- The lambdas of every kind but `eval` are conditions. One of `eval` may be of any type: each lambda that has one has
+-- that of an integer, a truth value or a text.
 abbrev pub takes_conditions : List ℕ → Bool
 takes_conditions kind = not (bytes_eq kind (codes "eval"))
 
--- The fault of a lambda whose word `lambda` stands at this place, where this pattern is refused: the first of its types, else
--- Mismatch of a condition that can't be a truth value.
+-- The fault of a lambda whose word `lambda` stands at this place, where this pattern is refused: the first of its
+-- types, else Mismatch of a condition that can't be a truth value.
 abbrev pub lambda_fault : Option Refusal → Bool → Tree → ℕ → Option TypeFault
-lambda_fault refused condition body at = first (first_fault refused body) (if condition && not (types_of body).truth then Some (Mismatch at) else None)
+lambda_fault refused condition body at =
+    first (first_fault refused body) (if condition && not (types_of body).truth then Some (Mismatch at) else None)
 
 -- the fault of the first that has one
 abbrev pub firsts : {A : Type 0} → (A → Option TypeFault) → List A → Option TypeFault
@@ -39,7 +41,8 @@ prop_fault refused condition prop = firsts (arg_fault refused condition) prop.ar
 -- the first fault of a node's lambdas: of its arguments, then of its properties in the order of the script
 abbrev pub node_type_fault : Option Refusal → NodeTree → Option TypeFault
 node_type_fault refused node =
-    first (firsts (arg_fault refused (takes_conditions node.kind)) node.args) (firsts (prop_fault refused (takes_conditions node.kind)) node.props)
+    first (firsts (arg_fault refused (takes_conditions node.kind)) node.args)
+    (firsts (prop_fault refused (takes_conditions node.kind)) node.props)
 
 -- the first fault of a script's lambdas
 abbrev pub type_fault : Option Refusal → List NodeTree → Option TypeFault
@@ -58,10 +61,17 @@ setting_of prop = record { name = prop.name; args = map given_of prop.args; at =
 
 -- a node with what it is given, without the places of that
 abbrev pub node_of : NodeTree → Node Tree
-node_of node = record { kind = node.kind; parent = node.parent; args = map given_of node.args; props = map setting_of node.props; at = node.at }
+node_of node =
+    record {
+      kind = node.kind;
+      parent = node.parent;
+      args = map given_of node.args;
+      props = map setting_of node.props;
+      at = node.at;
+    }
 
--- This value where no pattern is refused and there is no fault; else the first fault, where the pattern of which it speaks is the
--- one that was refused last.
+-- This value where no pattern is refused and there is no fault; else the first fault, where the pattern of which it
+-- speaks is the one that was refused last.
 abbrev pub FindsTyped : {A : Type 0} → A → (Option Refusal → Option TypeFault) → List ℕ → Result A TypeFault → Type 0
 FindsTyped value fault refused (Ok x) = (x ≡ value) × (fault None ≡ None)
 FindsTyped value fault refused (Err f) = FailsBy fault refused f

@@ -25,7 +25,14 @@ window_rows =
 
 -- a window of which no property is set
 abbrev pub no_window : WindowProps
-no_window = record { period = None; every = None; align = false; fill_period = false; period_count = None; every_count = None }
+no_window = record {
+  period = None;
+  every = None;
+  align = false;
+  fill_period = false;
+  period_count = None;
+  every_count = None;
+}
 
 -- a property of the form by time is set
 abbrev pub is_timed : WindowProps → Bool
@@ -41,11 +48,13 @@ timed_form window = option_map (λ d. Timed d (unwrap_or window.every 0) window.
 
 -- by the number of points: `.everyCount` is 1 where it isn't set
 abbrev pub counted_form : WindowProps → Option WindowSpec
-counted_form window = option_map (λ n. Counted n (unwrap_or window.every_count 1) window.fill_period) window.period_count
+counted_form window =
+    option_map (λ n. Counted n (unwrap_or window.every_count 1) window.fill_period) window.period_count
 
 -- one of the two forms, with its period, and nothing of the other form
 abbrev pub window_form : WindowProps → Option WindowSpec
-window_form window = if is_counted window then (if is_timed window then None else counted_form window) else timed_form window
+window_form window =
+    if is_counted window then (if is_timed window then None else counted_form window) else timed_form window
 
 -- what a window node is given, or its first fault
 abbrev pub window_spec : {L : Type 0} → Node L → Result (Spec L) NodeFault

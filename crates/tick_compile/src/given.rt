@@ -1,4 +1,5 @@
-//! Nodes of a script as they are read: with lambdas of any type `L`, and with the places that faults are given at.
+//! Nodes of a script as they are read: with lambdas of any type `L`, and with the places that faults are
+//! given at.
 
 use kap_base::{ItemList, Lit, Text};
 

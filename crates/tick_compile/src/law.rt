@@ -10,8 +10,9 @@ ghost use Rattle.tick_compile.specs.declared.script_fault.ScriptFault.{ScriptFau
 ghost use Rattle.tick_compile.specs.declared.script_fault.ScriptFault.TheVariants.{Lambda};
 ghost use Rattle.tick_compile.specs.declared.tasks.Task.{Task};
 
-/// The law of scripts. Whichever pattern is refused, if any, each text of at most 65,536 bytes is a script of one task, or has one
-/// first fault, and not both. A text is at most one script's. A pattern is a fault only where it is the refused one.
+/// The law of scripts. Whichever pattern is refused, if any, each text of at most 65,536 bytes is a script of
+/// one task, or has one first fault, and not both. A text is at most one script's. A pattern is a fault only
+/// where it is the refused one.
 pub fn scripts_have_one_answer()
     ensures script { (text : List ℕ) (a b : List StmtTree) → Parses text a → Parses text b → a ≡ b }
     ensures task { (refused : Option Refusal) (text : List ℕ) (a b : Task) →

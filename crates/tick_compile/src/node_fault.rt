@@ -7,7 +7,8 @@ use kap_base::NoMemory;
 use msg_template::TemplateFault;
 use std::alloc::{AllocError, AllocFailed};
 
-/// The first fault of a node that is none: of its kind, its arguments or its properties. Each number is a place in the script.
+/// The first fault of a node that is none: of its kind, its arguments or its properties. Each number is a
+/// place in the script.
 #[derive(Clone, Copy)]
 pub(crate) enum NodeFault {
     NoKind(u32),

@@ -12,14 +12,15 @@ use tick_lexer::LexFault;
 use tick_parser::ParseFault;
 use tick_vars::VarFault;
 
-/// The first fault of a text that is no task (Kapacitor 1.6 TICKscript language and node reference): of its bytes, its tokens, its
-/// grammar and its names; then of its nodes, in the order in which they are made, each of its kind, its arguments, its properties
-/// in the order of the script and what it asks as a whole; then of all lambdas' types in that order; then of the graph; and last
-/// that there is no `from`. A number is a place, a byte offset in the script.
+/// The first fault of a text that is no task (Kapacitor 1.6 TICKscript language and node reference): of its
+/// bytes, its tokens, its grammar and its names; then of its nodes, in the order in which they are made, each
+/// of its kind, its arguments, its properties in the order of the script and what it asks as a whole; then of
+/// all lambdas' types in that order; then of the graph; and last that there is no `from`. A number is a
+/// place, a byte offset in the script.
 #[derive(Clone, Copy, Debug, PartialEq, Eq)]
 pub enum ScriptFault {
-    /// The text isn't UTF-8. The place is that of the first byte that doesn't continue a character, or the text's length where it
-    /// ends inside a character.
+    /// The text isn't UTF-8. The place is that of the first byte that doesn't continue a character, or the
+    /// text's length where it ends inside a character.
     NotUtf8(u32),
     /// It has no tokens.
     Lex(LexFault),
@@ -31,7 +32,8 @@ pub enum ScriptFault {
     NoKind(u32),
     /// The node has no such property.
     Property(u32),
-    /// The node or the property of this name isn't given what it takes, or the node's properties don't go together.
+    /// The node or the property of this name isn't given what it takes, or the node's properties don't go
+    /// together.
     Argument(u32),
     /// An alert has this handler in Kapacitor, and not here.
     Handler(u32),

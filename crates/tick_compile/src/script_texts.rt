@@ -131,9 +131,9 @@ fn graph_text(alloc: Global, fault: &GraphFault) -> Result<Bytes, NoMemory>
     }
 }
 
-/// What is said of a script's fault: `script: `, the names of the fault's variants joined by dots, and ` at ` with its place; of
-/// `Template` the place in the script, and of `Graph` the node's number in its stead. `NoFrom`, `TooManyNodes` and want of memory
-/// have no place (this project).
+/// What is said of a script's fault: `script: `, the names of the fault's variants joined by dots, and ` at `
+/// with its place; of `Template` the place in the script, and of `Graph` the node's number in its stead.
+/// `NoFrom`, `TooManyNodes` and want of memory have no place (this project).
 pub fn script_text(alloc: Global, fault: &ScriptFault) -> Result<Bytes, NoMemory>
     ensures { IfOk result (λ text. text ≡ text_of_fault fault.now) }
 {

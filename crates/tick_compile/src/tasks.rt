@@ -27,7 +27,8 @@ use tick_vars::{Bound, RawNode};
 pub struct Task {
     /// Its nodes, and how they hang together.
     pub graph: Graph,
-    /// The databases and retention policies that it sees, in the order of the script; all where there are none.
+    /// The databases and retention policies that it sees, in the order of the script; all where there are
+    /// none.
     pub dbrps: Dbrps,
 }
 

@@ -15,7 +15,8 @@ use kap_base::Text;
 use msg_template::{TEMPLATE_LIMIT, Template, TemplateFault, one_meaning, read, read_id};
 use std::alloc::Global;
 
-/// The law of templates: the template that an alert is given has the parts that are read in its text, or the fault of the text.
+/// The law of templates: the template that an alert is given has the parts that are read in its text, or the
+/// fault of the text.
 pub fn templates_are_read()
     ensures parts { (of_id : Bool) (text : List ℕ) (ps : List Part) →
         template_of of_id text ≡ Ok ps → Reads of_id text ps }

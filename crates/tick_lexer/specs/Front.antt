@@ -30,7 +30,8 @@ word_kind name =
 -- a word, and what follows it
 abbrev pub named : List ℕ → List ℕ → Found
 named name rest =
-    cond (bytes_eq name (codes "lambda") && starts is_colon rest) (Took Lambda (length name + 1)) (Took (word_kind name) (length name))
+    cond (bytes_eq name (codes "lambda") && starts is_colon rest) (Took Lambda (length name + 1))
+    (Took (word_kind name) (length name))
 
 -- a word that begins with this text: a name, a keyword, or `lambda:`
 abbrev pub word : List ℕ → Found
@@ -50,17 +51,21 @@ unit_at tail =
 -- the integer of these digits, or the fault that it is too wide
 abbrev pub integer : ℕ → List ℕ → Found
 integer at digits =
-    cond (ltb (digits_value 10 digits) (2 ^ 63)) (Took (Literal (Int (pos (digits_value 10 digits)))) (length digits)) (Bad (WideInt at))
+    cond (ltb (digits_value 10 digits) (2 ^ 63)) (Took (Literal (Int (pos (digits_value 10 digits)))) (length digits))
+    (Bad (WideInt at))
 
 -- the duration of these digits in this unit, or the fault that it is too wide
 abbrev pub duration : ℕ → List ℕ → units.Unit → Found
 duration at digits unit =
-    cond (leb (digits_value 10 digits * unit_nanos unit) DURATION_LIMIT) (Took (Literal (Dur (pos (digits_value 10 digits * unit_nanos unit)))) (length digits + length (unit_bytes unit))) (Bad (WideDuration at))
+    cond (leb (digits_value 10 digits * unit_nanos unit) DURATION_LIMIT)
+    (Took (Literal (Dur (pos (digits_value 10 digits * unit_nanos unit))))
+    (length digits + length (unit_bytes unit))) (Bad (WideDuration at))
 
 -- digits, what follows them, and the unit there
 abbrev pub measured : ℕ → List ℕ → List ℕ → Option units.Unit → Found
 measured at digits tail None = cond (starts is_word tail) (Bad (BadNumber at)) (integer at digits)
-measured at digits tail (Some unit) = cond (starts is_word (drop (length (unit_bytes unit)) tail)) (Bad (BadNumber at)) (duration at digits unit)
+measured at digits tail (Some unit) =
+    cond (starts is_word (drop (length (unit_bytes unit)) tail)) (Bad (BadNumber at)) (duration at digits unit)
 
 -- the digits, and what follows them
 abbrev pub numeral : ℕ → List ℕ → List ℕ → Found
@@ -86,8 +91,12 @@ grown front (Shut text bytes) = Shut (front ++ text) (bytes + 1)
 -- behind a backslash, which stands for itself unless a quote follows, if the flag is set
 abbrev pub scan : ℕ → List ℕ → Bool → Scan
 scan quote [] behind = Endless
-scan quote (b ∷ bs) false = cond (eqb b quote) (Shut [] 1) (cond (eqb b 92) (grown [] (scan quote bs true)) (grown (b ∷ []) (scan quote bs false)))
-scan quote (b ∷ bs) true = cond (eqb b quote) (grown (b ∷ []) (scan quote bs false)) (cond (eqb b 92) (grown (92 ∷ []) (scan quote bs true)) (grown (92 ∷ b ∷ []) (scan quote bs false)))
+scan quote (b ∷ bs) false =
+    cond (eqb b quote) (Shut [] 1)
+    (cond (eqb b 92) (grown [] (scan quote bs true)) (grown (b ∷ []) (scan quote bs false)))
+scan quote (b ∷ bs) true =
+    cond (eqb b quote) (grown (b ∷ []) (scan quote bs false))
+    (cond (eqb b 92) (grown (92 ∷ []) (scan quote bs true)) (grown (92 ∷ b ∷ []) (scan quote bs false)))
 
 -- the token of the text that a quote opened, or this fault where it has no end
 abbrev pub shut : (List ℕ → Kind) → LexFault → Scan → Found
@@ -116,11 +125,13 @@ tripled at rest (Some n) = Took (Literal (Str (take n rest))) (n + 6)
 -- a string that begins with this single quote
 abbrev pub string : ℕ → ℕ → List ℕ → Found
 string at b rest =
-    cond (starts_three (b ∷ rest)) (tripled at (drop 2 rest) (before_three (drop 2 rest))) (quoted (λ text. Literal (Str text)) (OpenString at) b rest)
+    cond (starts_three (b ∷ rest)) (tripled at (drop 2 rest) (before_three (drop 2 rest)))
+    (quoted (λ text. Literal (Str text)) (OpenString at) b rest)
 
 -- a sign whose second byte may be the one or the other
 abbrev pub paired : (ℕ → Bool) → Kind → (ℕ → Bool) → Kind → Kind → List ℕ → Found
-paired p first q second alone rest = cond (starts p rest) (Took first 2) (cond (starts q rest) (Took second 2) (Took alone 1))
+paired p first q second alone rest =
+    cond (starts p rest) (Took first 2) (cond (starts q rest) (Took second 2) (Took alone 1))
 
 -- an operator or a punctuation mark that begins with this byte
 abbrev pub sign : ℕ → ℕ → List ℕ → Found
@@ -152,4 +163,5 @@ mark pattern at b rest =
 -- what stands at the front of a text: a word, a number, a quote, a sign or a pattern
 abbrev pub front : Bool → ℕ → List ℕ → Found
 front pattern at [] = Bad (BadChar at)
-front pattern at (b ∷ rest) = cond (is_letter b) (word (b ∷ rest)) (cond (is_digit b) (number at (b ∷ rest)) (mark pattern at b rest))
+front pattern at (b ∷ rest) =
+    cond (is_letter b) (word (b ∷ rest)) (cond (is_digit b) (number at (b ∷ rest)) (mark pattern at b rest))

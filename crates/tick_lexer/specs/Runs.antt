@@ -39,13 +39,15 @@ begins_comment (b ∷ bs) = eqb b 47 && starts is_slash bs
 abbrev pub skipped : List ℕ → Bool → List ℕ
 skipped [] comment = []
 skipped (b ∷ bs) true = skipped bs (not (eqb b 10))
-skipped (b ∷ bs) false = cond (is_white b) (skipped bs false) (cond (begins_comment (b ∷ bs)) (skipped bs true) (b ∷ bs))
+skipped (b ∷ bs) false =
+    cond (is_white b) (skipped bs false) (cond (begins_comment (b ∷ bs)) (skipped bs true) (b ∷ bs))
 
 -- from this place on the lexer takes these tokens, and then ends so
 abbrev pub Runs : List Token → Ending → Bool → ℕ → List ℕ → Type 0
 Runs [] Whole pattern at text = skipped text false ≡ []
 Runs [] (Fault fault) pattern at text =
-    (skipped text false ≢ []) × (front pattern (at + (length text - length (skipped text false))) (skipped text false) ≡ Bad fault)
+    (skipped text false ≢ [])
+    × (front pattern (at + (length text - length (skipped text false))) (skipped text false) ≡ Bad fault)
 Runs (t ∷ ts) ending pattern at text =
     (bytes : ℕ)
     × (front pattern t.start (skipped text false) ≡ Took t.kind bytes)

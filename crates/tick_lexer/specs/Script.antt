@@ -73,7 +73,8 @@ abbrev pub IsBadNumber : LexFault → List ℕ → List ℕ → Type 0
 IsBadNumber (OctalLiteral place) digits tail = has_leading_zero digits ≡ true
 IsBadNumber (FloatLiteral place) digits tail = (has_leading_zero digits ≡ false) × (starts is_dot tail ≡ true)
 IsBadNumber (BadNumber place) digits tail = (has_leading_zero digits ≡ false) × IsNoUnit tail
-IsBadNumber (WideInt place) digits tail = (has_leading_zero digits ≡ false) × EndsInt tail × (2 ^ 63 ≤ digits_value 10 digits)
+IsBadNumber (WideInt place) digits tail =
+    (has_leading_zero digits ≡ false) × EndsInt tail × (2 ^ 63 ≤ digits_value 10 digits)
 IsBadNumber (WideDuration place) digits tail = (has_leading_zero digits ≡ false) × IsWideDuration digits tail
 IsBadNumber _ digits tail = ⊥
 
@@ -86,9 +87,12 @@ pub record BeginsBadNumber (fault : LexFault) (text : List ℕ) : Type 0 where
 
 -- why no token stands first
 abbrev pub BeginsBadToken : Bool → LexFault → List ℕ → Type 0
-BeginsBadToken pattern (BadChar place) text = (b : ℕ) × (rest : List ℕ) × (text ≡ b ∷ rest) × ((is_word b || (is_mark b || is_white b)) ≡ false) × (b ≢ 64)
-BeginsBadToken pattern (OpenString place) text = IsOpenThree text ⊎ (((starts_three text ≡ false) × IsOpen 39 text) ⊎ IsOpen 34 text)
-BeginsBadToken pattern (OpenRegex place) text = (pattern ≡ true) × IsOpen 47 text × ((rest : List ℕ) → text ≡ 47 ∷ rest → NotFirst is_slash rest)
+BeginsBadToken pattern (BadChar place) text =
+    (b : ℕ) × (rest : List ℕ) × (text ≡ b ∷ rest) × ((is_word b || (is_mark b || is_white b)) ≡ false) × (b ≢ 64)
+BeginsBadToken pattern (OpenString place) text =
+    IsOpenThree text ⊎ (((starts_three text ≡ false) × IsOpen 39 text) ⊎ IsOpen 34 text)
+BeginsBadToken pattern (OpenRegex place) text =
+    (pattern ≡ true) × IsOpen 47 text × ((rest : List ℕ) → text ≡ 47 ∷ rest → NotFirst is_slash rest)
 BeginsBadToken pattern (UserFunction place) text = (rest : List ℕ) × (text ≡ 64 ∷ rest)
 BeginsBadToken pattern NoMemory text = ⊥
 BeginsBadToken pattern fault text = BeginsBadNumber fault text
@@ -129,7 +133,8 @@ EndsIn (Fault fault) pattern at text = Fails pattern at text fault
 -- next where the flag is set.
 abbrev pub ContinuesWith : List Token → Ending → Bool → ℕ → List ℕ → Type 0
 ContinuesWith [] ending pattern at text = EndsIn ending pattern at text
-ContinuesWith (t ∷ ts) ending pattern at text = (rest : List ℕ) × Next pattern at text t rest × ContinuesWith ts ending (takes_pattern t.kind) t.«end» rest
+ContinuesWith (t ∷ ts) ending pattern at text =
+    (rest : List ℕ) × Next pattern at text t rest × ContinuesWith ts ending (takes_pattern t.kind) t.«end» rest
 
 -- the text has these tokens
 abbrev pub HasTokens : List ℕ → List Token → Type 0
@@ -143,4 +148,5 @@ HasFirstFault text fault = (before : List Token) × ContinuesWith before (Fault 
 abbrev pub AreInPlace : List ℕ → ℕ → List Token → Type 0
 AreInPlace text at [] = Unit {0}
 AreInPlace text at (t ∷ ts) =
-    (at ≤ t.start) × (t.start < t.«end») × (t.«end» ≤ length text) × Spelled t.kind (slice_range text t.start t.«end») × AreInPlace text t.«end» ts
+    (at ≤ t.start) × (t.start < t.«end») × (t.«end» ≤ length text) × Spelled t.kind (slice_range text t.start t.«end»)
+    × AreInPlace text t.«end» ts

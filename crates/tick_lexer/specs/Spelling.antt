@@ -14,7 +14,9 @@ use Rattle.tick_lexer.specs.Bytes.{is_letter, is_word, AllPass, NotFirst, micro_
 -- the words that are no names
 abbrev pub is_reserved : List ℕ → Bool
 is_reserved name =
-    bytes_eq name (codes "OR") || (bytes_eq name (codes "AND") || (bytes_eq name (codes "TRUE") || (bytes_eq name (codes "FALSE") || bytes_eq name (codes "var"))))
+    bytes_eq name (codes "OR")
+    || (bytes_eq name (codes "AND")
+    || (bytes_eq name (codes "TRUE") || (bytes_eq name (codes "FALSE") || bytes_eq name (codes "var"))))
 
 -- a letter or `_`, and then letters, digits and `_`
 abbrev pub IsName : List ℕ → Type 0

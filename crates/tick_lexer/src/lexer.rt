@@ -49,10 +49,10 @@ fn takes_pattern(kind: &Kind) -> bool
     )
 }
 
-/// The tokens of a script, in one pass, with their places as offsets in its bytes; else the first fault, at the first
-/// byte of what is no token. White space and comments, from `//` to the end of the line, may stand before, between and
-/// behind tokens, and each token is the longest one. `NoMemory` comes where an allocation fails.
-/// Kapacitor 1.6 TICKscript language reference: Syntax.
+/// The tokens of a script, in one pass, with their places as offsets in its bytes; else the first fault, at
+/// the first byte of what is no token. White space and comments, from `//` to the end of the line, may stand
+/// before, between and behind tokens, and each token is the longest one. `NoMemory` comes where an allocation
+/// fails. Kapacitor 1.6 TICKscript language reference: Syntax.
 pub fn lex(alloc: Global, text: &str) -> Result<Tokens, LexFault>
     requires { length text.now ≤ SCRIPT_LIMIT }
     ensures tokens { IfOk result (λ tokens. HasTokens text.now tokens) }

@@ -110,7 +110,8 @@ Is tokens (Signed lit place) =
 -- these are the marks' tokens, one mark after the other
 abbrev pub Agree : List Token → List Mark → Type 0
 Agree tokens [] = tokens ≡ []
-Agree tokens (m ∷ ms) = (front : List Token) × (back : List Token) × (tokens ≡ front ++ back) × Is front m × Agree back ms
+Agree tokens (m ∷ ms) =
+    (front : List Token) × (back : List Token) × (tokens ≡ front ++ back) × Is front m × Agree back ms
 
 -- how many parentheses and unary operators are open at most at a token of the tree
 abbrev mutual

@@ -52,13 +52,15 @@ reduce n [] tree = record { stack = []; tree = tree }
 reduce n (Minus at ∷ stack) tree = reduce n stack (NegTree tree at)
 reduce n (Negation at ∷ stack) tree = reduce n stack (NotTree tree at)
 reduce n (Left op left at ∷ stack) tree =
-    cond (leb n (level op)) (reduce n stack (BinTree op left tree at)) (record { stack = Left op left at ∷ stack; tree = tree })
+    cond (leb n (level op)) (reduce n stack (BinTree op left tree at))
+    (record { stack = Left op left at ∷ stack; tree = tree })
 reduce n (Paren at ∷ stack) tree = record { stack = Paren at ∷ stack; tree = tree }
 reduce n (Args name done at ∷ stack) tree = record { stack = Args name done at ∷ stack; tree = tree }
 
 -- a parenthesis or a unary operator
 abbrev pub opening : ℕ → Frame → List Frame → ℕ → ℕ → State
-opening deep frame stack count at = cond (ltb (opens stack) deep) (OperandNext (frame ∷ stack) count) (Stopped (Deep at))
+opening deep frame stack count at =
+    cond (ltb (opens stack) deep) (OperandNext (frame ∷ stack) count) (Stopped (Deep at))
 
 -- a token where an operand comes
 abbrev pub operand : ℕ → List Frame → ℕ → ℕ → Kind → State
@@ -97,19 +99,22 @@ close_top _ tree count at = Stopped (Expected WantClose at)
 -- a comma behind an argument
 abbrev pub next_top : List Frame → Tree → ℕ → ℕ → State
 next_top [] tree count at = Ended tree
-next_top (Args name done place ∷ stack) tree count at = OperandNext (Args name (MoreTrees tree done) place ∷ stack) count
+next_top (Args name done place ∷ stack) tree count at =
+    OperandNext (Args name (MoreTrees tree done) place ∷ stack) count
 next_top _ tree count at = Stopped (Expected WantClose at)
 
 -- a call without arguments is closed
 abbrev pub close_empty : List Frame → ℕ → ℕ → State
-close_empty (Args name done place ∷ stack) count at = OperandRead stack (CallTree name (reversed_onto done NoTrees) place) count
+close_empty (Args name done place ∷ stack) count at =
+    OperandRead stack (CallTree name (reversed_onto done NoTrees) place) count
 close_empty _ count at = Stopped (Expected Operand at)
 
 -- a token behind an operand
 abbrev pub after : ℕ → ℕ → List Frame → Tree → ℕ → ℕ → Kind → State
 after deep wide stack tree count at OpenParen = calling deep stack count at tree
 after deep wide stack tree count at (Operator op) = joining wide op count at (reduce (level op) stack tree)
-after deep wide stack tree count at CloseParen = let held = reduce 0 stack tree in close_top held.stack held.tree count at
+after deep wide stack tree count at CloseParen =
+    let held = reduce 0 stack tree in close_top held.stack held.tree count at
 after deep wide stack tree count at Comma = let held = reduce 0 stack tree in next_top held.stack held.tree count at
 after deep wide stack tree count at _ = let held = reduce 0 stack tree in leave held.stack held.tree at
 

@@ -63,7 +63,8 @@ pub data State : Type 0 where
 
 -- a chain with one more link
 abbrev pub linked : Chain → Call → ValTrees → Chain
-linked chain call args = record { head = chain.head; links = MoreJoints call.node call.name args call.at chain.links; at = chain.at }
+linked chain call args =
+    record { head = chain.head; links = MoreJoints call.node call.name args call.at chain.links; at = chain.at }
 
 -- a chain as a value
 abbrev pub chain_value : Chain → ValTree
@@ -87,7 +88,8 @@ opens (context ∷ stack) = opens stack + opens_context context
 abbrev pub begin : ℕ → List StmtTree → ℕ → Kind → State
 begin many done at Var = cond (ltb (length done) many) (VarRead done at) (Stopped (TooMany at))
 begin many done at (Ident name) =
-    cond (ltb (length done) many) (ChainRead done [] (record { head = name; links = NoJoints; at = at })) (Stopped (TooMany at))
+    cond (ltb (length done) many) (ChainRead done [] (record { head = name; links = NoJoints; at = at }))
+    (Stopped (TooMany at))
 begin many done at _ = Stopped (Expected Statement at)
 
 -- a token behind an argument, which is the first of these
@@ -99,7 +101,8 @@ argue done stack chain call args at _ = Stopped (Expected WantClose at)
 -- a token behind a value
 abbrev pub settle : ℕ → List StmtTree → List Context → Context → ValTree → ℕ → Kind → State
 settle many done stack (Variable name place) value at kind = begin many (done ++ VarStmt name value place ∷ []) at kind
-settle many done stack (Argument chain call args) value at kind = argue done stack chain call (MoreVals value args) at kind
+settle many done stack (Argument chain call args) value at kind =
+    argue done stack chain call (MoreVals value args) at kind
 
 -- there are no links
 abbrev pub is_bare : JointTrees → Bool
@@ -135,7 +138,8 @@ value done stack context at (Literal lit) = ValueRead done stack context (LitVal
 value done stack context at (Operator Sub) = MinusRead done stack context at
 value done stack context at (Operator Mul) = star done stack context at
 value done stack context at Lambda = InLambda done stack context at (lambdas.OperandNext [] 0)
-value done stack context at (Ident name) = ChainRead done (context ∷ stack) (record { head = name; links = NoJoints; at = at })
+value done stack context at (Ident name) =
+    ChainRead done (context ∷ stack) (record { head = name; links = NoJoints; at = at })
 value done stack context at _ = Stopped (Expected Value at)
 
 -- a literal behind a minus
@@ -150,7 +154,8 @@ number done stack context place at _ = Stopped (Expected Value at)
 
 -- a token behind the name of a node or a property
 abbrev pub opening : ℕ → List StmtTree → List Context → Chain → Call → ℕ → Kind → State
-opening deep done stack chain call at OpenParen = cond (ltb (opens stack) deep) (ParenRead done stack chain call) (Stopped (Deep at))
+opening deep done stack chain call at OpenParen =
+    cond (ltb (opens stack) deep) (ParenRead done stack chain call) (Stopped (Deep at))
 opening deep done stack chain call at _ = Stopped (Expected WantOpen at)
 
 -- a token behind its parenthesis
@@ -160,7 +165,8 @@ opened done stack chain call at kind = value done stack (Argument chain call NoV
 
 -- a token in a lambda, by what the lambda makes of it
 abbrev pub within : ℕ → List StmtTree → List Context → Context → ℕ → ℕ → Kind → lambdas.State → State
-within many done stack context place at kind (lambdas.Ended tree) = settle many done stack context (LambdaVal tree place) at kind
+within many done stack context place at kind (lambdas.Ended tree) =
+    settle many done stack context (LambdaVal tree place) at kind
 within many done stack context place at kind (lambdas.Stopped fault) = Stopped fault
 within many done stack context place at kind inner = InLambda done stack context place inner
 
@@ -199,9 +205,11 @@ step deep wide many (DbRead done db at) token = dotted done db at token.start to
 step deep wide many (DotRead done db at) token = target done db at token.start token.kind
 step deep wide many (ValueNext done stack context) token = value done stack context token.start token.kind
 step deep wide many (MinusRead done stack context at) token = number done stack context at token.start token.kind
-step deep wide many (ValueRead done stack context value) token = settle many done stack context value token.start token.kind
+step deep wide many (ValueRead done stack context value) token =
+    settle many done stack context value token.start token.kind
 step deep wide many (InLambda done stack context at inner) token =
-    within many done stack context at token.start token.kind (lambdas.step (deep - (opens stack + opens_context context)) wide inner token)
+    within many done stack context at token.start token.kind
+    (lambdas.step (deep - (opens stack + opens_context context)) wide inner token)
 step deep wide many (ChainRead done stack chain) token = follow many done stack chain token.start token.kind
 step deep wide many (LinkRead done stack chain node) token = link done stack chain node token.start token.kind
 step deep wide many (CallRead done stack chain call) token = opening deep done stack chain call token.start token.kind

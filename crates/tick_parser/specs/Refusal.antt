@@ -102,17 +102,21 @@ Fills many tokens = (script : List StmtTree) × Reads tokens script × (length s
 -- or operator only a script goes on that has too many of them open, or too many binary ones in a lambda. TooMany: it
 -- begins a statement behind as many as there may be.
 abbrev pub Ends : ℕ → ℕ → ℕ → List Token → Token → ParseFault → Type 0
-Ends deep wide many before token (Expected want at) = (at ≡ token.start) × (Begins (before ++ token ∷ []) → ⊥) × Needs want before
+Ends deep wide many before token (Expected want at) =
+    (at ≡ token.start) × (Begins (before ++ token ∷ []) → ⊥) × Needs want before
 Ends deep wide many before token (Deep at) =
-    (at ≡ token.start) × IsOpening token.kind × Begins (before ++ token ∷ []) × (Opens deep wide (before ++ token ∷ []) → ⊥)
-Ends deep wide many before token (TooMany at) = (at ≡ token.start) × IsStart token.kind × Begins (before ++ token ∷ []) × Fills many before
+    (at ≡ token.start) × IsOpening token.kind × Begins (before ++ token ∷ [])
+    × (Opens deep wide (before ++ token ∷ []) → ⊥)
+Ends deep wide many before token (TooMany at) =
+    (at ≡ token.start) × IsStart token.kind × Begins (before ++ token ∷ []) × Fills many before
 Ends deep wide many before token NoMemory = ⊥
 
 -- the reading ends at none of these tokens
 abbrev pub GoesOn : ℕ → ℕ → ℕ → List Token → Type 0
 GoesOn deep wide many tokens =
     Begins tokens
-    × ((before after : List Token) (token : Token) (fault : ParseFault) → tokens ≡ before ++ token ∷ after → Ends deep wide many before token fault → ⊥)
+    × ((before after : List Token) (token : Token) (fault : ParseFault) → tokens ≡ before ++ token ∷ after
+    → Ends deep wide many before token fault → ⊥)
 
 -- the first token at which the reading ends, and why
 pub record Stops (deep wide many : ℕ) (tokens : List Token) (fault : ParseFault) : Type 0 where
@@ -134,7 +138,8 @@ end_of tokens = ended 0 tokens
 
 -- the tokens end before a script does
 abbrev pub Lacks : ℕ → ℕ → ℕ → List Token → ParseFault → Type 0
-Lacks deep wide many tokens (Expected want at) = (at ≡ end_of tokens) × GoesOn deep wide many tokens × (IsWhole tokens → ⊥) × Needs want tokens
+Lacks deep wide many tokens (Expected want at) =
+    (at ≡ end_of tokens) × GoesOn deep wide many tokens × (IsWhole tokens → ⊥) × Needs want tokens
 Lacks deep wide many tokens _ = ⊥
 
 -- the first place where no reading goes on, and why

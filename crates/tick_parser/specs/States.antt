@@ -42,7 +42,8 @@ IsCounted open_chain = open_chain.count ≡ machine.opens (contexts_of open_chai
 
 -- and where a value stands in this context
 abbrev pub IsCountedAt : Nesting → Context → Type 0
-IsCountedAt open_chain context = open_chain.count ≡ machine.opens (contexts_of open_chain) + machine.opens_context (context_of context)
+IsCountedAt open_chain context =
+    open_chain.count ≡ machine.opens (contexts_of open_chain) + machine.opens_context (context_of context)
 
 -- what the code holds, as a state of the reader of scripts
 abbrev pub state_of : State → machine.State
@@ -53,12 +54,16 @@ state_of (DbRead done db at) = machine.DbRead (script_tree done.items) db at
 state_of (DotRead done db at) = machine.DotRead (script_tree done.items) db at
 state_of (ValueNext o context) = machine.ValueNext (script_tree o.done.items) (contexts_of o) (context_of context)
 state_of (MinusRead o context at) = machine.MinusRead (script_tree o.done.items) (contexts_of o) (context_of context) at
-state_of (ValueRead o context v) = machine.ValueRead (script_tree o.done.items) (contexts_of o) (context_of context) (val_tree v)
-state_of (InLambda o context at lambda) = machine.InLambda (script_tree o.done.items) (contexts_of o) (context_of context) at (lambda_of lambda)
+state_of (ValueRead o context v) =
+    machine.ValueRead (script_tree o.done.items) (contexts_of o) (context_of context) (val_tree v)
+state_of (InLambda o context at lambda) =
+    machine.InLambda (script_tree o.done.items) (contexts_of o) (context_of context) at (lambda_of lambda)
 state_of (ChainRead o chain) = machine.ChainRead (script_tree o.done.items) (contexts_of o) (chain_of chain)
 state_of (LinkRead o chain node) = machine.LinkRead (script_tree o.done.items) (contexts_of o) (chain_of chain) node
-state_of (CallRead o chain call) = machine.CallRead (script_tree o.done.items) (contexts_of o) (chain_of chain) (call_of call)
-state_of (ParenRead o chain call) = machine.ParenRead (script_tree o.done.items) (contexts_of o) (chain_of chain) (call_of call)
+state_of (CallRead o chain call) =
+    machine.CallRead (script_tree o.done.items) (contexts_of o) (chain_of chain) (call_of call)
+state_of (ParenRead o chain call) =
+    machine.ParenRead (script_tree o.done.items) (contexts_of o) (chain_of chain) (call_of call)
 
 -- the code's count of open parentheses is right in this state
 abbrev pub IsCountedState : State → Type 0

@@ -29,8 +29,8 @@ pub enum Want {
     Operand,
 }
 
-/// The first fault, and its place: that of the token which doesn't fit, or of the end of the last token where the
-/// tokens end too early, and 0 where there are none.
+/// The first fault, and its place: that of the token which doesn't fit, or of the end of the last token where
+/// the tokens end too early, and 0 where there are none.
 #[derive(Clone, Copy, Debug, PartialEq, Eq)]
 pub enum ParseFault {
     /// No script goes on with this token. What the grammar needs in its stead.

@@ -14,9 +14,9 @@ use crate::state::State;
 use std::alloc::Global;
 use tick_lexer::{Token, Tokens};
 
-/// The one script of the tokens, or the first place where no reading goes on (Kapacitor 1.6 TICKscript language
-/// reference: Syntax). It has at most 4,096 statements, at most 64 parentheses and unary operators are open at a
-/// token, and a lambda has at most 512 binary operators. It goes over the tokens once.
+/// The one script of the tokens, or the first place where no reading goes on (Kapacitor 1.6 TICKscript
+/// language reference: Syntax). It has at most 4,096 statements, at most 64 parentheses and unary operators
+/// are open at a token, and a lambda has at most 512 binary operators. It goes over the tokens once.
 pub fn parse(alloc: Global, tokens: &Tokens) -> Result<Tree, ParseFault>
     ensures tree { IfOk result (λ tree. IsScriptOf tokens.now (script_tree tree)) }
     ensures fault { IfErr result (λ fault. (fault ≡ NoMemory) ⊎ IsRefused tokens.now fault) }

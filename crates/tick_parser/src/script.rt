@@ -9,7 +9,8 @@ use std::mem;
 /// The statements of a script, in order.
 pub type Tree = ItemList<Stmt>;
 
-/// A statement (Kapacitor 1.6 TICKscript language reference: Statements). Each place is a byte offset in the script.
+/// A statement (Kapacitor 1.6 TICKscript language reference: Statements). Each place is a byte offset in the
+/// script.
 #[derive(Drop)]
 pub enum Stmt {
     /// A variable and what it stands for; the place is that of the word `var`.

@@ -28,7 +28,8 @@ pub(crate) struct Call {
 pub(crate) enum Context {
     /// It is what a variable stands for.
     Variable(Text, u32),
-    /// It is an argument. The links of the chain and the arguments that were read go from the last to the first.
+    /// It is an argument. The links of the chain and the arguments that were read go from the last to the
+    /// first.
     Argument(Chain, Call, Vals),
 }
 

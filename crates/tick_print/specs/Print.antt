@@ -22,7 +22,8 @@ string_text text = cond (ends_with backslash text) (codes "'''" ++ (text ++ code
 abbrev pub divides : units.Unit → ℕ → Bool
 divides unit nanos = eqb (nanos % unit_nanos unit) 0
 
--- the largest unit that divides this many nanoseconds, of those that are written in ASCII; the least one where none does
+-- the largest unit that divides this many nanoseconds, of those that are written in ASCII; the least one where none
+-- does
 abbrev pub largest_unit : ℕ → units.Unit
 largest_unit nanos =
     cond (divides Week nanos) Week
@@ -63,7 +64,8 @@ abbrev mutual
   tree_text (GroupTree inner at) = codes "(" ++ (tree_text inner ++ codes ")")
   tree_text (NegTree operand at) = codes "-" ++ tree_text operand
   tree_text (NotTree operand at) = codes "!" ++ tree_text operand
-  tree_text (BinTree op left right at) = tree_text left ++ (codes " " ++ (operator_bytes op ++ (codes " " ++ tree_text right)))
+  tree_text (BinTree op left right at) =
+      tree_text left ++ (codes " " ++ (operator_bytes op ++ (codes " " ++ tree_text right)))
 
   -- arguments, and the parenthesis behind them
   pub args_text : Trees → List ℕ
@@ -96,7 +98,8 @@ abbrev mutual
   -- nodes behind `|`, properties behind a dot
   pub joints_text : JointTrees → List ℕ
   joints_text NoJoints = []
-  joints_text (MoreJoints node name args at rest) = cond node (codes "|") (codes ".") ++ (name ++ (codes "(" ++ (vals_text args ++ joints_text rest)))
+  joints_text (MoreJoints node name args at rest) =
+      cond node (codes "|") (codes ".") ++ (name ++ (codes "(" ++ (vals_text args ++ joints_text rest)))
 
 -- a statement
 abbrev pub stmt_text : StmtTree → List ℕ

@@ -15,8 +15,8 @@ use std::alloc::Global;
 use tick_lexer::{LexFault, Tokens, lex, text_reads_in_one_way};
 use tick_parser::{ParseFault, Tree, not_both, one_tree, parse};
 
-/// The print of a script that was read is read as that script, places aside, whatever its length. It does nothing: its
-/// contract is that law.
+/// The print of a script that was read is read as that script, places aside, whatever its length. It does
+/// nothing: its contract is that law.
 pub fn print_is_read_again()
     ensures { (script : List StmtTree) → WasRead script → IsTextOf script (script_text script) }
 {}
@@ -51,8 +51,9 @@ fn script_of(alloc: Global, tokens: &Tokens) -> Result<Tree, NoMemory>
     }
 }
 
-/// A script that was read, printed, and read again by `lex` and `parse`: it is the same, places aside. `None` comes where
-/// its print has more than the 65,536 bytes that `lex` takes. `NoMemory` comes where an allocation fails.
+/// A script that was read, printed, and read again by `lex` and `parse`: it is the same, places aside. `None`
+/// comes where its print has more than the 65,536 bytes that `lex` takes. `NoMemory` comes where an
+/// allocation fails.
 pub fn reread(alloc: Global, tree: &Tree) -> Result<Option<Tree>, NoMemory>
     requires { WasRead (script_tree tree.now) }
     ensures same { IfOk result (λ again. IfSome again

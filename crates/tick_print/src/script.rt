@@ -91,12 +91,12 @@ fn write_stmt(stmt: &Stmt, out: &mut String) -> Result<(), NoMemory>
     }
 }
 
-/// A script's canonical text, without its comments: each statement on a line of its own, with its line feed, and single
-/// spaces around `=` and binary operators, behind commas, `var`, `dbrp` and `lambda:`, and nowhere else. A string is in
-/// single quotes, or in three where it ends in a backslash; a duration has the largest unit that divides it, and none is
-/// `0s` (a part of a microsecond, which no script can give, is left out). It goes over the script once. `NoMemory` comes
-/// where an allocation fails.
-/// Kapacitor 1.6 TICKscript language reference: Syntax; the choice among its spellings is this project's.
+/// A script's canonical text, without its comments: each statement on a line of its own, with its line feed,
+/// and single spaces around `=` and binary operators, behind commas, `var`, `dbrp` and `lambda:`, and nowhere
+/// else. A string is in single quotes, or in three where it ends in a backslash; a duration has the largest
+/// unit that divides it, and none is `0s` (a part of a microsecond, which no script can give, is left out).
+/// It goes over the script once. `NoMemory` comes where an allocation fails. Kapacitor 1.6 TICKscript
+/// language reference: Syntax; the choice among its spellings is this project's.
 pub fn print(alloc: Global, tree: &Tree) -> Result<Text, NoMemory>
     ensures { IfOk result (λ text. text ≡ script_text (script_tree tree.now)) }
 {

@@ -1,4 +1,5 @@
--- Which fault of names a script has, and where: the names that stand in it, from left to right, and what is needed of each.
+-- Which fault of names a script has, and where: the names that stand in it, from left to right, and what is needed of
+-- each.
 use Rattle.std.specs.Prelude.{◌≡◌, ℕ, Bool, true, false, ◌||◌, List, [], ◌∷◌, ◌++◌, Option, Some, None, is_some}
 use Rattle.kap_base.specs.Tree.{Tree, LitTree, RefTree, NameTree, CallTree, GroupTree, NegTree, NotTree, BinTree, Trees, NoTrees, MoreTrees}
 use Rattle.tick_parser.specs.Trees.{ValTree, LitVal, StarVal, LambdaVal, ChainVal, ValTrees, NoVals, MoreVals, JointTrees, NoJoints, MoreJoints, StmtTree, VarStmt, DbrpStmt, ChainStmt}
@@ -8,15 +9,16 @@ use Rattle.tick_vars.specs.Nodes.{ArgTree, NodeArg}
 use Rattle.tick_vars.specs.Names.{Scope, first_scope, is_batch}
 use Rattle.tick_vars.specs.Law.{IsValue, IsWellNamed, events_of, in_the_end}
 
--- what is needed of a name: behind `var` that it is new, as an argument that it stands for something, before `|` or `.` that it stands
--- for a node, and in a lambda that it stands for a value
+-- what is needed of a name: behind `var` that it is new, as an argument that it stands for something, before `|` or `.`
+-- that it stands for a node, and in a lambda that it stands for a value
 pub data Need : Type 0 where
   New : Need
   Known : Need
   ForNode : Need
   ForValue : Need
 
--- a name that stands in a script, with what is needed of it there; the place is its own, but that of the word `var` before a new name
+-- a name that stands in a script, with what is needed of it there; the place is its own, but that of the word `var`
+-- before a new name
 pub record Use : Type 0 where
   pub need : Need
   pub name : List ℕ
@@ -104,8 +106,8 @@ AllHold scope (it ∷ others) = Holds scope it × AllHold scope others
 abbrev pub Breaks : Scope → Use → VarFault → Type 0
 Breaks scope it fault = Misses (is_batch it.name) (scope it.name) it.need fault × (fault_place fault ≡ it.at)
 
--- the script's first fault of names, from left to right: the statements before are in order, and so are the names before it in its
--- own statement
+-- the script's first fault of names, from left to right: the statements before are in order, and so are the names
+-- before it in its own statement
 pub record HasFirstNameFault (script : List StmtTree) (fault : VarFault) : Type 0 where
   pub before : List StmtTree
   pub stmt : StmtTree

@@ -1,4 +1,5 @@
--- A bound script in its own words: what it does one after the other, which takes no look at names, and what its names stand for in the end.
+-- A bound script in its own words: what it does one after the other, which takes no look at names, and what its names
+-- stand for in the end.
 use Rattle.std.specs.Prelude.{◌≡◌, ℕ, ◌+◌, ◌<◌, true, false, ◌==◌, if◌then◌else◌, List, [], ◌∷◌, ◌++◌, map, length, Option, Some, unwrap_or}
 use Rattle.kap_base.specs.declared.expr.Lit.{Lit}
 use Rattle.kap_base.specs.declared.expr.Lit.TheVariants as lits
@@ -21,8 +22,8 @@ pub data Written : Type 0 where
   FromLambda : (body : Tree) (at : ℕ) → Written
   FromChain : (last : Upstream) (at : ℕ) → Written
 
--- what a script does: `|` makes a node, `.` sets a property, `var` declares a name, a chain as a statement uses what it ends with, and
--- `dbrp` names a pair
+-- what a script does: `|` makes a node, `.` sets a property, `var` declares a name, a chain as a statement uses what it
+-- ends with, and `dbrp` names a pair
 pub data Event : Type 0 where
   MakesNode : (kind : List ℕ) (under : Upstream) (args : List Written) (at : ℕ) → Event
   SetsProp : (name : List ℕ) (on : Upstream) (args : List Written) (at : ℕ) → Event
@@ -46,11 +47,12 @@ abbrev mutual
   pipes_along NoJoints = 0
   pipes_along (MoreJoints node name args at rest) = pipes_among args + (if node then 1 else 0) + pipes_along rest
 
--- The end of a chain: its last `|`, or what it goes on from. Nodes are numbered in the order in which they are made, from the
--- number that is next; those among the arguments of a `|` come before its own.
+-- The end of a chain: its last `|`, or what it goes on from. Nodes are numbered in the order in which they are made,
+-- from the number that is next; those among the arguments of a `|` come before its own.
 abbrev pub chain_end : ℕ → Upstream → JointTrees → Upstream
 chain_end next on NoJoints = on
-chain_end next on (MoreJoints true name args at rest) = chain_end (next + pipes_among args + 1) (OnNode (next + pipes_among args)) rest
+chain_end next on (MoreJoints true name args at rest) =
+    chain_end (next + pipes_among args + 1) (OnNode (next + pipes_among args)) rest
 chain_end next on (MoreJoints false name args at rest) = chain_end (next + pipes_among args) on rest
 
 -- a value as the script has it, where this number is next
@@ -80,15 +82,19 @@ abbrev mutual
   pub done_along : ℕ → Upstream → JointTrees → List Event
   done_along next on NoJoints = []
   done_along next on (MoreJoints true name args at rest) =
-      done_among next args ++ MakesNode name on (written_vals next args) at ∷ done_along (next + pipes_among args + 1) (OnNode (next + pipes_among args)) rest
+      done_among next args
+      ++ MakesNode name on (written_vals next args) at ∷ done_along (next + pipes_among args + 1)
+      (OnNode (next + pipes_among args)) rest
   done_along next on (MoreJoints false name args at rest) =
-      done_among next args ++ SetsProp name on (written_vals next args) at ∷ done_along (next + pipes_among args) on rest
+      done_among next args
+      ++ SetsProp name on (written_vals next args) at ∷ done_along (next + pipes_among args) on rest
 
 -- what a statement does
 abbrev pub done_by : ℕ → StmtTree → List Event
 done_by next (VarStmt name value at) = done_in next value ++ DeclaresName name (written_val next value) ∷ []
 done_by next (DbrpStmt db rp at) = NamesDbrp (record { db = db; rp = rp }) ∷ []
-done_by next (ChainStmt head links at) = done_along next (OnName head) links ++ UsesValue (written_val next (ChainVal head links at)) ∷ []
+done_by next (ChainStmt head links at) =
+    done_along next (OnName head) links ++ UsesValue (written_val next (ChainVal head links at)) ∷ []
 
 -- how many `|` stand in a statement
 abbrev pub pipes_of : StmtTree → ℕ
@@ -154,14 +160,22 @@ in_the_end scope (event ∷ events) = in_the_end scope events
 abbrev pub props_on : Scope → ℕ → List Event → List PropTree
 props_on scope number [] = []
 props_on scope number (SetsProp name on args at ∷ events) =
-    if node_at scope on == number then record { name = name; args = map (arg_of scope) args; at = at } ∷ props_on scope number events else props_on scope number events
+    if node_at scope on == number
+    then record { name = name; args = map (arg_of scope) args; at = at } ∷ props_on scope number events
+    else props_on scope number events
 props_on scope number (event ∷ events) = props_on scope number events
 
 -- the nodes that are made, in order, from the number that is next, where each number has these properties
 abbrev pub nodes_made : Scope → (ℕ → List PropTree) → ℕ → List Event → List NodeTree
 nodes_made scope props next [] = []
 nodes_made scope props next (MakesNode kind under args at ∷ events) =
-    record { kind = kind; parent = node_at scope under; args = map (arg_of scope) args; props = props next; at = at } ∷ nodes_made scope props (next + 1) events
+    record {
+      kind = kind;
+      parent = node_at scope under;
+      args = map (arg_of scope) args;
+      props = props next;
+      at = at;
+    } ∷ nodes_made scope props (next + 1) events
 nodes_made scope props next (event ∷ events) = nodes_made scope props next events
 
 -- the pairs of a database and a retention policy, in order
@@ -170,15 +184,16 @@ dbrps_seen [] = []
 dbrps_seen (NamesDbrp dbrp ∷ events) = dbrp ∷ dbrps_seen events
 dbrps_seen (event ∷ events) = dbrps_seen events
 
--- The script as it is written: behind the stream its `|` in the order in which they are made, each with its arguments and with the
--- properties that are set on it, and its pairs. Names are what they stand for in the end.
+-- The script as it is written: behind the stream its `|` in the order in which they are made, each with its arguments
+-- and with the properties that are set on it, and its pairs. Names are what they stand for in the end.
 abbrev pub as_written : List StmtTree → BoundTree
 as_written script =
     let events = events_of script in
     let scope = in_the_end first_scope events in
     record {
       dbrps = dbrps_seen events;
-      nodes = record stream_node { props = props_on scope 0 events } ∷ nodes_made scope (λ number. props_on scope number events) 1 events;
+      nodes = record stream_node { props = props_on scope 0 events } ∷ nodes_made scope
+          (λ number. props_on scope number events) 1 events;
     }
 
 -- no name stands in the lambda
@@ -214,13 +229,15 @@ abbrev pub PropsSettled : ℕ → List PropTree → Type 0
 PropsSettled below [] = Unit {0}
 PropsSettled below (prop ∷ props) = AllSettled below prop.args × PropsSettled below props
 
--- Nodes from the one with this number on: each one's parent and the nodes among its arguments have lower numbers than its own, and
--- those among the arguments of its properties lower ones than the count of all nodes.
+-- Nodes from the one with this number on: each one's parent and the nodes among its arguments have lower numbers than
+-- its own, and those among the arguments of its properties lower ones than the count of all nodes.
 abbrev pub NodesSettled : ℕ → ℕ → List NodeTree → Type 0
 NodesSettled count number [] = Unit {0}
-NodesSettled count number (node ∷ nodes) = (node.parent < number) × AllSettled number node.args × PropsSettled count node.props × NodesSettled count (number + 1) nodes
+NodesSettled count number (node ∷ nodes) = (node.parent < number) × AllSettled number node.args
+    × PropsSettled count node.props × NodesSettled count (number + 1) nodes
 
--- a script whose nodes stand before those that refer to them, and in whose lambdas no name is left; the first node is the stream
+-- a script whose nodes stand before those that refer to them, and in whose lambdas no name is left; the first node is
+-- the stream
 pub record IsSettled (bound : BoundTree) : Type 0 where
   pub props : List PropTree
   pub others : List NodeTree

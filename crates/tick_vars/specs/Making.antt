@@ -19,4 +19,5 @@ made_with seen nodes x = record { value = seen x; nodes = node_trees nodes }
 
 -- what a binder has made
 abbrev pub made_by : Binder → Progress
-made_by binder = record { scope = scope_of binder.names; nodes = node_trees binder.nodes.items; dbrps = binder.dbrps.items }
+made_by binder =
+    record { scope = scope_of binder.names; nodes = node_trees binder.nodes.items; dbrps = binder.dbrps.items }

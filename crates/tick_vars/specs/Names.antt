@@ -69,11 +69,13 @@ abbrev mutual
   bound_lambda scope (GroupTree inner at) = bound_lambda scope inner >>= λ inner. Ok (GroupTree inner at)
   bound_lambda scope (NegTree operand at) = bound_lambda scope operand >>= λ operand. Ok (NegTree operand at)
   bound_lambda scope (NotTree operand at) = bound_lambda scope operand >>= λ operand. Ok (NotTree operand at)
-  bound_lambda scope (BinTree op left right at) = bound_lambda scope left >>= λ left. bound_lambda scope right >>= λ right. Ok (BinTree op left right at)
+  bound_lambda scope (BinTree op left right at) =
+      bound_lambda scope left >>= λ left. bound_lambda scope right >>= λ right. Ok (BinTree op left right at)
 
   pub bound_lambdas : Scope → Trees → Result Trees VarFault
   bound_lambdas scope NoTrees = Ok NoTrees
-  bound_lambdas scope (MoreTrees first rest) = bound_lambda scope first >>= λ first. bound_lambdas scope rest >>= λ rest. Ok (MoreTrees first rest)
+  bound_lambdas scope (MoreTrees first rest) =
+      bound_lambda scope first >>= λ first. bound_lambdas scope rest >>= λ rest. Ok (MoreTrees first rest)
 
 -- what each name of a map stands for
 abbrev pub scope_of : {S : Type 0} → HashMap (Bor (List ℕ)) Arg S → Scope

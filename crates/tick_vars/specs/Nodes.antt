@@ -22,7 +22,8 @@ pub record PropTree : Type 0 where
   pub args : List ArgTree
   pub at : ℕ
 
--- a node: its kind, the number of the node under which it stands, its arguments and properties, and the place of its kind
+-- a node: its kind, the number of the node under which it stands, its arguments and properties, and the place of its
+-- kind
 pub record NodeTree : Type 0 where
   pub kind : List ℕ
   pub parent : ℕ
@@ -52,7 +53,14 @@ prop_tree prop = record { name = prop.name; args = arg_trees prop.args; at = pro
 
 -- the tree of a node
 abbrev pub node_tree : RawNode → NodeTree
-node_tree node = record { kind = node.kind; parent = node.parent; args = arg_trees node.args; props = map prop_tree node.props; at = node.at }
+node_tree node =
+    record {
+      kind = node.kind;
+      parent = node.parent;
+      args = arg_trees node.args;
+      props = map prop_tree node.props;
+      at = node.at;
+    }
 
 -- the trees of nodes
 abbrev pub node_trees : List RawNode → List NodeTree

@@ -107,11 +107,11 @@ fn bind_all(alloc: Global, stmts: &[Stmt]) -> Result<Binder<'_>, VarFault>
     Ok(binder)
 }
 
-/// A script with its names bound (Kapacitor 1.6 TICKscript language reference: Variables, Nodes, Chaining), or its first
-/// fault from left to right, as `first_fault_of_names` says. It goes over the script once. A name that stands for a literal,
-/// a node or a lambda is replaced by it wherever it is used; texts and lambdas are shared by all uses, so a use takes the
-/// room of an `Arg`, however long they are. `NoMemory` comes where an allocation fails, and at a node that would get the
-/// number 2^32.
+/// A script with its names bound (Kapacitor 1.6 TICKscript language reference: Variables, Nodes, Chaining),
+/// or its first fault from left to right, as `first_fault_of_names` says. It goes over the script once. A
+/// name that stands for a literal, a node or a lambda is replaced by it wherever it is used; texts and
+/// lambdas are shared by all uses, so a use takes the room of an `Arg`, however long they are. `NoMemory`
+/// comes where an allocation fails, and at a node that would get the number 2^32.
 pub fn bind(alloc: Global, tree: &Tree) -> Result<Bound, VarFault>
     ensures bound { IfOk result (λ bound. bound_of (script_tree tree.now) ≡ Ok (bound_tree bound)) }
     ensures fault { IfErr result (λ fault. fault ≢ VarFault.NoMemory →

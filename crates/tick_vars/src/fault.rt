@@ -13,7 +13,8 @@ pub enum VarFault {
     Unknown(u32),
     /// This word `var` stands before a name that is `stream`, `batch`, or declared before.
     Twice(u32),
-    /// This name stands in a lambda, and for something else than an integer, a truth value, a string or a pattern.
+    /// This name stands in a lambda, and for something else than an integer, a truth value, a string or a
+    /// pattern.
     NotValue(u32),
     /// A node or a property stands behind this name, which is no node.
     NotNode(u32),

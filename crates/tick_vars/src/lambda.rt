@@ -10,7 +10,8 @@ use crate::names::{Names, look_up};
 use kap_base::{Duplicate, Expr, Exprs};
 use std::alloc::Global;
 
-/// An expression with values in the place of names. It calls itself for the parts of the expression, as deep as the parser lets them lie.
+/// An expression with values in the place of names. It calls itself for the parts of the expression, as deep
+/// as the parser lets them lie.
 #[cycle(lambda)]
 pub(crate) fn bind_lambda(alloc: Global, names: &Names, expr: &Expr) -> Result<Expr, VarFault>
     ensures { Gives tree_of result (bound_lambda (scope_of names.now) (tree_of expr.now)) }

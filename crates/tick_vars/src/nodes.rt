@@ -2,16 +2,16 @@
 
 use kap_base::{Dbrps, ItemList, Lit, SharedExpr, Text};
 
-/// An argument of a node or a property. The number last in each variant is a place, a byte offset in the script. What stands
-/// for a name has the place of that name, but for a lambda, which keeps its own.
+/// An argument of a node or a property. The number last in each variant is a place, a byte offset in the
+/// script. What stands for a name has the place of that name, but for a lambda, which keeps its own.
 #[derive(Drop)]
 pub enum Arg {
     /// A literal.
     Lit(Lit, u32),
     /// The star, which stands for every dimension.
     Star(u32),
-    /// A lambda with its literals in the place of names, shared by all that its name hands it to; the place is that of the
-    /// word `lambda`.
+    /// A lambda with its literals in the place of names, shared by all that its name hands it to; the place
+    /// is that of the word `lambda`.
     Lambda(SharedExpr, u32),
     /// A node by its number; the place is that of the name with which its chain begins.
     Node(u32, u32),
@@ -34,8 +34,8 @@ pub struct Prop {
 /// The properties that are set on a node, in the order of the script.
 pub type Props = ItemList<Prop>;
 
-/// A node of a script (Kapacitor 1.6 TICKscript language reference: Nodes), of any kind and with any arguments: what kinds
-/// there are, and what they take, isn't asked here.
+/// A node of a script (Kapacitor 1.6 TICKscript language reference: Nodes), of any kind and with any
+/// arguments: what kinds there are, and what they take, isn't asked here.
 #[derive(Drop)]
 pub struct RawNode {
     /// Its kind, the name behind `|`.

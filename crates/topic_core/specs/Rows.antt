@@ -23,24 +23,29 @@ RepeatedLevel =
 abbrev pub BackToFine : Type 0
 BackToFine =
     Trans (event (codes "t") (codes "a") Critical 1 ∷ event (codes "t") (codes "a") Fine 2 ∷ [])
-    ≡ transition 1 Fine (event (codes "t") (codes "a") Critical 1) ∷ transition 2 Critical (event (codes "t") (codes "a") Fine 2) ∷ []
+    ≡ transition 1 Fine (event (codes "t") (codes "a") Critical 1) ∷ transition 2 Critical
+    (event (codes "t") (codes "a") Fine 2) ∷ []
 
 -- two ids of one topic are apart, though they come in turn
 abbrev pub TwoIds : Type 0
 TwoIds =
-    Trans (event (codes "t") (codes "a") Warning 1 ∷ event (codes "t") (codes "b") Warning 1 ∷ event (codes "t") (codes "a") Warning 2 ∷ [])
-    ≡ transition 1 Fine (event (codes "t") (codes "a") Warning 1) ∷ transition 2 Fine (event (codes "t") (codes "b") Warning 1) ∷ []
+    Trans (event (codes "t") (codes "a") Warning 1 ∷ event (codes "t") (codes "b") Warning 1 ∷ event (codes "t")
+    (codes "a") Warning 2 ∷ [])
+    ≡ transition 1 Fine (event (codes "t") (codes "a") Warning 1) ∷ transition 2 Fine
+    (event (codes "t") (codes "b") Warning 1) ∷ []
 
 -- one id of two topics is two
 abbrev pub TwoTopics : Type 0
 TwoTopics =
     Trans (event (codes "t") (codes "a") Info 1 ∷ event (codes "u") (codes "a") Info 2 ∷ [])
-    ≡ transition 1 Fine (event (codes "t") (codes "a") Info 1) ∷ transition 2 Fine (event (codes "u") (codes "a") Info 2) ∷ []
+    ≡ transition 1 Fine (event (codes "t") (codes "a") Info 1) ∷ transition 2 Fine
+    (event (codes "u") (codes "a") Info 2) ∷ []
 
 -- two senders that share an id take its level from each other
 abbrev pub SharedId : Type 0
 SharedId =
-    Trans (event (codes "t") (codes "a") Critical 1 ∷ event (codes "t") (codes "a") Fine 2 ∷ event (codes "t") (codes "a") Critical 3 ∷ [])
+    Trans (event (codes "t") (codes "a") Critical 1 ∷ event (codes "t") (codes "a") Fine 2 ∷ event (codes "t")
+    (codes "a") Critical 3 ∷ [])
     ≡ transition 1 Fine (event (codes "t") (codes "a") Critical 1)
     ∷ transition 2 Critical (event (codes "t") (codes "a") Fine 2)
     ∷ transition 3 Fine (event (codes "t") (codes "a") Critical 3)

@@ -45,8 +45,8 @@ last_level topic id level (e ∷ es) = last_level topic id (if is_of topic id e.
 abbrev pub change : Level → Event → List (Level × Event)
 change old e = if same_level old e.level then [] else (old, e) ∷ []
 
--- The later events whose level differs from that of the last event before of the same topic and id, OK at first. Each stands
--- with that level; `earlier` are the events before the later ones.
+-- The later events whose level differs from that of the last event before of the same topic and id, OK at first. Each
+-- stands with that level; `earlier` are the events before the later ones.
 unfoldable pub changes : List Event → List Event → List (Level × Event)
 changes earlier [] = []
 changes earlier (e ∷ later) = change (last_level e.topic e.id Fine earlier) e ++ changes (earlier ++ e ∷ []) later
@@ -54,15 +54,23 @@ changes earlier (e ∷ later) = change (last_level e.topic e.id Fine earlier) e 
 -- the transition of this number: the number stands still at the end of its type
 abbrev pub transition : ℕ → Level → Event → Transition
 transition n old e =
-    record { number = min n (2 ^ 64 - 1); topic = e.topic; id = e.id; old_level = old; new_level = e.level; time = e.time; message = e.message }
+    record {
+      number = min n (2 ^ 64 - 1);
+      topic = e.topic;
+      id = e.id;
+      old_level = old;
+      new_level = e.level;
+      time = e.time;
+      message = e.message;
+    }
 
 -- the transitions of these changes, numbered from n on
 unfoldable pub numbered : ℕ → List (Level × Event) → List Transition
 numbered n [] = []
 numbered n (c ∷ cs) = transition n c.0 c.1 ∷ numbered (n + 1) cs
 
--- The transitions of a list of events: those whose level differs from the last earlier event of the same topic and id, OK at
--- first, numbered from 1.
+-- The transitions of a list of events: those whose level differs from the last earlier event of the same topic and id,
+-- OK at first, numbered from 1.
 abbrev pub Trans : List Event → List Transition
 Trans events = numbered 1 (changes [] events)
 
@@ -93,13 +101,15 @@ topic_level levels topic = option_map (λ ids. greatest_level (entries ids)) (ge
 abbrev pub put_level : KeyMap (KeyMap Level) → List ℕ → List ℕ → Level → KeyMap (KeyMap Level)
 put_level levels topic id level = insert levels topic (insert (unwrap_or (get levels topic) empty) id level)
 
--- What is kept stands for these events: the count is that of their transitions, the level of a topic and id is that of the last
--- event, and the topics and ids that are kept are those that had a transition.
+-- What is kept stands for these events: the count is that of their transitions, the level of a topic and id is that of
+-- the last event, and the topics and ids that are kept are those that had a transition.
 pub record StandsFor (events : List Event) (kept : TopicsValue) : Type 0 where
   pub count : kept.count ≡ min (length (Trans events)) (2 ^ 64 - 1)
   pub level : (topic id : List ℕ) → level_before kept.levels topic id ≡ last_level topic id Fine events
-  pub ids : (topic id : List ℕ) → is_some (level_at kept.levels topic id) ≡ list_any (λ t. is_of topic id t.topic t.id) (Trans events)
-  pub topics : (topic : List ℕ) → contains_key kept.levels topic ≡ list_any (λ t. same_text topic t.topic) (Trans events)
+  pub ids : (topic id : List ℕ)
+      → is_some (level_at kept.levels topic id) ≡ list_any (λ t. is_of topic id t.topic t.id) (Trans events)
+  pub topics : (topic : List ℕ)
+      → contains_key kept.levels topic ≡ list_any (λ t. same_text topic t.topic) (Trans events)
 
 -- the answer to the next event
 abbrev pub answer : TopicsValue → Event → Option Transition

@@ -5,8 +5,8 @@ ghost use Rattle.kap_base.specs.declared.items.Event.{Event};
 ghost use Rattle.topic_core.specs.Rows.{BackToFine, FirstIsFine, GreatestOfIds, GreatestOfNone, RepeatedLevel, SharedId, TwoIds, TwoTopics};
 ghost use Rattle.topic_core.specs.Topics.{StandsFor, TopicsValue, Trans, event_of};
 
-/// Transitions stand for their events: taken as events again they make the same transitions, and what is kept of the one is what is
-/// kept of the other.
+/// Transitions stand for their events: taken as events again they make the same transitions, and what is kept
+/// of the one is what is kept of the other.
 pub fn transition_laws()
     ensures again { (events : List Event) → Trans (map event_of (Trans events)) ≡ Trans events }
     ensures stand { (events : List Event) (kept : TopicsValue) → StandsFor events kept

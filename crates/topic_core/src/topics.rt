@@ -12,7 +12,8 @@ use kap_base::{Duplicate, Event, Level, NoMemory, Text};
 use std::alloc::Global;
 use std::marker::Model;
 
-/// What is kept of the events so far: how many transitions they made, and the last level of each topic and id that had one.
+/// What is kept of the events so far: how many transitions they made, and the last level of each topic and id
+/// that had one.
 #[derive(Debug, Drop)]
 pub struct Topics {
     count: u64,
@@ -64,8 +65,8 @@ impl Topics {
         }
     }
 
-    /// Takes the next event. It is a transition exactly where its level differs from the last one of its topic and id, OK at
-    /// first. After `NoMemory` nothing has changed.
+    /// Takes the next event. It is a transition exactly where its level differs from the last one of its
+    /// topic and id, OK at first. After `NoMemory` nothing has changed.
     pub fn accept(&mut self, alloc: Global, event: &Event) -> Result<Option<Transition>, NoMemory>
         ensures answer { IfOk result (λ t. t ≡ answer self.old event.now) }
         ensures kept { OnOk result (self.new ≡ kept_after self.old event.now) }
@@ -104,7 +105,8 @@ impl Topics {
         self.levels.greatest(topic)
     }
 
-    /// How many transitions there were, which is the number of the last one; it stands still at the end of its type.
+    /// How many transitions there were, which is the number of the last one; it stands still at the end of
+    /// its type.
     pub fn count(&self) -> u64
         ensures { result ≡ self.now.count }
     {

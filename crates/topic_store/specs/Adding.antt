@@ -12,7 +12,8 @@ use Rattle.topic_store.specs.declared.fault.StoreFault.TheVariants.{NotStore, Di
 abbrev pub stands_before_or_after : List Rec → Rec → Image → Image → Type 0
 stands_before_or_after rs r old files = Stands rs files ⊎ Stands (rs ++ r ∷ []) files
 
--- Want of memory and a long body change nothing. A fault of the disk spends the store, and comes only where the count rose.
+-- Want of memory and a long body change nothing. A fault of the disk spends the store, and comes only where the count
+-- rose.
 abbrev pub AddFault : {D : Type 0} → Result (Unit {0}) StoreFault → D → D → StoreState → StoreState → Type 0 → Type 0
 AddFault (Ok _) before after old new rose = ⊤
 AddFault (Err DiskFault) before after old new rose = (new.log.spent ≡ true) × rose

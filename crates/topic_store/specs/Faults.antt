@@ -6,7 +6,8 @@ use Rattle.gate_log.specs.declared.fault.LogFault.TheVariants as log
 use Rattle.topic_store.specs.declared.fault.StoreFault.{StoreFault}
 use Rattle.topic_store.specs.declared.fault.StoreFault.TheVariants.{NotStore, DiskFault, Long, NoMemory}
 
--- a file that doesn't begin as a head or a log does is none at offset 0, and a record that runs past the end at its gate
+-- a file that doesn't begin as a head or a log does is none at offset 0, and a record that runs past the end at its
+-- gate
 abbrev pub fault_in : Part → LogFault → StoreFault
 fault_in part log.Header = NotStore part 0
 fault_in part (log.Torn offset) = NotStore part offset

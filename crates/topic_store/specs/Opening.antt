@@ -40,13 +40,16 @@ NamesOrNot files (Err Long) = ⊥
 
 -- the record behind these bodies, with its gate at this offset, runs past the end or is too long
 abbrev pub IsNoNext : List (List ℕ) → ℕ → List ℕ → Type 0
-IsNoNext bodies offset file = IsTornBehind bodies offset file ⊎ ((offset ≡ length (bytes_of bodies)) × IsLongBehind bodies file)
+IsNoNext bodies offset file =
+    IsTornBehind bodies offset file ⊎ ((offset ≡ length (bytes_of bodies)) × IsLongBehind bodies file)
 
 -- what stands behind these bodies: one more, or the closed gate of the log that they are, or none that may be read
-abbrev pub NextOrNot : List (List ℕ) → Image → (Image → Type 0) → ReaderState → ReaderState → Result (Option (ℕ × List ℕ)) StoreFault → Type 0
+abbrev pub NextOrNot : List (List ℕ) → Image → (Image → Type 0) → ReaderState → ReaderState
+    → Result (Option (ℕ × List ℕ)) StoreFault → Type 0
 NextOrNot bodies seen images old new (Ok None) = Rests bodies seen images (log_at old)
 NextOrNot bodies seen images old new (Ok (Some found)) = HasRead (bodies ++ found.1 ∷ []) seen images new
-NextOrNot bodies seen images old new (Err (NotStore there offset)) = (there ≡ old.part) × IsNoNext bodies offset (seen old.part)
+NextOrNot bodies seen images old new (Err (NotStore there offset)) =
+    (there ≡ old.part) × IsNoNext bodies offset (seen old.part)
 NextOrNot bodies seen images old new (Err DiskFault) = ⊤
 NextOrNot bodies seen images old new (Err NoMemory) = ⊤
 NextOrNot bodies seen images old new (Err Long) = ⊥
@@ -57,14 +60,16 @@ AddsOrNot rs body k topics true = Takes rs body k topics × (length body ≤ BOD
 AddsOrNot rs body k topics false = (r : Rec) → IsNext rs body r → ⊥
 
 -- these records were read so far
-pub record SoFar (seen : Image) (images : Image → Type 0) (reader : ReaderState) (k : KeptValue) (topics : TopicsValue) : Type 0 where
+pub record SoFar (seen : Image) (images : Image → Type 0) (reader : ReaderState) (k : KeptValue)
+    (topics : TopicsValue) : Type 0 where
   pub records : List Rec
   pub read : HasRead (map spell_record records) seen images reader
   pub short : AreShort records
   pub holds : Holds records k topics
 
 -- the log is that of these records
-pub record AreRead (seen : Image) (images : Image → Type 0) (log : LogState) (k : KeptValue) (topics : TopicsValue) : Type 0 where
+pub record AreRead (seen : Image) (images : Image → Type 0) (log : LogState) (k : KeptValue)
+    (topics : TopicsValue) : Type 0 where
   pub records : List Rec
   pub log_rests : Rests (map spell_record records) seen images log
   pub short : AreShort records

@@ -31,9 +31,10 @@ abbrev pub IsFrom : ℕ → ℕ → ℕ → Start → Type 0
 IsFrom gate before number start =
     ((start.gate ≡ gate) × (number ≡ before + start.skip)) ⊎ ((start.gate ≡ first_gate) × (start.skip ≡ number))
 
--- Of the records from the start's gate on some were read: the piece has what they store behind the first `skip`, as far as it is wanted,
--- and of what those behind them store the first `left` are still to be skipped.
-pub record HasPassed {T : Type 0} (stored : Rec → List T) (before behind : List Rec) (skip wanted gate left : ℕ) (piece : List T) : Type 0 where
+-- Of the records from the start's gate on some were read: the piece has what they store behind the first `skip`, as far
+-- as it is wanted, and of what those behind them store the first `left` are still to be skipped.
+pub record HasPassed {T : Type 0} (stored : Rec → List T) (before behind : List Rec) (skip wanted gate left : ℕ)
+    (piece : List T) : Type 0 where
   pub passed : List Rec
   pub rest : List Rec
   pub split : behind ≡ passed ++ rest

@@ -10,8 +10,8 @@ use Rattle.topic_store.specs.declared.fault.StoreFault.{StoreFault}
 use Rattle.topic_store.specs.declared.fault.StoreFault.TheVariants.{DiskFault, NoMemory}
 use Rattle.topic_store.specs.declared.reader.Ahead.{Ahead}
 
--- a reader of points: those that come next, and behind them, of what the records from this gate on store behind the first `skip`, the
--- first `left`
+-- a reader of points: those that come next, and behind them, of what the records from this gate on store behind the
+-- first `skip`, the first `left`
 pub record PointsState : Type 0 where
   pub points : List PointValue
   pub gate : ℕ
@@ -38,8 +38,8 @@ IsBeforeOrNot rs points (Err DiskFault) = ⊤
 IsBeforeOrNot rs points (Err NoMemory) = ⊤
 IsBeforeOrNot rs points (Err fault) = ⊥
 
--- it gives the first 4,096 of the points, or all where there are no more, and then stands before the others, unless the disk failed or
--- memory ran out
+-- it gives the first 4,096 of the points, or all where there are no more, and then stands before the others, unless the
+-- disk failed or memory ran out
 abbrev pub GivesOrNot : List Rec → List PointValue → Result (Vec PointValue Global × PointsState) StoreFault → Type 0
 GivesOrNot rs points (Ok given) = (given.0.items ≡ take 4096 points) × IsBefore rs (drop 4096 points) given.1
 GivesOrNot rs points (Err DiskFault) = ⊤

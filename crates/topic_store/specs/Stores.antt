@@ -49,8 +49,8 @@ store_of log kept = record { log = log; kept = kept }
 abbrev pub numbers_of : Snapshot → ℕ × ℕ
 numbers_of snap = (snap.points, snap.transitions)
 
--- The store has these records on its disk, and a crash leaves them and no others. So the disk is the one on which it was made or opened,
--- where since then only calls on it changed its files.
+-- The store has these records on its disk, and a crash leaves them and no others. So the disk is the one on which it
+-- was made or opened, where since then only calls on it changed its files.
 pub record IsOn (rs : List Rec) (seen : Image) (images : Image → Type 0) (store : StoreState) : Type 0 where
   pub run : ℕ
   pub head : IsHead run (seen Head)
@@ -68,14 +68,16 @@ pub record IsNext (rs : List Rec) (body : List ℕ) (r : Rec) : Type 0 where
   pub may : MayFollow (held rs) r
   pub short : length body ≤ BODY_LIMIT
 
--- Behind these records stands an open gate, whose record runs past the end of the file, or has a body that is none of a record which
--- may stand there.
+-- Behind these records stands an open gate, whose record runs past the end of the file, or has a body that is none of a
+-- record which may stand there.
 pub data FailsBehind (rs : List Rec) (offset : ℕ) (file : List ℕ) : Type 0 where
   torn : IsTornBehind (map spell_record rs) offset file → FailsBehind rs offset file
-  bad : (body : List ℕ) → BeginsWith (map spell_record rs ++ body ∷ []) file → offset ≡ end_of rs → ((r : Rec) → IsNext rs body r → ⊥)
+  bad : (body : List ℕ) → BeginsWith (map spell_record rs ++ body ∷ []) file → offset ≡ end_of rs
+      → ((r : Rec) → IsNext rs body r → ⊥)
       → FailsBehind rs offset file
 
--- The file is no log of a store: it doesn't begin as a log does, or behind records of a store, up to this offset, stands one that fails.
+-- The file is no log of a store: it doesn't begin as a log does, or behind records of a store, up to this offset,
+-- stands one that fails.
 pub data IsNoLog (offset : ℕ) (file : List ℕ) : Type 0 where
   headerless : offset ≡ 0 → IsHeaderless file → IsNoLog offset file
   fails : (rs : List Rec) → AreStored rs → FailsBehind rs offset file → IsNoLog offset file

@@ -16,8 +16,8 @@ use std::alloc::Global;
 use store_records::take_transitions;
 use topic_core::Topics;
 
-/// Takes the next piece of the transitions behind the first `taken` into the topics of these, up to `wanted`, and tells how many are
-/// then taken.
+/// Takes the next piece of the transitions behind the first `taken` into the topics of these, up to `wanted`,
+/// and tells how many are then taken.
 fn take_piece<D: Disk>(
     alloc: Global,
     store: &Store,

@@ -16,8 +16,8 @@ pub enum StoreFault {
     NotStore {
         /// The file.
         part: Part,
-        /// The offset: 0 where the file doesn't begin as it should, else that of the gate of the record that isn't one, or may not
-        /// follow.
+        /// The offset: 0 where the file doesn't begin as it should, else that of the gate of the record that
+        /// isn't one, or may not follow.
         offset: u64,
     },
     /// The disk failed: its count of faults rose in the call.

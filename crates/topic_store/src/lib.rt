@@ -1,4 +1,5 @@
-//! A store over the gated log: tasks and their lives, points and transitions, and the last snapshot, one record behind the other.
+//! A store over the gated log: tasks and their lives, points and transitions, and the last snapshot, one
+//! record behind the other.
 #![tactic(auto)]
 
 mod behind;

@@ -76,8 +76,8 @@ fn next_body<D: Disk>(
     }
 }
 
-/// Takes in the record with this body, which isn't too long and whose gate stands at this offset, where it may stand there; else
-/// `false`.
+/// Takes in the record with this body, which isn't too long and whose gate stands at this offset, where it
+/// may stand there; else `false`.
 fn take_record(
     alloc: Global,
     gate: u64,

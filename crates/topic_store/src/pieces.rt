@@ -89,7 +89,8 @@ fn last_place(marks: &[Mark], count: usize) -> Mark
     }
 }
 
-/// The start behind a number, from a gate before which so many are stored; from the first gate where these are more.
+/// The start behind a number, from a gate before which so many are stored; from the first gate where these
+/// are more.
 fn start_from(gate: u64, before: u64, number: u64) -> Start
     ensures { IsFrom gate before number result }
 {
@@ -144,8 +145,8 @@ pub(crate) fn put_behind<T: Drop>(
     Ok(())
 }
 
-/// The first `wanted` of what is stored from the start on, where there are as many. It reads the records from there on, each once, up
-/// to the one that stores the last of these.
+/// The first `wanted` of what is stored from the start on, where there are as many. It reads the records from
+/// there on, each once, up to the one that stores the last of these.
 pub(crate) fn piece_from<T: Numbered, D: Disk>(
     alloc: Global,
     log: &Log,

@@ -33,8 +33,8 @@ pub(crate) struct Ahead {
     pub(crate) left: u64,
 }
 
-/// A reader of a store's points, in the order in which they were stored, which reads each record once. It gives the points that were
-/// there when it was made. After a fault it is gone.
+/// A reader of a store's points, in the order in which they were stored, which reads each record once. It
+/// gives the points that were there when it was made. After a fault it is gone.
 #[derive(Debug, Drop)]
 pub struct PointsReader {
     alloc: Global,
@@ -139,9 +139,10 @@ impl PointsReader {
         }
     }
 
-    /// The next 4,096 points, or all where there are no more, and the reader of those behind them; no points exactly where there are
-    /// none. The store is the one of which it was made. `DiskFault` comes only where the disk's count of faults rose in this call, and
-    /// `NoMemory` where memory ran out. `NotStore` comes only on a disk that doesn't tell what a read gives, at a record that is none.
+    /// The next 4,096 points, or all where there are no more, and the reader of those behind them; no points
+    /// exactly where there are none. The store is the one of which it was made. `DiskFault` comes only where
+    /// the disk's count of faults rose in this call, and `NoMemory` where memory ran out. `NotStore` comes
+    /// only on a disk that doesn't tell what a read gives, at a record that is none.
     pub fn next<D: Disk>(
         self,
         store: &Store,

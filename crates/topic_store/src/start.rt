@@ -27,9 +27,10 @@ fn make_logs<D: Disk>(alloc: Global, disk: &mut D) -> Result<(), StoreFault>
     }
 }
 
-/// Makes an empty store, whatever the disk held: both logs, and then the head. From `Ok` on each image stands for it. `DiskFault` comes
-/// only where the disk's count of faults rose in this call, and the files may then be anything. But where no head stood, each image
-/// with a head stands for the store of no records, at each moment. No other fault comes.
+/// Makes an empty store, whatever the disk held: both logs, and then the head. From `Ok` on each image stands
+/// for it. `DiskFault` comes only where the disk's count of faults rose in this call, and the files may then
+/// be anything. But where no head stood, each image with a head stands for the store of no records, at each
+/// moment. No other fault comes.
 pub fn make_store<D: Disk>(alloc: Global, disk: &mut D) -> Result<(), StoreFault>
     ensures made { IsTrue D.tells
         → IfOk result (λ _. IsMade (D.seen disk.new) (D.may_leave disk.new)) }

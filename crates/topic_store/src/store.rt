@@ -32,8 +32,8 @@ use store_kept::{Kept, commit, prepare};
 use store_records::{Life, LifeNumbers, Rec, StoredTask, Transitions, record_body};
 use topic_core::Topics;
 
-/// A store on a disk. What its calls promise stands on the disk on which it was opened, where since then only calls on it changed what
-/// a read gives, or added to what a crash may leave.
+/// A store on a disk. What its calls promise stands on the disk on which it was opened, where since then only
+/// calls on it changed what a read gives, or added to what a crash may leave.
 #[derive(Debug, Drop)]
 pub struct Store {
     alloc: Global,
@@ -110,8 +110,8 @@ fn find_store<D: Disk>(alloc: Global, disk: &mut D) -> Result<(Store, Topics), S
     Ok((store, reached.topics))
 }
 
-/// The store that the files stand for, and the topics of its transitions, for those who go on from its levels. All else is as
-/// `open_store` says.
+/// The store that the files stand for, and the topics of its transitions, for those who go on from its
+/// levels. All else is as `open_store` says.
 pub fn open_with_topics<D: Disk>(alloc: Global, disk: &mut D) -> Result<(Store, Topics), StoreFault>
     ensures found { IsTrue D.tells
         → Finds (IsOnWith (D.seen disk.old) (D.may_leave disk.new)) (D.seen disk.old) result }
@@ -128,12 +128,14 @@ pub fn open_with_topics<D: Disk>(alloc: Global, disk: &mut D) -> Result<(Store, 
     find_store(alloc, disk)
 }
 
-/// The store that the files stand for. It begins with a sync of each file that it reads, reads each record once, and changes nothing.
-/// `NotStore` comes exactly where the files stand for none, and tells the file and the place: the head at 0 where its first bytes
-/// aren't those of a head; the log that the head names at 0 where its first bytes aren't those of a log; else the gate of the first
-/// record that runs past the end of the file, or isn't one, or may not follow those before it, or whose body has more than
-/// `gate_log::BODY_LIMIT` bytes. `DiskFault` comes only where the disk's count of faults rose in this call; `Long` never comes. On any
-/// disk its tasks and lives have valid ids, and scripts that aren't too long; `Store::add` keeps it so.
+/// The store that the files stand for. It begins with a sync of each file that it reads, reads each record
+/// once, and changes nothing. `NotStore` comes exactly where the files stand for none, and tells the file and
+/// the place: the head at 0 where its first bytes aren't those of a head; the log that the head names at 0
+/// where its first bytes aren't those of a log; else the gate of the first record that runs past the end of
+/// the file, or isn't one, or may not follow those before it, or whose body has more than
+/// `gate_log::BODY_LIMIT` bytes. `DiskFault` comes only where the disk's count of faults rose in this call;
+/// `Long` never comes. On any disk its tasks and lives have valid ids, and scripts that aren't too long;
+/// `Store::add` keeps it so.
 pub fn open_store<D: Disk>(alloc: Global, disk: &mut D) -> Result<Store, StoreFault>
     ensures found { IsTrue D.tells → Finds (λ rs store.
         IsOn rs (D.seen disk.old) (D.may_leave disk.new) store) (D.seen disk.old) result }
@@ -152,10 +154,12 @@ pub fn open_store<D: Disk>(alloc: Global, disk: &mut D) -> Result<Store, StoreFa
 }
 
 impl Store {
-    /// Adds a record, by two writes, each of which is synced. The record may follow those of the store, which `may_define`, `has_task`,
-    /// `is_batch` and `take_transitions` tell: from `Ok` on each image has it as its last. `Long` comes exactly where the record's body
-    /// has more than `gate_log::BODY_LIMIT` bytes; `Long` and `NoMemory` change nothing. After `DiskFault`, which comes only where the
-    /// disk's count of faults rose in this call, the store is spent, and each image has the old records, or these and the new one.
+    /// Adds a record, by two writes, each of which is synced. The record may follow those of the store, which
+    /// `may_define`, `has_task`, `is_batch` and `take_transitions` tell: from `Ok` on each image has it as
+    /// its last. `Long` comes exactly where the record's body has more than `gate_log::BODY_LIMIT` bytes;
+    /// `Long` and `NoMemory` change nothing. After `DiskFault`, which comes only where the disk's count of
+    /// faults rose in this call, the store is spent, and each image has the old records, or these and the new
+    /// one.
     pub fn add<D: Disk>(&mut self, disk: &mut D, rec: &Rec) -> Result<(), StoreFault>
         requires usable { self.old.log.spent ≡ false }
         requires form { HasForm rec.now }
@@ -224,10 +228,10 @@ impl Store {
         }
     }
 
-    /// The last snapshot: the offset of its record's gate, the numbers of the lives that were open at it, rising, and the states of
-    /// their cells. `None` comes exactly where there is no snapshot. `DiskFault` comes only
-    /// where the disk's count of faults rose in this call, and `NoMemory` where memory ran out. `NotStore` comes only on a disk that
-    /// doesn't tell what a read gives, at a record that is none.
+    /// The last snapshot: the offset of its record's gate, the numbers of the lives that were open at it,
+    /// rising, and the states of their cells. `None` comes exactly where there is no snapshot. `DiskFault`
+    /// comes only where the disk's count of faults rose in this call, and `NoMemory` where memory ran out.
+    /// `NotStore` comes only on a disk that doesn't tell what a read gives, at a record that is none.
     pub fn snap<D: Disk>(
         &self,
         disk: &mut D,
@@ -248,9 +252,10 @@ impl Store {
         Ok(Some((snap.at, LifeNumbers::from_items(lives), states)))
     }
 
-    /// The points behind this number, from the one numbered `after + 1` on: 4,096, or all where there are no more. They are numbered
-    /// from 1, in the order in which they were stored. `DiskFault` comes only where the disk's count of faults rose in this call, and
-    /// `NoMemory` where memory ran out. `NotStore` comes only on a disk that doesn't tell what a read gives, at a record that is none.
+    /// The points behind this number, from the one numbered `after + 1` on: 4,096, or all where there are no
+    /// more. They are numbered from 1, in the order in which they were stored. `DiskFault` comes only where
+    /// the disk's count of faults rose in this call, and `NoMemory` where memory ran out. `NotStore` comes
+    /// only on a disk that doesn't tell what a read gives, at a record that is none.
     pub fn points<D: Disk>(&self, disk: &mut D, after: u64) -> Result<Points, StoreFault>
         requires usable { self.now.log.spent ≡ false }
         ensures points { IsTrue D.tells → (rs : List Rec)
@@ -275,8 +280,8 @@ impl Store {
         PointsReader::new(self.alloc, start, self.kept.points.saturating_sub(after))
     }
 
-    /// The transitions behind this number, from the one numbered `after + 1` on: 4,096, or all where there are no more. All else is as
-    /// `points` says.
+    /// The transitions behind this number, from the one numbered `after + 1` on: 4,096, or all where there
+    /// are no more. All else is as `points` says.
     pub fn transitions<D: Disk>(&self, disk: &mut D, after: u64) -> Result<Transitions, StoreFault>
         requires usable { self.now.log.spent ≡ false }
         ensures transitions { IsTrue D.tells → (rs : List Rec)
@@ -292,8 +297,8 @@ impl Store {
         piece_from(self.alloc, &self.log, disk, start, wanted)
     }
 
-    /// The topics behind the first `number` transitions, or behind all where there are no more, for those who go on from there.
-    /// All else is as `points` says.
+    /// The topics behind the first `number` transitions, or behind all where there are no more, for those who
+    /// go on from there. All else is as `points` says.
     pub fn topics_behind<D: Disk>(&self, disk: &mut D, number: u64) -> Result<Topics, StoreFault>
         requires usable { self.now.log.spent ≡ false }
         ensures topics { IsTrue D.tells → (rs : List Rec)

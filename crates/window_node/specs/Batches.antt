@@ -16,7 +16,12 @@ times ps = map (λ p. p.time) ps
 
 -- points that are given together, under a measurement and a group
 abbrev pub batch_of : List ℕ → GroupValue → ℤ → List PointValue → Said
-batch_of name group tmax ps = record { bodies = bodies.Batch (record { name = name; group = group; tmax = tmax; points = ps }) ∷ []; deeds = []; drops = 0 }
+batch_of name group tmax ps =
+    record {
+      bodies = bodies.Batch (record { name = name; group = group; tmax = tmax; points = ps }) ∷ [];
+      deeds = [];
+      drops = 0;
+    }
 
 -- the batch that a point causes: it has that point's measurement and its group
 abbrev pub batch_at : PointValue → ℤ → List PointValue → Said

@@ -11,7 +11,8 @@ use Rattle.window_node.specs.Batches.{points_in, batch_at, last}
 -- and with fillPeriod, where n is periodCount, at n, n + m, n + 2m and so on instead.
 abbrev pub is_due : CountedWindow → ℕ → Bool
 is_due w number =
-    if w.fill_period then nat_le w.period_count number && ((number - w.period_count) % w.every_count == 0) else number % w.every_count == 0
+    if w.fill_period then nat_le w.period_count number && ((number - w.period_count) % w.every_count == 0)
+    else number % w.every_count == 0
 
 -- the batch that the point of this number causes: of the points up to it the last ones
 abbrev pub counted : CountedWindow → ℕ → PointValue → List PointValue → Said
@@ -30,7 +31,9 @@ counted_says w before port p = points_say w (points_in before) p
 -- how many points are still to come up to the next batch, behind so many
 abbrev pub to_come : CountedWindow → ℕ → ℕ
 to_come w seen =
-    if w.fill_period then (if nat_lt seen w.period_count then w.period_count - seen else w.every_count - (seen - w.period_count) % w.every_count) else w.every_count - seen % w.every_count
+    if w.fill_period
+    then (if nat_lt seen w.period_count then w.period_count - seen
+    else w.every_count - (seen - w.period_count) % w.every_count) else w.every_count - seen % w.every_count
 
 -- how many of the points so far the next batch takes at most
 abbrev pub kept_count : CountedWindow → ℕ → ℕ

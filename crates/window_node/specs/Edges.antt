@@ -75,7 +75,8 @@ pub record EdgeKept : Type 0 where
 -- what is kept of points
 abbrev pub edges_kept : EdgeWindow → List PointValue → Option EdgeKept
 edges_kept w [] = None
-edges_kept w (p ∷ ps) = Some (record { first = p.time; edge = edge_of w p ps; live = filter (is_live w (edge_of w p ps)) (p ∷ ps) })
+edges_kept w (p ∷ ps) =
+    Some (record { first = p.time; edge = edge_of w p ps; live = filter (is_live w (edge_of w p ps)) (p ∷ ps) })
 
 -- what is kept of what came
 abbrev pub edge_kept : EdgeWindow → List Came → Option EdgeKept
@@ -85,7 +86,8 @@ edge_kept w before = edges_kept w (points_in before)
 
 -- the first point of a group
 abbrev pub opened : EdgeWindow → PointValue → EdgeKept
-opened w p = record { first = p.time; edge = first_edge w p.time; live = filter (is_live w (first_edge w p.time)) (p ∷ []) }
+opened w p =
+    record { first = p.time; edge = first_edge w p.time; live = filter (is_live w (first_edge w p.time)) (p ∷ []) }
 
 -- the live points, with a point that has come
 abbrev pub still_live : EdgeWindow → ℤ → PointValue → List PointValue → List PointValue
@@ -96,7 +98,8 @@ still_live w edge p live =
 
 -- a further point that isn't before the edge
 abbrev pub passed : EdgeWindow → EdgeKept → PointValue → EdgeKept
-passed w k p = let next = following w p.time in record { first = k.first; edge = next; live = filter (is_live w next) k.live ++ filter (is_live w next) (p ∷ []) }
+passed w k p = let next = following w p.time in
+    record { first = k.first; edge = next; live = filter (is_live w next) k.live ++ filter (is_live w next) (p ∷ []) }
 
 -- a further point
 abbrev pub moved : EdgeWindow → EdgeKept → PointValue → EdgeKept

@@ -54,18 +54,22 @@ not_passed true h = absurd (h refl)
 not_passed false h = refl
 
 -- a filter behind a wider one is the filter alone
-pub filter_twice : {A : Type 0} (p q : A → Bool) → ((x : A) → p x ≡ true → q x ≡ true) → (xs : List A) → filter p (filter q xs) ≡ filter p xs
+pub filter_twice : {A : Type 0} (p q : A → Bool) → ((x : A) → p x ≡ true → q x ≡ true) → (xs : List A)
+    → filter p (filter q xs) ≡ filter p xs
 filter_twice p q implied [] = refl
 filter_twice p q implied (x ∷ xs) =
     elim (q x) as (λ b. q x ≡ b → filter p (cond b (x ∷ filter q xs) (filter q xs)) ≡ filter p (x ∷ xs)) [
       | true ↦ λ e. ap (λ l. cond (p x) (x ∷ l) l) (filter_twice p q implied xs)
-      | false ↦ λ e. filter_twice p q implied xs ∙ ap (λ b. cond b (x ∷ filter p xs) (filter p xs)) (sym (not_passed (p x) (λ t. no_both (q x) (implied x t) e)))
+      | false ↦ λ e. filter_twice p q implied xs
+          ∙ ap (λ b. cond b (x ∷ filter p xs) (filter p xs))
+          (sym (not_passed (p x) (λ t. no_both (q x) (implied x t) e)))
     ] refl
 
 -- ---- points
 
 -- the points of what came, and of one point more
-pub points_more : (before : List Came) (port : ℕ) (p : PointValue) → points_in (before ++ (port, p) ∷ []) ≡ points_in before ++ p ∷ []
+pub points_more : (before : List Came) (port : ℕ) (p : PointValue)
+    → points_in (before ++ (port, p) ∷ []) ≡ points_in before ++ p ∷ []
 points_more before port p = map-append (λ (c : Came). c.1) before ((port, p) ∷ [])
 
 -- the last points of a list are the last ones of its last points, of which no fewer are left
@@ -75,9 +79,11 @@ module _ {A : Type 0} where
   last_more a b xs p le =
       let n = length xs in
       let within : n - b ≤ n = omega arith in
-      let front : drop (n - b) xs ++ p ∷ [] ≡ drop (n - b) (xs ++ p ∷ []) = sym (drop-append-le (n - b) xs (p ∷ []) within) in
+      let front : drop (n - b) xs
+      ++ p ∷ [] ≡ drop (n - b) (xs ++ p ∷ []) = sym (drop-append-le (n - b) xs (p ∷ []) within) in
       let long : length (xs ++ p ∷ []) ≡ n + 1 = length-append xs (p ∷ []) in
-      let short : length (drop (n - b) (xs ++ p ∷ [])) ≡ n + 1 - (n - b) = length-drop (n - b) (xs ++ p ∷ []) ∙ ap (λ (k : ℕ). k - (n - b)) long in
+      let short : length (drop (n - b) (xs ++ p ∷ [])) ≡ n + 1 - (n - b) = length-drop (n - b) (xs ++ p ∷ [])
+      ∙ ap (λ (k : ℕ). k - (n - b)) long in
       let count : (n - b) + (n + 1 - (n - b) - a) ≡ n + 1 - a = omega arith in
       ap (λ (l : List A). last a l) front
       ∙ ap (λ (k : ℕ). drop (k - a) (drop (n - b) (xs ++ p ∷ []))) short

@@ -49,7 +49,12 @@ pub record SlidingKept : Type 0 where
 -- what is kept of points
 abbrev pub points_kept : SlidingWindow → List PointValue → Option SlidingKept
 points_kept w [] = None
-points_kept w (p ∷ ps) = Some (record { first = p.time; high = greatest p ps; live = filter (is_near w (reach w p.time (greatest p ps))) (p ∷ ps) })
+points_kept w (p ∷ ps) =
+    Some (record {
+      first = p.time;
+      high = greatest p ps;
+      live = filter (is_near w (reach w p.time (greatest p ps))) (p ∷ ps);
+    })
 
 -- what is kept of what came
 abbrev pub sliding_kept : SlidingWindow → List Came → Option SlidingKept
@@ -64,15 +69,22 @@ started p = record { first = p.time; high = p.time; live = [] }
 -- the live points, with a point that has come
 abbrev pub still_near : SlidingWindow → ℤ → ℤ → PointValue → List PointValue → List PointValue
 still_near w first high p live =
-    if is_due w first high then filter (is_near w high) (live ++ p ∷ []) else live ++ filter (is_near w (first +ℤ pos w.period)) (p ∷ [])
+    if is_due w first high then filter (is_near w high) (live ++ p ∷ []) else live
+    ++ filter (is_near w (first +ℤ pos w.period)) (p ∷ [])
 
 -- one point more
 abbrev pub slid_on : SlidingWindow → SlidingKept → PointValue → SlidingKept
-slid_on w k p = record { first = k.first; high = int_max k.high p.time; live = still_near w k.first (int_max k.high p.time) p k.live }
+slid_on w k p =
+    record {
+      first = k.first;
+      high = int_max k.high p.time;
+      live = still_near w k.first (int_max k.high p.time) p k.live;
+    }
 
 -- a step behind the first point
 abbrev pub slid_turn : SlidingWindow → SlidingKept → PointValue → Turn (Option SlidingKept)
-slid_turn w k p = record { state = Some (slid_on w k p); said = slid w k.first (int_max k.high p.time) p (k.live ++ p ∷ []) }
+slid_turn w k p =
+    record { state = Some (slid_on w k p); said = slid w k.first (int_max k.high p.time) p (k.live ++ p ∷ []) }
 
 -- a step, by what is kept
 abbrev pub sliding_step : SlidingWindow → Option SlidingKept → ℕ → PointValue → Turn (Option SlidingKept)

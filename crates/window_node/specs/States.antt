@@ -27,7 +27,8 @@ edge_from p = record { first = p.0; edge = p.1.0; live = p.1.1 }
 
 -- times of 64 and edges of 128 bits, and fewer than 2^32 points
 abbrev pub FitsEdge : EdgeKept → Type 0
-FitsEdge k = FitsPair (FitsSigned w64) (FitsPair (FitsSigned w128) (FitsList FitsPoint)) (edge_parts k) × IsTrue (is_edge k.edge)
+FitsEdge k =
+    FitsPair (FitsSigned w64) (FitsPair (FitsSigned w128) (FitsList FitsPoint)) (edge_parts k) × IsTrue (is_edge k.edge)
 
 -- the parts one behind the other
 abbrev pub spell_edge : EdgeKept → List ℕ
@@ -35,11 +36,15 @@ spell_edge k = spell_pair spell_i64 (spell_pair spell_i128 (spell_list spell_poi
 
 -- the parts that stand there
 abbrev pub read_edge : Reading EdgeKept
-read_edge = read_where (λ k. is_edge k.edge) (read_as edge_from (read_pair read_i64 (read_pair read_i128 (read_list read_point))))
+read_edge = read_where (λ k. is_edge k.edge)
+    (read_as edge_from (read_pair read_i64 (read_pair read_i128 (read_list read_point))))
 
 -- what is spelled is read again, and only that
 pub edge_spelled : IsSpelling FitsEdge spell_edge read_edge
-edge_spelled = tested_by (as_parts (pair_spelled i64_spelled (pair_spelled i128_spelled (list_spelled point_spelled))) edge_from edge_parts (λ k. refl) (λ p. refl)) (λ k. is_edge k.edge)
+edge_spelled =
+    tested_by (as_parts
+    (pair_spelled i64_spelled (pair_spelled i128_spelled (list_spelled point_spelled))) edge_from edge_parts (λ k. refl)
+    (λ p. refl)) (λ k. is_edge k.edge)
 
 -- ---- of a window that slides: the time of the first point, the greatest time, and the live points
 
@@ -53,7 +58,8 @@ sliding_from p = record { first = p.0; high = p.1.0; live = p.1.1 }
 
 -- times of 64 bits, and fewer than 2^32 points
 abbrev pub FitsSliding : SlidingKept → Type 0
-FitsSliding k = FitsPair (FitsSigned w64) (FitsPair (FitsSigned w64) (FitsList FitsPoint)) (sliding_parts k) × IsTrue (is_time k.high)
+FitsSliding k = FitsPair (FitsSigned w64) (FitsPair (FitsSigned w64) (FitsList FitsPoint)) (sliding_parts k)
+    × IsTrue (is_time k.high)
 
 -- the parts one behind the other
 abbrev pub spell_sliding : SlidingKept → List ℕ
@@ -61,11 +67,16 @@ spell_sliding k = spell_pair spell_i64 (spell_pair spell_i64 (spell_list spell_p
 
 -- the parts that stand there
 abbrev pub read_sliding : Reading SlidingKept
-read_sliding = read_where (λ k. is_time k.high) (read_as sliding_from (read_pair read_i64 (read_pair read_i64 (read_list read_point))))
+read_sliding =
+    read_where (λ k. is_time k.high)
+    (read_as sliding_from (read_pair read_i64 (read_pair read_i64 (read_list read_point))))
 
 -- what is spelled is read again, and only that
 pub sliding_spelled : IsSpelling FitsSliding spell_sliding read_sliding
-sliding_spelled = tested_by (as_parts (pair_spelled i64_spelled (pair_spelled i64_spelled (list_spelled point_spelled))) sliding_from sliding_parts (λ k. refl) (λ p. refl)) (λ k. is_time k.high)
+sliding_spelled =
+    tested_by (as_parts
+    (pair_spelled i64_spelled (pair_spelled i64_spelled (list_spelled point_spelled))) sliding_from sliding_parts
+    (λ k. refl) (λ p. refl)) (λ k. is_time k.high)
 
 -- ---- of a window by number: the number of points, and the live points
 
@@ -91,4 +102,5 @@ read_counted = read_as counted_from (read_pair (read_number w64) (read_list read
 
 -- what is spelled is read again, and only that
 pub counted_spelled : IsSpelling FitsCounted spell_counted read_counted
-counted_spelled = as_parts (pair_spelled u64_spelled (list_spelled point_spelled)) counted_from counted_parts (λ k. refl) (λ p. refl)
+counted_spelled =
+    as_parts (pair_spelled u64_spelled (list_spelled point_spelled)) counted_from counted_parts (λ k. refl) (λ p. refl)

@@ -22,8 +22,8 @@ use task_graph::Period;
 /// The least edge, in nanoseconds from 1970-01-01T00:00:00Z on: the least time.
 const LEAST_EDGE: i128 = -9_000_000_000_000_000_000;
 
-/// A window by time whose batches are given at edges: at the first point that isn't before an edge, the points of the
-/// period before it.
+/// A window by time whose batches are given at edges: at the first point that isn't before an edge, the
+/// points of the period before it.
 #[derive(Debug, Drop)]
 pub struct EdgeWindow {
     /// How long before its edge a batch begins.
@@ -36,8 +36,8 @@ pub struct EdgeWindow {
     pub fill_period: bool,
 }
 
-/// What is kept of a group from its first point on: the time of that point, the edge that waits, which may pass 64 bits,
-/// and the points that this edge or a later one can take, in order.
+/// What is kept of a group from its first point on: the time of that point, the edge that waits, which may
+/// pass 64 bits, and the points that this edge or a later one can take, in order.
 #[derive(Drop)]
 pub struct EdgeGroup {
     first: i64,
@@ -189,8 +189,8 @@ fn copy_into(
     batch.push(point.copy(alloc)?)
 }
 
-/// Puts a live point into the edge's batch, where that takes it, and among the points that the next edge can take. It is
-/// copied where it goes to both.
+/// Puts a live point into the edge's batch, where that takes it, and among the points that the next edge can
+/// take. It is copied where it goes to both.
 fn deal(
     alloc: Global,
     window: &EdgeWindow,
@@ -216,8 +216,8 @@ fn deal(
     live.push(point)
 }
 
-/// Parts the live points at an edge: those that its batch takes, and those that the next edge can take. Both get room for as many
-/// as there were: the next window may have as many.
+/// Parts the live points at an edge: those that its batch takes, and those that the next edge can take. Both
+/// get room for as many as there were: the next window may have as many.
 fn part(
     alloc: Global,
     window: &EdgeWindow,

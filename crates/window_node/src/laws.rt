@@ -8,9 +8,9 @@ ghost use Rattle.window_node.specs.Edges.{edge_of, first_edge};
 ghost use Rattle.window_node.specs.Rows.{EachSecond, EachThird, EmptyBatch, FallingTimes, FilledCount, FilledEdges, FilledPeriod, LatePoint, OnTheEdge};
 ghost use Rattle.window_node.specs.Waiting.{Waits};
 
-/// The edge that waits behind points of a group is the first one while all later points are before it, or was set by the
-/// last point that wasn't before the edge that waited there. All points so far are before it, so that one point emits one
-/// edge.
+/// The edge that waits behind points of a group is the first one while all later points are before it, or was
+/// set by the last point that wasn't before the edge that waited there. All points so far are before it, so
+/// that one point emits one edge.
 pub fn edges_are_set_by_points()
     ensures waits { (w : EdgeWindow) (first : PointValue) (others : List PointValue)
         → Waits w (first_edge w first.time) (times others) (edge_of w first others) }

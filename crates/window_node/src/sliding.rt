@@ -19,8 +19,8 @@ use std::alloc::Global;
 use std::marker::Model;
 use task_graph::Period;
 
-/// A window by time without edges: at each point the points less than a period before the greatest time so far are
-/// given.
+/// A window by time without edges: at each point the points less than a period before the greatest time so
+/// far are given.
 #[derive(Debug, Drop)]
 pub struct SlidingWindow {
     /// How far back a batch reaches.
@@ -29,8 +29,8 @@ pub struct SlidingWindow {
     pub fill_period: bool,
 }
 
-/// What is kept of a group from its first point on: the time of that point, the greatest time, and the points that a
-/// later batch can take, in order.
+/// What is kept of a group from its first point on: the time of that point, the greatest time, and the points
+/// that a later batch can take, in order.
 #[derive(Drop)]
 pub struct SlidingGroup {
     first: i64,
