@@ -1,4 +1,5 @@
 pub mod ReadLaws
+pub mod BeginLaws
 pub mod FaultLaws
 pub mod PlaceOfFaultLaws
 pub mod LifeLaws

@@ -17,7 +17,6 @@ use Rattle.flow_cells.specs.declared.parts.InEdge.{InEdge}
 use Rattle.flow_cells.specs.Runs.{Run, begun, reacted, run}
 use Rattle.flow_cells.specs.Kept.{Keeps, received_of, run_of}
 use Rattle.flow_life.specs.Making.{nodes_of}
-use Rattle.flow_core.specs.Making.{AreLivesOf}
 use Rattle.flow_core.specs.Nets.{NetValue, NumberedLife}
 use Rattle.state_code.specs.Spelling.{AllFit, FitsBytes, IsSpelling, spell_bytes, spell_list, spell_number}
 use Rattle.task_run.specs.Plans.{PlanValue}
@@ -25,7 +24,7 @@ use Rattle.barrier_snapshot.specs.Barriers.{EndsAt, HasPassed, HavePassed, IsCap
 use Rattle.barrier_snapshot.specs.Captures.{AreStatesOf, IsCapture, in_lives, spellings}
 use Rattle.barrier_snapshot.specs.Capturing.{saved_of}
 use Rattle.barrier_snapshot.specs.Passing.{StandAt}
-use Rattle.barrier_snapshot.specs.Restoring.{Restores}
+use Rattle.barrier_snapshot.specs.Restoring.{AreLivesBehind, Restores}
 use Rattle.barrier_snapshot.proofs.ReadLaws.{one_capture}
 
 -- ---- the last barrier of a run
@@ -222,22 +221,22 @@ module _ {N P S : Type 0} (g : Ghosts N P S) where
   map-nodes f (c ∷ cells) = ap (λ l. f c.core.node ∷ l) (map-nodes f cells)
 
   -- what the nodes of lives of plans have is what those of the plans have
-  pub lives_have : {X : Type 0} (f : N → X) (plans : List (PlanValue N)) (lives : List (NumberedLife N)) → AreLivesOf g plans lives → map (λ c. f c.core.node) (cells_in lives) ≡ in_lives f plans
-  lives_have f [] [] are = refl
-  lives_have f [] (l ∷ lives) are = absurd are
-  lives_have f (p ∷ plans) [] are = absurd are
-  lives_have {X = X} f (p ∷ plans) (l ∷ lives) are =
+  pub lives_have : {X : Type 0} (f : N → X) (stamp : ℕ) (plans : List (PlanValue N)) (lives : List (NumberedLife N)) → AreLivesBehind g stamp plans lives → map (λ c. f c.core.node) (cells_in lives) ≡ in_lives f plans
+  lives_have f stamp [] [] are = refl
+  lives_have f stamp [] (l ∷ lives) are = absurd are
+  lives_have f stamp (p ∷ plans) [] are = absurd are
+  lives_have {X = X} f stamp (p ∷ plans) (l ∷ lives) are =
       map-append (λ (c : CellParts N). f c.core.node) l.life.cells (cells_in lives)
       ∙ ap (λ (xs : List X). xs ++ map (λ (c : CellParts N). f c.core.node) (cells_in lives)) (map-nodes f l.life.cells ∙ ap (map f) are.0.nodes)
-      ∙ ap (λ (xs : List X). map f p.nodes ++ xs) (lives_have f plans lives are.1)
+      ∙ ap (λ (xs : List X). map f p.nodes ++ xs) (lives_have f stamp plans lives are.1)
 
   -- the states that were captured are the states of the net that is restored
-  pub restored_were : (spelled : (p : P) → IsSpelling (g.fits p) (g.spell p) (g.read p)) (upto : Stamp) (cells : List (CellParts N)) (bytes : List ℕ) (plans : List (PlanValue N)) (net : NetValue N) → in_lives g.spec plans ≡ map (λ c. g.spec c.core.node) cells → IsCaptureAt g upto cells bytes → Restores g plans bytes net → AllZip (WasAt g upto) cells (map (λ c. g.state c.core.node) (cells_in net.lives))
-  restored_were spelled upto cells bytes plans net specs at restores =
+  pub restored_were : (spelled : (p : P) → IsSpelling (g.fits p) (g.spell p) (g.read p)) (upto : Stamp) (cells : List (CellParts N)) (bytes : List ℕ) (plans : List (PlanValue N)) (there : Stamp) (net : NetValue N) → in_lives g.spec plans ≡ map (λ c. g.spec c.core.node) cells → IsCaptureAt g upto cells bytes → Restores g plans there bytes net → AllZip (WasAt g upto) cells (map (λ c. g.state c.core.node) (cells_in net.lives))
+  restored_were spelled upto cells bytes plans there net specs at restores =
       let loaded = restores.loaded in
       let now : IsCapture g.fits g.spell (map (λ c. g.spec c.core.node) cells) (in_lives g.state loaded) bytes = subst (λ (ps : List P). IsCapture g.fits g.spell ps (in_lives g.state loaded) bytes) specs restores.are.states in
       let same : at.states ≡ in_lives g.state loaded = one_capture spelled (map (λ c. g.spec c.core.node) cells) at.states (in_lives g.state loaded) bytes at.capture now in
-      subst (AllZip (WasAt g upto) cells) (same ∙ sym (lives_have g.state loaded net.lives restores.lives)) at.were
+      subst (AllZip (WasAt g upto) cells) (same ∙ sym (lives_have g.state there.0 loaded net.lives restores.lives)) at.were
 
   -- the last barrier of each cell has been passed
   pub all_passed : (upto : Stamp) (cells : List (CellParts N)) → StandAt upto cells → HavePassed g upto cells

@@ -1,39 +1,84 @@
 //! A net is made in the states that bytes hold.
 
-ghost use Rattle.std.specs.Prelude.{◌≡◌, ◌<◌, ◌≤◌, ℕ, Err, IfOk, List};
+ghost use Rattle.std.specs.Prelude.{◌≡◌, ◌<◌, ◌≤◌, ℕ, [], false, Err, IfOk, List, OnOk};
 ghost use Rattle.std.specs.List.{AllByRecursion as Each};
 ghost use Rattle.flow_core.specs.Making.{HasFewParents};
+ghost use Rattle.flow_core.specs.Nets.{IsResting};
 ghost use Rattle.flow_core.specs.Rooms.{HasRoomIn};
 ghost use Rattle.barrier_snapshot.specs.Captures.{IsCapture, in_lives};
 ghost use Rattle.barrier_snapshot.specs.Faults.{FaultsAt};
-ghost use Rattle.barrier_snapshot.specs.Restoring.{Restores};
+ghost use Rattle.barrier_snapshot.specs.Restoring.{BeginAll, Restores};
 ghost use Rattle.barrier_snapshot.specs.declared.fault.SnapFault.TheVariants.{At as at_place};
 
 use crate::fault::SnapFault;
 use crate::loading::load_capture;
 use edge_queue::CAPACITY_LIMIT;
 use flow_core::Net;
+use kap_base::{NoMemory, Stamp};
 use node_core::Node;
 use state_code::CodeFault;
 use std::alloc::Global;
+use std::vec::IntoIter;
 use task_run::LifePlan;
 
+/// A net without lives behind a barrier. Where there is no life, a load of no points is at rest at
+/// once.
+fn behind<N: Node>(alloc: Global, upto: Stamp) -> Result<Net<N>, NoMemory>
+    ensures lives { IfOk result (λ net. net.lives ≡ []) }
+    ensures gathered { IfOk result (λ net. net.gathered ≡ []) }
+    ensures last { IfOk result (λ net. net.last ≡ upto) }
+    ensures unspent { IfOk result (λ net. net.spent ≡ false) }
+{
+    let mut net = Net::new(alloc);
+    net.load(alloc, &[], upto, &[])?;
+    Ok(net)
+}
+
+/// Lives of plans begin, one behind the other.
+fn begin_all<N: Node>(
+    alloc: Global,
+    net: &mut Net<N>,
+    mut rest: IntoIter<LifePlan<N>>,
+    capacity: u32,
+) -> Result<(), NoMemory>
+    requires unspent { net.old.spent ≡ false }
+    requires resting { Each IsResting net.old.lives }
+    requires few { Each HasFewParents rest.rest.items }
+    requires some { 0 < capacity }
+    requires limit { capacity ≤ CAPACITY_LIMIT }
+    ensures begun { OnOk result (BeginAll N.Node net.old.last.0 rest.rest.items
+        net.old.lives net.new.lives) }
+    ensures resting { OnOk result (Each IsResting net.new.lives) }
+    ensures room { OnOk result (Each (HasRoomIn capacity) net.old.lives
+        → Each (HasRoomIn capacity) net.new.lives) }
+    ensures gathered { OnOk result (net.new.gathered ≡ net.old.gathered) }
+    ensures last { OnOk result (net.new.last ≡ net.old.last) }
+    ensures unspent { OnOk result (net.new.spent ≡ false) }
+{
+    let Some(plan) = rest.next() else {
+        return Ok(());
+    };
+    net.begin(alloc, plan, capacity)?;
+    begin_all(alloc, net, rest, capacity)
+}
+
 /// A net with a life of each plan, in their order, at rest in the states that the bytes hold, life
-/// by life and node by node. Its last barrier has the stamp 0, each cell's saved state is its
-/// state, and its edges have room for just `capacity` messages, 1 to 65,536. `At` comes exactly
-/// where the bytes aren't a capture of these lives: it names the place of the first byte string
-/// that isn't the state of its node, or that of the bytes behind the last one, or 0 where the
-/// number of the states is another.
+/// by life and node by node. It stands behind the barrier `upto`, where the nodes were in these
+/// states, so that it can be captured there; its edges have room for just `capacity` messages, 1
+/// to 65,536. `At` comes exactly where the bytes aren't a capture of these lives: it names the
+/// place of the first byte string that isn't the state of its node, or that of the bytes behind the
+/// last one, or 0 where the number of the states is another.
 pub fn restore<N: Node>(
     alloc: Global,
     plans: Vec<LifePlan<N>>,
     capacity: u32,
     bytes: &[u8],
+    upto: Stamp,
 ) -> Result<Net<N>, SnapFault>
     requires few { Each HasFewParents plans.items }
     requires some { 0 < capacity }
     requires limit { capacity ≤ CAPACITY_LIMIT }
-    ensures restores { IfOk result (Restores N.Node plans.items bytes.now) }
+    ensures restores { IfOk result (Restores N.Node plans.items upto bytes.now) }
     ensures room { IfOk result (λ net. Each (HasRoomIn capacity) net.lives) }
     ensures at { (offset : ℕ) (states : List N.State) → result ≡ Err (at_place offset)
         → IsCapture N.fits N.spell (in_lives N.spec plans.items) states bytes.now → ⊥ }
@@ -45,5 +90,7 @@ pub fn restore<N: Node>(
         Err(CodeFault::At(offset)) => return Err(SnapFault::At(offset)),
         Err(CodeFault::NoMemory) => return Err(SnapFault::NoMemory),
     };
-    Ok(Net::make(alloc, loaded, capacity)?)
+    let mut net = behind(alloc, upto)?;
+    begin_all(alloc, &mut net, loaded.into_iter(), capacity)?;
+    Ok(net)
 }
