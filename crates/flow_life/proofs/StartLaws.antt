@@ -35,7 +35,7 @@ empty-next : (l : List Msg) (ls : Lists) → l ≡ [] → next (l ∷ ls) ≡ No
 unfolding next
 empty-next l ls e = subst (λ (x : List Msg). next (x ∷ ls) ≡ None) (sym e) refl
 
-nothing-next : (ins : List InEdge) (source : List Msg) → Each IsNothing (received_of ins source) → next (received_of ins source) ≡ None
+pub nothing-next : (ins : List InEdge) (source : List Msg) → Each IsNothing (received_of ins source) → next (received_of ins source) ≡ None
 nothing-next [] source h = empty-next source [] h.0
 nothing-next (e ∷ ins) source h = empty-next (received e.head) (map (λ (i : InEdge). received i.head) ins) h.0
 

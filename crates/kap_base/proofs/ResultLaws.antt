@@ -1,5 +1,5 @@
 -- One fact from another, where a call is Ok, and the parts of what was read.
-use Rattle.std.proofs.Common.{◌≡◌, List, Option, Some, ℕ}
+use Rattle.std.proofs.Common.{◌≡◌, List, Some, ℕ}
 use Rattle.std.specs.Prelude.{Result, Ok, Err, OnOk}
 
 pub on_ok : {A E : Type 0} {P Q : Type 0} (r : Result A E) → (P → Q) → OnOk r P → OnOk r Q
