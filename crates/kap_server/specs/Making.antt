@@ -4,8 +4,6 @@ use Rattle.kap_io.specs.Disk.{Image}
 use Rattle.kap_io.specs.declared.disk.Part.TheVariants.{Head}
 use Rattle.gate_log.specs.Head.{HasNoHead, head_magic}
 use Rattle.topic_store.specs.Making.{IsMade}
-use Rattle.topic_store.specs.declared.fault.StoreFault.{StoreFault}
-use Rattle.topic_store.specs.declared.fault.StoreFault.TheVariants as stores
 use Rattle.kap_server.specs.declared.status.Status.{Status}
 use Rattle.kap_server.specs.declared.status.Status.TheVariants as statuses
 
@@ -13,13 +11,11 @@ use Rattle.kap_server.specs.declared.status.Status.TheVariants as statuses
 abbrev pub HasHead : List ℕ → Type 0
 HasHead file = take 8 file ≡ head_magic
 
--- whether a head stands there, as it was found; or the disk failed or memory ran out
-abbrev pub HeadOrNot : List ℕ → Result Bool StoreFault → Type 0
+-- whether a head stands there, as it was found; or the disk failed
+abbrev pub HeadOrNot : {E : Type 0} → List ℕ → Result Bool E → Type 0
 HeadOrNot file (Ok true) = HasHead file
 HeadOrNot file (Ok false) = HasNoHead file
-HeadOrNot file (Err stores.DiskFault) = ⊤
-HeadOrNot file (Err stores.NoMemory) = ⊤
-HeadOrNot file (Err fault) = ⊥
+HeadOrNot file (Err _) = ⊤
 
 -- By the status, where the files read as `old` before and as `new` behind, and a crash leaves these images then: at Ok
 -- no head stood there, and the files and each image stand for a store of no records; at Exists a head stood there; else

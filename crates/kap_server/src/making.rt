@@ -2,30 +2,28 @@
 
 ghost use Rattle.std.specs.Prelude.{◌≡◌, IsTrue};
 ghost use Rattle.kap_base.specs.Words.{HasRisen};
+ghost use Rattle.kap_io.specs.Causes.{HasCause};
 ghost use Rattle.kap_io.specs.Moments.{Quiet};
-ghost use Rattle.topic_store.specs.Making.{MakeCause};
 ghost use Rattle.kap_server.specs.Making.{HasHead, HeadOrNot, Made};
 
 use crate::status::Status;
 use gate_log::{LogFault, read_head};
-use kap_io::{Disk, Part};
+use kap_io::{Disk, Failed, Part};
 use std::alloc::Global;
-use topic_store::{StoreFault, make_store};
+use topic_store::make_store;
 
 /// Whether a head stands on the disk.
-fn has_head<D: Disk>(disk: &mut D) -> Result<bool, StoreFault>
+fn has_head<D: Disk>(disk: &mut D) -> Result<bool, Failed>
     ensures found { IsTrue D.tells → HeadOrNot (D.seen disk.old Part.Head) result }
     ensures quiet { IsTrue D.tells
         → Quiet D.seen D.moment D.may_leave D.left_since disk.old disk.new }
-    ensures cause { MakeCause (D.faults disk.old) (D.faults disk.new) result }
+    ensures cause { HasCause (D.faults disk.old) (D.faults disk.new) result }
 {
     match read_head(disk) {
         Ok(_) => Ok(true),
         Err(LogFault::Header) => Ok(false),
-        Err(LogFault::DiskFault) => Err(StoreFault::DiskFault),
-        Err(LogFault::NoMemory) => Err(StoreFault::NoMemory),
-        // A head isn't torn or too long.
-        Err(LogFault::Torn(_) | LogFault::Long) => Err(StoreFault::NoMemory),
+        // No fault of a head is another one than the disk's.
+        Err(LogFault::DiskFault | LogFault::Torn(_) | LogFault::Long | LogFault::NoMemory) => Err(Failed),
     }
 }
 
@@ -44,6 +42,6 @@ pub(crate) fn init<D: Disk>(alloc: Global, disk: &mut D) -> Status
             Ok(()) => Status::Ok,
             Err(fault) => Status::from(fault),
         },
-        Err(fault) => Status::from(fault),
+        Err(Failed) => Status::DiskFault,
     }
 }
