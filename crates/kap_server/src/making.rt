@@ -23,7 +23,9 @@ fn has_head<D: Disk>(disk: &mut D) -> Result<bool, Failed>
         Ok(_) => Ok(true),
         Err(LogFault::Header) => Ok(false),
         // No fault of a head is another one than the disk's.
-        Err(LogFault::DiskFault | LogFault::Torn(_) | LogFault::Long | LogFault::NoMemory) => Err(Failed),
+        Err(LogFault::DiskFault | LogFault::Torn(_) | LogFault::Long | LogFault::NoMemory) => Err(
+            Failed,
+        ),
     }
 }
 
