@@ -1,5 +1,5 @@
 -- What cells make of a net that get their moves by themselves and are given back.
-use Rattle.std.proofs.Common.{◌≡◌, ℕ, List, [], ◌∷◌, ◌++◌, ap, arith, length, refl, subst, sym, ◌∙◌}
+use Rattle.std.proofs.Common.{◌≡◌, ℕ, List, [], ◌∷◌, ◌++◌, ap, arith, length, refl, subst, ◌∙◌}
 use Rattle.std.specs.List.{AllByRecursion as Each, AllZip}
 use Rattle.kap_base.specs.declared.items.Effect.{Effect}
 use Rattle.node_core.specs.declared.node.Node.{Ghosts}
@@ -19,7 +19,7 @@ use Rattle.flow_core.specs.Away.{AreGivenBack, HasMovedLife, IsBack, IsGivenBack
 use Rattle.flow_core.proofs.DoneLaws.{gathers-behind, gathers-front, gathers_none, gathers_then, step_gathers}
 use Rattle.flow_core.specs.LifeLoads.{effects_since}
 use Rattle.flow_core.specs.Nets.{IsLifeIn, IsSound, NumberedLife, numbers_of, plans_in, specs_in}
-use Rattle.flow_core.specs.Ran.{GathersAll, effects_in, together}
+use Rattle.flow_core.specs.Ran.{effects_in, together}
 use Rattle.flow_core.specs.Rooms.{rooms_in}
 use Rattle.flow_core.specs.Running.{ends_in}
 

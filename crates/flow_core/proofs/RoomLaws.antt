@@ -1,8 +1,7 @@
 -- Where edges keep their room they have the room that they had.
-use Rattle.std.proofs.Common.{◌≡◌, ℕ, List, [], ◌∷◌, map, subst, sym, ◌∙◌}
+use Rattle.std.proofs.Common.{◌≡◌, ℕ, List, [], ◌∷◌, map, subst, sym}
 use Rattle.std.specs.List.{AllByRecursion as Each}
 use Rattle.flow_cells.specs.declared.parts.CellParts.{CellParts}
-use Rattle.flow_cells.specs.declared.parts.OutEdge.{OutEdge}
 use Rattle.flow_cells.specs.Rooms.{HasRoom, rooms}
 use Rattle.flow_cells.proofs.RoomLaws.{room}
 use Rattle.flow_life.specs.Rooms.{rooms_of}

@@ -7,7 +7,7 @@ use Rattle.std.proofs.lemmas.List.Elements.{All-weaker}
 use Rattle.std.proofs.lemmas.Bool.Decides.{nat_tests}
 use Rattle.httparse.specs.declared.spans.HeaderSpan.{HeaderSpan}
 use Rattle.httparse.specs.declared.spans.RequestSpans.{RequestSpans}
-use Rattle.httparse.specs.Grammar.{is_token_byte, AllPass, IsToken, RequestHead, print_request, IsRequestHead, ReadsRequest, HasNoRequest, MayBecomeRequest}
+use Rattle.httparse.specs.Grammar.{is_token_byte, IsToken, print_request, HasNoRequest}
 use Rattle.httparse.specs.Spans.{IsRequestWithin, IsRequestOf, header_bytes, span_bytes, name_and_value, RequestOverflows}
 use Rattle.httparse.proofs.GrammarLemmas.{ReadsRequest-append}
 use Rattle.kap_base.specs.Words.{Answers}

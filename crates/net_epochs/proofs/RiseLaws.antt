@@ -3,7 +3,6 @@ use Rattle.std.proofs.Common.{◌≡◌, ℕ, zero, suc, ◌+◌, ◌≤◌, Lis
 use Rattle.std.specs.List.{AllByRecursion as Each}
 use Rattle.node_core.specs.Meaning.{Answer, Input}
 use Rattle.node_core.specs.Cut.{IsStamped}
-use Rattle.task_run.specs.Merging.{stamps}
 use Rattle.task_run.specs.Lives.{node_effects_with}
 use Rattle.flow_core.specs.Gathering.{LivesRise, NumbersEffects}
 use Rattle.flow_core.specs.Sorting.{AreRising}

@@ -1,5 +1,5 @@
 -- One epoch behind others.
-use Rattle.std.proofs.Common.{◌≡◌, ◌+◌, List, [], ◌++◌, IsPermutation, inl, inr, length, map, refl, sym, ap, subst, ◌∙◌, arith, length-append}
+use Rattle.std.proofs.Common.{◌≡◌, ◌+◌, List, [], ◌++◌, IsPermutation, inl, inr, length, map, sym, ap, subst, ◌∙◌, arith, length-append}
 use Rattle.std.specs.List.{AllByRecursion as Each, AllZip}
 use Rattle.std.proofs.lemmas.List.Sorted.{IsPermutation-append_right, IsPermutation-refl, IsPermutation-trans}
 use Rattle.kap_base.specs.Points.{PointValue}

@@ -1,9 +1,9 @@
 -- The points of the sample recording are points, are spelled so, and are read again.
-use Rattle.std.proofs.Common.{◌≡◌, ℕ, zero, suc, ◌+◌, ◌*◌, ◌^◌, ◌%◌, ◌<◌, ◌≤◌, ℤ, pos, Bool, true, false, List, [], ◌∷◌, ◌++◌, length, map, refl, sym, ap, ◌∙◌, subst, arith, append_assoc, append-nil, length-append}
-use Rattle.std.specs.Prelude.{◌&&◌, All, IsTrue, codes, nat_le, nat_lt}
+use Rattle.std.proofs.Common.{◌≡◌, ℕ, zero, suc, ◌+◌, ◌*◌, ◌^◌, ◌%◌, ◌<◌, ◌≤◌, pos, Bool, true, false, List, [], ◌∷◌, ◌++◌, length, map, refl, sym, ap, ◌∙◌, subst, arith, append_assoc, append-nil, length-append}
+use Rattle.std.specs.Prelude.{◌&&◌, All, IsTrue, codes, nat_lt}
 use Rattle.std.specs.FinMap.{empty, entries, entries-insert, insert, len-entries, put}
 use Rattle.std.specs.Fmt.{decimal, digits}
-use Rattle.std.specs.List.{flat_map, list_all}
+use Rattle.std.specs.List.{list_all}
 use Rattle.std.specs.Str.{IsAscii, is_utf8}
 use Rattle.std.proofs.lemmas.Cmp.{nat_list_cmp_total}
 use Rattle.std.proofs.lemmas.Str.{IsUtf8-from_ascii, is_utf8-from_IsUtf8}
@@ -12,11 +12,10 @@ use Rattle.std.proofs.lemmas.List.{map_push}
 use Rattle.std.proofs.lemmas.Bool.Decides.{nat_tests}
 use Rattle.std.proofs.lemmas.List.Concat.{flat_map-append}
 use Rattle.std.proofs.lemmas.List.Elements.{All-append, All-cons, All-nil}
-use Rattle.kap_base.specs.declared.limits.TheConstants.{TIME_LIMIT}
 use Rattle.kap_base.proofs.EntryLaws.{no_entries}
 use Rattle.kap_base.proofs.TestLaws.{first_of, second_of}
 use Rattle.kap_base.specs.Maps.{byte_order}
-use Rattle.kap_base.specs.Points.{PointValue, IsPoint, is_time, is_value}
+use Rattle.kap_base.specs.Points.{PointValue, IsPoint}
 use Rattle.kap_base.specs.declared.value.Value.TheVariants as values
 use Rattle.kap_base.specs.Texts.{is_name, line_feed}
 use Rattle.line_points.specs.declared.line.TheConstants.{LINE_LIMIT}
@@ -25,7 +24,7 @@ use Rattle.line_points.specs.Print.{Print, part_text, value_text}
 use Rattle.recording_file.specs.Printed.{IsRecordable, read_again, record_text}
 use Rattle.recording_file.specs.Recording.{Recording}
 use Rattle.recording_file.proofs.PrintLaws.{records_again}
-use Rattle.sample_points.specs.Samples.{fields_of, sample_of, sample_record, sample_text, samples, tags_of}
+use Rattle.sample_points.specs.Samples.{fields_of, sample_of, sample_record, sample_text, samples}
 
 -- ---- one point
 

@@ -1,5 +1,5 @@
 -- What nodes say of a point, and what stands at the points of a group.
-use Rattle.std.specs.Prelude.{◌≡◌, ℕ, ℤ, List, [], ◌∷◌, ◌++◌, Option, Some, None, filter_map, refl}
+use Rattle.std.specs.Prelude.{◌≡◌, ℕ, ℤ, List, [], ◌∷◌, ◌++◌, Option, Some, None, filter_map}
 use Rattle.std.specs.FinMap.{empty, get, insert}
 use Rattle.std.specs.List.{last_or}
 use Rattle.std.proofs.Common.{append-nil, ap, ◌∙◌}

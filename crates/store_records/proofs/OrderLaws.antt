@@ -1,7 +1,7 @@
 -- What a store holds stays in order behind one more record that may follow.
-use Rattle.std.proofs.Common.{◌≡◌, ℕ, suc, ◌+◌, ◌<◌, ◌≤◌, Bool, true, false, not, ◌&&◌, cond, List, [], ◌∷◌, ◌++◌, length, take, drop, Option, None, Some, refl, sym, ap, ◌∙◌, subst, arith, length-append, true≢false}
+use Rattle.std.proofs.Common.{◌≡◌, ℕ, suc, ◌+◌, ◌<◌, ◌≤◌, Bool, true, false, not, ◌&&◌, cond, List, [], ◌∷◌, ◌++◌, length, Option, None, Some, refl, sym, ap, ◌∙◌, subst, arith, length-append, true≢false}
 use Rattle.std.specs.Prelude.{◌||◌, IfSome}
-use Rattle.std.specs.List.{AllByRecursion as Each, filter, find, insert, list_any, position_or_len, remove}
+use Rattle.std.specs.List.{AllByRecursion as Each, filter, insert, list_any, position_or_len, remove}
 use Rattle.std.specs.Option.{option_map_or}
 use Rattle.std.specs.Ordering.{is_eq, is_lt}
 use Rattle.std.specs.Str.{bytes_eq}
@@ -16,8 +16,8 @@ use Rattle.std.proofs.lemmas.Slice.Eq.{bytes_eq-Decides}
 use Rattle.kap_base.proofs.TestLaws.{first_false, first_of, not_true, second_false, second_of}
 use Rattle.kap_base.specs.Maps.{byte_order}
 use Rattle.kap_base.specs.Texts.{is_task_id}
-use Rattle.kap_base.specs.declared.limits.TheConstants.{SCRIPT_LIMIT, TASK_LIMIT}
-use Rattle.store_records.specs.Held.{Held, MayFollow, after, begun, end_life, ended, has_task, is_called, is_enabled, is_open, is_open_of, later_of, life_from, life_of, may_define, nothing, open_from, points_in, put_task, remove_task, set_enabled, snap_in, task_of, tasks_after, transitions_in}
+use Rattle.kap_base.specs.declared.limits.TheConstants.{TASK_LIMIT}
+use Rattle.store_records.specs.Held.{Held, MayFollow, after, begun, end_life, ended, has_task, is_called, is_enabled, is_open, is_open_of, life_from, life_of, may_define, nothing, open_from, points_in, put_task, remove_task, set_enabled, task_of, tasks_after, transitions_in}
 use Rattle.store_records.specs.Histories.{Follow, FollowFrom, first_gate, held, held_from, next_gate}
 use Rattle.store_records.specs.Orders.{DefinesValid, HasOpenLives, IdsRise, IsInOrder, IsSnapWithin, IsValid}
 use Rattle.store_records.specs.declared.rec.Rec.{Rec}

@@ -1,5 +1,5 @@
 -- A store of no records, once its files are made.
-use Rattle.std.proofs.Common.{◌≡◌, List, [], ℕ, refl, sym, ◌∙◌, subst}
+use Rattle.std.proofs.Common.{◌≡◌, List, [], ℕ, sym, ◌∙◌, subst}
 use Rattle.std.specs.Prelude.{Bool, true, false, ◌==◌, ◌%◌, if◌then◌else◌}
 use Rattle.kap_io.specs.Disk.{Elsewhere, Image, On, OnlyIn, Reached}
 use Rattle.kap_io.specs.Moments.{Moments, then_run, weaker}

@@ -1,13 +1,13 @@
 -- Points that are read one after the other.
-use Rattle.std.proofs.Common.{◌≡◌, ℕ, zero, suc, ◌+◌, ◌-◌, ◌<◌, ◌≤◌, min, List, [], ◌∷◌, ◌++◌, length, take, drop, refl, sym, ap, ◌∙◌, subst, arith, append_assoc, length-append, Ok, Err}
+use Rattle.std.proofs.Common.{◌≡◌, ℕ, zero, suc, ◌+◌, ◌-◌, ◌<◌, ◌≤◌, min, List, [], ◌∷◌, ◌++◌, length, take, drop, refl, sym, ap, ◌∙◌, arith, append_assoc, length-append, Ok, Err}
 use Rattle.std.proofs.Math.Seq.{drop-append-add, drop-nil, take-nil}
-use Rattle.std.specs.Prelude.{Option, Some, None, Result}
+use Rattle.std.specs.Prelude.{Some, None}
 use Rattle.std.specs.List.{flat_map}
 use Rattle.std.proofs.lemmas.List.{append-nil, length-drop, length-take, take_all, take_min}
 use Rattle.std.proofs.lemmas.Grind.{flat_map-append}
 use Rattle.kap_base.specs.Points.{PointValue}
 use Rattle.store_records.specs.Held.{points_in}
-use Rattle.store_records.specs.Histories.{end_of, held}
+use Rattle.store_records.specs.Histories.{held}
 use Rattle.store_records.specs.declared.rec.Rec.{Rec}
 use Rattle.topic_store.specs.Pieces.{LeadsTo}
 use Rattle.topic_store.specs.Points.{GivesOrNot, IsBefore, IsBeforeOrNot, PointsState}

@@ -7,7 +7,7 @@ use Rattle.kap_io.specs.Disk.{Image}
 use Rattle.kap_io.specs.declared.disk.Part.{Part}
 use Rattle.gate_log.specs.Bodies.{bytes_of}
 use Rattle.gate_log.specs.Logs.{Rests}
-use Rattle.gate_log.specs.Readers.{BeginsWith, GoesOn, HasRead, IsLongBehind, ReaderState, ReadsNext, log_at}
+use Rattle.gate_log.specs.Readers.{BeginsWith, GoesOn, HasRead, ReaderState, ReadsNext, log_at}
 use Rattle.gate_log.specs.declared.fault.LogFault.{LogFault}
 use Rattle.gate_log.specs.declared.fault.LogFault.TheVariants as log
 use Rattle.gate_log.specs.declared.log.TheConstants.{BODY_LIMIT}

@@ -1,5 +1,4 @@
-use Rattle.std.proofs.Common.{Ok, Err}
-use Rattle.std.specs.Prelude.{Result, OnOk, string_bytes}
+use Rattle.std.specs.Prelude.{string_bytes}
 use Rattle.kap_server.proofs.WordLaws.{no_pairs, pair_first}
 use Rattle.kap_server.proofs.ReadyLaws.{adds_first, adds_none}
 use Rattle.kap_server.proofs.readying.+add_tasks.Goals as goal
