@@ -10,7 +10,7 @@ ghost use Rattle.http_dialog.specs.Links.{Connected, Goes};
 ghost use Rattle.http_dialog.specs.Numbers.{AddsOnly};
 ghost use Rattle.conn_future.specs.Polls.{IsPending};
 
-use crate::steps::{Step, step};
+use crate::steps::{Step, take_step};
 use futures::task::{Context, Poll};
 use http_dialog::{Dialog, LinkEnd};
 use kap_http::Serve;
@@ -79,7 +79,7 @@ impl<L: PollLink + Drop> Conn<L> {
         ensures armed { OnPending result (IsArmed cx.new) }
         ensures task { KeepsTask cx.old cx.new }
     {
-        match step(alloc, &mut self.link, &mut self.dialog, self.number, serve) {
+        match take_step(alloc, &mut self.link, &mut self.dialog, self.number, serve) {
             Step::Ended(ending) => Poll::Ready(ending),
             Step::Spent => cx.yield_now(),
             Step::Reads => {

@@ -9,4 +9,4 @@ mod try_fault;
 
 pub use conn::Conn;
 pub use future::Talk;
-pub use steps::{STEP_LIMIT, Step, step};
+pub use steps::{STEP_LIMIT, Step, take_step};

@@ -52,7 +52,7 @@ fn rest<L: TryLink>(link: &mut L, dialog: &mut Dialog) -> Step
 /// A step says of the connection what came of it, wherever it came from, so that steps compose, over any
 /// number of them, and while others are served. `ReadFault` and `WriteFault` come only where that count of
 /// the link rose in this step.
-pub fn step<L: TryLink, H: Serve>(
+pub fn take_step<L: TryLink, H: Serve>(
     alloc: Global,
     link: &mut L,
     dialog: &mut Dialog,

@@ -51,6 +51,20 @@ pub some_second : (xs ys front : List ℕ) (gone : ℕ) → length xs ≤ gone �
 some_second xs ys front gone all is ne =
     some_of front (λ none. ne (second_left xs ys gone all ∙ sym is ∙ none))
 
+-- bytes are due exactly where their front has some
+pub none_due : (due front : List ℕ) → (due ≢ [] → 0 < length front) → front ≡ [] → due ≡ []
+none_due [] front some none = refl
+none_due (b ∷ due) front some none =
+    let long = some (λ e. cc) in
+    let short = ap (λ (x : List ℕ). length x) none in
+    absurd (omega arith)
+
+pub some_due : (due front : List ℕ) → length front ≤ length due → front ≢ [] → due ≢ []
+some_due due front within some none =
+    let short = ap (λ (x : List ℕ). length x) none in
+    let long = some_of front some in
+    omega arith
+
 -- ---- bytes that went
 
 -- a front of the first part

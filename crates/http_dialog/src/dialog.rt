@@ -85,6 +85,7 @@ fn ending_behind(request: &Request, left: u32) -> Option<DialogEnd>
 
 impl Dialog {
     /// A connection of which nothing came yet.
+    #[tactic(auto, using(crate::proofs::DialogLaws::begins))]
     pub fn new(alloc: Global) -> Dialog
         ensures fresh { result ≡ fresh }
         ensures goes { (number : ℕ) → HasPast number no_past result }

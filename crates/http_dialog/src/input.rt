@@ -121,6 +121,7 @@ impl Input {
     }
 
     /// Looks for a head.
+    #[tactic(auto, using(crate::proofs::InputLaws::head_is, crate::proofs::InputLaws::waits, crate::proofs::InputLaws::refused))]
     fn first(&mut self, alloc: Global) -> Result<Option<Request>, HttpFault>
         ensures takes { Takes self.old self.new result }
         ensures short { IfOk result (λ o. IfNone o (length self.old < HELD_LIMIT)) }
@@ -136,6 +137,7 @@ impl Input {
     }
 
     /// Takes the request of this head out, if its body is whole.
+    #[tactic(auto, using(crate::proofs::InputLaws::gives_none, crate::proofs::InputLaws::gives_some))]
     fn whole(&mut self, alloc: Global, head: Head) -> Result<Option<Request>, HttpFault>
         requires { IsHeadOf head self.old }
         ensures takes { Takes self.old self.new result }

@@ -79,6 +79,7 @@ impl Output {
 
     /// The bytes that are to be written next: all that are due, or a front of them, which isn't empty where
     /// some are due.
+    #[tactic(auto, using(crate::proofs::OutputLaws::front_first, crate::proofs::OutputLaws::front_second, crate::proofs::OutputLaws::within_first, crate::proofs::OutputLaws::within_second, crate::proofs::OutputLaws::some_first, crate::proofs::OutputLaws::some_second))]
     pub(crate) fn front(&self) -> &[u8]
         ensures front { result.now ≡ take (length result.now) self.now.due }
         ensures within { length result.now ≤ length self.now.due }
@@ -93,6 +94,7 @@ impl Output {
     }
 
     /// Whether nothing is due.
+    #[tactic(auto, using(crate::proofs::OutputLaws::none_due, crate::proofs::OutputLaws::some_due))]
     pub(crate) fn is_empty(&self) -> bool
         ensures { MatchBool result (self.now.due ≡ []) (self.now.due ≢ []) }
     {
@@ -113,6 +115,7 @@ impl Output {
     }
 
     /// So many of the bytes that were due were written.
+    #[tactic(auto, using(crate::proofs::OutputLaws::went_first, crate::proofs::OutputLaws::went_second))]
     pub(crate) fn pass(&mut self, count: usize)
         requires { count ≤ length self.old.due }
         ensures { self.new.due ≡ drop count self.old.due }
@@ -127,6 +130,7 @@ impl Output {
     }
 
     /// Adds the bytes of a reply. It asks for memory to join them with what is due, and does without.
+    #[tactic(auto, using(crate::proofs::OutputLaws::added_first, crate::proofs::OutputLaws::joined_free, crate::proofs::OutputLaws::behind_free))]
     pub(crate) fn add(&mut self, text: Bytes)
         requires { IsFree self.old }
         ensures { self.new.due ≡ self.old.due ++ text }
@@ -148,6 +152,7 @@ impl Output {
     }
 
     /// Adds those of the reply that says that memory ran out.
+    #[tactic(auto, using(crate::proofs::OutputLaws::behind_free))]
     pub(crate) fn add_lack(&mut self, last: bool)
         requires { IsFree self.old }
         ensures { self.new.due ≡ self.old.due ++ reply_text (out_of_memory last) }
@@ -157,6 +162,7 @@ impl Output {
     }
 
     /// Adds those of the refusal of bytes that hold no request.
+    #[tactic(auto, using(crate::proofs::OutputLaws::behind_free))]
     pub(crate) fn add_fault(&mut self, fault: HttpFault)
         requires { IsFree self.old }
         ensures { self.new.due ≡ self.old.due ++ reply_text (fault_reply fault) }
