@@ -1,12 +1,13 @@
 //! A connection that is polled.
 
-ghost use Rattle.std.specs.Prelude.{◌≡◌, ◌+◌, ◌≤◌, List, Option, ℕ};
+ghost use Rattle.std.specs.Prelude.{◌≡◌, ◌+◌, ◌≤◌, List, Option};
 ghost use Rattle.futures.specs.Poll.{IfReady, OnPending};
 ghost use Rattle.futures.specs.Task.{IsArmed, Keeps as KeepsTask};
 ghost use Rattle.kap_base.specs.Words.{HasRisen};
 ghost use Rattle.kap_http.specs.Calls.{Call};
 ghost use Rattle.http_dialog.specs.Dialogs.{fresh};
-ghost use Rattle.http_dialog.specs.Links.{Connected, Goes};
+ghost use Rattle.http_dialog.specs.Driving.{ComesOn, ComesTo};
+ghost use Rattle.http_dialog.specs.Links.{Goes};
 ghost use Rattle.http_dialog.specs.Numbers.{AddsOnly};
 ghost use Rattle.conn_future.specs.Polls.{IsPending};
 
@@ -57,16 +58,12 @@ impl<L: PollLink + Drop> Conn<L> {
         cx: &mut Context<'_>,
         serve: &mut H,
     ) -> Poll<LinkEnd>
-        ensures pending { OnPending result ((l v : Option (List ℕ)) (s : Option (List Call)) →
-            Goes self.old.number l (L.left self.old.link) s (H.served serve.old) v
-                (L.written self.old.link) self.old.dialog →
-            Goes self.old.number l (L.left self.new.link) s (H.served serve.new) v
-                (L.written self.new.link) self.new.dialog) }
-        ensures ends { IfReady result (λ ending. (l v : Option (List ℕ)) (s : Option (List Call)) →
-            Goes self.old.number l (L.left self.old.link) s (H.served serve.old) v
-                (L.written self.old.link) self.old.dialog →
-            Connected self.old.number l (L.left self.new.link) s (H.served serve.new) v
-                (L.written self.new.link) ending) }
+        ensures pending { OnPending result (ComesOn self.old.number (L.left self.old.link)
+            (L.left self.new.link) (H.served serve.old) (H.served serve.new)
+            (L.written self.old.link) (L.written self.new.link) self.old.dialog self.new.dialog) }
+        ensures ends { IfReady result (λ ending. ComesTo self.old.number (L.left self.old.link)
+            (L.left self.new.link) (H.served serve.old) (H.served serve.new)
+            (L.written self.old.link) (L.written self.new.link) self.old.dialog ending) }
         ensures only { AddsOnly self.old.number (H.served serve.old) (H.served serve.new) }
         ensures number { self.new.number ≡ self.old.number }
         ensures most { self.old.dialog.left ≤ self.new.dialog.left + 64 }

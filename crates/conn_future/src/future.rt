@@ -1,6 +1,6 @@
 //! The connection as a future.
 
-ghost use Rattle.conn_future.specs.Polls.{ComesTo};
+ghost use Rattle.conn_future.specs.Polls.{MayEndSo};
 
 use crate::conn::Conn;
 use futures::Future;
@@ -24,7 +24,7 @@ pub struct Talk<'a, L: PollLink + Drop, H: Serve> {
 impl<'a, L: PollLink + Drop, H: Serve> Future for Talk<'a, L, H> {
     type Output = LinkEnd;
 
-    ghost gives = { λ t ending. ComesTo t.conn.now.number (L.left t.conn.now.link)
+    ghost gives = { λ t ending. MayEndSo t.conn.now.number (L.left t.conn.now.link)
         (H.served t.serve.now) (L.written t.conn.now.link) t.conn.now.dialog ending };
 
     fn poll(&mut self, cx: &mut Context<'_>) -> Poll<LinkEnd> {

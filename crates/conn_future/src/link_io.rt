@@ -14,7 +14,7 @@ use kap_base::NoMemory;
 use kap_io::{Stop, TryLink};
 
 /// How many bytes are read at once.
-const PIECE: usize = 16_384;
+pub(crate) const PIECE: usize = 16_384;
 
 /// Writes what is due, as far as the link takes it.
 pub(crate) fn flush<L: TryLink>(link: &mut L, dialog: &mut Dialog) -> Result<(), Stop>
@@ -37,8 +37,13 @@ pub(crate) fn flush<L: TryLink>(link: &mut L, dialog: &mut Dialog) -> Result<(),
     Ok(())
 }
 
-/// Reads the next bytes for a connection that waits for them, or tells it that no more come.
-pub(crate) fn fill<L: TryLink>(link: &mut L, dialog: &mut Dialog) -> Result<(), TryFault>
+/// Reads the next bytes for a connection that waits for them, or tells it that no more come. `piece` is where
+/// they are read to.
+pub(crate) fn fill<L: TryLink>(
+    link: &mut L,
+    dialog: &mut Dialog,
+    piece: &mut [u8; PIECE],
+) -> Result<(), TryFault>
     requires open { dialog.old.ending ≡ None }
     requires waits { Gives dialog.old.held (Ok None) }
     requires short { length dialog.old.held < HELD_LIMIT }
@@ -59,7 +64,6 @@ pub(crate) fn fill<L: TryLink>(link: &mut L, dialog: &mut Dialog) -> Result<(), 
     ensures writes { L.write_faults link.old ≤ L.write_faults link.new }
     ensures later { L.waits link.old ≤ L.waits link.new }
 {
-    let mut piece = [0u8; PIECE];
     let most = dialog.free().min(PIECE);
     let (front, _) = piece.split_at_mut(most);
     let count = match link.try_read(front) {

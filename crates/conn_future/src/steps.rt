@@ -1,14 +1,12 @@
 //! The step of a connection over a link that doesn't wait.
 
-ghost use Rattle.std.specs.Prelude.{◌≡◌, ◌+◌, ◌≤◌, List, Option, ℕ};
+ghost use Rattle.std.specs.Prelude.{◌≡◌, ◌+◌, ◌≤◌};
 ghost use Rattle.kap_base.specs.Words.{HasRisen};
-ghost use Rattle.kap_http.specs.Calls.{Call};
-ghost use Rattle.http_dialog.specs.Driving.{GoesOn};
-ghost use Rattle.http_dialog.specs.Links.{Connected, Goes};
+ghost use Rattle.http_dialog.specs.Driving.{ComesOn, ComesTo, GoesOn};
 ghost use Rattle.http_dialog.specs.Numbers.{AddsOnly};
 ghost use Rattle.conn_future.specs.Steps.{HasServed, IfEnded, OnGoing, RestsSo, WaitsToRead, WaitsToWrite};
 
-use crate::link_io::{fill, flush};
+use crate::link_io::{PIECE, fill, flush};
 use crate::try_fault::TryFault;
 use http_dialog::{Dialog, LinkEnd, Want};
 use kap_http::Serve;
@@ -59,12 +57,12 @@ pub fn take_step<L: TryLink, H: Serve>(
     number: u32,
     serve: &mut H,
 ) -> Step
-    ensures goes { OnGoing result ((l v : Option (List ℕ)) (s : Option (List Call)) →
-        Goes number l (L.left link.old) s (H.served serve.old) v (L.written link.old) dialog.old →
-        Goes number l (L.left link.new) s (H.served serve.new) v (L.written link.new) dialog.new) }
-    ensures ends { IfEnded result (λ ending. (l v : Option (List ℕ)) (s : Option (List Call)) →
-        Goes number l (L.left link.old) s (H.served serve.old) v (L.written link.old) dialog.old →
-        Connected number l (L.left link.new) s (H.served serve.new) v (L.written link.new) ending) }
+    ensures goes { OnGoing result (ComesOn number (L.left link.old) (L.left link.new)
+        (H.served serve.old) (H.served serve.new) (L.written link.old) (L.written link.new)
+        dialog.old dialog.new) }
+    ensures ends { IfEnded result (λ ending. ComesTo number (L.left link.old) (L.left link.new)
+        (H.served serve.old) (H.served serve.new) (L.written link.old) (L.written link.new)
+        dialog.old ending) }
     ensures only { AddsOnly number (H.served serve.old) (H.served serve.new) }
     ensures most { dialog.old.left ≤ dialog.new.left + 64 }
     ensures reads { result ≡ Step.Reads → WaitsToRead dialog.new ×
@@ -77,6 +75,7 @@ pub fn take_step<L: TryLink, H: Serve>(
     ensures write_cause { result ≡ Step.Ended LinkEnd.WriteFault →
         HasRisen (L.write_faults link.old) (L.write_faults link.new) }
 {
+    let mut piece = [0; PIECE];
     let mut budget = STEP_LIMIT;
     'turns: loop {
         match dialog.advance(alloc, number, serve) {
@@ -91,7 +90,7 @@ pub fn take_step<L: TryLink, H: Serve>(
                 Err(Stop::Waits) => return Step::Writes,
                 Err(Stop::Failed) => return Step::Ended(LinkEnd::WriteFault),
             },
-            Want::Read => match fill(link, dialog) {
+            Want::Read => match fill(link, dialog, &mut piece) {
                 Ok(()) => {}
                 Err(TryFault::Waits) => return Step::Reads,
                 Err(TryFault::Failed) => return Step::Ended(LinkEnd::ReadFault),

@@ -39,7 +39,7 @@ pub sent_goes : (number : ℕ) (past : Past) (old new : DialogValue) (n : ℕ) �
     → HasPast number past old → HasPast number (with_gone (take n old.due) past) new
 sent_goes number past old new n held left ending due t =
     let same : (past.gone ++ take n old.due) ++ drop n old.due ≡ past.gone ++ old.due =
-      append_assoc past.gone (take n old.due) (drop n old.due) ∙ ap (λ (x : List ℕ). past.gone ++ x) (take-append-drop n old.due) in
+    append_assoc past.gone (take n old.due) (drop n old.due) ∙ ap (λ (x : List ℕ). past.gone ++ x) (take-append-drop n old.due) in
     record {
       numbers = t.numbers;
       texts = t.texts;
@@ -191,13 +191,13 @@ served number old new s t r len is gives a held left ending =
       told = a.2;
       numbers = own;
       goes = λ past h.
-        let o = stands_open past old h.texts is h.stands in
-        record {
-          numbers = All-append (IsOf number) past.calls (c ∷ []) h.numbers own;
-          texts = h.texts ++ a.1;
-          answered = answered_more 1000 past.calls h.texts c a.1 old.left o.count h.answered a.3;
-          stands = rw (held, left, a.4, ending) (stands_served past old.held old.left h.texts old.due a.1 c len o gives r.last refl);
-        };
+          let o = stands_open past old h.texts is h.stands in
+          record {
+            numbers = All-append (IsOf number) past.calls (c ∷ []) h.numbers own;
+            texts = h.texts ++ a.1;
+            answered = answered_more 1000 past.calls h.texts c a.1 old.left o.count h.answered a.3;
+            stands = rw (held, left, a.4, ending) (stands_served past old.held old.left h.texts old.due a.1 c len o gives r.last refl);
+          };
     }
 
 -- bytes that hold no request were refused
@@ -208,19 +208,19 @@ refused number old new s fault is gives due ending = record {
   told = calls_none s;
   numbers = All-nil (IsOf number);
   goes = λ past h.
-    let o = stands_open past old h.texts is h.stands in
-    no_calls number past new (record {
-      numbers = h.numbers;
-      texts = h.texts;
-      answered = h.answered;
-      stands = rw (due, ending) (record {
-        stop = at_fault fault;
-        requests = ends_so past.came past.calls old.held old.left (at_fault fault) o.begun o.count o.some gives;
-        final = inl tt;
-        ending_is = refl;
-        whole = joined past.gone old.due (reply_text (fault_reply fault)) h.texts o.whole;
+      let o = stands_open past old h.texts is h.stands in
+      no_calls number past new (record {
+        numbers = h.numbers;
+        texts = h.texts;
+        answered = h.answered;
+        stands = rw (due, ending) (record {
+          stop = at_fault fault;
+          requests = ends_so past.came past.calls old.held old.left (at_fault fault) o.begun o.count o.some gives;
+          final = inl tt;
+          ending_is = refl;
+          whole = joined past.gone old.due (reply_text (fault_reply fault)) h.texts o.whole;
+        });
       });
-    });
 }
 
 -- ---- how much further a connection can go

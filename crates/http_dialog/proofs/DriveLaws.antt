@@ -1,16 +1,18 @@
 -- What reading and writing make of a connection: laws that its drivers share, whatever kind of link they have.
-use Rattle.std.proofs.Common.{◌≡◌, ◌≢◌, ◌⊎◌, ℕ, Bool, true, List, [], ◌∷◌, ◌++◌, take, drop, refl, sym, ap, subst, ◌∙◌, inl, inr, Option, Some, None, All, append-nil}
+use Rattle.std.proofs.Common.{◌≡◌, ◌≢◌, ◌⊎◌, ℕ, Bool, true, List, [], ◌∷◌, ◌++◌, length, take, ◌≤◌, refl, sym, ap, subst, ◌∙◌, inl, inr, Option, Some, None, All, append-nil}
+use Rattle.std.proofs.lemmas.List.{take-take}
 use Rattle.std.specs.Io.KnownBytes.{Appends, Consumes, IsAtEnd}
 use Rattle.std.proofs.KnownBytes.{Appends-nil, Appends-trans, Consumes-nil, Consumes-trans}
 use Rattle.kap_http.specs.Calls.{Call, AddsCalls}
 use Rattle.kap_http.specs.Requests.{Stop}
+use Rattle.http_dialog.specs.declared.ending.LinkEnd.{LinkEnd}
 use Rattle.http_dialog.specs.declared.ending.LinkEnd.TheVariants as ends
 use Rattle.http_dialog.specs.declared.ending.DialogEnd.{DialogEnd}
 use Rattle.http_dialog.specs.declared.ending.DialogEnd.TheVariants as stops
 use Rattle.http_dialog.specs.Endings.{end_of, of_link}
 use Rattle.http_dialog.specs.Dialogs.{Past, DialogValue, HasPast, Stands, Steps, Answered, no_past, with_piece, with_end, with_calls, with_gone}
 use Rattle.http_dialog.specs.Links.{EndsAt, IsTold, Goes, HasEnded, HasStopped, WasCut, Fate, Connected}
-use Rattle.http_dialog.specs.Driving.{GoesOn, GoesLost}
+use Rattle.http_dialog.specs.Driving.{GoesOn, GoesLost, ComesOn, ComesTo}
 use Rattle.http_dialog.proofs.NumberLaws.{Told, adds_none, adds_own, adds_others}
 use Rattle.http_dialog.proofs.DialogLaws.{came_goes}
 
@@ -36,6 +38,10 @@ end_read (Some xs) (Some ys) (Some zs) x (b ∷ y) p e q = absurd (cc (e, q))
 ends_at : (l a : Known) → IsAtEnd a → EndsAt l a
 ends_at None a e = tt
 ends_at (Some xs) a e = e
+
+-- what was taken of a front of the bytes that are due is a front of them
+pub front_taken : (due piece : List ℕ) (count : ℕ) → piece ≡ take (length piece) due → count ≤ length piece → take count piece ≡ take count due
+front_taken due piece count front within = ap (λ (x : List ℕ). take count x) front ∙ take-take count (length piece) due within
 
 -- ---- steps
 
@@ -200,3 +206,45 @@ cut past held left texts more (Some ending) a s = record { texts = texts; more =
 pub write_fault : (number : ℕ) (l m : Known) (s t : Told) (v w : Known) (dialog : DialogValue) → Goes number l m s t v w dialog → Connected number l m s t v w ends.WriteFault
 write_fault number l m s t v w dialog g =
     record { past = g.past; told = g.told; numbers = g.has.numbers; fate = cut g.past dialog.held dialog.left g.has.texts dialog.due dialog.ending g.has.answered g.has.stands }
+
+-- ---- the connection with a number
+
+pub comes_none : (number : ℕ) (m : Known) (s : Told) (w : Known) (dialog : DialogValue) → ComesOn number m m s s w w dialog dialog
+comes_none number m s w dialog l v r g = g
+
+pub comes_more : (number : ℕ) (a b c : Known) (s t u : Told) (v w x : Known) (old mid new : DialogValue) → ComesOn number a b s t v w old mid → ComesOn number b c t u w x mid new
+    → ComesOn number a c s u v x old new
+comes_more number a b c s t u v w x old mid new p q l k r g = q l k r (p l k r g)
+
+pub comes_moved : (number : ℕ) (a b c : Known) (s t : Told) (v w x : Known) (old mid new : DialogValue) → ComesOn number a b s t v w old mid → GoesOn b c w x mid new
+    → ComesOn number a c s t v x old new
+comes_moved number a b c s t v w x old mid new p q l k r g = q number l k r t (p l k r g)
+
+pub comes_stepped : (number : ℕ) (a b : Known) (s t u : Told) (v w : Known) (old mid new : DialogValue) → ComesOn number a b s t v w old mid → Steps number mid new t u
+    → ComesOn number a b s u v w old new
+comes_stepped number a b s t u v w old mid new p step l k r g = stepped number l b r t u k w mid new (p l k r g) step
+
+pub comes_end : (number : ℕ) (a b : Known) (s t : Told) (v w : Known) (old new : DialogValue) (ending : DialogEnd) → ComesOn number a b s t v w old new → new.ending ≡ Some ending → new.due ≡ []
+    → ComesTo number a b s t v w old (of_link ending)
+comes_end number a b s t v w old new ending p is quiet l k r g = ends_so number l b r t k w new ending (p l k r g) is quiet
+
+pub comes_memory : (number : ℕ) (a b : Known) (s t : Told) (v w : Known) (old new : DialogValue) → ComesOn number a b s t v w old new → new.ending ≡ None → new.due ≡ []
+    → ComesTo number a b s t v w old ends.NoMemory
+comes_memory number a b s t v w old new p is quiet l k r g = no_memory number l b r t k w new (p l k r g) is quiet
+
+pub comes_cut : (number : ℕ) (a b : Known) (s t : Told) (v w : Known) (old new : DialogValue) → ComesOn number a b s t v w old new → ComesTo number a b s t v w old ends.WriteFault
+comes_cut number a b s t v w old new p l k r g = write_fault number l b r t k w new (p l k r g)
+
+pub comes_lost : (number : ℕ) (a b c : Known) (s t : Told) (v w x : Known) (old new : DialogValue) → ComesOn number a b s t v w old new → GoesLost b c w x new → new.due ≡ []
+    → ComesTo number a c s t v x old ends.ReadFault × ComesTo number a c s t v x old ends.NoMemory
+comes_lost number a b c s t v w x old new p lost quiet = (λ l k r g. reads l k r (p l k r g), λ l k r g. lacks l k r (p l k r g))
+  where
+    reads : (l k : Known) (r : Told) → Goes number l b r t k w new → Connected number l c r t k x ends.ReadFault
+    reads l k r g = let o = lost number l k r t g in read_fault number l c r t k x o.0 o.3 o.1 (o.2 ∙ quiet)
+
+    lacks : (l k : Known) (r : Told) → Goes number l b r t k w new → Connected number l c r t k x ends.NoMemory
+    lacks l k r g = let o = lost number l k r t g in no_memory number l c r t k x o.0 o.3 o.1 (o.2 ∙ quiet)
+
+pub comes_from_start : (number : ℕ) (a b : Known) (s t : Told) (v w : Known) (dialog : DialogValue) (ending : LinkEnd) → HasPast number no_past dialog → ComesTo number a b s t v w dialog ending
+    → Connected number a b s t v w ending
+comes_from_start number a b s t v w dialog ending has p = p a v s (starts number a s v dialog has)

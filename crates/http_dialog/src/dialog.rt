@@ -1,6 +1,6 @@
 //! The machine of a connection.
 
-ghost use Rattle.std.specs.Prelude.{◌≡◌, ◌≢◌, ◌+◌, ◌<◌, ◌≤◌, ◌++◌, ◌||◌, ◌==◌, [], ℕ, List, None, Ok, Some, drop, length, take, MatchBool, OnErr, OnOk};
+ghost use Rattle.std.specs.Prelude.{◌≡◌, ◌≢◌, ◌+◌, ◌<◌, ◌≤◌, ◌⊎◌, ◌++◌, ◌||◌, ◌==◌, [], ℕ, List, None, Ok, Some, drop, length, take, MatchBool, OnErr, OnOk};
 ghost use Rattle.kap_http.specs.Calls.{AddsCall};
 ghost use Rattle.kap_http.specs.Reading.{Gives};
 ghost use Rattle.kap_http.specs.ReplyValues.{ReplyValue};
@@ -209,6 +209,7 @@ impl Dialog {
     /// and says what it wants. Requests that came together are all answered before it wants to read, and
     /// their replies are due together, as long as fewer than `JOINED_LIMIT` bytes are. Memory is asked for
     /// before a request is answered; where there is none, nothing has changed.
+    #[tactic(auto, using(crate::proofs::DialogLaws::stays, crate::proofs::DialogLaws::due_counts))]
     pub fn advance<H: Serve>(&mut self, alloc: Global, number: u32, serve: &mut H) -> Want
         ensures steps { Steps number self.old self.new (H.served serve.old) (H.served serve.new) }
         ensures read { result ≡ Want.Read → (self.new ≡ self.old) × (self.old.ending ≡ None) ×
@@ -239,6 +240,7 @@ impl Dialog {
         Want::Write
     }
 
+    #[tactic(auto, using(crate::proofs::DialogLaws::served, crate::proofs::DialogLaws::refused, crate::proofs::DialogLaws::stays, crate::proofs::DialogLaws::less_served, crate::proofs::DialogLaws::due_counts))]
     fn go_on<H: Serve>(&mut self, alloc: Global, number: u32, serve: &mut H) -> Want
         requires { self.old.ending ≡ None }
         ensures steps { Steps number self.old self.new (H.served serve.old) (H.served serve.new) }

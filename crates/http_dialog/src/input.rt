@@ -1,6 +1,6 @@
 //! The bytes that came and that no request was taken of.
 
-ghost use Rattle.std.specs.Prelude.{◌≡◌, ◌+◌, ◌<◌, ◌≤◌, ◌++◌, ℕ, List, drop, length, IfNone, IfOk, OnErr, OnOk};
+ghost use Rattle.std.specs.Prelude.{◌≡◌, ◌+◌, ◌<◌, ◌≤◌, ◌++◌, [], ℕ, List, drop, length, IfNone, IfOk, OnErr, OnOk};
 ghost use Rattle.http_dialog.specs.Inputs.{IsHeadOf, Knows, Takes};
 
 use kap_base::NoMemory;

@@ -51,7 +51,7 @@ pub(crate) struct Output {
 }
 
 impl Model for Output {
-    ghost use Rattle.std.specs.Prelude.{◌++◌, ◌×◌, ◌≤◌, drop, length};
+    ghost use Rattle.std.specs.Prelude.{◌++◌, ◌≤◌, drop, length};
     ghost use Rattle.http_dialog.specs.Outputs.{OutputValue, has_tail, tail_bytes};
 
     ghost Value = { OutputValue };

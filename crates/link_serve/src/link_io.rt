@@ -13,7 +13,7 @@ use http_dialog::Dialog;
 use kap_io::{Failed, Link};
 
 /// How many bytes are read at once.
-const PIECE: usize = 16_384;
+pub(crate) const PIECE: usize = 16_384;
 
 /// Writes all bytes that are due.
 pub(crate) fn flush<L: Link>(link: &mut L, dialog: &mut Dialog) -> Result<(), Failed>
@@ -33,8 +33,13 @@ pub(crate) fn flush<L: Link>(link: &mut L, dialog: &mut Dialog) -> Result<(), Fa
     Ok(())
 }
 
-/// Reads the next bytes for a connection that waits for them, or tells it that no more come.
-pub(crate) fn fill<L: Link>(link: &mut L, dialog: &mut Dialog) -> Result<(), FillFault>
+/// Reads the next bytes for a connection that waits for them, or tells it that no more come. `piece` is where
+/// they are read to.
+pub(crate) fn fill<L: Link>(
+    link: &mut L,
+    dialog: &mut Dialog,
+    piece: &mut [u8; PIECE],
+) -> Result<(), FillFault>
     requires open { dialog.old.ending ≡ None }
     requires waits { Gives dialog.old.held (Ok None) }
     requires short { length dialog.old.held < HELD_LIMIT }
@@ -49,7 +54,6 @@ pub(crate) fn fill<L: Link>(link: &mut L, dialog: &mut Dialog) -> Result<(), Fil
     ensures reads { L.read_faults link.old ≤ L.read_faults link.new }
     ensures writes { L.write_faults link.old ≤ L.write_faults link.new }
 {
-    let mut piece = [0u8; PIECE];
     let most = dialog.free().min(PIECE);
     let (front, _) = piece.split_at_mut(most);
     let count = link.read(front)?;

@@ -6,7 +6,7 @@ ghost use Rattle.http_dialog.specs.Links.{Connected};
 ghost use Rattle.http_dialog.specs.Numbers.{AddsOnly};
 
 use crate::fill_fault::FillFault;
-use crate::link_io::{fill, flush};
+use crate::link_io::{PIECE, fill, flush};
 use http_dialog::{Dialog, LinkEnd, Want};
 use kap_http::Serve;
 use kap_io::{Failed, Link};
@@ -29,6 +29,7 @@ pub fn serve_link<L: Link, H: Serve>(alloc: Global, link: &mut L, serve: &mut H)
         HasRisen (L.write_faults link.old) (L.write_faults link.new) }
 {
     let mut dialog = Dialog::new(alloc);
+    let mut piece = [0; PIECE];
     'turns: loop {
         match dialog.advance(alloc, 0, serve) {
             Want::Served => {}
@@ -36,7 +37,7 @@ pub fn serve_link<L: Link, H: Serve>(alloc: Global, link: &mut L, serve: &mut H)
                 Ok(()) => {}
                 Err(Failed) => return LinkEnd::WriteFault,
             },
-            Want::Read => match fill(link, &mut dialog) {
+            Want::Read => match fill(link, &mut dialog, &mut piece) {
                 Ok(()) => {}
                 Err(FillFault::Failed) => return LinkEnd::ReadFault,
                 Err(FillFault::NoMemory) => return LinkEnd::NoMemory,

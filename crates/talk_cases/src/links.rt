@@ -91,10 +91,7 @@ pub fn answer_prefixes(alloc: Global, line: &str, to: &mut Bytes) -> Result<(), 
     }
     let text = format!(in alloc;
         "{} closed, {} refused, {} others, {} bytes written",
-        ends.closed,
-        ends.refused,
-        ends.others,
-        ends.written
+        ends.closed, ends.refused, ends.others, ends.written
     )?;
     to.append(text.as_bytes())?;
     Ok(())

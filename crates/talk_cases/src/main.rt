@@ -6,8 +6,8 @@ mod answers;
 mod links;
 mod polled;
 
-use anyhow::Result;
 use answers::Answers;
+use anyhow::Result;
 use case_text::{Asked, LineFault, answer_lines};
 use kap_base::Bytes;
 use links::{answer_door, answer_link, answer_prefixes};

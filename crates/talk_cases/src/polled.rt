@@ -51,7 +51,13 @@ fn go_on(alloc: Global, number: u32, polled: &mut Polled) {
         return;
     }
     polled.steps = polled.steps.saturating_add(1);
-    match take_step(alloc, &mut polled.link, &mut polled.dialog, number, &mut polled.serve) {
+    match take_step(
+        alloc,
+        &mut polled.link,
+        &mut polled.dialog,
+        number,
+        &mut polled.serve,
+    ) {
         Step::Ended(end) => polled.end = Some(end),
         Step::Spent => {}
         Step::Reads | Step::Writes => polled.waits = polled.waits.saturating_add(1),

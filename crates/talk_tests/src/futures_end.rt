@@ -33,7 +33,10 @@ fn an_executor_brings_it_to_its_end(rt: HostRuntime) -> Result<(), Fail> {
         },
     )?;
     assert!(rt; end == LinkEnd::Closed);
-    assert_eq!(rt; conn.link().bytes(), b"HTTP/1.1 204 No Content\r\n\r\n".as_slice());
+    assert_eq!(rt;
+        conn.link().bytes(),
+        b"HTTP/1.1 204 No Content\r\n\r\n".as_slice()
+    );
     assert_eq!(rt; serve.served, 1);
     Ok(())
 }
@@ -42,7 +45,13 @@ fn an_executor_brings_it_to_its_end(rt: HostRuntime) -> Result<(), Fail> {
 fn a_poll_serves_64_and_wakes_the_task(rt: HostRuntime) -> Result<(), Fail> {
     let alloc = rt.alloc();
     let bytes = pings_of(alloc, 100)?;
-    let link = MemPollLink::new(alloc, bytes, PING.len() * 100, Vec::new(alloc), Vec::new(alloc));
+    let link = MemPollLink::new(
+        alloc,
+        bytes,
+        PING.len() * 100,
+        Vec::new(alloc),
+        Vec::new(alloc),
+    );
     let mut conn = Conn::new(alloc, link, 7);
     let mut serve = Pings { served: 0 };
     let task = MockTask::new(&rt)?;

@@ -37,7 +37,11 @@ struct Ended {
 }
 
 /// Serves so many links, one after the other.
-fn serve_links<B: Door<L>, L: kap_io::Link + Drop>(alloc: Global, door: &mut B, links: u32) -> Ended {
+fn serve_links<B: Door<L>, L: kap_io::Link + Drop>(
+    alloc: Global,
+    door: &mut B,
+    links: u32,
+) -> Ended {
     let mut serve = Pings { served: 0 };
     let mut ended = Ended {
         first: None,
