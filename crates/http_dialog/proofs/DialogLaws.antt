@@ -6,7 +6,7 @@ use Rattle.std.proofs.lemmas.List.Elements.{All-cons, All-nil, All-append}
 use Rattle.http_dialog.specs.declared.ending.DialogEnd.{DialogEnd}
 use Rattle.http_dialog.specs.declared.ending.DialogEnd.TheVariants as ends
 use Rattle.http_dialog.specs.Endings.{end_of, ending_after}
-use Rattle.http_dialog.specs.Dialogs.{Past, DialogValue, HasPast, IsOf, Stands, IsOpen, IsOver, Steps, Answered, IsPrinted, requests_of, refusal, no_past, fresh, reach_of, with_piece, with_end, with_calls, with_gone}
+use Rattle.http_dialog.specs.Dialogs.{Past, DialogValue, HasPast, IsOf, Stands, IsOpen, IsOver, Steps, Answered, IsPrinted, requests_of, refusal, no_past, fresh, reach_of, reach, room, with_piece, with_end, with_calls, with_gone}
 use Rattle.kap_http.specs.declared.fault.HttpFault.{HttpFault}
 use Rattle.kap_http.specs.Calls.{Call, AddsCalls, AddsCall}
 use Rattle.kap_http.specs.Reading.{Gives}
@@ -24,9 +24,6 @@ begins number dialog is = rw is (record {
   answered = refl;
   stands = record { begun = refl; count = refl; some = omega arith; whole = refl };
 })
-
-min_one : (n : ℕ) → min 1 n ≤ 1
-min_one n = grind arith
 
 -- what stands is of what came and was asked alone
 stands_gone : (past : Past) (held : List ℕ) (left : ℕ) (texts all now : List ℕ) (ending : Option DialogEnd) (piece : List ℕ) → now ≡ all
@@ -223,25 +220,45 @@ refused number old new s fault is gives due ending = record {
       });
 }
 
+-- ---- steps that change nothing
+
+-- a connection that holds the same is the same
+pub same_dialog : (old new : DialogValue) → new.held ≡ old.held → new.left ≡ old.left → new.due ≡ old.due → new.ending ≡ old.ending → new ≡ old
+same_dialog old new held left due ending = cc
+
+pub stays_by : (number : ℕ) (old new : DialogValue) (s : Told) → new.held ≡ old.held → new.left ≡ old.left → new.due ≡ old.due → new.ending ≡ old.ending → Steps number old new s s
+stays_by number old new s held left due ending =
+    subst (λ (d : DialogValue). Steps number old d s s) (sym (same_dialog old new held left due ending)) (stays number old s)
+
 -- ---- how much further a connection can go
 
 -- there is less room behind a request, whatever is due then
-pub less_served : (last : Bool) (left held rest due : ℕ) → 0 < left → held ≤ 8404992
+less_served : (last : Bool) (left held rest due : ℕ) → 0 < left → held ≤ 8404992
     → reach_of (ending_after last left) (left - 1) rest + min 1 due < reach_of None left held
-less_served true left held rest due some short = by_due (min_one due)
-  where
-    by_due : min 1 due ≤ 1 → min 1 due < 2 * (left * 8404993 + (8404992 - held) + 1)
-    by_due one = omega arith
+less_served true left held rest due some short = omega arith
 less_served false left held rest due some short = by_count (left == 1) refl
   where
     by_count : (b : Bool) → (left == 1) ≡ b → reach_of (if b then Some ends.Limit else None) (left - 1) rest + min 1 due < reach_of None left held
-    by_count true e = let one = min_one due in omega arith
-    by_count false e = let some_more : 1 < left = grind (arith, nat_tests) in let one = min_one due in omega arith
+    by_count true e = omega arith
+    by_count false e = let some_more : 1 < left = grind (arith, nat_tests) in omega arith
+
+pub served_room : (old new : DialogValue) (last : Bool) → old.ending ≡ None → 0 < old.left → length old.held ≤ 8404992 → new.left ≡ old.left - 1 → new.ending ≡ ending_after last old.left
+    → room new < room old
+served_room old new last is some short left ending =
+    let less = less_served last old.left (length old.held) (length new.held) (length new.due) some short in
+    rw (is, left, ending) (omega (arith, less))
+
+more_by : (r n : ℕ) → 0 < n → r < r + min 1 n
+more_by r n some = omega arith
+
+some_long : (due : List ℕ) → due ≢ [] → 0 < length due
+some_long [] ne = absurd (ne refl)
+some_long (b ∷ due) ne = omega arith
 
 -- bytes that are due count as a step
-pub due_counts : (due : List ℕ) → due ≢ [] → min 1 (length due) ≡ 1
-due_counts [] ne = absurd (ne refl)
-due_counts (b ∷ due) ne = min_is (length due)
-  where
-    min_is : (n : ℕ) → min 1 (1 + n) ≡ 1
-    min_is n = grind arith
+pub room_due : (dialog : DialogValue) → dialog.due ≢ [] → reach dialog < room dialog
+room_due dialog ne = more_by (reach dialog) (length dialog.due) (some_long dialog.due ne)
+
+-- an open connection can go on
+pub room_open : (dialog : DialogValue) → dialog.ending ≡ None → 0 < room dialog
+room_open dialog is = rw is (omega arith)

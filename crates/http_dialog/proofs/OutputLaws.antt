@@ -83,6 +83,14 @@ went_second xs ys gone count tail_gone within all =
     second_left xs (drop (tail_gone + more) ys) (length xs) (omega arith) ∙ sym (drop-drop more tail_gone ys)
     ∙ sym (drop-append-add (drop gone xs) rest more) ∙ ap (λ (n : ℕ). drop n (drop gone xs ++ rest)) (sym count_is)
 
+pub tail_within : (xs ys : List ℕ) (gone count tail_gone : ℕ) → gone ≤ length xs → tail_gone ≤ length ys → count ≤ length (drop gone xs ++ drop tail_gone ys) → length xs - gone ≤ count
+    → tail_gone + (count - (length xs - gone)) ≤ length ys
+tail_within xs ys gone count tail_gone within tail_in most all =
+    let both = length-append (drop gone xs) (drop tail_gone ys) in
+    let one = length-drop gone xs in
+    let other = length-drop tail_gone ys in
+    omega arith
+
 -- ---- bytes that are added
 
 untailed : (tail : Tail) → has_tail tail ≡ false → tail_bytes tail ≡ []

@@ -209,7 +209,7 @@ impl Dialog {
     /// and says what it wants. Requests that came together are all answered before it wants to read, and
     /// their replies are due together, as long as fewer than `JOINED_LIMIT` bytes are. Memory is asked for
     /// before a request is answered; where there is none, nothing has changed.
-    #[tactic(auto, using(crate::proofs::DialogLaws::stays, crate::proofs::DialogLaws::due_counts))]
+    #[tactic(auto, using(crate::proofs::DialogLaws::stays, crate::proofs::DialogLaws::room_due))]
     pub fn advance<H: Serve>(&mut self, alloc: Global, number: u32, serve: &mut H) -> Want
         ensures steps { Steps number self.old self.new (H.served serve.old) (H.served serve.new) }
         ensures read { result ≡ Want.Read → (self.new ≡ self.old) × (self.old.ending ≡ None) ×
@@ -240,7 +240,7 @@ impl Dialog {
         Want::Write
     }
 
-    #[tactic(auto, using(crate::proofs::DialogLaws::served, crate::proofs::DialogLaws::refused, crate::proofs::DialogLaws::stays, crate::proofs::DialogLaws::less_served, crate::proofs::DialogLaws::due_counts))]
+    #[tactic(auto, using(crate::proofs::DialogLaws::stays_by, crate::proofs::DialogLaws::same_dialog, crate::proofs::DialogLaws::served_room, crate::proofs::DialogLaws::room_due, crate::proofs::DialogLaws::room_open))]
     fn go_on<H: Serve>(&mut self, alloc: Global, number: u32, serve: &mut H) -> Want
         requires { self.old.ending ≡ None }
         ensures steps { Steps number self.old self.new (H.served serve.old) (H.served serve.new) }

@@ -109,6 +109,7 @@ impl Input {
     pub(crate) fn next(&mut self, alloc: Global) -> Result<Option<Request>, HttpFault>
         ensures takes { Takes self.old self.new result }
         ensures short { IfOk result (λ o. IfNone o (length self.old < HELD_LIMIT)) }
+        ensures most { length self.old ≤ HELD_LIMIT }
     {
         match mem::replace(&mut self.front, Front::Unknown) {
             Front::Whole(head) => self.whole(alloc, head),

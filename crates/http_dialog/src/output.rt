@@ -115,7 +115,7 @@ impl Output {
     }
 
     /// So many of the bytes that were due were written.
-    #[tactic(auto, using(crate::proofs::OutputLaws::went_first, crate::proofs::OutputLaws::went_second))]
+    #[tactic(auto, using(crate::proofs::OutputLaws::went_first, crate::proofs::OutputLaws::went_second, crate::proofs::OutputLaws::tail_within))]
     pub(crate) fn pass(&mut self, count: usize)
         requires { count ≤ length self.old.due }
         ensures { self.new.due ≡ drop count self.old.due }
