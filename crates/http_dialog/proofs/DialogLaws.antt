@@ -224,7 +224,12 @@ refused number old new s fault is gives due ending = record {
 
 -- a connection that holds the same is the same
 pub same_dialog : (old new : DialogValue) → new.held ≡ old.held → new.left ≡ old.left → new.due ≡ old.due → new.ending ≡ old.ending → new ≡ old
-same_dialog old new held left due ending = cc
+same_dialog old new held left due ending =
+    let one : List ℕ → DialogValue = λ h. record { held = h; left = new.left; due = new.due; ending = new.ending } in
+    let two : ℕ → DialogValue = λ n. record { held = old.held; left = n; due = new.due; ending = new.ending } in
+    let three : List ℕ → DialogValue = λ d. record { held = old.held; left = old.left; due = d; ending = new.ending } in
+    let four : Option DialogEnd → DialogValue = λ e. record { held = old.held; left = old.left; due = old.due; ending = e } in
+    ap one held ∙ ap two left ∙ ap three due ∙ ap four ending
 
 pub stays_by : (number : ℕ) (old new : DialogValue) (s : Told) → new.held ≡ old.held → new.left ≡ old.left → new.due ≡ old.due → new.ending ≡ old.ending → Steps number old new s s
 stays_by number old new s held left due ending =

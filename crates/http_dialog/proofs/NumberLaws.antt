@@ -1,5 +1,5 @@
 -- Calls by their number.
-use Rattle.std.proofs.Common.{◌≡◌, ◌≢◌, ℕ, Bool, true, false, ◌==◌, List, [], ◌∷◌, ◌++◌, refl, sym, ap, subst, ◌∙◌, Option, Some, None, All, append_assoc, append-nil}
+use Rattle.std.proofs.Common.{◌≡◌, ◌≢◌, ℕ, Bool, true, false, ◌==◌, List, [], ◌∷◌, ◌++◌, refl, sym, ap, subst, ◌∙◌, arith, Option, Some, None, All, append_assoc, append-nil}
 use Rattle.std.specs.List.{filter}
 use Rattle.std.proofs.lemmas.Bool.Decides.{nat_tests}
 use Rattle.std.proofs.lemmas.List.Elements.{All-nil, All-append, All-head, All-tail, filter-append}
@@ -11,10 +11,10 @@ abbrev pub Told : Type 0
 Told = Option (List Call)
 
 is_own : (number : ℕ) (c : Call) → c.number ≡ number → (c.number == number) ≡ true
-is_own number c e = grind (nat_tests)
+is_own number c e = grind (arith, nat_tests)
 
 is_other : (number : ℕ) (c : Call) → c.number ≢ number → (c.number == number) ≡ false
-is_other number c e = grind (nat_tests)
+is_other number c e = grind (arith, nat_tests)
 
 own_calls : (number : ℕ) (calls : List Call) → All (IsOf number) calls → calls_of number calls ≡ calls
 own_calls number [] all = refl

@@ -74,13 +74,13 @@ went_first xs ys gone count within =
     sym (drop-append-le count (drop gone xs) ys some ∙ ap (λ (x : List ℕ). x ++ ys) (drop-drop count gone xs))
 
 -- the first part and a front of the second one
-pub went_second : (xs ys : List ℕ) (gone count tail_gone : ℕ) → gone ≤ length xs → length xs - gone ≤ count
-    → drop (length xs) xs ++ drop (tail_gone + (count - (length xs - gone))) ys ≡ drop count (drop gone xs ++ drop tail_gone ys)
-went_second xs ys gone count tail_gone within all =
+pub went_second : (xs ys : List ℕ) (gone count tail_gone now : ℕ) → gone ≤ length xs → length xs - gone ≤ count → now ≡ tail_gone + (count - (length xs - gone))
+    → drop (length xs) xs ++ drop now ys ≡ drop count (drop gone xs ++ drop tail_gone ys)
+went_second xs ys gone count tail_gone now within all is =
     let rest = drop tail_gone ys in
     let more = count - (length xs - gone) in
     let count_is : count ≡ length (drop gone xs) + more = omega (arith, length-drop gone xs) in
-    second_left xs (drop (tail_gone + more) ys) (length xs) (omega arith) ∙ sym (drop-drop more tail_gone ys)
+    second_left xs (drop now ys) (length xs) (omega arith) ∙ ap (λ (n : ℕ). drop n ys) is ∙ sym (drop-drop more tail_gone ys)
     ∙ sym (drop-append-add (drop gone xs) rest more) ∙ ap (λ (n : ℕ). drop n (drop gone xs ++ rest)) (sym count_is)
 
 pub tail_within : (xs ys : List ℕ) (gone count tail_gone : ℕ) → gone ≤ length xs → tail_gone ≤ length ys → count ≤ length (drop gone xs ++ drop tail_gone ys) → length xs - gone ≤ count

@@ -276,8 +276,13 @@ impl Dialog {
                 }
                 Want::Write
             }
-            Err(fault) => {
-                self.output.add_fault(fault);
+            Err(HttpFault::Bad) => {
+                self.output.add_fault(HttpFault::Bad);
+                self.ending = Some(DialogEnd::Refused);
+                Want::Write
+            }
+            Err(HttpFault::Large) => {
+                self.output.add_fault(HttpFault::Large);
                 self.ending = Some(DialogEnd::Refused);
                 Want::Write
             }

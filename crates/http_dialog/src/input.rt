@@ -106,6 +106,7 @@ impl Input {
 
     /// Takes the next request out, if it is whole. A head that is whole is read once, and a body isn't looked
     /// at before it is.
+    #[tactic(auto, using(crate::proofs::InputLaws::waits_short))]
     pub(crate) fn next(&mut self, alloc: Global) -> Result<Option<Request>, HttpFault>
         ensures takes { Takes self.old self.new result }
         ensures short { IfOk result (λ o. IfNone o (length self.old < HELD_LIMIT)) }

@@ -125,8 +125,9 @@ impl Output {
             self.gone += count;
             return;
         }
+        let len = self.tail.bytes().len();
         self.gone = self.joined.len();
-        self.tail_gone += count - rest;
+        self.tail_gone = len - (len - self.tail_gone - (count - rest));
     }
 
     /// Adds the bytes of a reply. It asks for memory to join them with what is due, and does without.
