@@ -1,3 +1,4 @@
 mod CrashLaws
 mod FileLaws
 mod MemDiskCalls
+pub mod KnownLaws

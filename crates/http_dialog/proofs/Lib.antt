@@ -1,0 +1,5 @@
+pub mod InputLaws
+pub mod OutputLaws
+pub mod DialogLaws
+pub mod NumberLaws
+pub mod DriveLaws
