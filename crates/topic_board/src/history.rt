@@ -174,7 +174,8 @@ impl<J: Naming> Front<J> {
         true
     }
 
-    /// Adds a transition to all that was seen, and says whether it did. It did not where the history is longer.
+    /// Adds a transition to all that was seen, and says whether it did. It did not where the history is
+    /// longer.
     pub(crate) fn add(&mut self, book: &Book<J>, transition: &Transition) -> bool
         requires { length self.old < 2 ^ 62 }
         ensures { MatchBool result (self.new ≡ self.old ++ transition.now ∷ [])

@@ -132,6 +132,14 @@ impl<J: Naming, O: Drop, T: Shown<J, O>> Look<J, O, T> {
         self.aways
     }
 
+    /// What it saw or learnt of, for other looks to learn. By `Front::begins` it begins what the poster tells, or
+    /// is begun by that.
+    pub fn known(&self) -> Front<J>
+        ensures { result ≡ self.now.known }
+    {
+        self.front.again()
+    }
+
     /// From now on it sees no less than was told.
     pub fn learn(&mut self, told: Front<J>)
         ensures before { IsPrefix self.old.known self.new.known }
@@ -144,9 +152,9 @@ impl<J: Naming, O: Drop, T: Shown<J, O>> Look<J, O, T> {
         }
     }
 
-    /// The greatest level of the ids of a topic, None where the topic has had no transition: after all that was
-    /// known before, and maybe more. It takes no memory and waits for nobody. After `Away` nothing has changed
-    /// but the count of refusals.
+    /// The greatest level of the ids of a topic, None where the topic has had no transition: after all that
+    /// was known before, and maybe more. It takes no memory and waits for nobody. After `Away` nothing has
+    /// changed but the count of refusals.
     pub fn level(&mut self, topic: &Text) -> Result<Option<Level>, Away>
         ensures later { IsPrefix self.old.known self.new.known }
         ensures level { IfOk result (λ level.

@@ -15,8 +15,8 @@ use std::marker::Model;
 use std::sync::Wait;
 use topic_core::Transition;
 
-/// The one who posts. Where it is let go the board ends: it waits for the readers that are in, and none is let
-/// in any more.
+/// The one who posts. Where it is let go the board ends: it waits for the readers that are in, and none is
+/// let in any more.
 #[derive(Drop)]
 pub struct Poster<J: Naming, O: Drop, T: Shown<J, O>, R: Wait + Drop> {
     book: Book<J>,
@@ -137,8 +137,8 @@ impl<J: Naming, O: Drop, T: Shown<J, O>, R: Wait + Drop> Poster<J, O, T, R> {
         }
     }
 
-    /// Posts a transition, which is pending then: no reader sees it yet. After `NoMemory`, which comes too where
-    /// `POST_LIMIT` transitions were posted, nothing has changed.
+    /// Posts a transition, which is pending then: no reader sees it yet. After `NoMemory`, which comes too
+    /// where `POST_LIMIT` transitions were posted, nothing has changed.
     pub fn post(&mut self, alloc: Global, transition: &Transition) -> Result<(), NoMemory>
         ensures published { self.new.published ≡ self.old.published }
         ensures ok { OnOk result (self.new.pending ≡ self.old.pending ++ transition.now ∷ []) }

@@ -19,8 +19,8 @@ pub type Board<J, R> = (
     Vec<Look<J, Posted<J>, Published<J>>>,
 );
 
-/// An empty board with so many looks, one for each place. It keeps the runtime, since it waits for readers where
-/// it publishes and where it ends.
+/// An empty board with so many looks, one for each place. It keeps the runtime, since it waits for readers
+/// where it publishes and where it ends.
 pub fn board<J: Naming, R: Wait + Drop>(
     rt: R,
     alloc: Global,

@@ -15,8 +15,8 @@ pub fn transition_laws()
         → StandsFor (map event_of (Trans events)) kept → StandsFor events kept }
 {}
 
-/// What is kept of a list of events is one value: what `Topics::put` keeps of their transitions, one after the
-/// other. Before any event it is that of no topics.
+/// What is kept of a list of events is one value: what `Topics::put` keeps of their transitions, one after
+/// the other. Before any event it is that of no topics.
 pub fn kept_laws()
     ensures one { (events : List Event) (kept : TopicsValue) → StandsFor events kept
         → kept ≡ topics_after (Trans events) }

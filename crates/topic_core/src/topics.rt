@@ -97,8 +97,8 @@ impl Topics {
         Ok(Some(transition))
     }
 
-    /// Takes a transition that was made before: its new level is the last one of its topic and id from now on.
-    /// After `NoMemory` nothing has changed.
+    /// Takes a transition that was made before: its new level is the last one of its topic and id from now
+    /// on. After `NoMemory` nothing has changed.
     pub fn put(&mut self, alloc: Global, transition: &Transition) -> Result<(), NoMemory>
         ensures ok { OnOk result (self.new ≡ with_transition self.old transition.now) }
         ensures err { OnErr result (self.new ≡ self.old) }
