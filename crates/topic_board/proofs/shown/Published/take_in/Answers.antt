@@ -1,5 +1,4 @@
-use Rattle.std.proofs.Common.{◌≡◌, ◌+◌, ◌<◌, List, length, sym, ap, ◌∙◌, arith}
-use Rattle.topic_core.specs.declared.transition.Transition.{Transition}
+use Rattle.std.proofs.Common.{◌≡◌, ◌+◌, length, sym, ap, ◌∙◌, arith}
 use Rattle.topic_core.specs.Topics.{topics_after, with_transition}
 use Rattle.topic_board.proofs.OneMore.{one_more}
 use Rattle.topic_board.proofs.shown.Published.take_in.Goals as goal
