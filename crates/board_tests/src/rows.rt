@@ -36,8 +36,8 @@ fn read_in_turn<J: Naming, R: Wait + Abort>(
 ) -> Result<(), Fail>
     requires { opened ≡ J.book }
 {
-    let topic = Text::from_str(alloc, TOPIC)?;
     let (mut poster, mut looks) = board::<J, &R>(rt, alloc, opened, 2)?;
+    let topic = Text::from_str(alloc, TOPIC)?;
     let mut look = looks.pop().ok_or("no look")?;
     assert!(rt; reads(alloc, &mut look, &topic, None, "")?);
     let next = transition(alloc, 1, TOPIC, "m", Level::Critical)?;

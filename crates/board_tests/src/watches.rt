@@ -55,6 +55,7 @@ fn is_below(one: Option<Level>, other: Option<Level>) -> bool {
 }
 
 /// What a look saw last.
+#[derive(Clone, Copy)]
 struct Last {
     level: Option<Level>,
     count: u64,
@@ -152,8 +153,8 @@ fn watched<J: Naming + Send + Sync, R: Threads + Wait + Abort + Sync>(
 ) -> Result<(), Fail>
     requires { opened ≡ J.book }
 {
-    let topic = Text::from_str(alloc, "cpu")?;
     let (poster, mut looks) = board::<J, &R>(rt, alloc, opened, 2)?;
+    let topic = Text::from_str(alloc, "cpu")?;
     let look = looks.pop().ok_or("no look")?;
     assert!(rt; beside(rt, alloc, poster, look, &topic));
     Ok(())
