@@ -1,5 +1,5 @@
 -- The transitions of a list of events, and what is kept of the events so far.
-use Rattle.std.specs.Prelude.{◌≡◌, ℕ, ◌+◌, ◌-◌, ◌^◌, min, Bool, ◌&&◌, nat_lt, if◌then◌else◌, List, [], ◌∷◌, ◌++◌, length, Option, Some, None, option_map, unwrap_or, is_some}
+use Rattle.std.specs.Prelude.{◌≡◌, ℕ, ◌+◌, ◌-◌, ◌^◌, min, Bool, ◌&&◌, nat_lt, if◌then◌else◌, List, [], ◌∷◌, ◌++◌, fold, length, Option, Some, None, option_map, unwrap_or, is_some}
 use Rattle.std.specs.FinMap.{get, contains_key, insert, empty, entries}
 use Rattle.std.specs.List.{list_any}
 use Rattle.std.specs.Option.{option_map_or}
@@ -122,3 +122,18 @@ abbrev pub kept_after : TopicsValue → Event → TopicsValue
 kept_after kept e =
     if same_level (level_before kept.levels e.topic e.id) e.level then kept
     else record { count = min (kept.count + 1) (2 ^ 64 - 1); levels = put_level kept.levels e.topic e.id e.level }
+
+-- ---- what is kept of transitions
+
+-- what is kept before any event
+abbrev pub no_topics : TopicsValue
+no_topics = record { count = 0; levels = empty }
+
+-- what is kept after a transition more: its level is the last one of its topic and id
+abbrev pub with_transition : TopicsValue → Transition → TopicsValue
+with_transition kept t =
+    record { count = min (kept.count + 1) (2 ^ 64 - 1); levels = put_level kept.levels t.topic t.id t.new_level }
+
+-- what is kept after these transitions
+abbrev pub topics_after : List Transition → TopicsValue
+topics_after ts = fold with_transition no_topics ts

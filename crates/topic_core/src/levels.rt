@@ -1,80 +1,64 @@
 //! The last level of each topic and id.
 
-ghost use Rattle.std.specs.Prelude.{◌≡◌, IfErr, IfOk, IsTrue, OnErr, OnOk, unwrap_or};
+ghost use Rattle.std.specs.Prelude.{◌≡◌, IfOk, OnErr, OnOk};
 ghost use Rattle.std.specs.FinMap as map;
 ghost use Rattle.std.specs.Option.{option_copied};
 ghost use Rattle.kap_base.specs.Maps.{byte_order};
-ghost use Rattle.kap_base.specs.Places.{StandsAt, WouldStandAt};
-ghost use Rattle.kap_base.specs.declared.items.Level.{Level};
 ghost use Rattle.topic_core.specs.Topics.{greatest_level, level_before, put_level, topic_level, worse_level};
 
-use kap_base::{KeyMap, Level, NoMemory, Text};
+use crate::text_tree::TextTree;
+use kap_base::{Duplicate, Level, NoMemory, Text};
 use std::alloc::Global;
+use std::collections::BTreeMap;
+use std::collections::btree_map::Iter;
 use std::marker::Model;
 
 /// The topics and ids that have had a transition, each with its last level.
 #[derive(Debug, Drop)]
 pub struct Levels {
-    entries: Vec<(Text, KeyMap<Level>)>,
+    topics: TextTree<TextTree<Level>>,
 }
 
 impl Model for Levels {
-    ghost use Rattle.std.specs.Prelude.{IsTrue};
     ghost use Rattle.std.specs.Coded.{codes};
-    ghost use Rattle.std.specs.FinMap as map;
-    ghost use Rattle.kap_base.specs.Maps.{KeyMap, byte_order, key_map_code};
+    ghost use Rattle.kap_base.specs.Maps.{KeyMap, key_map_code};
     ghost use Rattle.kap_base.specs.declared.items.Level.{Level};
 
     ghost Value = { KeyMap (KeyMap Level) };
 
     ghost coded = { Prim.hlevel (codes, key_map_code) };
 
-    ghost view = { λ l. map.from_sorted l.entries.items };
-
-    ghost invariant = { λ l. IsTrue (map.is_sorted byte_order l.entries.items) };
+    ghost view = { λ l. l.topics };
 }
 
-/// Where the topic stands among topics in byte order, or where it would stand.
-fn search(entries: &[(Text, KeyMap<Level>)], topic: &Text) -> Result<usize, usize>
-    requires { IsTrue (map.is_sorted byte_order entries.now) }
-    ensures stands { IfOk result (λ at. StandsAt topic.now entries.now at) }
-    ensures absent { IfErr result (λ at. WouldStandAt topic.now entries.now at) }
+/// A map with this level of this id alone.
+fn one_id(alloc: Global, id: Text, level: Level) -> Result<TextTree<Level>, NoMemory>
+    ensures { IfOk result (λ ids. ids ≡ map.insert map.empty id level) }
 {
-    entries.binary_search_by(|entry| entry.0.cmp(topic))
-}
-
-fn ids_of<'a>(entries: &'a [(Text, KeyMap<Level>)], topic: &Text) -> Option<&'a KeyMap<Level>>
-    requires { IsTrue (map.is_sorted byte_order entries.now) }
-    ensures { option_copied result ≡ map.find byte_order topic.now entries.now }
-{
-    match search(entries, topic) {
-        Ok(at) => Some(&entries[at].1),
-        Err(_) => None,
-    }
+    let mut ids = TextTree::new(alloc);
+    ids.insert(id, level)?;
+    Ok(ids)
 }
 
 fn put(
     alloc: Global,
-    entries: &mut Vec<(Text, KeyMap<Level>)>,
-    topic: Text,
-    id: Text,
+    topics: &mut BTreeMap<Text, TextTree<Level>>,
+    topic: &Text,
+    id: &Text,
     level: Level,
 ) -> Result<(), NoMemory>
-    requires { IsTrue (map.is_sorted byte_order entries.old.items) }
-    ensures ok { OnOk result (entries.new.items ≡ map.put byte_order topic
-        (map.insert (unwrap_or (map.find byte_order topic entries.old.items) map.empty) id level)
-        entries.old.items) }
-    ensures err { OnErr result (entries.new.items ≡ entries.old.items) }
+    ensures ok { OnOk result (map.from_entries {R = byte_order} topics.new.entries
+        ≡ put_level (map.from_entries topics.old.entries) topic.now id.now level) }
+    ensures err { OnErr result (map.from_entries {R = byte_order} topics.new.entries
+        ≡ map.from_entries topics.old.entries) }
 {
-    match search(entries, &topic) {
-        Ok(at) => entries[at].1.insert(id, level),
-        Err(at) => {
-            let mut ids = KeyMap::new(alloc);
-            ids.insert(id, level)?;
-            entries.insert(at, (topic, ids))?;
-            Ok(())
-        }
+    let id = id.copy(alloc)?;
+    if let Some(ids) = topics.get_mut(topic) {
+        return ids.insert(id, level);
     }
+    let ids = one_id(alloc, id, level)?;
+    topics.insert(topic.copy(alloc)?, ids)?;
+    Ok(())
 }
 
 fn worse(one: Level, other: Level) -> Level
@@ -85,39 +69,38 @@ fn worse(one: Level, other: Level) -> Level
 
 /// The greatest of the levels, OK where there are none.
 #[tactic(auto, unfolding(crate::specs::Topics::worst_level))]
-fn greatest(ids: &[(Text, Level)]) -> Level
-    ensures { result ≡ greatest_level ids.now }
+fn greatest(ids: &TextTree<Level>) -> Level
+    ensures { result ≡ greatest_level (map.entries ids.now) }
 {
     let mut greatest = Level::Fine;
-    let mut rest = ids;
-    'levels: while let Some((first, others)) = rest.split_first() {
-        greatest = worse(greatest, first.1);
-        rest = others;
+    'levels: for (_, level) in ids.entries() {
+        greatest = worse(greatest, *level);
     }
     greatest
 }
 
 impl Levels {
+    /// No topics.
     pub fn new(alloc: Global) -> Levels
         ensures { result ≡ map.empty }
     {
         Levels {
-            entries: Vec::new(alloc),
+            topics: TextTree::new(alloc),
         }
     }
 
     /// The topics in byte order, and for each one its ids in byte order, each with its last level.
-    pub fn entries(&self) -> &[(Text, KeyMap<Level>)]
-        ensures { result.now ≡ map.entries self.now }
+    pub fn entries(&self) -> Iter<'_, Text, TextTree<Level>>
+        ensures { result ≡ map.entries self.now }
     {
-        &self.entries
+        self.topics.entries()
     }
 
     /// The last levels of the ids of a topic.
-    pub fn ids(&self, topic: &Text) -> Option<&KeyMap<Level>>
+    pub fn ids(&self, topic: &Text) -> Option<&TextTree<Level>>
         ensures { option_copied result ≡ map.get self.now topic.now }
     {
-        ids_of(&self.entries, topic)
+        self.topics.get(topic)
     }
 
     /// The last level of a topic and id, OK where it has had no transition.
@@ -138,7 +121,7 @@ impl Levels {
         ensures { result ≡ topic_level self.now topic.now }
     {
         match self.ids(topic) {
-            Some(ids) => Some(greatest(ids.entries())),
+            Some(ids) => Some(greatest(ids)),
             None => None,
         }
     }
@@ -146,13 +129,21 @@ impl Levels {
     pub(crate) fn put(
         &mut self,
         alloc: Global,
-        topic: Text,
-        id: Text,
+        topic: &Text,
+        id: &Text,
         level: Level,
     ) -> Result<(), NoMemory>
-        ensures ok { OnOk result (self.new ≡ put_level self.old topic id level) }
+        ensures ok { OnOk result (self.new ≡ put_level self.old topic.now id.now level) }
         ensures err { OnErr result (self.new ≡ self.old) }
     {
-        put(alloc, &mut self.entries, topic, id, level)
+        put(alloc, &mut self.topics.tree, topic, id, level)
+    }
+}
+
+impl Duplicate for Levels {
+    fn copy(&self, alloc: Global) -> Result<Levels, NoMemory> {
+        Ok(Levels {
+            topics: self.topics.copy(alloc)?,
+        })
     }
 }

@@ -4,7 +4,7 @@ ghost use Rattle.std.specs.Prelude.{◌≡◌, ◌∷◌, ◌++◌, [], List, If
 ghost use Rattle.std.specs.FinMap as map;
 ghost use Rattle.std.specs.Option.{option_to_list};
 ghost use Rattle.kap_base.specs.declared.items.Event.{Event};
-ghost use Rattle.topic_core.specs.Topics.{StandsFor, Trans, answer, kept_after, topic_level, transition};
+ghost use Rattle.topic_core.specs.Topics.{StandsFor, Trans, answer, kept_after, topic_level, transition, with_transition};
 
 use crate::levels::Levels;
 use crate::transition::Transition;
@@ -91,11 +91,23 @@ impl Topics {
         }
         let number = self.count.saturating_add(1);
         let transition = transition_of(alloc, number, old_level, event)?;
-        let topic = event.topic.copy(alloc)?;
-        let id = event.id.copy(alloc)?;
-        self.levels.put(alloc, topic, id, event.level)?;
+        self.levels
+            .put(alloc, &event.topic, &event.id, event.level)?;
         self.count = number;
         Ok(Some(transition))
+    }
+
+    /// Takes a transition that was made before: its new level is the last one of its topic and id from now
+    /// on. After `NoMemory` nothing has changed.
+    pub fn put(&mut self, alloc: Global, transition: &Transition) -> Result<(), NoMemory>
+        ensures ok { OnOk result (self.new ≡ with_transition self.old transition.now) }
+        ensures err { OnErr result (self.new ≡ self.old) }
+    {
+        let level = transition.new_level;
+        self.levels
+            .put(alloc, &transition.topic, &transition.id, level)?;
+        self.count = self.count.saturating_add(1);
+        Ok(())
     }
 
     /// The greatest level of the ids of a topic, None where the topic has had no transition.
@@ -118,5 +130,14 @@ impl Topics {
         ensures { result.now ≡ self.now.levels }
     {
         &self.levels
+    }
+}
+
+impl Duplicate for Topics {
+    fn copy(&self, alloc: Global) -> Result<Topics, NoMemory> {
+        Ok(Topics {
+            count: self.count,
+            levels: self.levels.copy(alloc)?,
+        })
     }
 }

@@ -1,0 +1,88 @@
+//! A poster under a lock, to which two threads post.
+
+ghost use Rattle.std.specs.Prelude.{◌≡◌};
+
+use crate::posts::{show, transition};
+use kap_base::{Level, NoMemory, Text};
+use std::alloc::Global;
+use std::marker::Brand;
+use std::process::Abort;
+use std::sync::{Mutex, Wait};
+use std::test::Fail;
+use std::thread::{Threads, join};
+use topic_board::{Look, Naming, Opened, Poster, Shown, board};
+
+/// How many transitions each thread posts.
+const POSTS: u64 = 1_000;
+
+/// Posts and publishes under the lock, each time anew.
+fn post_some<J: Naming, O: Drop, T: Shown<J, O>, R: Wait + Drop, H: Wait>(
+    rt: &H,
+    alloc: Global,
+    lock: &Mutex<Poster<J, O, T, R>>,
+    topic: &str,
+) -> Result<(), NoMemory> {
+    'posting: for number in 0..POSTS {
+        let next = transition(alloc, number + 1, topic, "east", Level::Warning)?;
+        let mut poster = lock.lock(rt);
+        show(alloc, &mut poster, &next)?;
+    }
+    Ok(())
+}
+
+/// Whether a look that is told sees what both posted.
+fn sees_both<J: Naming, O: Drop, T: Shown<J, O>, R: Wait + Drop>(
+    alloc: Global,
+    poster: &Poster<J, O, T, R>,
+    look: &mut Look<J, O, T>,
+) -> Result<bool, Fail> {
+    look.learn(poster.tell());
+    let one = look.level(&Text::from_str(alloc, "one")?);
+    let other = look.level(&Text::from_str(alloc, "other")?);
+    let counts = (poster.count(), poster.tell().len());
+    let warning = Ok(Some(Level::Warning));
+    Ok(one == warning && other == warning && counts == (2 * POSTS, 2 * POSTS))
+}
+
+/// Both threads post to the board.
+fn share<
+    J: Naming + Send + Sync,
+    O: Drop + Send + Sync,
+    T: Shown<J, O> + Send + Sync,
+    R: Wait + Drop + Send + Sync,
+    H: Wait + Threads + Sync,
+>(
+    rt: &H,
+    alloc: Global,
+    poster: Poster<J, O, T, R>,
+    mut look: Look<J, O, T>,
+) -> Result<bool, Fail> {
+    let lock = Mutex::new(poster);
+    let (one, other) = join(
+        rt,
+        || post_some(rt, alloc, &lock, "one"),
+        || post_some(rt, alloc, &lock, "other"),
+    );
+    one?;
+    other?;
+    let poster = lock.into_inner();
+    sees_both(alloc, &poster, &mut look)
+}
+
+fn shared<J: Naming + Send + Sync, R: Threads + Wait + Abort + Sync>(
+    rt: &R,
+    alloc: Global,
+    opened: Opened,
+) -> Result<(), Fail>
+    requires { opened ≡ J.book }
+{
+    let (poster, mut looks) = board::<J, &R>(rt, alloc, opened, 1)?;
+    let look = looks.pop().ok_or("no look")?;
+    assert!(rt; share(rt, alloc, poster, look)?);
+    Ok(())
+}
+
+#[test]
+fn two_threads_post_under_a_lock(rt: HostRuntime) -> Result<(), Fail> {
+    shared::<Brand, _>(&rt, rt.alloc(), Opened::new())
+}

@@ -1,0 +1,166 @@
+//! A look reads in one thread while 10,000 transitions are published in another.
+
+ghost use Rattle.std.specs.Prelude.{◌≡◌};
+
+use crate::posts::{show, transition};
+use kap_base::{Level, NoMemory, Text};
+use std::alloc::Global;
+use std::marker::Brand;
+use std::process::Abort;
+use std::sync::Wait;
+use std::test::Fail;
+use std::thread::{Threads, join};
+use topic_board::{Look, LookFault, Naming, Opened, Poster, Shown, board};
+use topic_core::Topics;
+
+/// How many transitions are published.
+const POSTS: u64 = 10_000;
+
+/// How often the look reads at most.
+const READS: u32 = 200_000;
+
+/// The levels rise, each for a quarter of the transitions.
+fn level_of(number: u64) -> Level {
+    match number / (POSTS / 4) {
+        0 => Level::Fine,
+        1 => Level::Info,
+        2 => Level::Warning,
+        _ => Level::Critical,
+    }
+}
+
+/// Publishes the transitions one by one, of three ids in turn.
+fn publish_all<J: Naming, O: Drop, T: Shown<J, O>, R: Wait + Drop>(
+    alloc: Global,
+    mut poster: Poster<J, O, T, R>,
+) -> Result<Poster<J, O, T, R>, NoMemory> {
+    'publishing: for number in 0..POSTS {
+        let id = match number % 3 {
+            0 => "east",
+            1 => "north",
+            _ => "south",
+        };
+        let next = transition(alloc, number + 1, "cpu", id, level_of(number))?;
+        show(alloc, &mut poster, &next)?;
+    }
+    Ok(poster)
+}
+
+fn is_below(one: Option<Level>, other: Option<Level>) -> bool {
+    match (one, other) {
+        (_, None) => false,
+        (None, Some(_)) => true,
+        (Some(one), Some(other)) => one < other,
+    }
+}
+
+/// What a look saw last.
+#[derive(Clone, Copy)]
+struct Last {
+    level: Option<Level>,
+    count: u64,
+}
+
+/// Reads once more. None where the look was refused or went back.
+fn read_on<J: Naming, O: Drop, T: Shown<J, O>>(
+    alloc: Global,
+    look: &mut Look<J, O, T>,
+    topic: &Text,
+    last: Last,
+) -> Option<Last> {
+    let level = look.level(topic).ok()?;
+    let topics = look.copy(alloc).ok()?;
+    if is_below(level, last.level)
+        || is_below(topics.level(topic), level)
+        || topics.count() < last.count
+    {
+        return None;
+    }
+    Some(Last {
+        level,
+        count: topics.count(),
+    })
+}
+
+/// Reads until all was seen, or often enough. None where the look was refused or went back.
+fn watch<J: Naming, O: Drop, T: Shown<J, O>>(
+    alloc: Global,
+    mut look: Look<J, O, T>,
+    topic: &Text,
+) -> Option<Look<J, O, T>> {
+    let mut last = Last {
+        level: None,
+        count: 0,
+    };
+    'watching: for _ in 0..READS {
+        last = read_on(alloc, &mut look, topic, last)?;
+        if last.count == POSTS {
+            break;
+        }
+    }
+    Some(look)
+}
+
+/// Whether the look, once it was told, sees all, and is refused when the board has ended.
+fn sees_the_end<J: Naming, O: Drop, T: Shown<J, O>, R: Wait + Drop>(
+    alloc: Global,
+    poster: Poster<J, O, T, R>,
+    look: &mut Look<J, O, T>,
+    topic: &Text,
+) -> bool {
+    look.learn(poster.tell());
+    let level = look.level(topic);
+    let copied = count_of(look.copy(alloc));
+    let before = look.aways();
+    poster.end();
+    let refused = look.level(topic).is_err() && count_of(look.copy(alloc)).is_none();
+    level == Ok(Some(Level::Critical))
+        && copied == Some(POSTS)
+        && refused
+        && (before, look.aways()) == (0, 2)
+}
+
+fn count_of(topics: Result<Topics, LookFault>) -> Option<u64> {
+    match topics {
+        Ok(topics) => Some(topics.count()),
+        Err(_) => None,
+    }
+}
+
+/// A look in one thread, the poster in another.
+fn beside<
+    J: Naming + Send + Sync,
+    O: Drop + Send + Sync,
+    T: Shown<J, O> + Send + Sync,
+    R: Wait + Drop + Send + Sync,
+    H: Threads + Sync,
+>(rt: &H, alloc: Global, poster: Poster<J, O, T, R>, look: Look<J, O, T>, topic: &Text) -> bool {
+    let (look, poster) = join(
+        rt,
+        move || watch(alloc, look, topic),
+        move || publish_all(alloc, poster),
+    );
+    match (look, poster) {
+        (Some(mut look), Ok(poster)) => sees_the_end(alloc, poster, &mut look, topic),
+        _ => false,
+    }
+}
+
+fn watched<J: Naming + Send + Sync, R: Threads + Wait + Abort + Sync>(
+    rt: &R,
+    alloc: Global,
+    opened: Opened,
+) -> Result<(), Fail>
+    requires { opened ≡ J.book }
+{
+    let (poster, mut looks) = board::<J, &R>(rt, alloc, opened, 2)?;
+    let topic = Text::from_str(alloc, "cpu")?;
+    let look = looks.pop().ok_or("no look")?;
+    assert!(rt; beside(rt, alloc, poster, look, &topic));
+    Ok(())
+}
+
+#[test]
+fn a_look_never_goes_back(rt: HostRuntime) -> Result<(), Fail> {
+    watched::<Brand, _>(&rt, rt.alloc(), Opened::new())
+}

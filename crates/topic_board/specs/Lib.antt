@@ -1,0 +1,4 @@
+pub mod Values
+pub mod Transitions
+pub mod Ops
+pub mod Rules
