@@ -1,11 +1,11 @@
 -- Lives that run while points come of which none begins or ends one.
 use Rattle.std.proofs.Common.{◌≡◌, ℕ, zero, suc, ◌+◌, ◌-◌, ◌<◌, ◌≤◌, Bool, true, false, cond, List, [], ◌∷◌, ◌++◌, length, map, drop, Option, None, Some, inl, inr, refl, sym, ap, subst, ◌∙◌, arith}
-use Rattle.std.specs.Prelude.{◌⊎◌, slice_get}
+use Rattle.std.specs.Prelude.{◌⊎◌, Contains, MatchOption, slice_get}
 use Rattle.std.specs.List.{AllByRecursion as Each, remove}
 use Rattle.std.specs.Option.{option_map_or}
 use Rattle.store_records.specs.declared.task.Life.{Life}
 use Rattle.life_effects.specs.Effects.{Fares, before, later, through}
-use Rattle.engine_runs.specs.Spans.{AreThere, FirstsRise, HasEnded, IsAway, IsOnward, IsOpenOver, IsThere, Spans, last_of, numbers_from, picked}
+use Rattle.engine_runs.specs.Spans.{AreThere, FirstsRise, HasEnded, HasEndedBy, IsAway, IsOnward, IsOpenOver, IsThere, Spans, last_of, numbers_from, picked}
 
 -- what holds of each follows for each
 pub each_to : {A : Type 0} (P Q : A → Type 0) (xs : List A) → ((x : A) → P x → Q x) → Each P xs → Each Q xs
@@ -205,3 +205,15 @@ away_none k n zero [] at = tt
 away_none k n zero (life ∷ lives) at = absurd cc
 away_none k n (suc i) [] at = tt
 away_none k n (suc i) (life ∷ lives) at = away_none k n i lives at
+
+-- ---- of lives in a net the first that has ended
+
+contains-behind : (x y : ℕ) (xs : List ℕ) → Contains xs y → Contains (x ∷ xs) y
+contains-behind x y xs h = let lt : h.0 < length xs = h.1 in (suc h.0, omega (arith, lt), h.2)
+
+-- the first one hasn't, and this is the first of the others that has, if one has
+pub ended_behind : (points : ℕ) (lives : List Life) (x : ℕ) (xs all : List ℕ) (r : Option ℕ) → all ≡ x ∷ xs → IsOnward (points + 1) (last_of lives x)
+    → MatchOption r (Each (IsOnward (points + 1)) (map (last_of lives) xs)) (λ number. Contains xs number × HasEndedBy points (last_of lives number))
+    → MatchOption r (Each (IsOnward (points + 1)) (map (last_of lives) all)) (λ number. Contains all number × HasEndedBy points (last_of lives number))
+ended_behind points lives x xs all None e on h = subst (λ (l : List ℕ). Each (IsOnward (points + 1)) (map (last_of lives) l)) (sym e) (on, h)
+ended_behind points lives x xs all (Some number) e on h = (subst (λ (l : List ℕ). Contains l number) (sym e) (contains-behind x number xs h.0), h.1)

@@ -35,13 +35,14 @@ pub struct EngineRun<N: Node> {
 
 impl<N: Node> Model for EngineRun<N> {
     ghost use Rattle.std.specs.Coded.{codes};
-    ghost use Rattle.std.specs.Prelude.{◌≡◌, ◌<◌, ◌≤◌, false};
+    ghost use Rattle.std.specs.Prelude.{◌≡◌, false};
+    ghost use Rattle.flow_cells.specs.contracts.parts.Gathered as gathered_effects;
     ghost use Rattle.kap_base.specs.Maps.{key_map_code};
     ghost use Rattle.engine_runs.specs.Running.{CanGoOn, RunValue};
 
     ghost Value = { RunValue N };
 
-    ghost coded = { Prim.hlevel (codes, key_map_code) };
+    ghost coded = { Prim.hlevel (codes, key_map_code, gathered_effects.the_row.coded) };
 
     ghost view = { λ r. record {
       net = r.net;

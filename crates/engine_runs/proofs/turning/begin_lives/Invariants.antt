@@ -18,7 +18,7 @@ invariant-beginning g l = record {
   kept : g.P.Patterns.refusals l.pats ≡ g.P.Patterns.refusals l.fn.pats;
   away : Each (IsAway l.points 0) (drop (length l.fn.names.items) l.lives) → Each (IsAway l.points 0) (drop (length l.names.items) l.lives);
   runs : (tasks : List Task) (before : List PointValue) → l.points ≡ length before → AreTasksOf l.lives tasks → Each (IsAway l.points 0) (drop (length l.fn.names.items) l.lives)
-      → LivesRun g.N.Node g.N.planned l.lives tasks before 1 l.fn.names.items l.fn.net → LivesRun g.N.Node g.N.planned l.lives tasks before 1 l.names.items l.net;
+      → LivesRun g.N.Node g.N.ScriptNode.planned l.lives tasks before 1 l.fn.names.items l.fn.net → LivesRun g.N.Node g.N.ScriptNode.planned l.lives tasks before 1 l.names.items l.net;
 }
 
 abbrev pub decreases-beginning : goal.decreases-beginning

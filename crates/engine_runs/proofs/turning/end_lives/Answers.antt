@@ -13,7 +13,7 @@ ending-preserved g c = record {
   none = c.end.ensures.gathered;
   last = c.end.ensures.last ∙ c.ending.invariant.last;
   runs = λ tasks before names long r.
-      lives_ended g.N.Node g.N.planned c.args.lives.now tasks before names c.ending.net c.end.new.self c.in-Some.number (c.ending.invariant.runs tasks before names long r) c.end.ensures.ends
+      lives_ended g.N.Node g.N.ScriptNode.planned c.args.lives.now tasks before names c.ending.net c.end.new.self c.in-Some.number (c.ending.invariant.runs tasks before names long r) c.end.ensures.ends
       (subst (λ (k : ℕ). HasEndedBy k (last_of c.args.lives.now c.in-Some.number)) long c.in-Some.ensures.1) c.end.ensures.rest c.end.ensures.gathered c.end.ensures.last c.end.ensures.spent;
 }
 
@@ -22,6 +22,6 @@ ending-smaller g c = subst (λ ls. length ls < length c.ending.net.lives) (sym c
 
 pub returns-clause-runs : goal.returns-clause-runs
 returns-clause-runs g c = λ tasks before names long r.
-    lives_onward g.N.Node g.N.planned c.args.lives.now tasks before 0 1 names c.ending.net (c.ending.invariant.runs tasks before names long r)
+    lives_onward g.N.Node g.N.ScriptNode.planned c.args.lives.now tasks before 0 1 names c.ending.net (c.ending.invariant.runs tasks before names long r)
     (subst (λ (k : ℕ). Each (IsOnward (k + 1)) (map (last_of c.args.lives.now) (numbers_of c.ending.net.lives))) long
     (subst (λ ls. Each (IsOnward (c.args.points + 1)) (map (last_of c.args.lives.now) (numbers_of ls))) c.lives.ensures.lives c.in_default.ensures))

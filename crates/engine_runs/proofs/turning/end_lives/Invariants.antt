@@ -15,7 +15,7 @@ invariant-ending g l = record {
   none : l.net.gathered ≡ [];
   last : l.net.last ≡ l.fn.net.last;
   runs : (tasks : List Task) (before : List PointValue) (names : List TaskNames) → l.points ≡ length before
-      → LivesRun g.N.Node g.N.planned l.lives tasks before 0 names l.fn.net → LivesRun g.N.Node g.N.planned l.lives tasks before 0 names l.net;
+      → LivesRun g.N.Node g.N.ScriptNode.planned l.lives tasks before 0 names l.fn.net → LivesRun g.N.Node g.N.ScriptNode.planned l.lives tasks before 0 names l.net;
 }
 
 abbrev pub decreases-ending : goal.decreases-ending

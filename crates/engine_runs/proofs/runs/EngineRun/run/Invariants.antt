@@ -12,8 +12,8 @@ abbrev pub invariant-running : goal.invariant-running
 invariant-running g l = record {
   unspent : l.self.spent ≡ false;
   kept : g.P.Patterns.refusals l.pats ≡ g.P.Patterns.refusals l.fn.pats;
-  runs : (tasks : List Task) (before : List PointValue) → AreTasksOf l.lives tasks → FirstsRise l.lives → HasRun g.N.Node g.N.planned l.lives tasks before 0 l.fn.self
-      → RanSome g.N.Node g.N.planned l.lives tasks before l.points l.rest l.stored l.fn.due.items l.self l.due.items;
+  runs : (tasks : List Task) (before : List PointValue) → AreTasksOf l.lives tasks → FirstsRise l.lives → HasRun g.N.Node g.N.ScriptNode.planned l.lives tasks before 0 l.fn.self
+      → RanSome g.N.Node g.N.ScriptNode.planned l.lives tasks before l.points l.rest l.stored l.fn.due.items l.self l.due.items;
 }
 
 abbrev pub decreases-running : goal.decreases-running
