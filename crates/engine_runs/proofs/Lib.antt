@@ -1,0 +1,13 @@
+pub mod SpanLaws
+pub mod FaultLaws
+pub mod LaterLaws
+pub mod PlaceLaws
+pub mod ScriptLaws
+pub mod GatherLaws
+pub mod TurnLaws
+pub mod RunLaws
+pub mod PlanLaws
+pub mod HeldLaws
+pub mod OpenLaws
+pub mod RestoreLaws
+pub mod TellLaws

@@ -1,0 +1,106 @@
+-- Lives that are restored from a snapshot run on from where their points had brought them.
+use Rattle.std.proofs.Common.{◌≡◌, ℕ, zero, suc, ◌+◌, ◌-◌, ◌<◌, ◌≤◌, Bool, true, false, List, [], ◌∷◌, ◌++◌, length, map, drop, refl, sym, ap, subst, ◌∙◌, arith}
+use Rattle.std.specs.List.{AllByRecursion as Each, AllZip}
+use Rattle.kap_base.specs.Points.{PointValue}
+use Rattle.kap_base.specs.Tree.{Tree}
+use Rattle.barrier_snapshot.proofs.SnapshotLaws.{lives_are_restored}
+use Rattle.barrier_snapshot.specs.Loading.{IsSameLife}
+use Rattle.barrier_snapshot.specs.Restoring.{Restores}
+use Rattle.barrier_snapshot.specs.Snapshots.{IsSnapshot}
+use Rattle.effect_text.specs.Lines.{task_of}
+use Rattle.effect_text.specs.declared.names.TaskNames.{TaskNames}
+use Rattle.flow_core.specs.Making.{AreLivesOf}
+use Rattle.flow_core.specs.Nets.{NetValue, NumberedLife, numbers_of}
+use Rattle.life_effects.specs.Effects.{course_of, courses_of}
+use Rattle.net_epochs.specs.Epochs.{AreNumberedBy, NumbersRise, StandsAt, nodes_in}
+use Rattle.node_core.specs.declared.node.Node.{Ghosts}
+use Rattle.node_set.specs.Tasks.{Planned, Sits}
+use Rattle.state_code.specs.Spelling.{IsSpelling}
+use Rattle.store_records.specs.declared.task.Life.{Life}
+use Rattle.task_graph.specs.declared.spec.NodeSpec.{NodeSpec}
+use Rattle.task_run.specs.Courses.{Course, end_of}
+use Rattle.task_run.specs.Graphs.{Placed}
+use Rattle.task_run.specs.Plans.{PlanValue, graph_of}
+use Rattle.tick_compile.specs.declared.tasks.Task.{Task}
+use Rattle.engine_runs.specs.Restoring.{HasPlanned}
+use Rattle.engine_runs.specs.Running.{LivesRun, courses_on}
+use Rattle.engine_runs.specs.Scripts.{AreTasksOf, graphs_from, life_nodes, names_from}
+use Rattle.engine_runs.specs.Spans.{AreThere, IsAway, IsOpenOver, Spans, numbers_from, picked}
+use Rattle.engine_runs.proofs.LaterLaws.{open_goes}
+use Rattle.engine_runs.proofs.PlanLaws.{all_planned, same_picked}
+use Rattle.engine_runs.proofs.ScriptLaws.{courses_numbered, numbers_rise}
+
+module _ {P : Type 0} (planned : Planned P) where
+  -- no more courses than lives
+  courses-few : (n : ℕ) (points : List PointValue) (lives : List Life) (tasks : List Task) → length (courses_of lives (graphs_from planned n lives tasks) points) ≤ length lives
+  courses-few n points [] tasks = omega arith
+  courses-few n points (life ∷ lives) [] = omega arith
+  courses-few n points (life ∷ lives) (task ∷ tasks) = let rest = courses-few (n + 1) points lives tasks in omega (arith, rest)
+
+  nodes-picked : (n : ℕ) (points : List PointValue) (runs : List Bool) (lives : List Life) (tasks : List Task)
+      → nodes_in (picked runs (courses_of lives (graphs_from planned n lives tasks) points)) ≡ picked runs (graphs_from planned n lives tasks)
+  nodes-picked n points [] lives tasks = refl
+  nodes-picked n points (r ∷ runs) [] tasks = refl
+  nodes-picked n points (r ∷ runs) (life ∷ lives) [] = refl
+  nodes-picked n points (true ∷ runs) (life ∷ lives) (task ∷ tasks) = ap (λ (gs : List (List (Placed P))). life_nodes planned n life task ∷ gs) (nodes-picked (n + 1) points runs lives tasks)
+  nodes-picked n points (false ∷ runs) (life ∷ lives) (task ∷ tasks) = nodes-picked (n + 1) points runs lives tasks
+
+  ends-picked : (n : ℕ) (points : List PointValue) (runs : List Bool) (lives : List Life) (tasks : List Task) → AreThere (length points) 0 runs lives
+      → Each (λ (c : Course P). end_of c ≡ length points) (picked runs (courses_of lives (graphs_from planned n lives tasks) points))
+  ends-picked n points [] lives tasks h = tt
+  ends-picked n points (r ∷ runs) [] tasks h = absurd h
+  ends-picked n points (true ∷ runs) (life ∷ lives) [] h = tt
+  ends-picked n points (false ∷ runs) (life ∷ lives) [] h = tt
+  ends-picked n points (true ∷ runs) (life ∷ lives) (task ∷ tasks) h = ((open_goes points [] life (life_nodes planned n life task) h.0).ends, ends-picked (n + 1) points runs lives tasks h.1)
+  ends-picked n points (false ∷ runs) (life ∷ lives) (task ∷ tasks) h = ends-picked (n + 1) points runs lives tasks h.1
+
+module _ {N P S : Type 0} (g : Ghosts N P S) where
+  same-numbers : (plans loaded : List (PlanValue N)) → AllZip (IsSameLife g.spec) plans loaded → map (λ plan. plan.life) loaded ≡ map (λ plan. plan.life) plans
+  same-numbers [] [] same = refl
+  same-numbers [] (o ∷ loaded) same = absurd same
+  same-numbers (p ∷ plans) [] same = absurd same
+  same-numbers (p ∷ plans) (o ∷ loaded) same = ap (λ (n : ℕ). n ∷ map (λ plan. plan.life) loaded) same.0.life ∙ ap (λ (ns : List ℕ). p.life ∷ ns) (same-numbers plans loaded same.1)
+
+  life-numbers : (loaded : List (PlanValue N)) (lives : List (NumberedLife N)) → AreLivesOf g loaded lives → numbers_of lives ≡ map (λ plan. plan.life) loaded
+  life-numbers [] [] are = refl
+  life-numbers [] (l ∷ lives) are = absurd are
+  life-numbers (o ∷ loaded) [] are = absurd are
+  life-numbers (o ∷ loaded) (l ∷ lives) are = ap (λ (n : ℕ). n ∷ numbers_of lives) are.0.number ∙ ap (λ (ns : List ℕ). o.life ∷ ns) (life-numbers loaded lives are.1)
+
+  module _ (planned : Planned P)
+      (sits : (task : List ℕ) (life number : ℕ) (node : NodeSpec Tree) → Sits g.ports g.life g.number life number (length node.parents) node.spec (planned task life number node))
+      (spelled : (p : P) → IsSpelling (g.fits p) (g.spell p) (g.read p)) where
+    pub record RunsOn (lives : List Life) (tasks : List Task) (points : List PointValue) (names : List TaskNames) (net : NetValue N) : Type 0 where
+      pub runs : LivesRun g planned lives tasks points 0 names net
+      pub away : Each (IsAway (length points) 0) (drop (length names) lives)
+
+    pub restored_run : (lives : List Life) (tasks : List Task) (points : List PointValue) (runs : List Bool) (names : List TaskNames) (plans : List (PlanValue N)) (bytes : List ℕ) (net : NetValue N)
+        → AreTasksOf lives tasks → HasPlanned g.spec planned lives runs [] names plans → Spans (length points) 0 runs lives
+        → IsSnapshot g (picked runs (courses_on g planned lives tasks points)) bytes → Restores g plans bytes net → net.last.0 ≤ length points
+        → RunsOn lives tasks points names net
+    restored_run lives tasks points runs names plans bytes net are h s snap res last =
+        let all = courses_on g planned lives tasks points in
+        let same : picked runs all ≡ picked h.passed all = same_picked lives runs h.passed h.left all h.split h.rest_is (courses-few planned 1 points lives tasks) in
+        let front = all_planned (length points) lives runs h.passed h.left h.split h.rest_is s.there s.away in
+        let nodes : map (graph_of g.spec) plans ≡ nodes_in (picked h.passed all) = h.graphs tasks are ∙ sym (nodes-picked planned 1 points h.passed lives tasks) in
+        let numbers : numbers_of net.lives ≡ picked h.passed (numbers_from 1 lives) = life-numbers res.loaded net.lives res.lives ∙ same-numbers plans res.loaded res.are.same ∙ h.numbers in
+        record {
+          runs = record {
+            runs = h.passed;
+            long = h.long;
+            there = front.there;
+            numbers = numbers;
+            stands = record {
+              unspent = res.unspent;
+              rest = res.rest;
+              none = res.gathered;
+              last = last;
+              ends = ends-picked planned 1 points h.passed lives tasks front.there;
+              lives = lives_are_restored g spelled plans bytes net (picked h.passed all) res nodes (subst (λ (cs : List (Course P)). IsSnapshot g cs bytes) same snap);
+              numbered = subst (λ (ns : List ℕ). AreNumberedBy g ns (picked h.passed all)) (sym numbers) (courses_numbered g planned sits 1 points h.passed lives tasks are);
+              rise = subst (NumbersRise 0) (sym numbers) (numbers_rise 0 1 h.passed lives (omega arith));
+            };
+            named = subst (Each (λ number. task_of names number ≡ task_of (names_from lives tasks) number)) (sym numbers) (h.named tasks are);
+          };
+          away = subst (λ (i : ℕ). Each (IsAway (length points) 0) (drop i lives)) h.long front.away;
+        }
