@@ -1,11 +1,11 @@
 //! The select nodes.
 
-ghost use Rattle.std.specs.Prelude.{◌≡◌};
+ghost use Rattle.std.specs.Prelude.{◌≡◌, codes};
 ghost use Rattle.kap_base.specs.Words.{Answers};
-ghost use Rattle.tick_compile.specs.Rows.{set_by};
+ghost use Rattle.tick_compile.specs.Rows.{set_by, set_named};
 ghost use Rattle.tick_compile.specs.Selects.{no_select, rank_named, rank_spec, ranked, select_named, select_rows, select_spec, selected};
 
-use crate::given::{Node, Setting};
+use crate::given::{Args, Node, Setting};
 use crate::node_fault::NodeFault;
 use crate::props::{Props, set_all};
 use crate::readers::{nothing, one, pair};
@@ -67,22 +67,45 @@ pub(crate) struct SelectProps {
     pub(crate) use_point_times: bool,
 }
 
+/// `.as(s)`.
+fn set_as<L: Drop>(
+    alloc: Global,
+    mut props: SelectProps,
+    args: Args<L>,
+    at: u32,
+) -> Result<SelectProps, NodeFault>
+    ensures { Answers NodeFault.NoMemory result (set_named select_rows props (codes "as") args at) }
+{
+    props.name = Some(one(alloc, args, at)?);
+    Ok(props)
+}
+
+/// `.usePointTimes()`.
+fn set_use_point_times<L: Drop>(
+    mut props: SelectProps,
+    args: Args<L>,
+    at: u32,
+) -> Result<SelectProps, NodeFault>
+    ensures { Answers NodeFault.NoMemory result (set_named select_rows props (codes "usePointTimes") args at) }
+{
+    nothing(args, at)?;
+    props.use_point_times = true;
+    Ok(props)
+}
+
 impl<L: Drop> Props<L> for SelectProps {
     ghost sets = { set_by select_rows };
 
-    fn set(mut self, alloc: Global, prop: Setting<L>) -> Result<SelectProps, NodeFault>
+    fn set(self, alloc: Global, prop: Setting<L>) -> Result<SelectProps, NodeFault>
         ensures { Answers NodeFault.NoMemory result (set_by select_rows self prop) }
     {
         let Setting { name, args, at } = prop;
         let name = name.bytes();
         if name == b"as".as_slice() {
-            self.name = Some(one(alloc, args, at)?);
-            return Ok(self);
+            return set_as(alloc, self, args, at);
         }
         if name == b"usePointTimes".as_slice() {
-            nothing(args, at)?;
-            self.use_point_times = true;
-            return Ok(self);
+            return set_use_point_times(self, args, at);
         }
         Err(NodeFault::Property(at))
     }
