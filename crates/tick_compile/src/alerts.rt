@@ -6,6 +6,7 @@ ghost use Rattle.tick_compile.specs.Alerts.{alert_sets, alert_spec, is_handler, 
 ghost use Rattle.tick_compile.specs.Rows.{has_row, set_by, set_named};
 
 use crate::given::{Args, Node, Setting};
+use crate::names::is_named;
 use crate::node_fault::NodeFault;
 use crate::props::{Props, set_all};
 use crate::readers::{lambda, nothing, one};
@@ -18,37 +19,34 @@ use task_graph::{AlertSpec, Conditions, Spec};
 fn is_handler(name: &Text) -> bool
     ensures { result ≡ is_handler name.now }
 {
-    let name = name.bytes();
-    name == b"email".as_slice()
-        || name == b"slack".as_slice()
-        || name == b"pagerDuty".as_slice()
-        || name == b"post".as_slice()
-        || name == b"tcp".as_slice()
-        || name == b"exec".as_slice()
-        || name == b"telegram".as_slice()
-        || name == b"victorOps".as_slice()
-        || name == b"opsGenie".as_slice()
-        || name == b"hipChat".as_slice()
-        || name == b"sensu".as_slice()
-        || name == b"snmpTrap".as_slice()
+    is_named(name, "email")
+        || is_named(name, "slack")
+        || is_named(name, "pagerDuty")
+        || is_named(name, "post")
+        || is_named(name, "tcp")
+        || is_named(name, "exec")
+        || is_named(name, "telegram")
+        || is_named(name, "victorOps")
+        || is_named(name, "opsGenie")
+        || is_named(name, "hipChat")
+        || is_named(name, "sensu")
+        || is_named(name, "snmpTrap")
 }
 
 /// Whether a property is the condition of a level.
 fn is_level<L>(prop: &Setting<L>) -> bool
     ensures { result ≡ has_row (level_rows {L = L}) prop.now.name }
 {
-    let name = prop.name.bytes();
-    name == b"info".as_slice() || name == b"warn".as_slice() || name == b"crit".as_slice()
+    is_named(&prop.name, "info") || is_named(&prop.name, "warn") || is_named(&prop.name, "crit")
 }
 
 /// Whether a property is the condition of leaving a level.
 fn is_reset<L>(prop: &Setting<L>) -> bool
     ensures { result ≡ has_row (reset_rows {L = L}) prop.now.name }
 {
-    let name = prop.name.bytes();
-    name == b"infoReset".as_slice()
-        || name == b"warnReset".as_slice()
-        || name == b"critReset".as_slice()
+    is_named(&prop.name, "infoReset")
+        || is_named(&prop.name, "warnReset")
+        || is_named(&prop.name, "critReset")
 }
 
 /// `.info(l)`.
@@ -92,14 +90,13 @@ fn set_level<L: Drop>(alert: AlertSpec<L>, prop: Setting<L>) -> Result<AlertSpec
     ensures { Answers NodeFault.NoMemory result (set_by level_rows alert prop) }
 {
     let Setting { name, args, at } = prop;
-    let name = name.bytes();
-    if name == b"info".as_slice() {
+    if is_named(&name, "info") {
         return set_info(alert, args, at);
     }
-    if name == b"warn".as_slice() {
+    if is_named(&name, "warn") {
         return set_warn(alert, args, at);
     }
-    if name == b"crit".as_slice() {
+    if is_named(&name, "crit") {
         return set_crit(alert, args, at);
     }
     Err(NodeFault::Property(at))
@@ -146,14 +143,13 @@ fn set_reset<L: Drop>(alert: AlertSpec<L>, prop: Setting<L>) -> Result<AlertSpec
     ensures { Answers NodeFault.NoMemory result (set_by reset_rows alert prop) }
 {
     let Setting { name, args, at } = prop;
-    let name = name.bytes();
-    if name == b"infoReset".as_slice() {
+    if is_named(&name, "infoReset") {
         return set_info_reset(alert, args, at);
     }
-    if name == b"warnReset".as_slice() {
+    if is_named(&name, "warnReset") {
         return set_warn_reset(alert, args, at);
     }
-    if name == b"critReset".as_slice() {
+    if is_named(&name, "critReset") {
         return set_crit_reset(alert, args, at);
     }
     Err(NodeFault::Property(at))
@@ -246,23 +242,22 @@ fn set_other<L: Drop>(
     ensures { Answers NodeFault.NoMemory result (set_by other_rows alert prop) }
 {
     let Setting { name, args, at } = prop;
-    let name = name.bytes();
-    if name == b"id".as_slice() {
+    if is_named(&name, "id") {
         return set_id(alloc, alert, args, at);
     }
-    if name == b"message".as_slice() {
+    if is_named(&name, "message") {
         return set_message(alloc, alert, args, at);
     }
-    if name == b"topic".as_slice() {
+    if is_named(&name, "topic") {
         return set_topic(alloc, alert, args, at);
     }
-    if name == b"log".as_slice() {
+    if is_named(&name, "log") {
         return set_log(alloc, alert, args, at);
     }
-    if name == b"stateChangesOnly".as_slice() {
+    if is_named(&name, "stateChangesOnly") {
         return set_state_changes_only(alert, args, at);
     }
-    if name == b"noRecoveries".as_slice() {
+    if is_named(&name, "noRecoveries") {
         return set_no_recoveries(alert, args, at);
     }
     Err(NodeFault::Property(at))

@@ -6,6 +6,7 @@ ghost use Rattle.tick_compile.specs.Rows.{set_by, set_named};
 ghost use Rattle.tick_compile.specs.Changes.{default_rows, default_spec, delete_rows, delete_spec, eval_results, eval_rows, eval_spec, group_by_rows, group_by_spec, kept, log_rows, log_spec, shift_spec};
 
 use crate::given::{Args, Node, Setting};
+use crate::names::is_named;
 use crate::node_fault::NodeFault;
 use crate::props::{Props, no_props, set_all};
 use crate::readers::{all, dimensions, lambdas, nothing, one, pair};
@@ -67,11 +68,10 @@ impl<L: Drop> Props<L> for EvalProps {
         ensures { Answers NodeFault.NoMemory result (set_by eval_rows self prop) }
     {
         let Setting { name, args, at } = prop;
-        let name = name.bytes();
-        if name == b"as".as_slice() {
+        if is_named(&name, "as") {
             return set_as(alloc, self, args, at);
         }
-        if name == b"keep".as_slice() {
+        if is_named(&name, "keep") {
             return set_keep(alloc, self, args, at);
         }
         Err(NodeFault::Property(at))
@@ -131,7 +131,7 @@ impl<L: Drop> Props<L> for GroupBySpec {
     {
         let _ = alloc;
         let Setting { name, args, at } = prop;
-        if name.bytes() == b"byMeasurement".as_slice() {
+        if is_named(&name, "byMeasurement") {
             nothing(args, at)?;
             self.by_measurement = true;
             return Ok(self);
@@ -190,11 +190,10 @@ impl<L: Drop> Props<L> for LogSpec {
         ensures { Answers NodeFault.NoMemory result (set_by log_rows self prop) }
     {
         let Setting { name, args, at } = prop;
-        let name = name.bytes();
-        if name == b"level".as_slice() {
+        if is_named(&name, "level") {
             return set_level(alloc, self, args, at);
         }
-        if name == b"prefix".as_slice() {
+        if is_named(&name, "prefix") {
             return set_prefix(alloc, self, args, at);
         }
         Err(NodeFault::Property(at))
@@ -254,11 +253,10 @@ impl<L: Drop> Props<L> for ItemList<DefaultSetting> {
         ensures { Answers NodeFault.NoMemory result (set_by default_rows self prop) }
     {
         let Setting { name, args, at } = prop;
-        let name = name.bytes();
-        if name == b"field".as_slice() {
+        if is_named(&name, "field") {
             return set_default_field(alloc, self, args, at);
         }
-        if name == b"tag".as_slice() {
+        if is_named(&name, "tag") {
             return set_default_tag(alloc, self, args, at);
         }
         Err(NodeFault::Property(at))
@@ -312,11 +310,10 @@ impl<L: Drop> Props<L> for ItemList<DeleteSetting> {
         ensures { Answers NodeFault.NoMemory result (set_by delete_rows self prop) }
     {
         let Setting { name, args, at } = prop;
-        let name = name.bytes();
-        if name == b"field".as_slice() {
+        if is_named(&name, "field") {
             return set_deleted_field(alloc, self, args, at);
         }
-        if name == b"tag".as_slice() {
+        if is_named(&name, "tag") {
             return set_deleted_tag(alloc, self, args, at);
         }
         Err(NodeFault::Property(at))

@@ -6,6 +6,7 @@ ghost use Rattle.tick_compile.specs.Rows.{set_by, set_named};
 ghost use Rattle.tick_compile.specs.Filters.{from_rows, from_spec, sample_spec, where_spec};
 
 use crate::given::{Args, Node, Setting};
+use crate::names::is_named;
 use crate::node_fault::NodeFault;
 use crate::props::{Props, no_props, set_all};
 use crate::readers::{dimensions, lambda, nothing, one};
@@ -97,23 +98,22 @@ impl<L: Drop> Props<L> for FromSpec<L> {
         ensures { Answers NodeFault.NoMemory result (set_by from_rows self prop) }
     {
         let Setting { name, args, at } = prop;
-        let name = name.bytes();
-        if name == b"database".as_slice() {
+        if is_named(&name, "database") {
             return set_database(alloc, self, args, at);
         }
-        if name == b"retentionPolicy".as_slice() {
+        if is_named(&name, "retentionPolicy") {
             return set_retention_policy(alloc, self, args, at);
         }
-        if name == b"measurement".as_slice() {
+        if is_named(&name, "measurement") {
             return set_measurement(alloc, self, args, at);
         }
-        if name == b"where".as_slice() {
+        if is_named(&name, "where") {
             return set_where(self, args, at);
         }
-        if name == b"groupBy".as_slice() {
+        if is_named(&name, "groupBy") {
             return set_group_by(alloc, self, args, at);
         }
-        if name == b"groupByMeasurement".as_slice() {
+        if is_named(&name, "groupByMeasurement") {
             return set_group_by_measurement(self, args, at);
         }
         Err(NodeFault::Property(at))

@@ -7,6 +7,7 @@ ghost use Rattle.tick_compile.specs.Joins.{join_rows, join_spec, lent, no_join, 
 ghost use Rattle.tick_compile.specs.Rows.{set_by, set_named};
 
 use crate::given::{Args, Node, Setting};
+use crate::names::is_named;
 use crate::node_fault::NodeFault;
 use crate::props::{Props, set_all};
 use crate::readers::{all, one};
@@ -23,7 +24,7 @@ impl<L: Drop> Props<L> for Option<Measurement> {
         ensures { Answers NodeFault.NoMemory result (set_by rename_rows self prop) }
     {
         let Setting { name, args, at } = prop;
-        if name.bytes() == b"rename".as_slice() {
+        if is_named(&name, "rename") {
             return Ok(Some(one(alloc, args, at)?));
         }
         Err(NodeFault::Property(at))
@@ -120,20 +121,19 @@ impl<L: Drop> Props<L> for JoinSpec {
         ensures { Answers NodeFault.NoMemory result (set_by join_rows self prop) }
     {
         let Setting { name, args, at } = prop;
-        let name = name.bytes();
-        if name == b"as".as_slice() {
+        if is_named(&name, "as") {
             return set_as(alloc, self, args, at);
         }
-        if name == b"tolerance".as_slice() {
+        if is_named(&name, "tolerance") {
             return set_tolerance(alloc, self, args, at);
         }
-        if name == b"fill".as_slice() {
+        if is_named(&name, "fill") {
             return set_fill(alloc, self, args, at);
         }
-        if name == b"streamName".as_slice() {
+        if is_named(&name, "streamName") {
             return set_stream_name(alloc, self, args, at);
         }
-        if name == b"delimiter".as_slice() {
+        if is_named(&name, "delimiter") {
             return set_delimiter(alloc, self, args, at);
         }
         Err(NodeFault::Property(at))

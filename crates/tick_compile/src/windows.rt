@@ -6,6 +6,7 @@ ghost use Rattle.tick_compile.specs.Rows.{set_by, set_named};
 ghost use Rattle.tick_compile.specs.Windows.{counted_form, is_counted, is_timed, no_window, timed_form, window_form, window_rows, window_spec};
 
 use crate::given::{Args, Node, Setting};
+use crate::names::is_named;
 use crate::node_fault::NodeFault;
 use crate::props::{Props, set_all};
 use crate::readers::{nothing, one};
@@ -108,23 +109,22 @@ impl<L: Drop> Props<L> for WindowProps {
         ensures { Answers NodeFault.NoMemory result (set_by window_rows self prop) }
     {
         let Setting { name, args, at } = prop;
-        let name = name.bytes();
-        if name == b"period".as_slice() {
+        if is_named(&name, "period") {
             return set_period(alloc, self, args, at);
         }
-        if name == b"every".as_slice() {
+        if is_named(&name, "every") {
             return set_every(alloc, self, args, at);
         }
-        if name == b"align".as_slice() {
+        if is_named(&name, "align") {
             return set_align(self, args, at);
         }
-        if name == b"fillPeriod".as_slice() {
+        if is_named(&name, "fillPeriod") {
             return set_fill_period(self, args, at);
         }
-        if name == b"periodCount".as_slice() {
+        if is_named(&name, "periodCount") {
             return set_period_count(alloc, self, args, at);
         }
-        if name == b"everyCount".as_slice() {
+        if is_named(&name, "everyCount") {
             return set_every_count(alloc, self, args, at);
         }
         Err(NodeFault::Property(at))
