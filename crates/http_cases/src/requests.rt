@@ -6,34 +6,57 @@ ghost use Rattle.std.specs.Prelude.{◌<◌};
 
 use case_text::{LineFault, bytes, calls, first_of, number, put_shown};
 use kap_base::{Bytes, NoMemory};
-use kap_http::{Ask, HttpFault, Reply, Request, read_head, read_request, route};
+use kap_http::{
+    Ask, DefineAsk, HttpFault, Reply, Request, TaskAsk, TopicAsk, WriteAsk, read_head,
+    read_request, route,
+};
 use kap_io::{Failed, Link, MemLink};
 use std::alloc::Global;
 
 /// How many reads are made at most.
 const MOST: u32 = 1_000_000;
 
+/// Adds the text of points to be written: their names, their precision and how many bytes they have.
+fn put_write(alloc: Global, write: &WriteAsk, to: &mut Bytes) -> Result<(), NoMemory> {
+    let text = format!(in alloc;
+        "write '{}' '{}' {:?} {}",
+        write.db,
+        write.rp,
+        write.precision,
+        write.body.len()
+    )?;
+    put_shown(text.as_bytes(), to)
+}
+
+/// Adds the text of a task to be defined.
+fn put_define(alloc: Global, task: &DefineAsk, to: &mut Bytes) -> Result<(), NoMemory> {
+    let text = format!(in alloc; "define '{}' '{}' {}", task.id, task.script, task.enabled)?;
+    put_shown(text.as_bytes(), to)
+}
+
+/// Adds the text of what is to be done with a task.
+fn put_task(alloc: Global, task: &TaskAsk, to: &mut Bytes) -> Result<(), NoMemory> {
+    let text = format!(in alloc; "task '{}' {:?}", task.id, task.act)?;
+    put_shown(text.as_bytes(), to)
+}
+
+/// Adds the text of a topic.
+fn put_topic(alloc: Global, topic: &TopicAsk, to: &mut Bytes) -> Result<(), NoMemory> {
+    let text = format!(in alloc; "topic '{}'", topic.name)?;
+    put_shown(text.as_bytes(), to)
+}
+
 /// Adds the text of an ask.
 fn put_ask(alloc: Global, ask: &Ask, to: &mut Bytes) -> Result<(), NoMemory> {
-    let text = match ask {
-        Ask::Ping => format!(in alloc; "ping")?,
-        Ask::Write(write) => format!(in alloc;
-            "write '{}' '{}' {:?} {}",
-            write.db,
-            write.rp,
-            write.precision,
-            write.body.len()
-        )?,
-        Ask::Tasks => format!(in alloc; "tasks")?,
-        Ask::Define(task) => format!(in alloc;
-            "define '{}' '{}' {}",
-            task.id, task.script, task.enabled
-        )?,
-        Ask::Task(task) => format!(in alloc; "task '{}' {:?}", task.id, task.act)?,
-        Ask::Topics => format!(in alloc; "topics")?,
-        Ask::Topic(topic) => format!(in alloc; "topic '{}'", topic.name)?,
-    };
-    put_shown(text.as_bytes(), to)
+    match ask {
+        Ask::Ping => to.append(b"ping"),
+        Ask::Write(write) => put_write(alloc, write, to),
+        Ask::Tasks => to.append(b"tasks"),
+        Ask::Define(task) => put_define(alloc, task, to),
+        Ask::Task(task) => put_task(alloc, task, to),
+        Ask::Topics => to.append(b"topics"),
+        Ask::Topic(topic) => put_topic(alloc, topic, to),
+    }
 }
 
 /// Adds the status and the body of a refusal.

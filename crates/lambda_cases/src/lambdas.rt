@@ -14,15 +14,9 @@ use tick_parser::{Stmt, Val, parse};
 /// What stands before a lambda's expression in these scripts.
 const BEFORE: &str = "var f = lambda: ";
 
-/// The expression of a lambda that is written so.
-fn expression(alloc: Global, written: &str) -> Result<SharedExpr, LineFault> {
-    let script = format!(in alloc; "{BEFORE}{written}")?;
-    if script.len() > SCRIPT_LIMIT {
-        return Err(LineFault::NoForm);
-    }
-    let tokens = lex(alloc, script.as_str()).map_err(|_| LineFault::NoForm)?;
-    let tree = parse(alloc, &tokens).map_err(|_| LineFault::NoForm)?;
-    match tree.as_slice() {
+/// The expression of the lambda that a script of one statement names.
+fn only_lambda(alloc: Global, tree: &[Stmt]) -> Result<SharedExpr, LineFault> {
+    match tree {
         [
             Stmt::Var {
                 value: Val::Lambda(expr, _),
@@ -31,6 +25,17 @@ fn expression(alloc: Global, written: &str) -> Result<SharedExpr, LineFault> {
         ] => Ok(SharedExpr::new(alloc, expr.copy(alloc)?)?),
         _ => Err(LineFault::NoForm),
     }
+}
+
+/// The expression of a lambda that is written so.
+fn expression(alloc: Global, written: &str) -> Result<SharedExpr, LineFault> {
+    let script = format!(in alloc; "{BEFORE}{written}")?;
+    if script.len() > SCRIPT_LIMIT {
+        return Err(LineFault::NoForm);
+    }
+    let tokens = lex(alloc, script.as_str()).map_err(|_| LineFault::NoForm)?;
+    let tree = parse(alloc, &tokens).map_err(|_| LineFault::NoForm)?;
+    only_lambda(alloc, tree.as_slice())
 }
 
 /// The lambda that is written so.
@@ -46,13 +51,21 @@ fn put_fault(alloc: Global, name: &str, at: u32, to: &mut Bytes) -> Result<(), N
     to.append(format!(in alloc; "{name} at {place}")?.as_bytes())
 }
 
+fn put_number(alloc: Global, number: i64, to: &mut Bytes) -> Result<(), NoMemory> {
+    to.append(format!(in alloc; "{number}")?.as_bytes())
+}
+
+fn put_string(alloc: Global, text: &Text, to: &mut Bytes) -> Result<(), NoMemory> {
+    to.append(format!(in alloc; "'{text}'")?.as_bytes())
+}
+
 /// Adds a value.
 fn put_value(alloc: Global, value: &Value, to: &mut Bytes) -> Result<(), NoMemory> {
     match value {
-        Value::Int(number) => to.append(format!(in alloc; "{number}")?.as_bytes()),
+        Value::Int(number) => put_number(alloc, *number, to),
         Value::Bool(true) => to.append(b"TRUE"),
         Value::Bool(false) => to.append(b"FALSE"),
-        Value::Str(text) => to.append(format!(in alloc; "'{text}'")?.as_bytes()),
+        Value::Str(text) => put_string(alloc, text, to),
     }
 }
 

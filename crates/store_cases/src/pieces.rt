@@ -3,7 +3,7 @@
 //! these points take.
 
 use case_text::put_shown;
-use kap_base::{Bytes, Point};
+use kap_base::{Bytes, NoMemory, Point};
 use kap_io::{Disk, DiskCall, DiskWork, MemDisk};
 use line_points::print_line;
 use std::alloc::Global;
@@ -25,6 +25,24 @@ fn times_follow(points: &[Point]) -> bool {
     true
 }
 
+/// Adds a point behind these bytes.
+fn put_point(alloc: Global, before: &[u8], point: &Point, to: &mut Bytes) -> Result<(), NoMemory> {
+    to.append(before)?;
+    to.append(print_line(alloc, point)?.as_slice())
+}
+
+/// Adds the first and the last of points, or the only one.
+fn put_ends(alloc: Global, points: &[Point], to: &mut Bytes) -> Result<(), NoMemory> {
+    match points {
+        [] => Ok(()),
+        [only] => put_point(alloc, b": ", only, to),
+        [first, .., last] => {
+            put_point(alloc, b": ", first, to)?;
+            put_point(alloc, b" .. ", last, to)
+        }
+    }
+}
+
 /// Adds how many points come behind a number, and the first and the last.
 fn put_points(
     alloc: Global,
@@ -38,16 +56,7 @@ fn put_points(
     }
     let piece = store.points(disk, after)?;
     to.append(format!(in alloc; "{}", piece.len())?.as_bytes())?;
-    if let [first, .., last] = piece.as_slice() {
-        to.append(b": ")?;
-        to.append(print_line(alloc, first)?.as_slice())?;
-        to.append(b" .. ")?;
-        to.append(print_line(alloc, last)?.as_slice())?;
-    }
-    if let [only] = piece.as_slice() {
-        to.append(b": ")?;
-        to.append(print_line(alloc, only)?.as_slice())?;
-    }
+    put_ends(alloc, piece.as_slice(), to)?;
     if !times_follow(piece.as_slice()) {
         to.append(b" not in order")?;
     }
@@ -108,6 +117,33 @@ fn numbers_follow(transitions: &[Transition]) -> bool {
     true
 }
 
+/// Adds a transition behind these bytes.
+fn put_told(
+    alloc: Global,
+    before: &[u8],
+    transition: &Transition,
+    to: &mut Bytes,
+) -> Result<(), NoMemory> {
+    to.append(before)?;
+    put_shown(print_transition(alloc, transition)?.as_slice(), to)
+}
+
+/// Adds the first and the last of transitions, or the only one.
+fn put_told_ends(
+    alloc: Global,
+    transitions: &[Transition],
+    to: &mut Bytes,
+) -> Result<(), NoMemory> {
+    match transitions {
+        [] => Ok(()),
+        [only] => put_told(alloc, b": ", only, to),
+        [first, .., last] => {
+            put_told(alloc, b": ", first, to)?;
+            put_told(alloc, b" .. ", last, to)
+        }
+    }
+}
+
 /// Adds how many transitions come behind a number, and the first and the last.
 fn put_transitions(
     alloc: Global,
@@ -121,16 +157,7 @@ fn put_transitions(
     }
     let piece = store.transitions(disk, after)?;
     to.append(format!(in alloc; "{}", piece.len())?.as_bytes())?;
-    if let [first, .., last] = piece.as_slice() {
-        to.append(b": ")?;
-        put_shown(print_transition(alloc, first)?.as_slice(), to)?;
-        to.append(b" .. ")?;
-        put_shown(print_transition(alloc, last)?.as_slice(), to)?;
-    }
-    if let [only] = piece.as_slice() {
-        to.append(b": ")?;
-        put_shown(print_transition(alloc, only)?.as_slice(), to)?;
-    }
+    put_told_ends(alloc, piece.as_slice(), to)?;
     if !numbers_follow(piece.as_slice()) {
         to.append(b" not in order")?;
     }

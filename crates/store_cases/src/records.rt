@@ -4,7 +4,7 @@ ghost use Rattle.std.specs.Prelude.{IsTrue};
 ghost use Rattle.store_records.specs.Records.{HasForm};
 
 use case_text::{LineFault, bytes, first_of, level, number, point_of, signed, text};
-use kap_base::{Level, Points};
+use kap_base::{Level, Points, Text};
 use std::alloc::Global;
 use store_records::{Rec, Transitions, is_batch};
 use topic_core::Transition;
@@ -57,23 +57,41 @@ fn many_points(alloc: Global, line: &str) -> Result<Rec, LineFault> {
     Ok(Rec::Batch { db, rp, points })
 }
 
-/// `NUMBER TOPIC ID OLD NEW TIME MESSAGE`.
-fn transition(alloc: Global, line: &str) -> Result<Transition, LineFault> {
-    let (number_word, rest) = first_of(line);
-    let (topic, rest) = first_of(rest);
-    let (id, rest) = first_of(rest);
-    let (old, rest) = first_of(rest);
+/// `OLD NEW TIME MESSAGE`: the transition of an id with these.
+fn with_levels(
+    alloc: Global,
+    number: u64,
+    topic: Text,
+    id: Text,
+    line: &str,
+) -> Result<Transition, LineFault> {
+    let (old, rest) = first_of(line);
     let (new, rest) = first_of(rest);
     let (time, message) = first_of(rest);
+    let old_level = level(old)?;
+    let new_level = level(new)?;
+    let time = signed(time)?;
+    let message = text(alloc, message)?;
     Ok(Transition {
-        number: number(number_word)?,
-        topic: text(alloc, topic)?,
-        id: text(alloc, id)?,
-        old_level: level(old)?,
-        new_level: level(new)?,
-        time: signed(time)?,
-        message: text(alloc, message)?,
+        number,
+        topic,
+        id,
+        old_level,
+        new_level,
+        time,
+        message,
     })
+}
+
+/// `NUMBER TOPIC ID OLD NEW TIME MESSAGE`.
+fn transition(alloc: Global, line: &str) -> Result<Transition, LineFault> {
+    let (word, rest) = first_of(line);
+    let (topic, rest) = first_of(rest);
+    let (id, rest) = first_of(rest);
+    let number = number(word)?;
+    let topic = text(alloc, topic)?;
+    let id = text(alloc, id)?;
+    with_levels(alloc, number, topic, id, rest)
 }
 
 /// One transition.

@@ -64,24 +64,25 @@ fn add(alloc: Global, disk: &mut MemDisk, rec: &Rec, to: &mut Bytes) -> Result<(
     }
 }
 
-/// Adds what a store holds, in numbers.
-fn put_numbers(alloc: Global, store: &Store, to: &mut Bytes) -> Result<(), NoMemory> {
-    let text = format!(in alloc;
-        "{}: {} tasks, {} lives, {} points, {} transitions, {} changes",
-        name_of(store.part()),
-        store.tasks().len(),
-        store.lives().len(),
-        store.count(),
-        store.trans_count(),
-        store.changes()
-    )?;
-    to.append(text.as_bytes())?;
+/// Adds the last snapshot's numbers.
+fn put_last_snap(alloc: Global, store: &Store, to: &mut Bytes) -> Result<(), NoMemory> {
     match store.last_snap() {
         Some((points, told)) => {
             to.append(format!(in alloc; ", snapshot behind {points} and {told}")?.as_bytes())
         }
         None => Ok(()),
     }
+}
+
+/// Adds what a store holds, in numbers.
+fn put_numbers(alloc: Global, store: &Store, to: &mut Bytes) -> Result<(), NoMemory> {
+    let (tasks, lives) = (store.tasks().len(), store.lives().len());
+    let text = format!(in alloc; "{}: {tasks} tasks, {lives} lives", name_of(store.part()))?;
+    to.append(text.as_bytes())?;
+    let (points, told, changes) = (store.count(), store.trans_count(), store.changes());
+    let text = format!(in alloc; ", {points} points, {told} transitions, {changes} changes")?;
+    to.append(text.as_bytes())?;
+    put_last_snap(alloc, store, to)
 }
 
 /// Adds what a store holds, where one stands on a disk.
@@ -103,15 +104,28 @@ fn put_crashes(alloc: Global, disk: &MemDisk, to: &mut Bytes) -> Result<(), NoMe
     Ok(())
 }
 
+/// Adds a task.
+fn put_task(alloc: Global, task: &StoredTask, to: &mut Bytes) -> Result<(), NoMemory> {
+    let text = format!(in alloc; "{} {} at {} ", task.id, task.enabled, task.define_at)?;
+    to.append(text.as_bytes())?;
+    put_shown(task.script.bytes(), to)?;
+    to.append(b"; ")
+}
+
 /// Adds the tasks.
 fn put_tasks(alloc: Global, tasks: &[StoredTask], to: &mut Bytes) -> Result<(), NoMemory> {
     for task in tasks {
-        let text = format!(in alloc; "{} {} at {} ", task.id, task.enabled, task.define_at)?;
-        to.append(text.as_bytes())?;
-        put_shown(task.script.bytes(), to)?;
-        to.append(b"; ")?;
+        put_task(alloc, task, to)?;
     }
     Ok(())
+}
+
+/// Adds where a life ends.
+fn put_last(alloc: Global, last: Option<u64>, to: &mut Bytes) -> Result<(), NoMemory> {
+    match last {
+        Some(last) => to.append(format!(in alloc; " to {last}; ")?.as_bytes()),
+        None => to.append(b" on; "),
+    }
 }
 
 /// Adds the lives.
@@ -119,10 +133,15 @@ fn put_lives(alloc: Global, lives: &[Life], to: &mut Bytes) -> Result<(), NoMemo
     for life in lives {
         let text = format!(in alloc; "{} at {} from {}", life.task, life.define_at, life.first)?;
         to.append(text.as_bytes())?;
-        match life.last {
-            Some(last) => to.append(format!(in alloc; " to {last}; ")?.as_bytes())?,
-            None => to.append(b" on; ")?,
-        }
+        put_last(alloc, life.last, to)?;
+    }
+    Ok(())
+}
+
+/// Adds the numbers of lives.
+fn put_life_numbers(alloc: Global, lives: &[u32], to: &mut Bytes) -> Result<(), NoMemory> {
+    for life in lives {
+        to.append(format!(in alloc; " {life}")?.as_bytes())?;
     }
     Ok(())
 }
@@ -142,9 +161,7 @@ fn put_snap(
         return Ok(());
     };
     to.append(format!(in alloc; "at {at} of lives")?.as_bytes())?;
-    for life in lives.as_slice() {
-        to.append(format!(in alloc; " {life}")?.as_bytes())?;
-    }
+    put_life_numbers(alloc, lives.as_slice(), to)?;
     to.append(b": ")?;
     put_shown(states.as_slice(), to)?;
     Ok(())
@@ -217,10 +234,93 @@ fn put_outcome(
     alloc: Global,
     outcome: Result<(), StoreFault>,
     to: &mut Bytes,
-) -> Result<(), NoMemory> {
+) -> Result<(), LineFault> {
     match outcome {
         Ok(()) => Ok(()),
-        Err(fault) => put_fault(alloc, fault, to),
+        Err(fault) => Ok(put_fault(alloc, fault, to)?),
+    }
+}
+
+/// `RECORD`: opens a store and adds it.
+fn add_line(
+    alloc: Global,
+    disk: &mut MemDisk,
+    line: &str,
+    to: &mut Bytes,
+) -> Result<(), LineFault> {
+    let rec = record_of(alloc, line)?;
+    Ok(add(alloc, disk, &rec, to)?)
+}
+
+/// `TOPIC`: adds its level.
+fn put_topic_line(
+    alloc: Global,
+    disk: &mut MemDisk,
+    line: &str,
+    to: &mut Bytes,
+) -> Result<(), LineFault> {
+    let topic = text(alloc, line)?;
+    let outcome = put_told(alloc, disk, &topic, to);
+    put_outcome(alloc, outcome, to)
+}
+
+/// `NUMBERS`: adds the pieces behind them.
+fn put_pieces_line(
+    alloc: Global,
+    disk: &mut MemDisk,
+    kind: &str,
+    line: &str,
+    to: &mut Bytes,
+) -> Result<(), LineFault> {
+    let numbers = numbers(alloc, line)?;
+    let outcome = put_pieces(alloc, disk, kind, &numbers, to);
+    put_outcome(alloc, outcome, to)
+}
+
+/// `NUMBER`: adds what a reader gives behind it.
+fn put_read_line(
+    alloc: Global,
+    disk: &mut MemDisk,
+    line: &str,
+    to: &mut Bytes,
+) -> Result<(), LineFault> {
+    let after = number(line)?;
+    let outcome = put_read(alloc, disk, after, to);
+    put_outcome(alloc, outcome, to)
+}
+
+/// `TOPIC NUMBERS`: adds the topics behind so many transitions.
+fn put_behind_line(
+    alloc: Global,
+    disk: &mut MemDisk,
+    line: &str,
+    to: &mut Bytes,
+) -> Result<(), LineFault> {
+    let (topic, behind) = first_of(line);
+    let topic = text(alloc, topic)?;
+    let numbers = numbers(alloc, behind)?;
+    let outcome = put_topics(alloc, disk, &topic, &numbers, to);
+    put_outcome(alloc, outcome, to)
+}
+
+/// Adds what is asked of a store that is opened.
+fn put_asked(
+    alloc: Global,
+    disk: &mut MemDisk,
+    kind: &str,
+    line: &str,
+    to: &mut Bytes,
+) -> Result<(), LineFault> {
+    match kind {
+        "topics" => put_topic_line(alloc, disk, line, to),
+        "tasks" | "lives" | "snap" => {
+            let outcome = put_held(alloc, disk, kind, to);
+            put_outcome(alloc, outcome, to)
+        }
+        "points" | "transitions" | "calls" => put_pieces_line(alloc, disk, kind, line, to),
+        "read" => put_read_line(alloc, disk, line, to),
+        "behind" => put_behind_line(alloc, disk, line, to),
+        _ => Err(LineFault::NoForm),
     }
 }
 
@@ -233,39 +333,11 @@ pub fn answer_store(
 ) -> Result<(), LineFault> {
     let (kind, rest) = first_of(line);
     match kind {
-        "make" => make(alloc, disk, to)?,
-        "add" => add(alloc, disk, &record_of(alloc, rest)?, to)?,
-        "fill" => fill_opened(alloc, disk, rest, to)?,
-        "open" => put_opened(alloc, disk, to)?,
-        "crashes" => put_crashes(alloc, disk, to)?,
-        "topics" => {
-            let outcome = put_told(alloc, disk, &text(alloc, rest)?, to);
-            put_outcome(alloc, outcome, to)?
-        }
-        "tasks" | "lives" | "snap" => {
-            let outcome = put_held(alloc, disk, kind, to);
-            put_outcome(alloc, outcome, to)?
-        }
-        "points" | "transitions" | "calls" => {
-            let outcome = put_pieces(alloc, disk, kind, &numbers(alloc, rest)?, to);
-            put_outcome(alloc, outcome, to)?
-        }
-        "read" => {
-            let outcome = put_read(alloc, disk, number(rest)?, to);
-            put_outcome(alloc, outcome, to)?
-        }
-        "behind" => {
-            let (topic, behind) = first_of(rest);
-            let outcome = put_topics(
-                alloc,
-                disk,
-                &text(alloc, topic)?,
-                &numbers(alloc, behind)?,
-                to,
-            );
-            put_outcome(alloc, outcome, to)?
-        }
-        _ => return Err(LineFault::NoForm),
+        "make" => Ok(make(alloc, disk, to)?),
+        "add" => add_line(alloc, disk, rest, to),
+        "fill" => fill_opened(alloc, disk, rest, to),
+        "open" => Ok(put_opened(alloc, disk, to)?),
+        "crashes" => Ok(put_crashes(alloc, disk, to)?),
+        _ => put_asked(alloc, disk, kind, rest, to),
     }
-    Ok(())
 }

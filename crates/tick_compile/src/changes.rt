@@ -1,11 +1,12 @@
 //! `eval`, `groupBy`, `log`, `default`, `delete` and `shift`.
 
-ghost use Rattle.std.specs.Prelude.{◌≡◌, IfOk};
+ghost use Rattle.std.specs.Prelude.{◌≡◌, IfOk, codes};
 ghost use Rattle.kap_base.specs.Words.{Answers};
-ghost use Rattle.tick_compile.specs.Rows.{set_by};
+ghost use Rattle.tick_compile.specs.Rows.{set_by, set_named};
 ghost use Rattle.tick_compile.specs.Changes.{default_rows, default_spec, delete_rows, delete_spec, eval_results, eval_rows, eval_spec, group_by_rows, group_by_spec, kept, log_rows, log_spec, shift_spec};
 
-use crate::given::{Node, Setting};
+use crate::given::{Args, Node, Setting};
+use crate::names::is_named;
 use crate::node_fault::NodeFault;
 use crate::props::{Props, no_props, set_all};
 use crate::readers::{all, dimensions, lambdas, nothing, one, pair};
@@ -34,21 +35,44 @@ fn kept(names: SharedNames) -> Keep
     }
 }
 
+/// `.as(s..)`.
+fn set_as<L: Drop>(
+    alloc: Global,
+    mut eval: EvalProps,
+    args: Args<L>,
+    at: u32,
+) -> Result<EvalProps, NodeFault>
+    ensures { Answers NodeFault.NoMemory result (set_named eval_rows eval (codes "as") args at) }
+{
+    eval.names = all(alloc, args, at)?;
+    Ok(eval)
+}
+
+/// `.keep(s..)`.
+fn set_keep<L: Drop>(
+    alloc: Global,
+    mut eval: EvalProps,
+    args: Args<L>,
+    at: u32,
+) -> Result<EvalProps, NodeFault>
+    ensures { Answers NodeFault.NoMemory result (set_named eval_rows eval (codes "keep") args at) }
+{
+    eval.keep = kept(all(alloc, args, at)?);
+    Ok(eval)
+}
+
 impl<L: Drop> Props<L> for EvalProps {
     ghost sets = { set_by eval_rows };
 
-    fn set(mut self, alloc: Global, prop: Setting<L>) -> Result<EvalProps, NodeFault>
+    fn set(self, alloc: Global, prop: Setting<L>) -> Result<EvalProps, NodeFault>
         ensures { Answers NodeFault.NoMemory result (set_by eval_rows self prop) }
     {
         let Setting { name, args, at } = prop;
-        let name = name.bytes();
-        if name == b"as".as_slice() {
-            self.names = all(alloc, args, at)?;
-            return Ok(self);
+        if is_named(&name, "as") {
+            return set_as(alloc, self, args, at);
         }
-        if name == b"keep".as_slice() {
-            self.keep = kept(all(alloc, args, at)?);
-            return Ok(self);
+        if is_named(&name, "keep") {
+            return set_keep(alloc, self, args, at);
         }
         Err(NodeFault::Property(at))
     }
@@ -107,7 +131,7 @@ impl<L: Drop> Props<L> for GroupBySpec {
     {
         let _ = alloc;
         let Setting { name, args, at } = prop;
-        if name.bytes() == b"byMeasurement".as_slice() {
+        if is_named(&name, "byMeasurement") {
             nothing(args, at)?;
             self.by_measurement = true;
             return Ok(self);
@@ -133,21 +157,44 @@ pub(crate) fn group_by_spec<L: Drop>(alloc: Global, node: Node<L>) -> Result<Spe
     Ok(Spec::GroupBy(set_all(alloc, props, first)?))
 }
 
+/// `.level(s)`.
+fn set_level<L: Drop>(
+    alloc: Global,
+    mut log: LogSpec,
+    args: Args<L>,
+    at: u32,
+) -> Result<LogSpec, NodeFault>
+    ensures { Answers NodeFault.NoMemory result (set_named log_rows log (codes "level") args at) }
+{
+    log.level = Some(one(alloc, args, at)?);
+    Ok(log)
+}
+
+/// `.prefix(s)`.
+fn set_prefix<L: Drop>(
+    alloc: Global,
+    mut log: LogSpec,
+    args: Args<L>,
+    at: u32,
+) -> Result<LogSpec, NodeFault>
+    ensures { Answers NodeFault.NoMemory result (set_named log_rows log (codes "prefix") args at) }
+{
+    log.prefix = Some(one(alloc, args, at)?);
+    Ok(log)
+}
+
 impl<L: Drop> Props<L> for LogSpec {
     ghost sets = { set_by log_rows };
 
-    fn set(mut self, alloc: Global, prop: Setting<L>) -> Result<LogSpec, NodeFault>
+    fn set(self, alloc: Global, prop: Setting<L>) -> Result<LogSpec, NodeFault>
         ensures { Answers NodeFault.NoMemory result (set_by log_rows self prop) }
     {
         let Setting { name, args, at } = prop;
-        let name = name.bytes();
-        if name == b"level".as_slice() {
-            self.level = Some(one(alloc, args, at)?);
-            return Ok(self);
+        if is_named(&name, "level") {
+            return set_level(alloc, self, args, at);
         }
-        if name == b"prefix".as_slice() {
-            self.prefix = Some(one(alloc, args, at)?);
-            return Ok(self);
+        if is_named(&name, "prefix") {
+            return set_prefix(alloc, self, args, at);
         }
         Err(NodeFault::Property(at))
     }
@@ -171,23 +218,46 @@ pub(crate) fn log_spec<L: Drop>(alloc: Global, node: Node<L>) -> Result<Spec<L>,
     Ok(Spec::Log(set_all(alloc, props, first)?))
 }
 
+/// `.field(s, x)`.
+fn set_default_field<L: Drop>(
+    alloc: Global,
+    mut settings: ItemList<DefaultSetting>,
+    args: Args<L>,
+    at: u32,
+) -> Result<ItemList<DefaultSetting>, NodeFault>
+    ensures { Answers NodeFault.NoMemory result (set_named default_rows settings (codes "field") args at) }
+{
+    let (key, value) = pair(alloc, args, at)?;
+    settings.push(DefaultSetting::Field(key, value))?;
+    Ok(settings)
+}
+
+/// `.tag(s, s)`.
+fn set_default_tag<L: Drop>(
+    alloc: Global,
+    mut settings: ItemList<DefaultSetting>,
+    args: Args<L>,
+    at: u32,
+) -> Result<ItemList<DefaultSetting>, NodeFault>
+    ensures { Answers NodeFault.NoMemory result (set_named default_rows settings (codes "tag") args at) }
+{
+    let (key, value) = pair(alloc, args, at)?;
+    settings.push(DefaultSetting::Tag(key, value))?;
+    Ok(settings)
+}
+
 impl<L: Drop> Props<L> for ItemList<DefaultSetting> {
     ghost sets = { set_by default_rows };
 
-    fn set(mut self, alloc: Global, prop: Setting<L>) -> Result<ItemList<DefaultSetting>, NodeFault>
+    fn set(self, alloc: Global, prop: Setting<L>) -> Result<ItemList<DefaultSetting>, NodeFault>
         ensures { Answers NodeFault.NoMemory result (set_by default_rows self prop) }
     {
         let Setting { name, args, at } = prop;
-        let name = name.bytes();
-        if name == b"field".as_slice() {
-            let (key, value) = pair(alloc, args, at)?;
-            self.push(DefaultSetting::Field(key, value))?;
-            return Ok(self);
+        if is_named(&name, "field") {
+            return set_default_field(alloc, self, args, at);
         }
-        if name == b"tag".as_slice() {
-            let (key, value) = pair(alloc, args, at)?;
-            self.push(DefaultSetting::Tag(key, value))?;
-            return Ok(self);
+        if is_named(&name, "tag") {
+            return set_default_tag(alloc, self, args, at);
         }
         Err(NodeFault::Property(at))
     }
@@ -207,21 +277,44 @@ pub(crate) fn default_spec<L: Drop>(alloc: Global, node: Node<L>) -> Result<Spec
     Ok(Spec::Default(set_all(alloc, props, ItemList::new(alloc))?))
 }
 
+/// `.field(s)`.
+fn set_deleted_field<L: Drop>(
+    alloc: Global,
+    mut settings: ItemList<DeleteSetting>,
+    args: Args<L>,
+    at: u32,
+) -> Result<ItemList<DeleteSetting>, NodeFault>
+    ensures { Answers NodeFault.NoMemory result (set_named delete_rows settings (codes "field") args at) }
+{
+    settings.push(DeleteSetting::Field(one(alloc, args, at)?))?;
+    Ok(settings)
+}
+
+/// `.tag(s)`.
+fn set_deleted_tag<L: Drop>(
+    alloc: Global,
+    mut settings: ItemList<DeleteSetting>,
+    args: Args<L>,
+    at: u32,
+) -> Result<ItemList<DeleteSetting>, NodeFault>
+    ensures { Answers NodeFault.NoMemory result (set_named delete_rows settings (codes "tag") args at) }
+{
+    settings.push(DeleteSetting::Tag(one(alloc, args, at)?))?;
+    Ok(settings)
+}
+
 impl<L: Drop> Props<L> for ItemList<DeleteSetting> {
     ghost sets = { set_by delete_rows };
 
-    fn set(mut self, alloc: Global, prop: Setting<L>) -> Result<ItemList<DeleteSetting>, NodeFault>
+    fn set(self, alloc: Global, prop: Setting<L>) -> Result<ItemList<DeleteSetting>, NodeFault>
         ensures { Answers NodeFault.NoMemory result (set_by delete_rows self prop) }
     {
         let Setting { name, args, at } = prop;
-        let name = name.bytes();
-        if name == b"field".as_slice() {
-            self.push(DeleteSetting::Field(one(alloc, args, at)?))?;
-            return Ok(self);
+        if is_named(&name, "field") {
+            return set_deleted_field(alloc, self, args, at);
         }
-        if name == b"tag".as_slice() {
-            self.push(DeleteSetting::Tag(one(alloc, args, at)?))?;
-            return Ok(self);
+        if is_named(&name, "tag") {
+            return set_deleted_tag(alloc, self, args, at);
         }
         Err(NodeFault::Property(at))
     }

@@ -1,12 +1,13 @@
 //! `union` and `join`.
 
-ghost use Rattle.std.specs.Prelude.{◌≡◌, IfOk};
+ghost use Rattle.std.specs.Prelude.{◌≡◌, IfOk, codes};
 ghost use Rattle.kap_base.specs.Words.{Answers};
 ghost use Rattle.task_graph.specs.Graphs.{are_different};
 ghost use Rattle.tick_compile.specs.Joins.{join_rows, join_spec, lent, no_join, rename_rows, union_spec};
-ghost use Rattle.tick_compile.specs.Rows.{set_by};
+ghost use Rattle.tick_compile.specs.Rows.{set_by, set_named};
 
-use crate::given::{Node, Setting};
+use crate::given::{Args, Node, Setting};
+use crate::names::is_named;
 use crate::node_fault::NodeFault;
 use crate::props::{Props, set_all};
 use crate::readers::{all, one};
@@ -23,7 +24,7 @@ impl<L: Drop> Props<L> for Option<Measurement> {
         ensures { Answers NodeFault.NoMemory result (set_by rename_rows self prop) }
     {
         let Setting { name, args, at } = prop;
-        if name.bytes() == b"rename".as_slice() {
+        if is_named(&name, "rename") {
             return Ok(Some(one(alloc, args, at)?));
         }
         Err(NodeFault::Property(at))
@@ -48,33 +49,92 @@ pub(crate) fn union_spec<L: Drop>(alloc: Global, node: Node<L>) -> Result<Spec<L
     Ok(Spec::Union(name))
 }
 
+/// `.as(s..)`.
+fn set_as<L: Drop>(
+    alloc: Global,
+    mut join: JoinSpec,
+    args: Args<L>,
+    at: u32,
+) -> Result<JoinSpec, NodeFault>
+    ensures { Answers NodeFault.NoMemory result (set_named join_rows join (codes "as") args at) }
+{
+    join.prefixes = all(alloc, args, at)?;
+    Ok(join)
+}
+
+/// `.tolerance(d)`.
+fn set_tolerance<L: Drop>(
+    alloc: Global,
+    mut join: JoinSpec,
+    args: Args<L>,
+    at: u32,
+) -> Result<JoinSpec, NodeFault>
+    ensures { Answers NodeFault.NoMemory result (set_named join_rows join (codes "tolerance") args at) }
+{
+    join.tolerance = one(alloc, args, at)?;
+    Ok(join)
+}
+
+/// `.fill(x)`.
+fn set_fill<L: Drop>(
+    alloc: Global,
+    mut join: JoinSpec,
+    args: Args<L>,
+    at: u32,
+) -> Result<JoinSpec, NodeFault>
+    ensures { Answers NodeFault.NoMemory result (set_named join_rows join (codes "fill") args at) }
+{
+    join.fill = one(alloc, args, at)?;
+    Ok(join)
+}
+
+/// `.streamName(s)`.
+fn set_stream_name<L: Drop>(
+    alloc: Global,
+    mut join: JoinSpec,
+    args: Args<L>,
+    at: u32,
+) -> Result<JoinSpec, NodeFault>
+    ensures { Answers NodeFault.NoMemory result (set_named join_rows join (codes "streamName") args at) }
+{
+    join.stream_name = Some(one(alloc, args, at)?);
+    Ok(join)
+}
+
+/// `.delimiter(s)`.
+fn set_delimiter<L: Drop>(
+    alloc: Global,
+    mut join: JoinSpec,
+    args: Args<L>,
+    at: u32,
+) -> Result<JoinSpec, NodeFault>
+    ensures { Answers NodeFault.NoMemory result (set_named join_rows join (codes "delimiter") args at) }
+{
+    join.delimiter = Some(one(alloc, args, at)?);
+    Ok(join)
+}
+
 impl<L: Drop> Props<L> for JoinSpec {
     ghost sets = { set_by join_rows };
 
-    fn set(mut self, alloc: Global, prop: Setting<L>) -> Result<JoinSpec, NodeFault>
+    fn set(self, alloc: Global, prop: Setting<L>) -> Result<JoinSpec, NodeFault>
         ensures { Answers NodeFault.NoMemory result (set_by join_rows self prop) }
     {
         let Setting { name, args, at } = prop;
-        let name = name.bytes();
-        if name == b"as".as_slice() {
-            self.prefixes = all(alloc, args, at)?;
-            return Ok(self);
+        if is_named(&name, "as") {
+            return set_as(alloc, self, args, at);
         }
-        if name == b"tolerance".as_slice() {
-            self.tolerance = one(alloc, args, at)?;
-            return Ok(self);
+        if is_named(&name, "tolerance") {
+            return set_tolerance(alloc, self, args, at);
         }
-        if name == b"fill".as_slice() {
-            self.fill = one(alloc, args, at)?;
-            return Ok(self);
+        if is_named(&name, "fill") {
+            return set_fill(alloc, self, args, at);
         }
-        if name == b"streamName".as_slice() {
-            self.stream_name = Some(one(alloc, args, at)?);
-            return Ok(self);
+        if is_named(&name, "streamName") {
+            return set_stream_name(alloc, self, args, at);
         }
-        if name == b"delimiter".as_slice() {
-            self.delimiter = Some(one(alloc, args, at)?);
-            return Ok(self);
+        if is_named(&name, "delimiter") {
+            return set_delimiter(alloc, self, args, at);
         }
         Err(NodeFault::Property(at))
     }

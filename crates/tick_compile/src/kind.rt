@@ -3,6 +3,7 @@
 ghost use Rattle.std.specs.Prelude.{◌≡◌};
 ghost use Rattle.tick_compile.specs.Kinds.{family_named, kind_named};
 
+use crate::names::is_named;
 use crate::selects::{Rank, rank_named, select_named};
 use crate::states::{StateKind, state_named};
 use kap_base::Text;
@@ -49,32 +50,31 @@ fn family_named(name: &Text) -> Option<Kind>
 pub(crate) fn kind_named(name: &Text) -> Option<Kind>
     ensures { result ≡ kind_named name.now }
 {
-    let bytes = name.bytes();
-    if bytes == b"from".as_slice() {
+    if is_named(name, "from") {
         Some(Kind::From)
-    } else if bytes == b"where".as_slice() {
+    } else if is_named(name, "where") {
         Some(Kind::Where)
-    } else if bytes == b"eval".as_slice() {
+    } else if is_named(name, "eval") {
         Some(Kind::Eval)
-    } else if bytes == b"groupBy".as_slice() {
+    } else if is_named(name, "groupBy") {
         Some(Kind::GroupBy)
-    } else if bytes == b"log".as_slice() {
+    } else if is_named(name, "log") {
         Some(Kind::Log)
-    } else if bytes == b"default".as_slice() {
+    } else if is_named(name, "default") {
         Some(Kind::Default)
-    } else if bytes == b"delete".as_slice() {
+    } else if is_named(name, "delete") {
         Some(Kind::Delete)
-    } else if bytes == b"shift".as_slice() {
+    } else if is_named(name, "shift") {
         Some(Kind::Shift)
-    } else if bytes == b"sample".as_slice() {
+    } else if is_named(name, "sample") {
         Some(Kind::Sample)
-    } else if bytes == b"window".as_slice() {
+    } else if is_named(name, "window") {
         Some(Kind::Window)
-    } else if bytes == b"alert".as_slice() {
+    } else if is_named(name, "alert") {
         Some(Kind::Alert)
-    } else if bytes == b"union".as_slice() {
+    } else if is_named(name, "union") {
         Some(Kind::Union)
-    } else if bytes == b"join".as_slice() {
+    } else if is_named(name, "join") {
         Some(Kind::Join)
     } else {
         family_named(name)

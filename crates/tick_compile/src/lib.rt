@@ -8,6 +8,7 @@ mod given;
 mod joins;
 mod kind;
 mod law;
+mod names;
 mod node_fault;
 mod nodes;
 mod props;

@@ -1,11 +1,12 @@
 //! The select nodes.
 
-ghost use Rattle.std.specs.Prelude.{◌≡◌};
+ghost use Rattle.std.specs.Prelude.{◌≡◌, codes};
 ghost use Rattle.kap_base.specs.Words.{Answers};
-ghost use Rattle.tick_compile.specs.Rows.{set_by};
+ghost use Rattle.tick_compile.specs.Rows.{set_by, set_named};
 ghost use Rattle.tick_compile.specs.Selects.{no_select, rank_named, rank_spec, ranked, select_named, select_rows, select_spec, selected};
 
-use crate::given::{Node, Setting};
+use crate::given::{Args, Node, Setting};
+use crate::names::is_named;
 use crate::node_fault::NodeFault;
 use crate::props::{Props, set_all};
 use crate::readers::{nothing, one, pair};
@@ -24,22 +25,21 @@ pub(crate) enum Rank {
 pub(crate) fn select_named(name: &Text) -> Option<Select>
     ensures { result ≡ select_named name.now }
 {
-    let name = name.bytes();
-    if name == b"sum".as_slice() {
+    if is_named(name, "sum") {
         Some(Select::Sum)
-    } else if name == b"count".as_slice() {
+    } else if is_named(name, "count") {
         Some(Select::Count)
-    } else if name == b"min".as_slice() {
+    } else if is_named(name, "min") {
         Some(Select::Min)
-    } else if name == b"max".as_slice() {
+    } else if is_named(name, "max") {
         Some(Select::Max)
-    } else if name == b"first".as_slice() {
+    } else if is_named(name, "first") {
         Some(Select::First)
-    } else if name == b"last".as_slice() {
+    } else if is_named(name, "last") {
         Some(Select::Last)
-    } else if name == b"spread".as_slice() {
+    } else if is_named(name, "spread") {
         Some(Select::Spread)
-    } else if name == b"distinct".as_slice() {
+    } else if is_named(name, "distinct") {
         Some(Select::Distinct)
     } else {
         None
@@ -50,10 +50,9 @@ pub(crate) fn select_named(name: &Text) -> Option<Select>
 pub(crate) fn rank_named(name: &Text) -> Option<Rank>
     ensures { result ≡ rank_named name.now }
 {
-    let name = name.bytes();
-    if name == b"top".as_slice() {
+    if is_named(name, "top") {
         Some(Rank::Top)
-    } else if name == b"bottom".as_slice() {
+    } else if is_named(name, "bottom") {
         Some(Rank::Bottom)
     } else {
         None
@@ -67,22 +66,44 @@ pub(crate) struct SelectProps {
     pub(crate) use_point_times: bool,
 }
 
+/// `.as(s)`.
+fn set_as<L: Drop>(
+    alloc: Global,
+    mut props: SelectProps,
+    args: Args<L>,
+    at: u32,
+) -> Result<SelectProps, NodeFault>
+    ensures { Answers NodeFault.NoMemory result (set_named select_rows props (codes "as") args at) }
+{
+    props.name = Some(one(alloc, args, at)?);
+    Ok(props)
+}
+
+/// `.usePointTimes()`.
+fn set_use_point_times<L: Drop>(
+    mut props: SelectProps,
+    args: Args<L>,
+    at: u32,
+) -> Result<SelectProps, NodeFault>
+    ensures { Answers NodeFault.NoMemory result (set_named select_rows props (codes "usePointTimes") args at) }
+{
+    nothing(args, at)?;
+    props.use_point_times = true;
+    Ok(props)
+}
+
 impl<L: Drop> Props<L> for SelectProps {
     ghost sets = { set_by select_rows };
 
-    fn set(mut self, alloc: Global, prop: Setting<L>) -> Result<SelectProps, NodeFault>
+    fn set(self, alloc: Global, prop: Setting<L>) -> Result<SelectProps, NodeFault>
         ensures { Answers NodeFault.NoMemory result (set_by select_rows self prop) }
     {
         let Setting { name, args, at } = prop;
-        let name = name.bytes();
-        if name == b"as".as_slice() {
-            self.name = Some(one(alloc, args, at)?);
-            return Ok(self);
+        if is_named(&name, "as") {
+            return set_as(alloc, self, args, at);
         }
-        if name == b"usePointTimes".as_slice() {
-            nothing(args, at)?;
-            self.use_point_times = true;
-            return Ok(self);
+        if is_named(&name, "usePointTimes") {
+            return set_use_point_times(self, args, at);
         }
         Err(NodeFault::Property(at))
     }

@@ -5,6 +5,7 @@ ghost use Rattle.tick_compile.specs.Sorts.{as_count, as_default, as_duration, as
 ghost use Rattle.tick_compile.specs.declared.given.Given.{Given};
 
 use crate::given::Given;
+use crate::names::is_named;
 use kap_base::{Duplicate, Lit, NoMemory, SharedText, Text};
 use std::alloc::Global;
 use task_graph::{Count, DefaultValue, ElapsedUnit, Fill, Line, Measurement, Name, Period, Span};
@@ -184,10 +185,9 @@ impl<L: Drop> Sort<L> for DefaultValue {
 fn fill_named(text: &Text) -> Option<Fill>
     ensures { result ≡ fill_named text.now }
 {
-    let text = text.bytes();
-    if text == b"none".as_slice() {
+    if is_named(text, "none") {
         Some(Fill::None)
-    } else if text == b"null".as_slice() {
+    } else if is_named(text, "null") {
         Some(Fill::Null)
     } else {
         None

@@ -6,6 +6,7 @@ ghost use Rattle.tick_compile.specs.Rows.{set_by};
 ghost use Rattle.tick_compile.specs.States.{as_rows, change_detect_spec, cumulative_sum_spec, difference_spec, elapsed_spec, field_spec, state_count_spec, state_named, state_spec};
 
 use crate::given::{Node, Setting};
+use crate::names::is_named;
 use crate::node_fault::NodeFault;
 use crate::props::{Props, no_props, set_all};
 use crate::readers::{all, lambda, one, pair};
@@ -27,16 +28,15 @@ pub(crate) enum StateKind {
 pub(crate) fn state_named(name: &Text) -> Option<StateKind>
     ensures { result ≡ state_named name.now }
 {
-    let name = name.bytes();
-    if name == b"stateCount".as_slice() {
+    if is_named(name, "stateCount") {
         Some(StateKind::StateCount)
-    } else if name == b"changeDetect".as_slice() {
+    } else if is_named(name, "changeDetect") {
         Some(StateKind::ChangeDetect)
-    } else if name == b"difference".as_slice() {
+    } else if is_named(name, "difference") {
         Some(StateKind::Difference)
-    } else if name == b"cumulativeSum".as_slice() {
+    } else if is_named(name, "cumulativeSum") {
         Some(StateKind::CumulativeSum)
-    } else if name == b"elapsed".as_slice() {
+    } else if is_named(name, "elapsed") {
         Some(StateKind::Elapsed)
     } else {
         None
@@ -51,7 +51,7 @@ impl<L: Drop> Props<L> for Option<Name> {
         ensures { Answers NodeFault.NoMemory result (set_by as_rows self prop) }
     {
         let Setting { name, args, at } = prop;
-        if name.bytes() == b"as".as_slice() {
+        if is_named(&name, "as") {
             return Ok(Some(one(alloc, args, at)?));
         }
         Err(NodeFault::Property(at))

@@ -6,6 +6,7 @@ ghost use Rattle.tick_vars.specs.Nodes.{arg_tree, arg_trees, node_tree, node_tre
 ghost use Rattle.tick_compile.specs.Typing.{Counts, FindsTyped, arg_fault, firsts, given_of, lambda_fault, node_of, node_type_fault, prop_fault, setting_of, takes_conditions, type_fault};
 
 use crate::given::{Args, Given, Node, Setting, Settings};
+use crate::names::is_named;
 use kap_base::{Duplicate, ItemList, SharedExpr, Text};
 use lambda_types::{Lambda, Patterns, Ty, TypeFault, infer, typed_without_fault};
 use std::alloc::Global;
@@ -15,7 +16,7 @@ use tick_vars::{Arg, Prop, RawNode};
 fn takes_conditions(kind: &Text) -> bool
     ensures { result ≡ takes_conditions kind.now }
 {
-    kind.bytes() != b"eval".as_slice()
+    !is_named(kind, "eval")
 }
 
 /// Whether a lambda can be a condition.

@@ -1,11 +1,12 @@
 //! `window`.
 
-ghost use Rattle.std.specs.Prelude.{◌≡◌};
+ghost use Rattle.std.specs.Prelude.{◌≡◌, codes};
 ghost use Rattle.kap_base.specs.Words.{Answers};
-ghost use Rattle.tick_compile.specs.Rows.{set_by};
+ghost use Rattle.tick_compile.specs.Rows.{set_by, set_named};
 ghost use Rattle.tick_compile.specs.Windows.{counted_form, is_counted, is_timed, no_window, timed_form, window_form, window_rows, window_spec};
 
-use crate::given::{Node, Setting};
+use crate::given::{Args, Node, Setting};
+use crate::names::is_named;
 use crate::node_fault::NodeFault;
 use crate::props::{Props, set_all};
 use crate::readers::{nothing, one};
@@ -23,39 +24,108 @@ pub(crate) struct WindowProps {
     pub(crate) every_count: Option<Count>,
 }
 
+/// `.period(d)`.
+fn set_period<L: Drop>(
+    alloc: Global,
+    mut window: WindowProps,
+    args: Args<L>,
+    at: u32,
+) -> Result<WindowProps, NodeFault>
+    ensures { Answers NodeFault.NoMemory result (set_named window_rows window (codes "period") args at) }
+{
+    window.period = Some(one(alloc, args, at)?);
+    Ok(window)
+}
+
+/// `.every(d)`.
+fn set_every<L: Drop>(
+    alloc: Global,
+    mut window: WindowProps,
+    args: Args<L>,
+    at: u32,
+) -> Result<WindowProps, NodeFault>
+    ensures { Answers NodeFault.NoMemory result (set_named window_rows window (codes "every") args at) }
+{
+    window.every = Some(one(alloc, args, at)?);
+    Ok(window)
+}
+
+/// `.align()`.
+fn set_align<L: Drop>(
+    mut window: WindowProps,
+    args: Args<L>,
+    at: u32,
+) -> Result<WindowProps, NodeFault>
+    ensures { Answers NodeFault.NoMemory result (set_named window_rows window (codes "align") args at) }
+{
+    nothing(args, at)?;
+    window.align = true;
+    Ok(window)
+}
+
+/// `.fillPeriod()`.
+fn set_fill_period<L: Drop>(
+    mut window: WindowProps,
+    args: Args<L>,
+    at: u32,
+) -> Result<WindowProps, NodeFault>
+    ensures { Answers NodeFault.NoMemory result (set_named window_rows window (codes "fillPeriod") args at) }
+{
+    nothing(args, at)?;
+    window.fill_period = true;
+    Ok(window)
+}
+
+/// `.periodCount(n)`.
+fn set_period_count<L: Drop>(
+    alloc: Global,
+    mut window: WindowProps,
+    args: Args<L>,
+    at: u32,
+) -> Result<WindowProps, NodeFault>
+    ensures { Answers NodeFault.NoMemory result (set_named window_rows window (codes "periodCount") args at) }
+{
+    window.period_count = Some(one(alloc, args, at)?);
+    Ok(window)
+}
+
+/// `.everyCount(n)`.
+fn set_every_count<L: Drop>(
+    alloc: Global,
+    mut window: WindowProps,
+    args: Args<L>,
+    at: u32,
+) -> Result<WindowProps, NodeFault>
+    ensures { Answers NodeFault.NoMemory result (set_named window_rows window (codes "everyCount") args at) }
+{
+    window.every_count = Some(one(alloc, args, at)?);
+    Ok(window)
+}
+
 impl<L: Drop> Props<L> for WindowProps {
     ghost sets = { set_by window_rows };
 
-    fn set(mut self, alloc: Global, prop: Setting<L>) -> Result<WindowProps, NodeFault>
+    fn set(self, alloc: Global, prop: Setting<L>) -> Result<WindowProps, NodeFault>
         ensures { Answers NodeFault.NoMemory result (set_by window_rows self prop) }
     {
         let Setting { name, args, at } = prop;
-        let name = name.bytes();
-        if name == b"period".as_slice() {
-            self.period = Some(one(alloc, args, at)?);
-            return Ok(self);
+        if is_named(&name, "period") {
+            return set_period(alloc, self, args, at);
         }
-        if name == b"every".as_slice() {
-            self.every = Some(one(alloc, args, at)?);
-            return Ok(self);
+        if is_named(&name, "every") {
+            return set_every(alloc, self, args, at);
         }
-        if name == b"align".as_slice() {
-            nothing(args, at)?;
-            self.align = true;
-            return Ok(self);
+        if is_named(&name, "align") {
+            return set_align(self, args, at);
         }
-        if name == b"fillPeriod".as_slice() {
-            nothing(args, at)?;
-            self.fill_period = true;
-            return Ok(self);
+        if is_named(&name, "fillPeriod") {
+            return set_fill_period(self, args, at);
         }
-        if name == b"periodCount".as_slice() {
-            self.period_count = Some(one(alloc, args, at)?);
-            return Ok(self);
+        if is_named(&name, "periodCount") {
+            return set_period_count(alloc, self, args, at);
         }
-        if name == b"everyCount".as_slice() {
-            self.every_count = Some(one(alloc, args, at)?);
-            return Ok(self);
+        if is_named(&name, "everyCount") {
+            return set_every_count(alloc, self, args, at);
         }
         Err(NodeFault::Property(at))
     }
