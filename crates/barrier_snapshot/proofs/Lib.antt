@@ -1,8 +1,10 @@
 pub mod ReadLaws
+pub mod BehindLaws
 pub mod FaultLaws
 pub mod PlaceOfFaultLaws
 pub mod LifeLaws
 pub mod SavedLaws
+pub mod PutLaws
 pub mod SteadyLaws
 pub mod GoingOnLaws
 pub mod PlaceLaws

@@ -20,7 +20,7 @@ use Rattle.flow_life.proofs.StreamLaws.{beside}
 use Rattle.flow_life.specs.Streams.{plans_of}
 use Rattle.flow_life.specs.Wired.{parents_of}
 use Rattle.flow_core.specs.LifeLoads.{effects_since}
-use Rattle.flow_core.specs.Making.{IsLifeOf}
+use Rattle.flow_core.specs.Making.{AreLivesBehind, IsLifeBehind}
 use Rattle.flow_core.specs.Messages.{AreMarksOf, load_messages}
 use Rattle.flow_core.specs.Nets.{IsLifeIn, IsResting, NetValue, NumberedLife}
 use Rattle.flow_core.specs.Ran.{effects_in, together}
@@ -96,22 +96,22 @@ module _ {N P S : Type 0} (g : Ghosts N P S) where
     pub specs : specs_of g m.life.cells ≡ specs_of g l.life.cells
     pub parents : parents_of m.life.cells ≡ parents_of l.life.cells
 
-  again : (l : NumberedLife N) (plan loaded : PlanValue N) (m : NumberedLife N) → IsPlannedAgain g l plan → IsSameLife g.spec plan loaded → IsLifeOf g loaded m → Again l m
-  again l plan loaded m planned same made = record {
+  again : (stamp : ℕ) (l : NumberedLife N) (plan loaded : PlanValue N) (m : NumberedLife N) → IsPlannedAgain g l plan → IsSameLife g.spec plan loaded → IsLifeBehind g stamp loaded m → Again l m
+  again stamp l plan loaded m planned same made = record {
     specs = specs-nodes m.life.cells ∙ ap (map g.spec) made.nodes ∙ same.specs ∙ planned.specs;
     parents = made.parents ∙ same.parents ∙ planned.parents;
   }
 
   -- and so of each of them
-  pub all-again : (lives : List (NumberedLife N)) (plans loaded : List (PlanValue N)) (others : List (NumberedLife N)) → AllZip (IsPlannedAgain g) lives plans → AllZip (IsSameLife g.spec) plans loaded → AllZip (IsLifeOf g) loaded others → AllZip Again lives others
-  all-again lives plans loaded others planned same made =
+  pub all-again : (stamp : ℕ) (lives : List (NumberedLife N)) (plans loaded : List (PlanValue N)) (others : List (NumberedLife N)) → AllZip (IsPlannedAgain g) lives plans → AllZip (IsSameLife g.spec) plans loaded → AreLivesBehind g stamp loaded others → AllZip Again lives others
+  all-again stamp lives plans loaded others planned same made =
       zip_of Again lives others
-      (zip_lengths (IsPlannedAgain g) lives plans planned ∙ zip_lengths (IsSameLife g.spec) plans loaded same ∙ zip_lengths (IsLifeOf g) loaded others made)
+      (zip_lengths (IsPlannedAgain g) lives plans planned ∙ zip_lengths (IsSameLife g.spec) plans loaded same ∙ zip_lengths (IsLifeBehind g stamp) loaded others made)
       (λ i l m at at'.
       let p = beside (IsPlannedAgain g) lives plans i l at planned in
       let q = beside (IsSameLife g.spec) plans loaded i p.other p.at same in
-      let o = beside (IsLifeOf g) loaded others i q.other q.at made in
-      again l p.other q.other m p.fact q.fact (subst (IsLifeOf g q.other) (found-same (slice_get others i) o.other m o.at at') o.fact))
+      let o = beside (IsLifeBehind g stamp) loaded others i q.other q.at made in
+      again stamp l p.other q.other m p.fact q.fact (subst (IsLifeBehind g stamp q.other) (found-same (slice_get others i) o.other m o.at at') o.fact))
 
   pub many-again : (lives others : List (NumberedLife N)) → AllZip Again lives others → AllZip AsMany lives others
   many-again [] [] z = tt
@@ -125,16 +125,16 @@ module _ {N P S : Type 0} (g : Ghosts N P S) where
   module _ (folds : (p : P) (xs : List Input) → (fold (g.step p) (g.first p) xs).given ≡ given (g.answer p) xs)
       (stamped : (p : P) (before : List Input) (x : Input) → IsStamped (g.life p) (g.number p) x.1.stamp.0 (g.answer p before x))
       (spelled : (p : P) → IsSpelling (g.fits p) (g.spell p) (g.read p)) where
-    pub did_the_rest : (stamp : ℕ) (points behind : List PointValue) (upto last : Stamp) (marks later : List Stamp) (plans : List (PlanValue N)) (bytes : List ℕ)
+    pub did_the_rest : (stamp : ℕ) (points behind : List PointValue) (upto last : Stamp) (marks later : List Stamp) (plans : List (PlanValue N)) (there : Stamp) (bytes : List ℕ)
         (before stopped rested : List (NumberedLife N)) (restored : NetValue N) (resumed : List (NumberedLife N))
         → stamp + length (points ++ behind) ≤ last.0 → upto.0 + length behind ≡ last.0 → AreMarksOf (points ++ behind) last (marks ++ upto ∷ later)
         → Each (StandsBehind g stamp) before
         → AreLoadedWith g (load_messages (points ++ behind) last (marks ++ upto ∷ later)) before stopped
         → AreLoadedWith g (load_messages (points ++ behind) last (marks ++ upto ∷ later)) before rested → Each IsResting rested
-        → IsCaptureAt g upto (cells_in stopped) bytes → AllZip (IsPlannedAgain g) stopped plans → Restores g plans bytes restored
+        → IsCaptureAt g upto (cells_in stopped) bytes → AllZip (IsPlannedAgain g) stopped plans → Restores g plans there bytes restored
         → AreLoadedWith g (load_messages behind last later) restored.lives resumed → Each IsResting resumed
         → DidTheRestOf g upto rested resumed
-    did_the_rest stamp points behind upto last marks later plans bytes before stopped rested restored resumed fits end marked stands stop rest quiet capture planned restores go quiet' =
+    did_the_rest stamp points behind upto last marks later plans there bytes before stopped rested restored resumed fits end marked stands stop rest quiet capture planned restores go quiet' =
         let msgs = load_messages (points ++ behind) last (marks ++ upto ∷ later) in
         let back = load_messages behind last later in
         let bs = marks ++ upto ∷ [] in
@@ -143,8 +143,8 @@ module _ {N P S : Type 0} (g : Ghosts N P S) where
         let source : IsCut bs cs msgs back = record { front = load_messages points upto marks; is = c.is; closed = c.front; rest = c.rest; rises = c.rises } in
         let over = c.above in
         let above : stamp < upto.0 = omega (arith, fits, over) in
-        let all = all-again stopped plans restores.loaded restored.lives planned restores.are.same restores.lives in
-        let were = were-at (WasAt g upto) stopped restored.lives (many-again stopped restored.lives all) (restored_were g spelled upto (cells_in stopped) bytes plans restored (planned-specs stopped plans planned) capture restores) in
+        let all = all-again there.0 stopped plans restores.loaded restored.lives planned restores.are.same restores.lives in
+        let were = were-at (WasAt g upto) stopped restored.lives (many-again stopped restored.lives all) (restored_were g spelled upto (cells_in stopped) bytes plans there restored (planned-specs stopped plans planned) capture restores) in
         let count : length rested ≡ length resumed =
         same_lengths (λ l. plans_of g l.life.cells) (λ l. map (plan_now g msgs) l.life.cells) rested before rest.plans
         ∙ sym (same_lengths (λ l. plans_of g l.life.cells) (λ l. map (plan_now g msgs) l.life.cells) stopped before stop.plans)

@@ -15,15 +15,15 @@ use Rattle.merge_node.specs.Buffers.{Merges, Taken, done, more, next}
 use Rattle.flow_cells.specs.declared.parts.CellParts.{CellParts}
 use Rattle.flow_cells.specs.declared.parts.InEdge.{InEdge}
 use Rattle.flow_cells.specs.Runs.{Run, begun, reacted, run}
-use Rattle.flow_cells.specs.Kept.{Keeps, received_of, run_of}
+use Rattle.flow_cells.specs.Kept.{HasKept, Keeps, Spells, SpellsSaved, received_of, run_of}
 use Rattle.flow_life.specs.Making.{nodes_of}
-use Rattle.flow_core.specs.Making.{AreLivesOf}
+use Rattle.flow_core.specs.Making.{AreLivesBehind}
 use Rattle.flow_core.specs.Nets.{NetValue, NumberedLife}
 use Rattle.state_code.specs.Spelling.{AllFit, FitsBytes, IsSpelling, spell_bytes, spell_list, spell_number}
 use Rattle.task_run.specs.Plans.{PlanValue}
 use Rattle.barrier_snapshot.specs.Barriers.{EndsAt, HasPassed, HavePassed, IsCaptureAt, NeverChanges, WasAt, before_it, cells_in, with_it}
 use Rattle.barrier_snapshot.specs.Captures.{AreStatesOf, IsCapture, in_lives, spellings}
-use Rattle.barrier_snapshot.specs.Capturing.{saved_of}
+use Rattle.barrier_snapshot.specs.Capturing.{PutsCells}
 use Rattle.barrier_snapshot.specs.Passing.{StandAt}
 use Rattle.barrier_snapshot.specs.Restoring.{Restores}
 use Rattle.barrier_snapshot.proofs.ReadLaws.{one_capture}
@@ -100,23 +100,11 @@ cut upto (messages.Barrier b ∷ msgs) (suc k) lt e =
 -- ---- a cell
 
 module _ {N P S : Type 0} (g : Ghosts N P S) where
-  -- a state that is saved, in which the node was at the barrier
-  pub record Saved (upto : Stamp) (c : CellParts N) : Type 0 where
+  -- bytes spell a state in which the node was at the barrier
+  pub record Saved (upto : Stamp) (c : CellParts N) (bytes : List ℕ) : Type 0 where
     pub state : S
     pub was : WasAt g upto c state
-    pub fits : g.fits (g.spec c.core.node) state
-    pub is : c.core.saved ≡ g.spell (g.spec c.core.node) state
-
-  -- the saved state, whatever it is
-  saved-in : (upto : Stamp) (c : CellParts N) (keeps : Keeps g c) → WasAt g upto c (run_of g c.base.value keeps.handled).saved → Saved upto c
-  saved-in upto c keeps was =
-      let s = (run_of g c.base.value keeps.handled).saved in
-      record {
-        state = s;
-        was = was;
-        fits = subst (λ (p : P). g.fits p s) (sym keeps.at.spec) keeps.at.fits;
-        is = keeps.at.saved ∙ ap (λ (p : P). g.spell p s) (sym keeps.at.spec);
-      }
+    pub spells : Spells g (g.spec c.core.node) state bytes
 
   was-last : (upto : Stamp) (c : CellParts N) (keeps : Keeps g c) → c.core.passed ≡ upto → Last (g.step (g.spec c.base.value.node)) (begun (g.state c.base.value.node) c.base.value.passed) keeps.handled → WasAt g upto c (run_of g c.base.value keeps.handled).saved
   was-last upto c keeps e (without saved passed) = record {
@@ -135,8 +123,12 @@ module _ {N P S : Type 0} (g : Ghosts N P S) where
   }
 
   -- where the barrier is the last one that was passed
-  saved_last : (upto : Stamp) (c : CellParts N) → Keeps g c → c.core.passed ≡ upto → Saved upto c
-  saved_last upto c keeps e = saved-in upto c keeps (was-last upto c keeps e (last_of (g.step (g.spec c.base.value.node)) (begun (g.state c.base.value.node) c.base.value.passed) keeps.handled))
+  saved_last : (upto : Stamp) (c : CellParts N) (bytes : List ℕ) → SpellsSaved g c bytes → c.core.passed ≡ upto → Saved upto c bytes
+  saved_last upto c bytes s e = record {
+    state = (run_of g c.base.value s.keeps.handled).saved;
+    was = was-last upto c s.keeps e (last_of (g.step (g.spec c.base.value.node)) (begun (g.state c.base.value.node) c.base.value.passed) s.keeps.handled);
+    spells = s.spells;
+  }
 
   was-load : (upto : Stamp) (c : CellParts N) (keeps : Keeps g c) → NeverChanges g (g.spec c.base.value.node) → c.base.value.passed ≡ upto → WasAt g upto c (run_of g c.base.value keeps.handled).saved
   was-load upto c keeps never e = record {
@@ -168,50 +160,66 @@ module _ {N P S : Type 0} (g : Ghosts N P S) where
         is = (steady step never first keeps.handled refl).1 ∙ sym (steady step never first front refl).0;
       }
 
-  saved-passed : (upto : Stamp) (c : CellParts N) (ins : List InEdge) → c.ins.items ≡ ins → Keeps g c → HasPassed g upto c ins → Saved upto c
-  saved-passed upto c (e ∷ ins) is keeps passed = saved_last upto c keeps passed
-  saved-passed upto c [] is keeps (inl passed) = saved_last upto c keeps passed
-  saved-passed upto c [] is keeps (inr (inl at_load, never)) =
-      saved-in upto c keeps (was-load upto c keeps (subst (NeverChanges g) keeps.at.spec never) at_load)
-  saved-passed upto c [] is keeps (inr (inr within, never)) =
-      saved-in upto c keeps (was-cut upto c keeps is (subst (NeverChanges g) keeps.at.spec never) (cut upto c.source.value.items within.0 within.1 within.2))
+  saved-passed : (upto : Stamp) (c : CellParts N) (bytes : List ℕ) (ins : List InEdge) → c.ins.items ≡ ins → SpellsSaved g c bytes → HasPassed g upto c ins → Saved upto c bytes
+  saved-passed upto c bytes (e ∷ ins) is s passed = saved_last upto c bytes s passed.1
+  saved-passed upto c bytes [] is s (kept, inl passed) = saved_last upto c bytes s passed
+  saved-passed upto c bytes [] is s (kept, inr (inl at_load, never)) = record {
+    state = (run_of g c.base.value s.keeps.handled).saved;
+    was = was-load upto c s.keeps (subst (NeverChanges g) s.keeps.at.spec never) at_load;
+    spells = s.spells;
+  }
+  saved-passed upto c bytes [] is s (kept, inr (inr within, never)) = record {
+    state = (run_of g c.base.value s.keeps.handled).saved;
+    was = was-cut upto c s.keeps is (subst (NeverChanges g) s.keeps.at.spec never) (cut upto c.source.value.items within.0 within.1 within.2);
+    spells = s.spells;
+  }
 
   -- ---- all cells
 
-  -- the states that cells have saved
-  pub record AllSaved (upto : Stamp) (cells : List (CellParts N)) : Type 0 where
+  -- byte strings spell the states in which the nodes of cells were
+  pub record AllSaved (upto : Stamp) (cells : List (CellParts N)) (all : List (List ℕ)) : Type 0 where
     pub states : List S
     pub were : AllZip (WasAt g upto) cells states
     pub fit : AreStatesOf g.fits g.spell (map (λ c. g.spec c.core.node) cells) states
-    pub are : saved_of cells ≡ spellings g.fits g.spell (map (λ c. g.spec c.core.node) cells) states
+    pub are : all ≡ spellings g.fits g.spell (map (λ c. g.spec c.core.node) cells) states
+    pub many : length all ≡ length cells
 
-  pub all_saved : (upto : Stamp) (cells : List (CellParts N)) → Each (Keeps g) cells → HavePassed g upto cells → AllSaved upto cells
-  all_saved upto [] keeps passed = record { states = []; were = tt; fit = tt; are = refl }
-  all_saved upto (c ∷ cells) keeps passed =
-      let own = saved-passed upto c c.ins.items refl keeps.0 passed.0 in
-      let others = all_saved upto cells keeps.1 passed.1 in
+  pub all_saved : (upto : Stamp) (cells : List (CellParts N)) (all : List (List ℕ)) → AllZip (SpellsSaved g) cells all → HavePassed g upto cells → AllSaved upto cells all
+  all_saved upto [] [] z passed = record { states = []; were = tt; fit = tt; are = refl; many = refl }
+  all_saved upto [] (bytes ∷ all) z passed = absurd z
+  all_saved upto (c ∷ cells) [] z passed = absurd z
+  all_saved upto (c ∷ cells) (bytes ∷ all) z passed =
+      let own = saved-passed upto c bytes c.ins.items refl z.0 passed.0 in
+      let others = all_saved upto cells all z.1 passed.1 in
       record {
         states = own.state ∷ others.states;
         were = (own.was, others.were);
-        fit = (own.fits, others.fit);
-        are = ap (λ (l : List ℕ). l ∷ saved_of cells) own.is ∙ ap (λ (ls : List (List ℕ)). g.spell (g.spec c.core.node) own.state ∷ ls) others.are;
+        fit = (own.spells.fits, others.fit);
+        are = ap (λ (l : List ℕ). l ∷ all) own.spells.is ∙ ap (λ (ls : List (List ℕ)). g.spell (g.spec c.core.node) own.state ∷ ls) others.are;
+        many = ap suc others.many;
       }
 
-  saved-length : (cells : List (CellParts N)) → length (saved_of cells) ≡ length cells
-  saved-length [] = refl
-  saved-length (c ∷ cells) = ap suc (saved-length cells)
+  -- where cells have passed a barrier, their states there can be had
+  pub kept_passed : (upto : Stamp) (cells : List (CellParts N)) → HavePassed g upto cells → Each HasKept cells
+  kept_passed upto [] passed = tt
+  kept_passed upto (c ∷ cells) passed = (own c.ins.items passed.0, kept_passed upto cells passed.1)
+    where
+      own : (ins : List InEdge) → HasPassed g upto c ins → HasKept c
+      own [] h = h.0
+      own (e ∷ ins) h = h.0
 
-  -- the number of cells and what each has saved are a capture
-  pub captured_at : (upto : Stamp) (cells : List (CellParts N)) → AllSaved upto cells → (bytes : List ℕ) (n : ℕ) → n ≡ length cells → n < 2 ^ 32 → AllFit FitsBytes (saved_of cells) → bytes ≡ spell_number w32 n ++ flat_map spell_bytes (saved_of cells) → IsCaptureAt g upto cells bytes
-  captured_at upto cells all bytes n count below short is =
-      let many : length (saved_of cells) ≡ n = saved-length cells ∙ sym count in
+  -- the number of cells and their states at the barrier are a capture
+  pub captured_at : (upto : Stamp) (cells : List (CellParts N)) (puts : List ℕ) (bytes : List ℕ) (n : ℕ) → n ≡ length cells → n < 2 ^ 32 → puts ≡ spell_number w32 n → PutsCells g cells puts bytes → HavePassed g upto cells → IsCaptureAt g upto cells bytes
+  captured_at upto cells puts bytes n count below front p passed =
+      let all = all_saved upto cells p.bytes p.saved passed in
+      let many : length p.bytes ≡ n = all.many ∙ sym count in
       record {
         states = all.states;
         were = all.were;
         capture = record {
           states_are = all.fit;
-          short = (subst (λ (ps : List (List ℕ)). length ps < 2 ^ 32) all.are (subst (λ (m : ℕ). m < 2 ^ 32) (sym many) below), subst (AllFit FitsBytes) all.are short);
-          is = is ∙ ap (λ (m : ℕ). spell_number w32 m ++ flat_map spell_bytes (saved_of cells)) (sym many) ∙ ap (spell_list spell_bytes) all.are;
+          short = (subst (λ (ps : List (List ℕ)). length ps < 2 ^ 32) all.are (subst (λ (m : ℕ). m < 2 ^ 32) (sym many) below), subst (AllFit FitsBytes) all.are p.fit);
+          is = p.is ∙ ap (λ (l : List ℕ). l ++ flat_map spell_bytes p.bytes) front ∙ ap (λ (m : ℕ). spell_number w32 m ++ flat_map spell_bytes p.bytes) (sym many) ∙ ap (spell_list spell_bytes) all.are;
         };
       }
 
@@ -222,22 +230,22 @@ module _ {N P S : Type 0} (g : Ghosts N P S) where
   map-nodes f (c ∷ cells) = ap (λ l. f c.core.node ∷ l) (map-nodes f cells)
 
   -- what the nodes of lives of plans have is what those of the plans have
-  pub lives_have : {X : Type 0} (f : N → X) (plans : List (PlanValue N)) (lives : List (NumberedLife N)) → AreLivesOf g plans lives → map (λ c. f c.core.node) (cells_in lives) ≡ in_lives f plans
-  lives_have f [] [] are = refl
-  lives_have f [] (l ∷ lives) are = absurd are
-  lives_have f (p ∷ plans) [] are = absurd are
-  lives_have {X = X} f (p ∷ plans) (l ∷ lives) are =
+  pub lives_have : {X : Type 0} (f : N → X) (stamp : ℕ) (plans : List (PlanValue N)) (lives : List (NumberedLife N)) → AreLivesBehind g stamp plans lives → map (λ c. f c.core.node) (cells_in lives) ≡ in_lives f plans
+  lives_have f stamp [] [] are = refl
+  lives_have f stamp [] (l ∷ lives) are = absurd are
+  lives_have f stamp (p ∷ plans) [] are = absurd are
+  lives_have {X = X} f stamp (p ∷ plans) (l ∷ lives) are =
       map-append (λ (c : CellParts N). f c.core.node) l.life.cells (cells_in lives)
       ∙ ap (λ (xs : List X). xs ++ map (λ (c : CellParts N). f c.core.node) (cells_in lives)) (map-nodes f l.life.cells ∙ ap (map f) are.0.nodes)
-      ∙ ap (λ (xs : List X). map f p.nodes ++ xs) (lives_have f plans lives are.1)
+      ∙ ap (λ (xs : List X). map f p.nodes ++ xs) (lives_have f stamp plans lives are.1)
 
   -- the states that were captured are the states of the net that is restored
-  pub restored_were : (spelled : (p : P) → IsSpelling (g.fits p) (g.spell p) (g.read p)) (upto : Stamp) (cells : List (CellParts N)) (bytes : List ℕ) (plans : List (PlanValue N)) (net : NetValue N) → in_lives g.spec plans ≡ map (λ c. g.spec c.core.node) cells → IsCaptureAt g upto cells bytes → Restores g plans bytes net → AllZip (WasAt g upto) cells (map (λ c. g.state c.core.node) (cells_in net.lives))
-  restored_were spelled upto cells bytes plans net specs at restores =
+  pub restored_were : (spelled : (p : P) → IsSpelling (g.fits p) (g.spell p) (g.read p)) (upto : Stamp) (cells : List (CellParts N)) (bytes : List ℕ) (plans : List (PlanValue N)) (there : Stamp) (net : NetValue N) → in_lives g.spec plans ≡ map (λ c. g.spec c.core.node) cells → IsCaptureAt g upto cells bytes → Restores g plans there bytes net → AllZip (WasAt g upto) cells (map (λ c. g.state c.core.node) (cells_in net.lives))
+  restored_were spelled upto cells bytes plans there net specs at restores =
       let loaded = restores.loaded in
       let now : IsCapture g.fits g.spell (map (λ c. g.spec c.core.node) cells) (in_lives g.state loaded) bytes = subst (λ (ps : List P). IsCapture g.fits g.spell ps (in_lives g.state loaded) bytes) specs restores.are.states in
       let same : at.states ≡ in_lives g.state loaded = one_capture spelled (map (λ c. g.spec c.core.node) cells) at.states (in_lives g.state loaded) bytes at.capture now in
-      subst (AllZip (WasAt g upto) cells) (same ∙ sym (lives_have g.state loaded net.lives restores.lives)) at.were
+      subst (AllZip (WasAt g upto) cells) (same ∙ sym (lives_have g.state there.0 loaded net.lives restores.lives)) at.were
 
   -- the last barrier of each cell has been passed
   pub all_passed : (upto : Stamp) (cells : List (CellParts N)) → StandAt upto cells → HavePassed g upto cells
@@ -245,7 +253,7 @@ module _ {N P S : Type 0} (g : Ghosts N P S) where
   all_passed upto (c ∷ cells) stand = (own c.ins.items, all_passed upto cells stand.1)
     where
       own : (ins : List InEdge) → HasPassed g upto c ins
-      own [] = inl stand.0
+      own [] = (stand.0.0, inl stand.0.1)
       own (e ∷ ins) = stand.0
 
 -- ---- cells of a life, and of others behind it

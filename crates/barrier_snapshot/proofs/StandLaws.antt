@@ -1,5 +1,5 @@
 -- Behind which barrier lives stand, and that inputs make the states of their nodes.
-use Rattle.std.proofs.Common.{◌≡◌, ℕ, ◌<◌, List, [], ◌∷◌, ◌++◌, map, Some, refl, sym, ap, subst, ◌∙◌, append-nil, arith}
+use Rattle.std.proofs.Common.{◌≡◌, ℕ, true, ◌<◌, List, [], ◌∷◌, ◌++◌, map, Some, refl, sym, ap, subst, ◌∙◌, append-nil, arith}
 use Rattle.std.specs.Prelude.{slice_get}
 use Rattle.std.specs.List.{AllByRecursion as Each}
 use mathlib.Core.List.{IsPrefix}
@@ -19,7 +19,7 @@ use Rattle.flow_cells.specs.Runs.{Run, run}
 use Rattle.flow_life.specs.GraphLaws.{graph_streams, life_graph}
 use Rattle.flow_life.specs.Lives.{IsLife}
 use Rattle.flow_life.specs.Loads.{plan_now}
-use Rattle.flow_life.specs.Making.{nodes_of, passed_of}
+use Rattle.flow_life.specs.Making.{IsClean, nodes_of, passed_of}
 use Rattle.flow_life.specs.Nodes.{specs_of}
 use Rattle.flow_life.proofs.PlaceLaws.{each-get, each-of, found-same}
 use Rattle.flow_life.proofs.RestLaws.{carries_streams}
@@ -42,6 +42,10 @@ use Rattle.barrier_snapshot.proofs.StreamCutLaws.{NodeCut, Resumes, nodes_cut}
 run-passed : {S : Type 0} (step : S → Input → Move S) (r : Run S) (front : List Entry) (k : ℕ) (u : Stamp) → (run step r (front ++ (k, messages.Barrier u) ∷ [])).passed ≡ u
 run-passed step r front k u = ap (λ (q : Run _). q.passed) (run-append step r front ((k, messages.Barrier u) ∷ []))
 
+-- and no item came since
+run-clean : {S : Type 0} (step : S → Input → Move S) (r : Run S) (front : List Entry) (k : ℕ) (u : Stamp) → (run step r (front ++ (k, messages.Barrier u) ∷ [])).clean ≡ true
+run-clean step r front k u = ap (λ (q : Run _). q.clean) (run-append step r front ((k, messages.Barrier u) ∷ []))
+
 module _ {N P S : Type 0} (g : Ghosts N P S) where
   -- ---- lives that are made
 
@@ -54,6 +58,7 @@ module _ {N P S : Type 0} (g : Ghosts N P S) where
   begun_stands stamp plan l is first = record {
     reached = first-reached l.life.cells (subst (AreFirstNodes g.spec g.state g.first) (sym is.nodes) first);
     passed = is.passed;
+    clean = is.clean;
   }
 
   -- lives of plans in first states stand behind the stamp 0
@@ -143,6 +148,17 @@ module _ {N P S : Type 0} (g : Ghosts N P S) where
         let e = end_with last marks r.is.merged r.has r.done in
         r.stands.passed ∙ ap (λ (l : List Entry). (run_from (plan_of g c) l).passed) e.is
         ∙ run-passed (plan_of g c).step (run_from (plan_of g c) []) e.front e.parent last
+
+    clean-at : (j : ℕ) (c : CellParts N) → slice_get after j ≡ Some c → c.core.clean ≡ true
+    clean-at j c at =
+        let r = at_rest j c at in
+        let e = end_with last marks r.is.merged r.has r.done in
+        r.stands.clean ∙ ap (λ (l : List Entry). (run_from (plan_of g c) l).clean) e.is
+        ∙ run-clean (plan_of g c).step (run_from (plan_of g c) []) e.front e.parent last
+
+    -- no item came since the last barrier
+    pub rested_clean : Each IsClean after
+    rested_clean = each-of IsClean after clean-at
 
     -- each node is in a state that inputs make
     pub rested_reached : Each (HasReached g) after

@@ -17,7 +17,7 @@ use Rattle.flow_life.specs.Nodes.{specs_of}
 use Rattle.flow_life.proofs.PlaceLaws.{each-get, each-of, found-same}
 use Rattle.flow_life.proofs.StreamLaws.{beside, get-map}
 use Rattle.flow_life.specs.Streams.{plans_of}
-use Rattle.flow_core.specs.Making.{AreLivesOf, IsLifeBehind, IsLifeOf}
+use Rattle.flow_core.specs.Making.{AreLivesOf, IsLifeBehind}
 use Rattle.flow_core.proofs.MessageLaws.{barriers-append, messages_barriers, messages_closed, messages_rise}
 use Rattle.flow_core.specs.Messages.{AreMarksOf, load_messages, marked, stamped_up_to}
 use Rattle.flow_core.specs.Nets.{IsLifeIn, IsResting, NetValue, NumberedLife}
@@ -31,7 +31,7 @@ use Rattle.barrier_snapshot.proofs.PlaceLaws.{Before, before_it, other_at, same_
 use Rattle.barrier_snapshot.proofs.ResumeLaws.{loaded_parents}
 use Rattle.barrier_snapshot.proofs.ResumeNetLaws.{Again, all-again, many-again, planned-specs, specs-nodes, were-at}
 use Rattle.barrier_snapshot.proofs.SavedLaws.{restored_were}
-use Rattle.barrier_snapshot.proofs.StandLaws.{rested_passed, rested_reached, rested_state, run_reached}
+use Rattle.barrier_snapshot.proofs.StandLaws.{rested_clean, rested_passed, rested_reached, rested_state, run_reached}
 
 module _ {N P S : Type 0} (g : Ghosts N P S) where
   -- ---- what is planned again
@@ -92,17 +92,18 @@ module _ {N P S : Type 0} (g : Ghosts N P S) where
         record {
           reached = rested_reached g folds stamped msgs (barriers front) last closed rises b.x.life.cells l.life.cells stand.reached same (sym b.is) life still;
           passed = rested_passed g folds stamped msgs (barriers front) last closed rises b.x.life.cells l.life.cells stand.reached same (sym b.is) life still;
+          clean = rested_clean g folds stamped msgs (barriers front) last closed rises b.x.life.cells l.life.cells stand.reached same (sym b.is) life still;
         })
 
     -- ---- what is restored
 
-    module _ (spelled : (p : P) → IsSpelling (g.fits p) (g.spell p) (g.read p)) (upto : Stamp) (plans : List (PlanValue N)) (bytes : List ℕ) (stopped : List (NumberedLife N)) (restored : NetValue N)
-        (capture : IsCaptureAt g upto (cells_in stopped) bytes) (planned : AllZip (IsPlannedAgain g) stopped plans) (restores : Restores g plans bytes restored) where
+    module _ (spelled : (p : P) → IsSpelling (g.fits p) (g.spell p) (g.read p)) (upto : Stamp) (plans : List (PlanValue N)) (there : Stamp) (bytes : List ℕ) (stopped : List (NumberedLife N)) (restored : NetValue N)
+        (capture : IsCaptureAt g upto (cells_in stopped) bytes) (planned : AllZip (IsPlannedAgain g) stopped plans) (restores : Restores g plans there bytes restored) where
       again : AllZip (Again g) stopped restored.lives
-      again = all-again g stopped plans restores.loaded restored.lives planned restores.are.same restores.lives
+      again = all-again g there.0 stopped plans restores.loaded restored.lives planned restores.are.same restores.lives
 
       were : AllZip (λ l m. AllZip (WasAt g upto) l.life.cells (map (λ c. g.state c.core.node) m.life.cells)) stopped restored.lives
-      were = were-at g (WasAt g upto) stopped restored.lives (many-again g stopped restored.lives again) (restored_were g spelled upto (cells_in stopped) bytes plans restored (planned-specs g stopped plans planned) capture restores)
+      were = were-at g (WasAt g upto) stopped restored.lives (many-again g stopped restored.lives again) (restored_were g spelled upto (cells_in stopped) bytes plans there restored (planned-specs g stopped plans planned) capture restores)
 
       -- a life that was restored, beside the one that was stopped
       record Beside (l m : NumberedLife N) : Type 0 where
@@ -126,19 +127,19 @@ module _ {N P S : Type 0} (g : Ghosts N P S) where
       counts : length stopped ≡ length restored.lives
       counts = zip_lengths (Again g) stopped restored.lives again
 
-      -- lives that are restored of a net whose nodes are in states that inputs make stand behind the stamp 0
-      pub restored_stand : (stamp : ℕ) (msgs : List Msg) (before : List (NumberedLife N)) → Each (StandsBehind g stamp) before → AreLoadedWith g msgs before stopped → Each (StandsBehind g 0) restored.lives
+      -- lives that are restored of a net whose nodes are in states that inputs make stand behind the barrier at which it is restored
+      pub restored_stand : (stamp : ℕ) (msgs : List Msg) (before : List (NumberedLife N)) → Each (StandsBehind g stamp) before → AreLoadedWith g msgs before stopped → Each (StandsBehind g there.0) restored.lives
       restored_stand stamp msgs before stands go =
           let now = λ (l : NumberedLife N). map (plan_now g msgs) l.life.cells in
           let then = λ (l : NumberedLife N). plans_of g l.life.cells in
           let specs = λ (l : NumberedLife N). specs_of g l.life.cells in
-          each-of (StandsBehind g 0) restored.lives (λ i m at.
+          each-of (StandsBehind g there.0) restored.lives (λ i m at.
           let l = left-of i m at in
           let s = l.other in
           let h = beside-it i s m l.at at in
           let b = other_at then now stopped before go.plans i s l.at in
           let stand = each-get (StandsBehind g stamp) before i b.x b.at stands in
-          let made = before_it (IsLifeOf g) restores.loaded restored.lives i m at restores.lives in
+          let made = before_it (IsLifeBehind g there.0) restores.loaded restored.lives i m at restores.lives in
           record {
             reached = each-of (HasReached g) m.life.cells (λ j d here.
                 let c = other_at (λ x. g.spec x.core.node) (λ x. g.spec x.core.node) m.life.cells s.life.cells h.same.specs j d here in
@@ -148,6 +149,7 @@ module _ {N P S : Type 0} (g : Ghosts N P S) where
                 (run_reached g msgs b.x.life.cells s.life.cells stand.reached (same_at specs specs stopped before go.specs i s b.x l.at b.at) (sym b.is) j c.x was.before c.at) in
                 subst (λ (p : P). IsReached g p (g.state d.core.node)) c.is r);
             passed = made.fact.passed;
+            clean = made.fact.clean;
           })
         where
           left-of : (i : ℕ) (m : NumberedLife N) → slice_get restored.lives i ≡ Some m → Before (Again g) stopped i m

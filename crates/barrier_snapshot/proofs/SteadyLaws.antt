@@ -32,7 +32,7 @@ module _ {N P S : Type 0} (g : Ghosts N P S) where
   -- ---- what has passed
 
   passed-own : (upto : Stamp) (c : CellParts N) (ins : List InEdge) → c.ins.items ≡ ins → IsBehind upto c ins → IsSteady g upto (plan_of g c) (g.spec c.core.node) → HasPassed g upto c ins
-  passed-own upto c [] is behind steady = let s = steady (ap (map (λ (e : InEdge). e.from)) is) in inr (s.0, s.1)
+  passed-own upto c [] is behind steady = let s = steady (ap (map (λ (e : InEdge). e.from)) is) in (behind, inr (s.0, s.1))
   passed-own upto c (e ∷ ins) is behind steady = behind
 
   passed-cells : (upto : Stamp) (cells : List (CellParts N)) → AreBehind upto cells → AreSteady g upto (plans_of g cells) (specs_of g cells) → HavePassed g upto cells

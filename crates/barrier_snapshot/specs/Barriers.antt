@@ -9,7 +9,7 @@ use Rattle.merge_node.specs.Merge.{Entry, barriers}
 use Rattle.merge_node.specs.Buffers.{Merges}
 use Rattle.flow_cells.specs.declared.parts.CellParts.{CellParts}
 use Rattle.flow_cells.specs.declared.parts.InEdge.{InEdge}
-use Rattle.flow_cells.specs.Kept.{received_of, run_of}
+use Rattle.flow_cells.specs.Kept.{HasKept, received_of, run_of}
 use Rattle.flow_core.specs.Nets.{NumberedLife}
 use Rattle.barrier_snapshot.specs.Captures.{IsCapture}
 
@@ -41,11 +41,11 @@ module _ {N P S : Type 0} (g : Ghosts N P S) where
   abbrev pub IsOfLoad : Stamp → CellParts N → Type 0
   IsOfLoad upto c = (c.base.value.passed ≡ upto) ⊎ Contains (barriers c.source.value.items) upto
 
-  -- the barrier is the last that a cell has passed; a stream's, which has no inputs, may have passed later ones if its
-  -- state never changes
+  -- The barrier is the last that a cell has passed, and its state there can be had. A stream's, which has no inputs,
+  -- may have passed later ones if its state never changes.
   abbrev pub HasPassed : Stamp → CellParts N → List InEdge → Type 0
-  HasPassed upto c [] = (c.core.passed ≡ upto) ⊎ (IsOfLoad upto c × NeverChanges (g.spec c.core.node))
-  HasPassed upto c (e ∷ ins) = c.core.passed ≡ upto
+  HasPassed upto c [] = HasKept c × ((c.core.passed ≡ upto) ⊎ (IsOfLoad upto c × NeverChanges (g.spec c.core.node)))
+  HasPassed upto c (e ∷ ins) = HasKept c × (c.core.passed ≡ upto)
 
   -- and so of each cell
   abbrev pub HavePassed : Stamp → List (CellParts N) → Type 0

@@ -1,6 +1,7 @@
 -- Lives that were stopped within a load, and others that go on from where they were at a barrier of it.
-use Rattle.std.specs.Prelude.{◌≡◌, ℕ, List, Some, filter, map, nat_lt}
+use Rattle.std.specs.Prelude.{◌≡◌, ◌<◌, ◌≤◌, ℕ, List, Some, filter, length, map, nat_lt}
 use Rattle.std.specs.List.{AllByRecursion as Each, AllZip}
+use Rattle.kap_base.specs.Points.{PointValue}
 use Rattle.kap_base.specs.declared.items.Effect.{Effect}
 use Rattle.kap_base.specs.declared.items.Msg.{Msg}
 use Rattle.kap_base.specs.declared.items.Msg.TheVariants as messages
@@ -11,12 +12,16 @@ use Rattle.merge_node.specs.Merge.{rank}
 use Rattle.edge_queue.specs.Edges.{received}
 use Rattle.flow_cells.specs.declared.parts.CellParts.{CellParts}
 use Rattle.flow_cells.specs.declared.parts.InEdge.{InEdge}
-use Rattle.flow_life.specs.Making.{passed_of}
+use Rattle.flow_life.specs.Loads.{plan_now}
+use Rattle.flow_life.specs.Making.{IsClean, passed_of}
 use Rattle.flow_life.specs.Nodes.{specs_of}
 use Rattle.flow_life.specs.Places.{in_of}
+use Rattle.flow_life.specs.Streams.{plans_of}
 use Rattle.flow_life.specs.Wired.{parents_of}
 use Rattle.flow_core.specs.LifeLoads.{effects_since}
-use Rattle.flow_core.specs.Nets.{IsLifeIn, NumberedLife, plans_from, plans_in, specs_in}
+use Rattle.flow_core.specs.Making.{IsLifeBehind}
+use Rattle.flow_core.specs.Messages.{AreMarksOf, load_messages}
+use Rattle.flow_core.specs.Nets.{IsLifeIn, IsResting, NumberedLife, plans_from, plans_in, specs_in}
 use Rattle.flow_core.specs.Ran.{effects_in}
 use Rattle.task_run.specs.Plans.{PlanValue}
 
@@ -38,16 +43,33 @@ module _ {N P S : Type 0} (g : Ghosts N P S) where
   abbrev pub HasReached : CellParts N → Type 0
   HasReached c = IsReached (g.spec c.core.node) (g.state c.core.node)
 
-  -- each node of a life is in such a state, and the last barrier that each cell passed has this stamp
+  -- each node of a life is in such a state, the last barrier that each cell passed has this stamp, and no item came
+  -- since
   pub record StandsBehind (stamp : ℕ) (l : NumberedLife N) : Type 0 where
     pub reached : Each HasReached l.life.cells
     pub passed : Each (λ b. b ≡ stamp) (passed_of l.life.cells)
+    pub clean : Each IsClean l.life.cells
 
   -- lives that were loaded with these messages, and may have made steps since
   pub record AreLoadedWith (msgs : List Msg) (before after : List (NumberedLife N)) : Type 0 where
     pub plans : plans_in g after ≡ plans_from g msgs before
     pub specs : specs_in g after ≡ specs_in g before
     pub lives : Each (IsLifeIn g) after
+
+  -- one life was, and may have made steps since
+  pub record IsLoadedWith (msgs : List Msg) (before after : NumberedLife N) : Type 0 where
+    pub plans : plans_of g after.life.cells ≡ map (plan_now g msgs) before.life.cells
+    pub specs : specs_of g after.life.cells ≡ specs_of g before.life.cells
+    pub life : IsLifeIn g after
+
+  -- A life is at rest behind a barrier: it began there and was not loaded since, or it was loaded up to there and has
+  -- handled all.
+  pub data RestsBehind (upto : Stamp) (l : NumberedLife N) : Type 0 where
+    began_there : (plan : PlanValue N) → IsLifeBehind g upto.0 plan l → IsLifeIn g l → RestsBehind upto l
+    came_there : (stamp : ℕ) (points : List PointValue) (marks : List Stamp) (before : NumberedLife N) → stamp < upto.0
+        → length points ≤ upto.0 → AreMarksOf points upto marks
+        → StandsBehind stamp before → IsLoadedWith (load_messages points upto marks) before l → IsResting l
+        → RestsBehind upto l
 
   -- the same nodes with the same parents are planned as a life has
   pub record IsPlannedAgain (l : NumberedLife N) (plan : PlanValue N) : Type 0 where

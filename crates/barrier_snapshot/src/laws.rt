@@ -1,13 +1,14 @@
 //! Laws of captures, and no code.
 
-ghost use Rattle.std.specs.Prelude.{◌≡◌, ℕ, ◌+◌, ◌<◌, ◌≤◌, [], ◌∷◌, ◌++◌, Contains, IsPermutation, List, length, map};
+ghost use Rattle.std.specs.Prelude.{◌≡◌, ℕ, ◌+◌, ◌<◌, ◌≤◌, [], ◌∷◌, ◌++◌, Contains, IsPermutation, List, length, map, true};
 ghost use Rattle.std.specs.List.{AllByRecursion as Each, AllZip};
 ghost use Rattle.kap_base.specs.Points.{PointValue};
 ghost use Rattle.kap_base.specs.declared.items.Effect.{Effect};
 ghost use Rattle.kap_base.specs.declared.items.Msg.{Msg};
 ghost use Rattle.kap_base.specs.declared.items.Stamp.{Stamp};
 ghost use Rattle.flow_cells.specs.declared.parts.CellParts.{CellParts};
-ghost use Rattle.flow_cells.specs.Kept.{Keeps};
+ghost use Rattle.flow_cells.specs.Kept.{HasKept, Keeps};
+ghost use Rattle.flow_life.specs.Loads.{has_inner};
 ghost use Rattle.flow_core.specs.Making.{AreLivesOf, IsLifeBehind};
 ghost use Rattle.flow_core.specs.Messages.{AreMarksOf, load_messages};
 ghost use Rattle.flow_core.specs.Nets.{IsResting, NetValue, NumberedLife, plans_from, plans_in, specs_in};
@@ -15,7 +16,7 @@ ghost use Rattle.flow_core.specs.Ran.{HasGathered};
 ghost use Rattle.flow_core.specs.Sorting.{AreRising, AreSorted};
 ghost use Rattle.merge_node.specs.Merge.{barriers};
 ghost use Rattle.task_run.specs.Plans.{AreFirstNodes, AreFirstStates, PlanValue};
-ghost use Rattle.barrier_snapshot.specs.Barriers.{IsCaptureAt, WasAt, cells_in};
+ghost use Rattle.barrier_snapshot.specs.Barriers.{HavePassed, IsCaptureAt, WasAt, cells_in};
 ghost use Rattle.barrier_snapshot.specs.Captures.{IsCapture, in_lives};
 ghost use Rattle.barrier_snapshot.specs.Faults.{FaultsAt};
 ghost use Rattle.barrier_snapshot.specs.GoingOn.{HasGoneOn};
@@ -28,16 +29,20 @@ use node_core::Node;
 
 /// Bytes are a capture of one list of states at most. So a net that is restored from what was
 /// captured of another one, of lives with the same nodes, has each node in the state in which it
-/// was at the barrier, whether the other net was at rest or not.
+/// was at the barrier, whether the other net was at rest or not. It has passed the barrier behind
+/// which it is restored, so that it can be captured there.
 pub fn captures_are_restored<N: Node>()
     ensures one { (specs : List N.Spec) (states others : List N.State) (bytes : List ℕ)
         → IsCapture N.fits N.spell specs states bytes
         → IsCapture N.fits N.spell specs others bytes → states ≡ others }
-    ensures same { (upto : Stamp) (cells : List (CellParts N)) (bytes : List ℕ)
-        (plans : List (PlanValue N)) (net : NetValue N)
+    ensures same { (upto : Stamp) (cells : List (CellParts N)) (plans : List (PlanValue N))
+        (there : Stamp) (bytes : List ℕ) (net : NetValue N)
         → in_lives N.spec plans ≡ map (λ c. N.spec c.core.node) cells
-        → IsCaptureAt N.Node upto cells bytes → Restores N.Node plans bytes net
+        → IsCaptureAt N.Node upto cells bytes → Restores N.Node plans there bytes net
         → AllZip (WasAt N.Node upto) cells (map (λ c. N.state c.core.node) (cells_in net.lives)) }
+    ensures passed { (plans : List (PlanValue N)) (there : Stamp) (bytes : List ℕ)
+        (net : NetValue N) → Restores N.Node plans there bytes net
+        → HavePassed N.Node there (cells_in net.lives) }
 {}
 
 /// Bytes have one place at most that a fault can name, and a capture has none.
@@ -86,7 +91,7 @@ pub fn lives_are_planned<N: Node>()
 
 /// Lives stand behind a barrier, in states that inputs make: those of plans in first states behind
 /// the one with which they began, those at rest behind a load behind its last barrier, and those of
-/// a net that is restored from what was captured of such lives behind 0.
+/// a net that is restored from what was captured of such lives behind the one at which it stands.
 pub fn lives_stand<N: Node>()
     ensures begun { (stamp : ℕ) (plan : PlanValue N) (life : NumberedLife N)
         → IsLifeBehind N.Node stamp plan life
@@ -99,13 +104,25 @@ pub fn lives_stand<N: Node>()
         → Each (StandsBehind N.Node stamp) before
         → AreLoadedWith N.Node (load_messages points last marks) before after
         → Each IsResting after → Each (StandsBehind N.Node last.0) after }
-    ensures restored { (upto : Stamp) (plans : List (PlanValue N)) (bytes : List ℕ)
+    ensures restored { (upto : Stamp) (plans : List (PlanValue N)) (there : Stamp) (bytes : List ℕ)
         (stopped : List (NumberedLife N)) (restored : NetValue N)
         → IsCaptureAt N.Node upto (cells_in stopped) bytes
-        → AllZip (IsPlannedAgain N.Node) stopped plans → Restores N.Node plans bytes restored
+        → AllZip (IsPlannedAgain N.Node) stopped plans
+        → Restores N.Node plans there bytes restored
         → (stamp : ℕ) (msgs : List Msg) (before : List (NumberedLife N))
         → Each (StandsBehind N.Node stamp) before → AreLoadedWith N.Node msgs before stopped
-        → Each (StandsBehind N.Node 0) restored.lives }
+        → Each (StandsBehind N.Node there.0) restored.lives }
+{}
+
+/// Where the states at a barrier can be had: lives that stand behind it can be captured there; and
+/// where a load has barriers inside, each cell has kept its state at the last one that it has passed,
+/// whatever steps were made.
+pub fn states_are_kept<N: Node>()
+    ensures behind { (there : Stamp) (lives : List (NumberedLife N))
+        → Each (StandsBehind N.Node there.0) lives → HavePassed N.Node there (cells_in lives) }
+    ensures inside { (msgs : List Msg) (before after : List (NumberedLife N))
+        → has_inner msgs ≡ true → AreLoadedWith N.Node msgs before after
+        → Each HasKept (cells_in after) }
 {}
 
 /// What is captured of a net is restored as one that goes on as the first one goes on.
@@ -123,7 +140,7 @@ pub fn lives_stand<N: Node>()
 /// `same`: lives that are alike do the same in each load, and are alike behind it.
 pub fn nets_go_on<N: Node>()
     ensures behind { (stamp : ℕ) (points behind : List PointValue) (upto last : Stamp)
-        (marks later : List Stamp) (plans : List (PlanValue N)) (bytes : List ℕ)
+        (marks later : List Stamp) (plans : List (PlanValue N)) (there : Stamp) (bytes : List ℕ)
         (before stopped rested : List (NumberedLife N)) (restored : NetValue N)
         (resumed : List (NumberedLife N))
         → stamp + length (points ++ behind) ≤ last.0 → upto.0 + length behind ≡ last.0
@@ -136,14 +153,15 @@ pub fn nets_go_on<N: Node>()
         → Each IsResting rested
         → IsCaptureAt N.Node upto (cells_in stopped) bytes
         → AllZip (IsPlannedAgain N.Node) stopped plans
-        → Restores N.Node plans bytes restored
+        → Restores N.Node plans there bytes restored
         → AreLoadedWith N.Node (load_messages behind last later) restored.lives resumed
         → Each IsResting resumed
         → DidTheRestOf N.Node upto rested resumed }
-    ensures rest { (upto : Stamp) (plans : List (PlanValue N)) (bytes : List ℕ)
+    ensures rest { (upto : Stamp) (plans : List (PlanValue N)) (there : Stamp) (bytes : List ℕ)
         (stopped : List (NumberedLife N)) (restored : NetValue N)
         → IsCaptureAt N.Node upto (cells_in stopped) bytes
-        → AllZip (IsPlannedAgain N.Node) stopped plans → Restores N.Node plans bytes restored
+        → AllZip (IsPlannedAgain N.Node) stopped plans
+        → Restores N.Node plans there bytes restored
         → (stamp : ℕ) (points : List PointValue) (marks : List Stamp)
         (before : List (NumberedLife N)) → stamp < upto.0 → length points ≤ upto.0
         → AreMarksOf points upto marks → Each (StandsBehind N.Node stamp) before

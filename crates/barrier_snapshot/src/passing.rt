@@ -11,11 +11,15 @@ use flow_life::Life;
 use kap_base::Stamp;
 use node_core::Node;
 
-/// Whether a barrier is the last one that a cell has passed, where it has inputs.
+/// Whether a cell's state at the last barrier that it passed can be had, and this is the barrier, where it
+/// has inputs.
 fn is_behind<N: Node>(cell: &Cell<N>, upto: Stamp) -> bool
     ensures yes { IsTrue result → IsBehind upto cell.now cell.now.ins.items }
     ensures no { IsFalse result → IsBehind upto cell.now cell.now.ins.items → ⊥ }
 {
+    if !cell.has_kept() {
+        return false;
+    }
     if cell.inputs() == 0 {
         return true;
     }
@@ -44,6 +48,9 @@ fn stand_at<N: Node>(cells: &[Cell<N>], upto: Stamp) -> bool
     let Some((first, others)) = cells.split_first() else {
         return true;
     };
+    if !first.has_kept() {
+        return false;
+    }
     if first.passed() != upto {
         return false;
     }

@@ -33,7 +33,7 @@ InEdge_send = recorded_send (InEdge.the_field).row _ _ (InEdge.the_type).to_one 
 Core_field : (N : RattleType) → IsSend N → IsSend (Core.the_field N).row
 Core_field N s = struct_send (Declared.shape (Core.the_type N)) (
   s,
-  (search (crosses, sendable, OutEdge_send) depth 60 fits 20000, (search (crosses, sendable, ItemList_.the_send, Item_.the_send) depth 60 fits 20000, (search (crosses, sendable) depth 60 fits 20000, (search (crosses, sendable, ItemList_.the_send, Effect_.the_send) depth 60 fits 20000, (search (crosses, sendable, ItemList_.the_send) depth 60 fits 20000, (search (crosses, sendable, Stamp_.the_send) depth 60 fits 20000, (search sendable, tt))))))),
+  (search (crosses, sendable, OutEdge_send) depth 60 fits 20000, (search (crosses, sendable, ItemList_.the_send, Item_.the_send) depth 60 fits 20000, (search (crosses, sendable) depth 60 fits 20000, (search (crosses, sendable, ItemList_.the_send, Effect_.the_send) depth 60 fits 20000, (search (crosses, sendable, Stamp_.the_send) depth 60 fits 20000, (search sendable, (search sendable, (search (crosses, sendable, ItemList_.the_send) depth 60 fits 20000, tt)))))))),
 )
 
 Parts_field : (N : RattleType) → IsSend N → IsSend (CellParts.the_field N).row

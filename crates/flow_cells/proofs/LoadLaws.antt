@@ -89,6 +89,7 @@ module _ {N P S : Type 0} (g : Ghosts N P S) where
         stuck = stuck;
         at = h.at (begun (g.state first.node) first.passed) at;
         ports = omega (arith, long, ports);
+        keeps = h.keeps;
       })
 
   -- points and barriers of a load that were handled, and the rest of them

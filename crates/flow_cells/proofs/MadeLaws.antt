@@ -11,8 +11,7 @@ use Rattle.flow_cells.specs.declared.parts.OutEdge.{OutEdge}
 use Rattle.flow_cells.specs.declared.parts.InEdge.{InEdge}
 use Rattle.flow_cells.specs.declared.parts.Core.{Core}
 use Rattle.flow_cells.specs.Runs.{begun}
-use Rattle.flow_cells.specs.Kept.{IsAt, IsGiven, KeptBy, received_of, run_of}
-use Rattle.flow_cells.proofs.MoveLaws.{kept-clean}
+use Rattle.flow_cells.specs.Kept.{IsAt, IsGiven, KeptBy, Spells, received_of, run_of}
 use Rattle.flow_cells.specs.Made.{IsFresh, IsMade, IsNothing, IsUnused, one_or_more}
 
 fresh-heads : (ins : List InEdge) → Each IsFresh ins → map (λ (i : InEdge). received i.head) ins ≡ replicate (length ins) []
@@ -76,10 +75,10 @@ module _ {N P S : Type 0} (g : Ghosts N P S) where
     state = refl;
     outs = subst (Each (IsGiven [])) (sym m.outs) tt;
     effects = m.effects;
-    saved = m.saved ∙ ap (λ (x : N). g.spell (g.spec x) (g.state x)) (sym m.node);
-    fits = subst (λ (x : N). g.fits (g.spec x) (g.state x)) (sym m.node) m.fits;
     passed = refl;
-    clean = λ _. (m.saved ∙ ap (λ (x : N). g.spell (g.spec x) (g.state x)) (sym m.node), subst (λ (x : N). g.fits (g.spec x) (g.state x)) (sym m.node) m.fits);
+    clean = m.clean;
+    still = λ _. refl;
+    saved = λ keeps _. (let never = m.keeps in absurd cc);
   })
 
   -- the core of a cell that is made keeps what a cell keeps
@@ -94,12 +93,13 @@ module _ {N P S : Type 0} (g : Ghosts N P S) where
         stuck = subst (λ (ls : Lists). next ls ≡ None) (sym is) (some-parents (length ins));
         at = made-at stamp n c base same m;
         ports = subst (λ (x : N). length buffer ≤ g.ports (g.spec x)) (sym node) (omega (arith, long, ports));
+        keeps = ap (λ (b : Core N). b.keeps) (sym same);
       }
 
   -- an out more, where nothing was received since the load
   pub out-keeps : (base : Core N) (ins : List InEdge) (source : List Msg) (buffer : Lists) (c c' : Core N) (o : OutEdge) → KeptBy g base (received_of ins source) buffer c → Each IsNothing (received_of ins source) → IsUnused o
-      → c'.node ≡ c.node → c'.gathered ≡ c.gathered → c'.effects ≡ c.effects → c'.saved ≡ c.saved → c'.passed ≡ c.passed → c'.clean ≡ c.clean → c'.outs.items ≡ c.outs.items ++ o ∷ [] → KeptBy g base (received_of ins source) buffer c'
-  out-keeps base ins source buffer c c' o k nothing unused node gathered effects saved passed clean outs =
+      → c'.node ≡ c.node → c'.gathered ≡ c.gathered → c'.effects ≡ c.effects → c'.saved ≡ c.saved → c'.passed ≡ c.passed → c'.clean ≡ c.clean → c'.keeps ≡ c.keeps → c'.outs.items ≡ c.outs.items ++ o ∷ [] → KeptBy g base (received_of ins source) buffer c'
+  out-keeps base ins source buffer c c' o k nothing unused node gathered effects saved passed clean keeps outs =
       let none : k.handled ≡ [] = merges-nothing (received_of ins source) buffer k.handled (received-next ins source nothing) k.merged in
       let at : IsAt g (g.spec base.node) (run_of g base []) c = subst (λ (ms : List Entry). IsAt g (g.spec base.node) (run_of g base ms) c) none k.at in
       record {
@@ -111,10 +111,11 @@ module _ {N P S : Type 0} (g : Ghosts N P S) where
           state = ap g.state node ∙ at.state;
           outs = subst (Each (IsGiven [])) (sym outs) (each-push (IsGiven []) c.outs.items o at.outs (unused-given o unused));
           effects = cc (at.effects);
-          saved = saved ∙ at.saved;
-          fits = at.fits;
           passed = passed ∙ at.passed;
-          clean = kept-clean g c c' node saved clean at.clean;
+          clean = clean ∙ at.clean;
+          still = λ is. at.still (sym clean ∙ is);
+          saved = λ does is. subst (Spells g (g.spec base.node) (run_of g base []).saved) (sym saved) (at.saved (sym keeps ∙ does) (sym clean ∙ is));
         };
         ports = k.ports;
+        keeps = keeps ∙ k.keeps;
       }

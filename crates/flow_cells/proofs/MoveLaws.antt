@@ -1,5 +1,5 @@
 -- How the moves of a cell keep what it keeps.
-use Rattle.std.proofs.Common.{◌≡◌, ℕ, zero, suc, ◌<◌, ◌≤◌, List, [], ◌∷◌, ◌++◌, map, length, get_or, set, Option, Some, None, true, refl, sym, ap, subst, ◌∙◌, append_assoc, arith}
+use Rattle.std.proofs.Common.{◌≡◌, ℕ, zero, suc, ◌<◌, ◌≤◌, List, [], ◌∷◌, ◌++◌, map, length, get_or, set, Bool, Option, Some, None, true, false, refl, sym, ap, subst, ◌∙◌, append_assoc, arith}
 use Rattle.std.specs.Prelude.{slice_get}
 use Rattle.std.specs.List.{AllByRecursion as Each}
 use Rattle.kap_base.specs.declared.items.Msg.{Msg}
@@ -14,7 +14,7 @@ use Rattle.flow_cells.specs.declared.parts.InEdge.{InEdge}
 use Rattle.flow_cells.specs.declared.parts.Core.{Core}
 use Rattle.flow_cells.specs.Outs.{LooksOn, SendsOn}
 use Rattle.flow_cells.specs.Runs.{Run, begun, run}
-use Rattle.flow_cells.specs.Kept.{HasSaved, IsAt, IsGiven, KeptBy, received_of, run_of}
+use Rattle.flow_cells.specs.Kept.{IsAt, IsGiven, KeptBy, Spells, received_of, run_of}
 use Rattle.flow_cells.specs.Handled.{Handles}
 use Rattle.flow_cells.specs.HandledLaws.{run-append}
 use Rattle.flow_cells.specs.Moves.{Eases, Still}
@@ -87,18 +87,24 @@ module _ {N P S : Type 0} (g : Ghosts N P S) where
         stuck = stuck;
         at = subst (λ (r : Run S). IsAt g (g.spec base.node) r c') (sym (run-append step first k.handled h.handled)) here;
         ports = omega (arith, long, bound);
+        keeps = h.keeps ∙ k.keeps;
       }
 
-  -- where the node, what is saved and whether that is the state are as before, it is the state where it was
-  pub kept-clean : (c c' : Core N) → c'.node ≡ c.node → c'.saved ≡ c.saved → c'.clean ≡ c.clean → (c.clean ≡ true → HasSaved g c) → c'.clean ≡ true → HasSaved g c'
-  kept-clean c c' node saved clean h is =
-      let has : HasSaved g c = h (sym clean ∙ is) in
-      (saved ∙ has.0 ∙ ap (λ (x : N). g.spell (g.spec x) (g.state x)) (sym node), subst (λ (x : N). g.fits (g.spec x) (g.state x)) (sym node) has.1)
+  -- where the state at the last barrier is spelled anew if it is the node's, and stays if it was spelled, it is spelled
+  pub spelled_state : (p : P) (r : Run S) (c : Core N) (saved : List ℕ) → IsAt g p r c → c.keeps ≡ true → (c.clean ≡ true → Spells g (g.spec c.node) (g.state c.node) saved) → (c.clean ≡ false → saved ≡ c.saved) → Spells g p r.saved saved
+  spelled_state p r c saved at keeps anew same = cases c.clean refl
+    where
+      cases : (b : Bool) → c.clean ≡ b → Spells g p r.saved saved
+      cases true is =
+          let s : Spells g (g.spec c.node) (g.state c.node) saved = anew is in
+          let state : g.state c.node ≡ r.saved = at.state ∙ sym (at.still is) in
+          subst (λ (x : S). Spells g p x saved) state (subst (λ (q : P). Spells g q (g.state c.node) saved) at.spec s)
+      cases false is = subst (Spells g p r.saved) (sym (same is)) (at.saved keeps is)
 
   -- what was given out stays given out
-  pub kept-outs : (base : Core N) (lists buffer : Lists) (c c' : Core N) → (k : KeptBy g base lists buffer c) → c'.node ≡ c.node → c'.gathered ≡ c.gathered → c'.effects ≡ c.effects → c'.saved ≡ c.saved → c'.passed ≡ c.passed → c'.clean ≡ c.clean
+  pub kept-outs : (base : Core N) (lists buffer : Lists) (c c' : Core N) → (k : KeptBy g base lists buffer c) → c'.node ≡ c.node → c'.gathered ≡ c.gathered → c'.effects ≡ c.effects → c'.saved ≡ c.saved → c'.passed ≡ c.passed → c'.clean ≡ c.clean → c'.keeps ≡ c.keeps
       → ((given : List Msg) → Each (IsGiven given) c.outs.items → Each (IsGiven given) c'.outs.items) → KeptBy g base lists buffer c'
-  kept-outs base lists buffer c c' k node gathered effects saved passed clean outs = record {
+  kept-outs base lists buffer c c' k node gathered effects saved passed clean keeps outs = record {
     handled = k.handled;
     merged = k.merged;
     stuck = k.stuck;
@@ -107,12 +113,13 @@ module _ {N P S : Type 0} (g : Ghosts N P S) where
       state = ap g.state node ∙ k.at.state;
       outs = outs (run_of g base k.handled).outs k.at.outs;
       effects = cc (k.at.effects);
-      saved = saved ∙ k.at.saved;
-      fits = k.at.fits;
       passed = passed ∙ k.at.passed;
-      clean = kept-clean c c' node saved clean k.at.clean;
+      clean = clean ∙ k.at.clean;
+      still = λ is. k.at.still (sym clean ∙ is);
+      saved = λ does is. subst (Spells g (g.spec base.node) (run_of g base k.handled).saved) (sym saved) (k.at.saved (sym keeps ∙ does) (sym clean ∙ is));
     };
     ports = k.ports;
+    keeps = keeps ∙ k.keeps;
   }
 
 -- ---- places

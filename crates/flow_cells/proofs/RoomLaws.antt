@@ -1,5 +1,5 @@
 -- Moves, looks and loads leave the edges of a cell the room that they have.
-use Rattle.std.proofs.Common.{◌≡◌, ℕ, List, [], ◌∷◌, ap, map, refl, ◌∙◌}
+use Rattle.std.proofs.Common.{◌≡◌, ℕ, Bool, List, [], ◌∷◌, ap, map, refl, ◌∙◌}
 use Rattle.std.specs.List.{AllZip}
 use Rattle.kap_base.specs.declared.items.Msg.{Msg}
 use Rattle.edge_queue.proofs.EdgeLaws.{SameTail-capacity, TailLoads-capacity}
@@ -31,5 +31,5 @@ module _ {N : Type 0} where
   rooms_moved c d m = same-rooms Went (λ a b w. SameTail-capacity w.tail) c.core.outs.items d.core.outs.items m.outs
 
   -- and of one whose load began
-  pub rooms_begun : (msgs : List Msg) (c d : CellParts N) → Begins msgs c d → rooms d ≡ rooms c
-  rooms_begun msgs c d b = same-rooms OutLoads (λ x y l. TailLoads-capacity x.tail y.tail l.tail) c.core.outs.items d.core.outs.items b.outs
+  pub rooms_begun : (msgs : List Msg) (keeps : Bool) (c d : CellParts N) → Begins msgs keeps c d → rooms d ≡ rooms c
+  rooms_begun msgs keeps c d b = same-rooms OutLoads (λ x y l. TailLoads-capacity x.tail y.tail l.tail) c.core.outs.items d.core.outs.items b.outs

@@ -8,10 +8,10 @@ use Rattle.edge_queue.specs.Edges.{sent}
 use Rattle.flow_cells.specs.declared.parts.OutEdge.{OutEdge}
 use Rattle.flow_cells.specs.declared.parts.Core.{Core}
 use Rattle.merge_node.specs.Merge.{Lists}
-use Rattle.flow_cells.specs.Kept.{IsGiven, KeptBy, gathered, run_of}
+use Rattle.flow_cells.specs.Kept.{IsGiven, KeptBy, Spells, gathered, run_of}
 use Rattle.flow_cells.specs.Moves.{Eases}
 use Rattle.flow_cells.proofs.OutLaws.{each-set, each-at}
-use Rattle.flow_cells.proofs.MoveLaws.{kept-clean, some-value}
+use Rattle.flow_cells.proofs.MoveLaws.{some-value}
 
 -- what stands at a place
 pub got : {A : Type 0} (xs : List A) (i : ℕ) (x d : A) → slice_get xs i ≡ Some x → get_or xs i d ≡ x
@@ -39,9 +39,9 @@ given-set given outs i a b lt here e all =
 
 module _ {N P S : Type 0} (g : Ghosts N P S) where
   -- effects that are gathered are still those that were given
-  pub kept-gathered : (base : Core N) (lists buffer : Lists) (c c' : Core N) → (k : KeptBy g base lists buffer c) → c'.node ≡ c.node → c'.outs ≡ c.outs → c'.saved ≡ c.saved → c'.passed ≡ c.passed → c'.clean ≡ c.clean
+  pub kept-gathered : (base : Core N) (lists buffer : Lists) (c c' : Core N) → (k : KeptBy g base lists buffer c) → c'.node ≡ c.node → c'.outs ≡ c.outs → c'.saved ≡ c.saved → c'.passed ≡ c.passed → c'.clean ≡ c.clean → c'.keeps ≡ c.keeps
       → gathered c'.gathered ++ c'.effects ≡ gathered c.gathered ++ c.effects → KeptBy g base lists buffer c'
-  kept-gathered base lists buffer c c' k node outs saved passed clean effects = record {
+  kept-gathered base lists buffer c c' k node outs saved passed clean keeps effects = record {
     handled = k.handled;
     merged = k.merged;
     stuck = k.stuck;
@@ -50,10 +50,11 @@ module _ {N P S : Type 0} (g : Ghosts N P S) where
       state = ap g.state node ∙ k.at.state;
       outs = subst (λ v. Each (IsGiven (run_of g base k.handled).outs) v.items) (sym outs) k.at.outs;
       effects = effects ∙ k.at.effects;
-      saved = saved ∙ k.at.saved;
-      fits = k.at.fits;
       passed = passed ∙ k.at.passed;
-      clean = kept-clean g c c' node saved clean k.at.clean;
+      clean = clean ∙ k.at.clean;
+      still = λ is. k.at.still (sym clean ∙ is);
+      saved = λ does is. subst (Spells g (g.spec base.node) (run_of g base k.handled).saved) (sym saved) (k.at.saved (sym keeps ∙ does) (sym clean ∙ is));
     };
     ports = k.ports;
+    keeps = keeps ∙ k.keeps;
   }

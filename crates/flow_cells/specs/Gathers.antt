@@ -11,6 +11,8 @@ pub record Gathers {N : Type 0} (c d : CellParts N) : Type 0 where
   pub outs : d.core.outs ≡ c.core.outs
   pub saved : d.core.saved ≡ c.core.saved
   pub passed : d.core.passed ≡ c.core.passed
+  pub clean : d.core.clean ≡ c.core.clean
+  pub keeps : d.core.keeps ≡ c.core.keeps
   pub buffer : d.buffer ≡ c.buffer
   pub ins : d.ins ≡ c.ins
   pub base : d.base ≡ c.base

@@ -28,3 +28,4 @@ module _ {N P S : Type 0} (g : Ghosts N P S) where
     pub at : (r : Run S) → IsAt g (g.spec c.node) r c
         → IsAt g (g.spec c.node) (run (g.step (g.spec c.node)) r handled) d
     pub spec : g.spec d.node ≡ g.spec c.node
+    pub keeps : d.keeps ≡ c.keeps

@@ -20,13 +20,13 @@ run-append step r (x ∷ xs) ys = run-append step (reacted step r x.0 x.1) xs ys
 module _ {N P S : Type 0} (g : Ghosts N P S) where
   -- where nothing came, nothing was handled
   pub Handles-none : (c : Core N) (b : Lists) → Handles g c b c b
-  Handles-none c b = record { handled = []; merged = done; at = λ r h. h; spec = refl }
+  Handles-none c b = record { handled = []; merged = done; at = λ r h. h; spec = refl; keeps = refl }
 
   -- one message more was handled: the one that was next
   pub Handles-more : (c d : Core N) (b e e' : Lists) (parent : ℕ) (m : Msg) (d' : Core N) → Handles g c b d e
       → next e ≡ Some (record { parent = parent; msg = m; rest = e' }) → g.spec d'.node ≡ g.spec d.node
-      → Reacts g d parent m d' → Handles g c b d' e'
-  Handles-more c d b e e' parent m d' h t same react_ok =
+      → d'.keeps ≡ d.keeps → Reacts g d parent m d' → Handles g c b d' e'
+  Handles-more c d b e e' parent m d' h t same kept react_ok =
       let Goal : P → Type 0 = λ p. (r : Run S) → IsAt g p r d → IsAt g p (reacted (g.step p) r parent m) d' in
       let react_here : Goal (g.spec c.node) = subst Goal h.spec react_ok in
       record {
@@ -36,21 +36,23 @@ module _ {N P S : Type 0} (g : Ghosts N P S) where
             (sym (run-append (g.step (g.spec c.node)) r h.handled ((parent, m) ∷ [])))
             (react_here (run (g.step (g.spec c.node)) r h.handled) (h.at r at));
         spec = same ∙ h.spec;
+        keeps = kept ∙ h.keeps;
       }
 
-  handles-first : (c d : Core N) (k : ℕ) (m : Msg) → k < 1 → g.spec d.node ≡ g.spec c.node → Reacts g c k m d
-      → Handles g c (put k m ([] ∷ [])) d ([] ∷ [])
-  handles-first c d zero m lt same react_ok =
+  handles-first : (c d : Core N) (k : ℕ) (m : Msg) → k < 1 → g.spec d.node ≡ g.spec c.node → d.keeps ≡ c.keeps
+      → Reacts g c k m d → Handles g c (put k m ([] ∷ [])) d ([] ∷ [])
+  handles-first c d zero m lt same kept react_ok =
       let b : Lists = (m ∷ []) ∷ [] in
-      Handles-more c c b b ([] ∷ []) 0 m d (Handles-none c b) (next-alone m) same react_ok
-  handles-first c d (suc k) m lt same react_ok = absurd (omega (arith, lt))
+      Handles-more c c b b ([] ∷ []) 0 m d (Handles-none c b) (next-alone m) same kept react_ok
+  handles-first c d (suc k) m lt same kept react_ok = absurd (omega (arith, lt))
 
   -- a message of the only parent was handled at once: nothing else was buffered
   pub Handles-alone : (c d : Core N) (b : Lists) (k : ℕ) (m : Msg) → b ≡ [] ∷ [] → k < length b
-      → g.spec d.node ≡ g.spec c.node → Reacts g c k m d → Handles g c (put k m b) d b
-  Handles-alone c d b k m clear lt same react_ok =
+      → g.spec d.node ≡ g.spec c.node → d.keeps ≡ c.keeps → Reacts g c k m d → Handles g c (put k m b) d b
+  Handles-alone c d b k m clear lt same kept react_ok =
       let within : k < 1 = subst (λ (ls : Lists). k < length ls) clear lt in
-      subst (λ (ls : Lists). Handles g c (put k m ls) d ls) (sym clear) (handles-first c d k m within same react_ok)
+      subst (λ (ls : Lists). Handles g c (put k m ls) d ls) (sym clear)
+      (handles-first c d k m within same kept react_ok)
 
   -- a message that came behind the others was handled too, with all that was determined then
   pub Handles-put : (c d : Core N) (b e : Lists) (k : ℕ) (m : Msg) (d' : Core N) (e' : Lists) → Handles g c b d e
@@ -65,4 +67,5 @@ module _ {N P S : Type 0} (g : Ghosts N P S) where
             (sym (run-append (g.step (g.spec c.node)) r h.handled later.handled))
             (later_here (run (g.step (g.spec c.node)) r h.handled) (h.at r at));
         spec = later.spec ∙ h.spec;
+        keeps = later.keeps ∙ h.keeps;
       }

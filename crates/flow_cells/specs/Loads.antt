@@ -1,5 +1,5 @@
 -- What beginning a load does to a cell.
-use Rattle.std.specs.Prelude.{◌≡◌, ⊤, List, [], ◌∷◌, ◌++◌, slice_index_or, slice_set}
+use Rattle.std.specs.Prelude.{◌≡◌, ⊤, Bool, List, [], ◌∷◌, ◌++◌, slice_index_or, slice_set}
 use Rattle.std.specs.List.{AllZip}
 use Rattle.kap_base.specs.declared.items.Msg.{Msg}
 use Rattle.merge_node.specs.Merge.{Lists}
@@ -34,11 +34,13 @@ IsOwn (e ∷ ins) source = source ≡ []
 abbrev pub with_source : List Msg → Lists → Lists
 with_source source ls = slice_set ls 0 (slice_index_or ls 0 [] ++ source)
 
--- the load of a cell begins in the state in which it is
-pub record Begins {N : Type 0} (msgs : List Msg) (c d : CellParts N) : Type 0 where
+-- the load of a cell begins in the state in which it is; whether it is to keep the state at each barrier is said with
+-- the load
+pub record Begins {N : Type 0} (msgs : List Msg) (keeps : Bool) (c d : CellParts N) : Type 0 where
   pub source : d.source.value.items ≡ msgs
   pub node : d.base.value.node ≡ c.core.node
   pub passed : d.base.value.passed ≡ c.core.passed
+  pub kept : d.base.value.keeps ≡ keeps
   pub ins : AllZip InLoads c.ins.items d.ins.items
   pub outs : AllZip OutLoads c.core.outs.items d.core.outs.items
   pub gathered : gathered d.core.gathered ≡ []

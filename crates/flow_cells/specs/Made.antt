@@ -1,5 +1,5 @@
 -- Cells that are made.
-use Rattle.std.specs.Prelude.{◌≡◌, ℕ, zero, suc, List, [], ◌++◌}
+use Rattle.std.specs.Prelude.{◌≡◌, ℕ, zero, suc, true, false, List, [], ◌++◌}
 use Rattle.std.specs.List.{AllByRecursion as Each}
 use Rattle.kap_base.specs.declared.items.Msg.{Msg}
 use Rattle.node_core.specs.declared.node.Node.{Ghosts}
@@ -32,11 +32,11 @@ abbrev pub IsUnused : OutEdge → Type 0
 IsUnused o = (sent o.tail ≡ []) × (o.unsent ≡ [])
 
 module _ {N P S : Type 0} (g : Ghosts N P S) where
-  -- a node with nothing to send, whose state is saved, and which begins behind a barrier with this stamp
+  -- a node with nothing to send, which begins behind a barrier with this stamp
   pub record IsMade (stamp : ℕ) (n : N) (c : Core N) : Type 0 where
     pub node : c.node ≡ n
     pub outs : c.outs.items ≡ []
     pub effects : gathered c.gathered ++ c.effects ≡ []
-    pub saved : c.saved ≡ g.spell (g.spec n) (g.state n)
-    pub fits : g.fits (g.spec n) (g.state n)
     pub passed : c.passed.0 ≡ stamp
+    pub clean : c.clean ≡ true
+    pub keeps : c.keeps ≡ false

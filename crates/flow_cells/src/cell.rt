@@ -6,15 +6,16 @@ use crate::looking::{can_take, is_quiet};
 use crate::making::{add_out, make};
 use crate::moves::{put, take};
 use crate::parts::{CellParts, InEdge, OutEdge};
+use crate::saving::{has_kept, put_saved};
 use crate::settling::settle;
-use kap_base::{Msg, NoMemory, Stamp};
+use kap_base::{Bytes, Msg, NoMemory, Stamp};
 use merge_node::PARENT_LIMIT;
 use node_core::{Effects, Node};
 use std::alloc::Global;
 use std::marker::Model;
 
-/// A cell of a net. Its state, what it sent and has to send, its effects and its saved state are those of its
-/// node's function on what it received; its type says so, unless it is spent.
+/// A cell of a net. Its state, what it sent and has to send, its effects and its state at the last barrier
+/// are those of its node's function on what it received; its type says so, unless it is spent.
 #[derive(Drop)]
 pub struct Cell<N: Node> {
     parts: CellParts<N>,
@@ -41,7 +42,7 @@ impl<N: Node> Cell<N> {
     ghost use Rattle.std.specs.Prelude.{◌≡◌, ◌↔◌, ◌<◌, ◌≤◌, false, true, [], ◌∷◌, ◌++◌, length, slice_get, IfOk, IsFalse, IsTrue, Ok, OnErr, OnOk, Some};
     ghost use Rattle.std.specs.List.{AllByRecursion as Each};
     ghost use Rattle.flow_cells.specs.Gathers.{Gathers};
-    ghost use Rattle.flow_cells.specs.Kept.{Keeps};
+    ghost use Rattle.flow_cells.specs.Kept.{HasKept, Keeps, PutsSaved};
     ghost use Rattle.flow_cells.specs.Loads.{Begins, IsOwn, NothingWaits};
     ghost use Rattle.flow_cells.specs.Looks.{CanTake, IsQuiet};
     ghost use Rattle.flow_cells.specs.Made.{HasNothing, IsFresh, IsMade, IsNothing, IsUnused, one_or_more};
@@ -52,8 +53,8 @@ impl<N: Node> Cell<N> {
     ghost use Rattle.flow_cells.specs.declared.parts.OutEdge.{OutEdge};
 
     /// A cell of a node with these inputs, on which nothing was received since their load, in the order of
-    /// its parents; none for a stream. Its saved state is its state, and the last barrier that it passed has
-    /// the stamp `passed`. `NoMemory` comes where an allocation fails.
+    /// its parents; none for a stream. It is behind the barrier with the stamp `passed`, where its node was
+    /// in this state. `NoMemory` comes where an allocation fails.
     pub fn new(alloc: Global, node: N, ins: Vec<InEdge>, passed: Stamp) -> Result<Cell<N>, NoMemory>
         requires limit { length ins.items ≤ PARENT_LIMIT }
         requires fresh { Each IsFresh ins.items }
@@ -120,19 +121,20 @@ impl<N: Node> Cell<N> {
     }
 
     /// A load begins: from now on what is sent, received and done is counted anew, from the state in which
-    /// the node is. A stream's cell handles the points and barriers of the load in this call. After NoMemory
-    /// the cell is spent.
-    pub fn load(&mut self, alloc: Global, source: Vec<Msg>) -> Result<(), NoMemory>
+    /// the node is. A stream's cell handles the points and barriers of the load in this call. Whether the
+    /// state at the last barrier can be had behind it too, `keeps` says: a state is then spelled before the
+    /// next item comes. After NoMemory the cell is spent.
+    pub fn load(&mut self, alloc: Global, source: Vec<Msg>, keeps: bool) -> Result<(), NoMemory>
         requires unspent { self.old.spent ≡ false }
         requires empty { Each IsNothing self.old.buffer }
         requires sent { Each NothingWaits self.old.core.outs.items }
         requires gathered { self.old.core.effects ≡ [] }
         requires own { IsOwn self.old.ins.items source.items }
         ensures keeps { OnOk result (Keeps N.Node self.new) }
-        ensures begins { OnOk result (Begins source.items self.old self.new) }
+        ensures begins { OnOk result (Begins source.items keeps self.old self.new) }
         ensures spent { OnErr result (self.new.spent ≡ true) }
     {
-        match load(alloc, &mut self.parts, source) {
+        match load(alloc, &mut self.parts, source, keeps) {
             Ok(()) => Ok(()),
             Err(fault) => {
                 self.parts.spent = true;
@@ -159,7 +161,8 @@ impl<N: Node> Cell<N> {
 
     /// How many inputs it has.
     pub fn inputs(&self) -> usize
-        ensures { result ≡ length self.now.ins.items }
+        ensures count { result ≡ length self.now.ins.items }
+        ensures keeps { self.now.spent ≡ false → Keeps N.Node self.now }
     {
         self.parts.ins.len()
     }
@@ -236,12 +239,24 @@ impl<N: Node> Cell<N> {
         self.parts.core.node.dropped()
     }
 
-    /// The spelling of its node's state at the last barrier that it passed, or at the load where it passed
-    /// none since.
-    pub fn saved(&self) -> &[u8]
-        ensures { result.now ≡ self.now.core.saved }
+    /// Whether its node's state at the last barrier that it passed can be had: nothing was fed to the node
+    /// since, or the load has it kept.
+    pub fn has_kept(&self) -> bool
+        ensures yes { IsTrue result → HasKept self.now }
+        ensures no { IsFalse result → HasKept self.now → ⊥ }
     {
-        self.parts.core.saved.as_slice()
+        has_kept(&self.parts)
+    }
+
+    /// Appends the spelling of its node's state at the last barrier that it passed, or at the load where it
+    /// passed none since. `NoMemory` comes where an allocation fails, and changes nothing.
+    pub fn put_saved(&self, to: &mut Bytes) -> Result<(), NoMemory>
+        requires unspent { self.now.spent ≡ false }
+        requires kept { HasKept self.now }
+        ensures ok { OnOk result (PutsSaved N.Node self.now to.old to.new) }
+        ensures err { OnErr result (to.new ≡ to.old) }
+    {
+        put_saved(&self.parts, to)
     }
 
     /// The stamp of the last barrier that it passed.
@@ -256,12 +271,5 @@ impl<N: Node> Cell<N> {
         ensures { result ≡ self.now.spent }
     {
         self.parts.spent
-    }
-
-    /// What a cell keeps, unless it is spent.
-    pub fn keeps(&self)
-        ensures { self.now.spent ≡ false → Keeps N.Node self.now }
-    {
-        let _ = &self.parts;
     }
 }

@@ -1,6 +1,6 @@
 //! The cells of a net. A cell has a node, what its parents sent and isn't merged yet, what it gives out and
-//! hasn't sent yet, and the state saved at the last barrier that it passed. What it keeps stands in its type,
-//! whoever moves it.
+//! hasn't sent yet, and the state in which the node was at the last barrier that it passed. What it keeps
+//! stands in its type, whoever moves it.
 #![tactic(auto)]
 
 mod cell;
@@ -13,6 +13,7 @@ mod moves;
 mod outs;
 mod parts;
 mod reacting;
+mod saving;
 mod sends;
 mod settling;
 

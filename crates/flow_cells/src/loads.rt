@@ -1,6 +1,6 @@
 //! A load begins on a cell.
 
-ghost use Rattle.std.specs.Prelude.{◌≡◌, ◌<◌, ◌≤◌, true, None, [], length, OnOk};
+ghost use Rattle.std.specs.Prelude.{◌≡◌, ◌<◌, ◌≤◌, None, [], length, OnOk};
 ghost use Rattle.std.specs.List.{AllByRecursion as Each, AllZip};
 ghost use Rattle.merge_node.specs.Buffers.{next};
 ghost use Rattle.flow_cells.specs.Handled.{Handles, Waits};
@@ -10,7 +10,7 @@ ghost use Rattle.flow_cells.specs.Made.{IsFresh, IsNothing};
 
 use crate::parts::{CellParts, Core, Gathered, InEdge, OutEdge};
 use crate::reacting::handle;
-use kap_base::{Bytes, Msg, NoMemory};
+use kap_base::{Msg, NoMemory};
 use merge_node::MergeBuf;
 use node_core::Node;
 use std::alloc::Global;
@@ -80,26 +80,13 @@ fn handle_source<N: Node>(
     Ok(())
 }
 
-/// Has what is saved be the state of a node, which it is already where it is clean.
-fn save_anew<N: Node>(node: &N, saved: &mut Bytes, clean: bool) -> Result<(), NoMemory>
-    requires { clean ≡ true → (saved.old ≡ N.spell (N.spec node.now) (N.state node.now))
-        × N.fits (N.spec node.now) (N.state node.now) }
-    ensures saved { OnOk result (saved.new ≡ N.spell (N.spec node.now) (N.state node.now)) }
-    ensures fits { OnOk result (N.fits (N.spec node.now) (N.state node.now)) }
-{
-    if clean {
-        return Ok(());
-    }
-    saved.clear();
-    node.save(saved)?;
-    Ok(())
-}
-
 /// A load begins, with its points and barriers where the cell is a stream's, which are handled in this call.
+/// Whether the state at each barrier is to be kept is said with it.
 pub(crate) fn load<N: Node>(
     alloc: Global,
     cell: &mut CellParts<N>,
     source: Vec<Msg>,
+    keeps: bool,
 ) -> Result<(), NoMemory>
     requires keeps { Keeps N.Node cell.old }
     requires empty { Each IsNothing cell.old.buffer }
@@ -107,13 +94,13 @@ pub(crate) fn load<N: Node>(
     requires gathered { cell.old.core.effects ≡ [] }
     requires own { IsOwn cell.old.ins.items source.items }
     ensures keeps { OnOk result (Keeps N.Node cell.new) }
-    ensures begins { OnOk result (Begins source.items cell.old cell.new) }
+    ensures begins { OnOk result (Begins source.items keeps cell.old cell.new) }
 {
     load_ins(&mut cell.ins);
     load_outs(&mut cell.core.outs);
     cell.core.gathered = Gathered::Start;
-    save_anew(&cell.core.node, &mut cell.core.saved, cell.core.clean)?;
     cell.core.clean = true;
+    cell.core.keeps = keeps;
     cell.base = Snapshot::of(&cell.core);
     cell.source = Snapshot::of(&source);
     handle_source(alloc, &mut cell.core, &mut cell.buffer, source)?;

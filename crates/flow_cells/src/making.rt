@@ -22,21 +22,20 @@ fn parents_of(ins: &[InEdge]) -> u32
 }
 
 /// A node in its state, with nothing to send, behind a barrier.
-fn make_core<N: Node>(alloc: Global, node: N, passed: Stamp) -> Result<Core<N>, NoMemory>
-    ensures { IfOk result (IsMade N.Node passed.0 node) }
+fn make_core<N: Node>(alloc: Global, node: N, passed: Stamp) -> Core<N>
+    ensures { IsMade N.Node passed.0 node result }
 {
-    let mut saved = Bytes::new(alloc);
-    node.save(&mut saved)?;
-    Ok(Core {
+    Core {
         node,
         outs: Vec::new(alloc),
         given: Items::new(alloc),
         gathered: Gathered::Start,
         effects: Effects::new(alloc),
-        saved,
         passed,
         clean: true,
-    })
+        keeps: false,
+        saved: Bytes::new(alloc),
+    }
 }
 
 /// A cell of a node with these inputs, behind a barrier.
@@ -58,7 +57,7 @@ pub(crate) fn make<N: Node>(
     ensures base { IfOk result (λ cell. cell.base.value.node ≡ node) }
 {
     let buffer = MergeBuf::new(alloc, parents_of(&ins))?;
-    let core = make_core(alloc, node, passed)?;
+    let core = make_core(alloc, node, passed);
     let none: Vec<Msg> = Vec::new(alloc);
     let source = Snapshot::of(&none);
     let base = Snapshot::of(&core);

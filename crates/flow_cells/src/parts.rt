@@ -54,12 +54,14 @@ pub struct Core<N> {
     pub gathered: Gathered,
     /// Those that weren't gathered yet.
     pub effects: Effects,
-    /// The spelling of the state at the last barrier that was passed, or at the load.
-    pub saved: Bytes,
-    /// The stamp of that barrier.
+    /// The stamp of the last barrier that was passed.
     pub passed: Stamp,
-    /// Whether nothing was fed to the node since, so that what is saved is its state.
+    /// Whether nothing was fed to the node since, so that it still is in the state in which it was there.
     pub clean: bool,
+    /// Whether that state is to be kept when something is fed to the node.
+    pub keeps: bool,
+    /// Its spelling, where it was kept. Otherwise what it holds counts for nothing.
+    pub saved: Bytes,
 }
 
 /// A core with its inputs.

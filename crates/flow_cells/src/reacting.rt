@@ -8,6 +8,7 @@ ghost use Rattle.flow_cells.specs.Handled.{Handles, Reacts, Waits};
 
 use crate::outs::{push_each, push_items};
 use crate::parts::Core;
+use crate::saving::keep_state;
 use kap_base::{Item, Msg, NoMemory, Stamp};
 use merge_node::MergeBuf;
 use node_core::{Items, Node};
@@ -20,11 +21,13 @@ impl<N: Node> Core<N> {
         requires { parent < N.ports (N.spec self.old.node) }
         ensures spec { N.spec self.new.node ≡ N.spec self.old.node }
         ensures gathered { self.new.gathered ≡ self.old.gathered }
+        ensures keeps { self.new.keeps ≡ self.old.keeps }
         ensures outs { OnOk result (AllZip Waits self.old.outs.items self.new.outs.items) }
         ensures reacts { OnOk result (Reacts N.Node self.old parent (messages.Item item) self.new) }
     {
         let mut given = mem::replace(&mut self.given, Items::new(alloc));
         given.clear();
+        keep_state(&self.node, &mut self.saved, self.keeps, self.clean)?;
         self.clean = false;
         self.node
             .feed(alloc, parent, item, &mut given, &mut self.effects)?;
@@ -32,16 +35,16 @@ impl<N: Node> Core<N> {
         Ok(())
     }
 
-    /// Passes a barrier: saves the state, and has the barrier wait at each out.
+    /// Passes a barrier: the state there is the node's as long as nothing is fed to it. Has the barrier wait
+    /// at each out.
     fn pass(&mut self, alloc: Global, stamp: Stamp) -> Result<(), NoMemory>
         ensures spec { N.spec self.new.node ≡ N.spec self.old.node }
         ensures gathered { self.new.gathered ≡ self.old.gathered }
+        ensures keeps { self.new.keeps ≡ self.old.keeps }
         ensures outs { OnOk result (AllZip Waits self.old.outs.items self.new.outs.items) }
         ensures reacts { OnOk result ((parent : ℕ)
             → Reacts N.Node self.old parent (messages.Barrier stamp) self.new) }
     {
-        self.saved.clear();
-        self.node.save(&mut self.saved)?;
         self.passed = stamp;
         self.clean = true;
         push_each(alloc, &mut self.outs, Msg::Barrier(stamp))?;
@@ -53,6 +56,7 @@ impl<N: Node> Core<N> {
         requires { parent < N.ports (N.spec self.old.node) }
         ensures spec { N.spec self.new.node ≡ N.spec self.old.node }
         ensures gathered { self.new.gathered ≡ self.old.gathered }
+        ensures keeps { self.new.keeps ≡ self.old.keeps }
         ensures outs { OnOk result (AllZip Waits self.old.outs.items self.new.outs.items) }
         ensures reacts { OnOk result (Reacts N.Node self.old parent msg self.new) }
     {

@@ -1,5 +1,5 @@
 -- What the cells of lives do more is gathered.
-use Rattle.std.proofs.Common.{◌≡◌, List, [], ◌∷◌, ◌++◌, IsPermutation, refl, sym, ap, subst, ◌∙◌, append-nil, append_assoc}
+use Rattle.std.proofs.Common.{Bool, ◌≡◌, List, [], ◌∷◌, ◌++◌, IsPermutation, refl, sym, ap, subst, ◌∙◌, append-nil, append_assoc}
 use Rattle.std.specs.List.{AllByRecursion as Each, AllZip}
 use Rattle.std.proofs.lemmas.List.Sorted.{IsPermutation-append_comm, IsPermutation-append_left, IsPermutation-append_right, IsPermutation-refl, IsPermutation-trans}
 use Rattle.kap_base.specs.declared.items.Effect.{Effect}
@@ -104,19 +104,19 @@ module _ {N : Type 0} where
       subst (λ (ls : List (List Effect)). GathersAll (together (effects_since old)) (together ls) g g) (sym (since-quiet new quiet' ∙ same ∙ sym (since-quiet old quiet)))
       (gathers_none (together (effects_since old)) g)
 
-  since-loaded : (source : List Msg) (old mid : List (CellParts N)) → AllZip (LoadsFrom source) old mid → together (effects_since mid) ≡ left_of mid
-  since-loaded source [] [] z = refl
-  since-loaded source [] (d ∷ mid) z = absurd z
-  since-loaded source (c ∷ old) [] z = absurd z
-  since-loaded source (c ∷ old) (d ∷ mid) z =
+  since-loaded : (keeps : Bool) (source : List Msg) (old mid : List (CellParts N)) → AllZip (LoadsFrom keeps source) old mid → together (effects_since mid) ≡ left_of mid
+  since-loaded keeps source [] [] z = refl
+  since-loaded keeps source [] (d ∷ mid) z = absurd z
+  since-loaded keeps source (c ∷ old) [] z = absurd z
+  since-loaded keeps source (c ∷ old) (d ∷ mid) z =
       ap (λ (es : List Effect). (es ++ d.core.effects) ++ together (effects_since mid)) z.0.gathered
-      ∙ ap (λ (es : List Effect). d.core.effects ++ es) (since-loaded source old mid z.1)
+      ∙ ap (λ (es : List Effect). d.core.effects ++ es) (since-loaded keeps source old mid z.1)
 
   -- and behind a load all that they have done in it
-  pub load_gathers : (source : List Msg) (old mid new : List (CellParts N)) (g g' : List Effect) → AllZip (LoadsFrom source) old mid → AllZip Gathers mid new → g' ≡ g ++ left_of mid
+  pub load_gathers : (keeps : Bool) (source : List Msg) (old mid new : List (CellParts N)) (g g' : List Effect) → AllZip (LoadsFrom keeps source) old mid → AllZip Gathers mid new → g' ≡ g ++ left_of mid
       → g' ≡ g ++ together (effects_since new)
-  load_gathers source old mid new g g' loads z given =
-      given ∙ ap (λ (es : List Effect). g ++ es) (sym (since-loaded source old mid loads) ∙ ap together (sym (since-gathered mid new z)))
+  load_gathers keeps source old mid new g g' loads z given =
+      given ∙ ap (λ (es : List Effect). g ++ es) (sym (since-loaded keeps source old mid loads) ∙ ap together (sym (since-gathered mid new z)))
 
   -- ---- lives
 

@@ -5,7 +5,7 @@ use Rattle.merge_node.specs.declared.TheConstants.{PARENT_LIMIT}
 use Rattle.flow_cells.specs.Made.{one_or_more}
 use Rattle.node_core.specs.declared.node.Node.{Ghosts}
 use Rattle.task_run.specs.Plans.{AreBelow, AreNodesFrom, PlanValue}
-use Rattle.flow_core.specs.Making.{AreLivesOf, CanAdd, CanAddAll}
+use Rattle.flow_core.specs.Making.{AreLivesBehind, CanAdd, CanAddAll}
 use Rattle.flow_core.specs.Nets.{IsResting, IsSound, NumberedLife}
 
 module _ {N : Type 0} (ports : N → ℕ) where
@@ -54,15 +54,15 @@ zip_push R (a ∷ xs) (b ∷ ys) x y z r = (z.0, zip_push R xs ys x y z.1 r)
 
 module _ {N P S : Type 0} (g : Ghosts N P S) where
   -- lives of plans are sound
-  pub lives_sound : (plans : List (PlanValue N)) (lives : List (NumberedLife N)) → AreLivesOf g plans lives → Each IsSound lives
-  lives_sound [] [] z = tt
-  lives_sound [] (l ∷ lives) z = absurd z
-  lives_sound (p ∷ plans) [] z = absurd z
-  lives_sound (p ∷ plans) (l ∷ lives) z = (z.0.sound, lives_sound plans lives z.1)
+  pub lives_sound : (stamp : ℕ) (plans : List (PlanValue N)) (lives : List (NumberedLife N)) → AreLivesBehind g stamp plans lives → Each IsSound lives
+  lives_sound stamp [] [] z = tt
+  lives_sound stamp [] (l ∷ lives) z = absurd z
+  lives_sound stamp (p ∷ plans) [] z = absurd z
+  lives_sound stamp (p ∷ plans) (l ∷ lives) z = (z.0.sound, lives_sound stamp plans lives z.1)
 
   -- and at rest
-  pub lives_rest : (plans : List (PlanValue N)) (lives : List (NumberedLife N)) → AreLivesOf g plans lives → Each IsResting lives
-  lives_rest [] [] z = tt
-  lives_rest [] (l ∷ lives) z = absurd z
-  lives_rest (p ∷ plans) [] z = absurd z
-  lives_rest (p ∷ plans) (l ∷ lives) z = (z.0.rest, lives_rest plans lives z.1)
+  pub lives_rest : (stamp : ℕ) (plans : List (PlanValue N)) (lives : List (NumberedLife N)) → AreLivesBehind g stamp plans lives → Each IsResting lives
+  lives_rest stamp [] [] z = tt
+  lives_rest stamp [] (l ∷ lives) z = absurd z
+  lives_rest stamp (p ∷ plans) [] z = absurd z
+  lives_rest stamp (p ∷ plans) (l ∷ lives) z = (z.0.rest, lives_rest stamp plans lives z.1)

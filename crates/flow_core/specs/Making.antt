@@ -3,8 +3,8 @@ use Rattle.std.specs.Prelude.{◌≡◌, ℕ, ◌+◌, ◌<◌, ◌≤◌, ⊤, 
 use Rattle.std.specs.List.{AllByRecursion as Each, AllZip, remove}
 use Rattle.merge_node.specs.declared.TheConstants.{PARENT_LIMIT}
 use Rattle.node_core.specs.declared.node.Node.{Ghosts}
-use Rattle.flow_cells.specs.Made.{one_or_more}
-use Rattle.flow_life.specs.Making.{HasCarriedNothing, IsSaved, nodes_of, passed_of}
+use Rattle.flow_cells.specs.Made.{HasNothing, one_or_more}
+use Rattle.flow_life.specs.Making.{HasCarriedNothing, IsClean, nodes_of, passed_of}
 use Rattle.flow_life.specs.Steps.{AreQuiet}
 use Rattle.flow_life.specs.Wired.{parents_of}
 use Rattle.task_run.specs.Plans.{PlanValue}
@@ -28,15 +28,16 @@ CanAddAll ports at (n ∷ nodes) [] = ⊥
 CanAddAll ports at (n ∷ nodes) (ps ∷ pss) = CanAdd at (ports n) ps × CanAddAll ports (at + 1) nodes pss
 
 module _ {N P S : Type 0} (g : Ghosts N P S) where
-  -- A life of a plan, with its number, nodes and parents. It is at rest, no edge has carried a message, each saved
-  -- state is the state, and the last barrier that each cell passed has this stamp.
+  -- A life of a plan, with its number, nodes and parents. It is at rest, no edge has carried a message, no item came to
+  -- a cell since the last barrier that it passed, and this has this stamp.
   pub record IsLifeBehind (stamp : ℕ) (plan : PlanValue N) (l : NumberedLife N) : Type 0 where
     pub number : l.number ≡ plan.life
     pub nodes : nodes_of l.life.cells ≡ plan.nodes
     pub parents : parents_of l.life.cells ≡ plan.parents
     pub rest : AreQuiet l.life.cells
     pub empty : Each HasCarriedNothing l.life.cells
-    pub saved : Each (IsSaved g) l.life.cells
+    pub nothing : Each HasNothing l.life.cells
+    pub clean : Each IsClean l.life.cells
     pub passed : Each (λ b. b ≡ stamp) (passed_of l.life.cells)
     pub sound : IsSound l
 
@@ -44,7 +45,11 @@ module _ {N P S : Type 0} (g : Ghosts N P S) where
   abbrev pub IsLifeOf : PlanValue N → NumberedLife N → Type 0
   IsLifeOf = IsLifeBehind 0
 
-  -- a life of each plan, in their order
+  -- a life of each plan, in their order, behind a barrier with this stamp
+  abbrev pub AreLivesBehind : ℕ → List (PlanValue N) → List (NumberedLife N) → Type 0
+  AreLivesBehind stamp plans lives = AllZip (IsLifeBehind stamp) plans lives
+
+  -- the same where the stamp is 0
   abbrev pub AreLivesOf : List (PlanValue N) → List (NumberedLife N) → Type 0
   AreLivesOf plans lives = AllZip IsLifeOf plans lives
 

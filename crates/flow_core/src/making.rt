@@ -5,10 +5,10 @@ ghost use Rattle.std.specs.List.{AllByRecursion as Each};
 ghost use Rattle.flow_cells.specs.Made.{HasNothing};
 ghost use Rattle.flow_cells.specs.Rooms.{HasRoom};
 ghost use Rattle.flow_life.specs.Loads.{IsGathered};
-ghost use Rattle.flow_life.specs.Making.{HasCarriedNothing, IsSaved, nodes_of, passed_of};
+ghost use Rattle.flow_life.specs.Making.{HasCarriedNothing, IsClean, nodes_of, passed_of};
 ghost use Rattle.flow_life.specs.Steps.{AreQuiet};
 ghost use Rattle.flow_life.specs.Wired.{parents_of};
-ghost use Rattle.flow_core.specs.Making.{AreLivesOf, CanAddAll, HasFewParents, IsLifeBehind};
+ghost use Rattle.flow_core.specs.Making.{AreLivesBehind, CanAddAll, HasFewParents, IsLifeBehind};
 ghost use Rattle.flow_core.specs.Rooms.{HasRoomIn};
 
 use crate::lives::Numbered;
@@ -36,7 +36,7 @@ fn add_cells<N: Node>(
     requires carried { Each HasCarriedNothing life.old.cells }
     requires room { Each (HasRoom capacity) life.old.cells }
     requires gathered { Each IsGathered life.old.cells }
-    requires saved { Each (IsSaved N.Node) life.old.cells }
+    requires clean { Each IsClean life.old.cells }
     requires passed { Each (λ b. b ≡ stamp.0) (passed_of life.old.cells) }
     requires some { 0 < capacity }
     requires limit { capacity ≤ CAPACITY_LIMIT }
@@ -47,9 +47,10 @@ fn add_cells<N: Node>(
         ≡ parents_of life.old.cells ++ parents.now) }
     ensures rest { OnOk result (AreQuiet life.new.cells) }
     ensures carried { OnOk result (Each HasCarriedNothing life.new.cells) }
+    ensures nothing { OnOk result (Each HasNothing life.new.cells) }
     ensures room { OnOk result (Each (HasRoom capacity) life.new.cells) }
     ensures gathered { OnOk result (Each IsGathered life.new.cells) }
-    ensures saved { OnOk result (Each (IsSaved N.Node) life.new.cells) }
+    ensures clean { OnOk result (Each IsClean life.new.cells) }
     ensures passed { OnOk result (Each (λ b. b ≡ stamp.0) (passed_of life.new.cells)) }
 {
     let Some((first, others)) = parents.split_first() else {
@@ -84,21 +85,22 @@ pub(crate) fn life_of<N: Node>(
     Ok(Numbered { number, life })
 }
 
-/// The lives of plans, in their order.
+/// The lives of plans, in their order, behind a barrier.
 pub(crate) fn lives_of<N: Node>(
     alloc: Global,
     plans: Vec<LifePlan<N>>,
     capacity: u32,
+    stamp: Stamp,
 ) -> Result<Vec<Numbered<Life<N>>>, NoMemory>
     requires few { Each HasFewParents plans.items }
     requires some { 0 < capacity }
     requires limit { capacity ≤ CAPACITY_LIMIT }
-    ensures lives { IfOk result (λ lives. AreLivesOf N.Node plans.items lives.items) }
+    ensures lives { IfOk result (λ lives. AreLivesBehind N.Node stamp.0 plans.items lives.items) }
     ensures room { IfOk result (λ lives. Each (HasRoomIn capacity) lives.items) }
 {
     let mut lives = Vec::new(alloc);
     'making: for plan in plans {
-        lives.push(life_of(alloc, plan, capacity, Stamp(0))?)?;
+        lives.push(life_of(alloc, plan, capacity, stamp)?)?;
     }
     Ok(lives)
 }

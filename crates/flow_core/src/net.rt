@@ -69,7 +69,7 @@ impl<N: Node> Net<N> {
     ghost use Rattle.flow_core.specs.Carried.{HasCarried};
     ghost use Rattle.flow_core.specs.Drops.{drops_in};
     ghost use Rattle.flow_core.specs.Gathering.{LivesRise, NumbersEffects, effects_by_node};
-    ghost use Rattle.flow_core.specs.Making.{AreLivesOf, Begins, Ends, HasFewParents};
+    ghost use Rattle.flow_core.specs.Making.{AreLivesBehind, AreLivesOf, Begins, Ends, HasFewParents};
     ghost use Rattle.flow_core.specs.Messages.{AreMarksOf, load_messages};
     ghost use Rattle.flow_core.specs.Nets.{EnabledIn, GrowsIn, HasCell, HasMovedTwice, HasPrefixes, HaveMovedTwice, IsLifeIn, IsResting, IsSound, NumberedLife, SomeEnabledIn, cell_count, moves_in, numbers_of, plans_from, plans_in, specs_in};
     ghost use Rattle.flow_core.specs.Playing.{PlaysIn};
@@ -112,9 +112,35 @@ impl<N: Node> Net<N> {
         ensures spent { IfOk result (λ net. net.spent ≡ false) }
     {
         Ok(Net {
-            lives: lives_of(alloc, plans, capacity)?,
+            lives: lives_of(alloc, plans, capacity, Stamp(0))?,
             gathered: Effects::new(alloc),
             last: Stamp(0),
+            spent: false,
+        })
+    }
+
+    /// The same behind a barrier, which is the net's last one: the nodes of the plans are in the states in
+    /// which they were there.
+    pub fn make_behind(
+        alloc: Global,
+        plans: Vec<LifePlan<N>>,
+        capacity: u32,
+        last: Stamp,
+    ) -> Result<Net<N>, NoMemory>
+        requires few { Each HasFewParents plans.items }
+        requires some { 0 < capacity }
+        requires limit { capacity ≤ CAPACITY_LIMIT }
+        ensures lives { IfOk result (λ net. AreLivesBehind N.Node last.0 plans.items net.lives) }
+        ensures rest { IfOk result (λ net. Each IsResting net.lives) }
+        ensures gathered { IfOk result (λ net. net.gathered ≡ []) }
+        ensures room { IfOk result (λ net. Each (HasRoomIn capacity) net.lives) }
+        ensures last { IfOk result (λ net. net.last ≡ last) }
+        ensures spent { IfOk result (λ net. net.spent ≡ false) }
+    {
+        Ok(Net {
+            lives: lives_of(alloc, plans, capacity, last)?,
+            gathered: Effects::new(alloc),
+            last,
             spent: false,
         })
     }
@@ -212,7 +238,6 @@ impl<N: Node> Net<N> {
         ensures unspent { OnOk result (self.new.spent ≡ false) }
         ensures spent { OnErr result (self.new.spent ≡ true) }
     {
-        keep_lives(&self.lives);
         self.spent = true;
         let source = messages(alloc, points, upto, marks)?;
         load(alloc, &mut self.lives, source, &mut self.gathered)?;
@@ -321,7 +346,6 @@ impl<N: Node> Net<N> {
         ensures none { IsTrue result → left_in N.Node self.now.lives ≡ 0 }
         ensures alive { IsFalse result → SomeEnabledIn self.now.lives }
     {
-        keep_lives(&self.lives);
         at_rest(&self.lives)
     }
 
@@ -363,10 +387,11 @@ impl<N: Node> Net<N> {
         Ok(())
     }
 
-    /// What each edge has carried is a prefix of its stream.
+    /// What the cells of each life keep: among it that what each edge has carried is a prefix of its stream.
     pub fn keeps(&self)
         requires { self.now.spent ≡ false }
-        ensures { Each (HasPrefixes N.Node) self.now.lives }
+        ensures lives { Each (IsLifeIn N.Node) self.now.lives }
+        ensures prefixes { Each (HasPrefixes N.Node) self.now.lives }
     {
         keep_lives(&self.lives);
     }
@@ -420,7 +445,6 @@ impl<N: Node> Net<N> {
             → HasRun N.Node lives points collected self.now
             → counts ≡ dropped_of N.answer lives points) }
     {
-        keep_lives(&self.lives);
         counts_of(alloc, &self.lives)
     }
 

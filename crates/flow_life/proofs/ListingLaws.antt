@@ -1,5 +1,5 @@
 -- Each step that can be made is among all steps, and these stay where cells move.
-use Rattle.std.proofs.Common.{◌≡◌, ℕ, zero, suc, ◌+◌, ◌<◌, ◌≤◌, List, [], ◌∷◌, ◌++◌, map, length, Some, refl, sym, ap, subst, ◌∙◌, ⊎_elim, append_assoc, arith}
+use Rattle.std.proofs.Common.{◌≡◌, ℕ, Bool, zero, suc, ◌+◌, ◌<◌, ◌≤◌, List, [], ◌∷◌, ◌++◌, map, length, Some, refl, sym, ap, subst, ◌∙◌, ⊎_elim, append_assoc, arith}
 use Rattle.std.specs.Prelude.{Contains, slice_get}
 use Rattle.std.specs.List.{AllZip}
 use Rattle.std.proofs.lemmas.List.Elements.{Contains-append_left, Contains-append_right}
@@ -182,15 +182,15 @@ module _ {N : Type 0} where
       ap (λ (e : ℕ × ℕ). e ∷ ends_of cells') here ∙ ap (λ (l : List (ℕ × ℕ)). ends c ∷ l) (ends-same cells cells' later later_outs)
 
   -- a load leaves the ends
-  pub ends-loaded : (source : List Msg) (cells cells' : List (CellParts N)) → AllZip (LoadsFrom source) cells cells' → ends_of cells' ≡ ends_of cells
-  ends-loaded source [] [] z = refl
-  ends-loaded source [] (d ∷ cells') z = absurd z
-  ends-loaded source (c ∷ cells) [] z = absurd z
-  ends-loaded source (c ∷ cells) (d ∷ cells') z =
+  pub ends-loaded : (keeps : Bool) (source : List Msg) (cells cells' : List (CellParts N)) → AllZip (LoadsFrom keeps source) cells cells' → ends_of cells' ≡ ends_of cells
+  ends-loaded keeps source [] [] z = refl
+  ends-loaded keeps source [] (d ∷ cells') z = absurd z
+  ends-loaded keeps source (c ∷ cells) [] z = absurd z
+  ends-loaded keeps source (c ∷ cells) (d ∷ cells') z =
       let ins : length d.ins.items ≡ length c.ins.items = zip-length InLoads c.ins.items d.ins.items z.0.ins in
       let outs : length d.core.outs.items ≡ length c.core.outs.items = zip-length OutLoads c.core.outs.items d.core.outs.items z.0.outs in
       let here : ends d ≡ ends c = rw (ins, outs) refl in
-      ap (λ (e : ℕ × ℕ). e ∷ ends_of cells') here ∙ ap (λ (l : List (ℕ × ℕ)). ends c ∷ l) (ends-loaded source cells cells' z.1)
+      ap (λ (e : ℕ × ℕ). e ∷ ends_of cells') here ∙ ap (λ (l : List (ℕ × ℕ)). ends c ∷ l) (ends-loaded keeps source cells cells' z.1)
 
   -- and so does gathering
   pub ends-gathered : (cells cells' : List (CellParts N)) → AllZip Gathers cells cells' → ends_of cells' ≡ ends_of cells

@@ -1,5 +1,5 @@
 -- A load that begins leaves cells that are ready, and counts anew.
-use Rattle.std.proofs.Common.{◌≡◌, ℕ, zero, suc, ◌<◌, List, [], ◌∷◌, map, length, Some, refl, sym, ap, subst, ◌∙◌, arith}
+use Rattle.std.proofs.Common.{◌≡◌, ℕ, zero, suc, ◌<◌, Bool, List, [], ◌∷◌, map, length, Some, refl, sym, ap, subst, ◌∙◌, arith}
 use Rattle.std.specs.List.{AllByRecursion as Each, AllZip}
 use Rattle.kap_base.specs.declared.items.Msg.{Msg}
 use Rattle.node_core.specs.declared.node.Node.{Ghosts}
@@ -20,7 +20,7 @@ use Rattle.flow_life.specs.Wired.{Feeds, IsFed, IsReady, IsUnspent, IsWired, out
 use Rattle.flow_life.specs.Steps.{AreQuiet, HasEmptyBuffers, moves_of, received_count, sent_count}
 use Rattle.flow_life.proofs.RestLaws.{buffers_empty, quiet-in, quiet-out}
 use Rattle.flow_life.specs.Graphs.{IsClosedFor, IsLoaded}
-use Rattle.flow_life.specs.Loads.{CanLoad, HasInputs, IsGathered, LoadsFrom, SeesSame, own_of, plan_now}
+use Rattle.flow_life.specs.Loads.{CanLoad, HasInputs, IsGathered, LoadsFrom, SeesSame, has_inner, own_of, plan_now}
 
 froms-loaded : (ins new : List InEdge) → AllZip InLoads ins new → map (λ (e : InEdge). e.from) new ≡ map (λ (e : InEdge). e.from) ins
 froms-loaded [] [] z = refl
@@ -88,56 +88,56 @@ sees-equal source other [] e = tt
 sees-equal source other (c ∷ cells) e = (ap (own_of c.ins.items) (sym e), sees-equal source other cells e)
 
 -- a cell with inputs, which began with nothing, began as any load has it begin
-pub loads-child : {N : Type 0} (source : List Msg) (c d : CellParts N) → HasInputs c → Begins [] c d → LoadsFrom source c d
-loads-child source c d h b = subst (λ (l : List Msg). Begins l c d) (sym (own-none c.ins.items source h)) b
+pub loads-child : {N : Type 0} (keeps : Bool) (source : List Msg) (c d : CellParts N) → HasInputs c → Begins [] keeps c d → LoadsFrom keeps source c d
+loads-child keeps source c d h b = subst (λ (l : List Msg). Begins l keeps c d) (sym (own-none c.ins.items source h)) b
 
 -- and a stream's begins with all
-pub loads-stream : {N : Type 0} (source : List Msg) (c d : CellParts N) → length c.ins.items ≡ 0 → Begins source c d → LoadsFrom source c d
-loads-stream source c d h b = subst (λ (l : List Msg). Begins l c d) (sym (own-all c.ins.items source h)) b
+pub loads-stream : {N : Type 0} (keeps : Bool) (source : List Msg) (c d : CellParts N) → length c.ins.items ≡ 0 → Begins source keeps c d → LoadsFrom keeps source c d
+loads-stream keeps source c d h b = subst (λ (l : List Msg). Begins l keeps c d) (sym (own-all c.ins.items source h)) b
 
 -- a load of what cells see the same is the same load
-pub loads-same : {N : Type 0} (source other : List Msg) (cells cells' : List (CellParts N)) → Each (SeesSame source other) cells → AllZip (LoadsFrom other) cells cells' → AllZip (LoadsFrom source) cells cells'
-loads-same source other [] [] s z = tt
-loads-same source other [] (d ∷ cells') s z = absurd z
-loads-same source other (c ∷ cells) [] s z = absurd z
-loads-same source other (c ∷ cells) (d ∷ cells') s z = (subst (λ (l : List Msg). Begins l c d) (sym s.0) z.0, loads-same source other cells cells' s.1 z.1)
+pub loads-same : {N : Type 0} (keeps : Bool) (source other : List Msg) (cells cells' : List (CellParts N)) → Each (SeesSame source other) cells → AllZip (LoadsFrom keeps other) cells cells' → AllZip (LoadsFrom keeps source) cells cells'
+loads-same keeps source other [] [] s z = tt
+loads-same keeps source other [] (d ∷ cells') s z = absurd z
+loads-same keeps source other (c ∷ cells) [] s z = absurd z
+loads-same keeps source other (c ∷ cells) (d ∷ cells') s z = (subst (λ (l : List Msg). Begins l keeps c d) (sym s.0) z.0, loads-same keeps source other cells cells' s.1 z.1)
 
 -- both ends of a list of cells, place by place
-module _ {N : Type 0} (source : List Msg) where
-  loads-in : (cells cells' : List (CellParts N)) (n m : ℕ) → AllZip (LoadsFrom source) cells cells' → Both InLoads (in_of cells n m) (in_of cells' n m)
+module _ {N : Type 0} (keeps : Bool) (source : List Msg) where
+  loads-in : (cells cells' : List (CellParts N)) (n m : ℕ) → AllZip (LoadsFrom keeps source) cells cells' → Both InLoads (in_of cells n m) (in_of cells' n m)
   loads-in [] [] n m z = tt
   loads-in [] (d ∷ cells') n m z = absurd z
   loads-in (c ∷ cells) [] n m z = absurd z
   loads-in (c ∷ cells) (d ∷ cells') zero m z = zip-both InLoads c.ins.items d.ins.items m z.0.ins
   loads-in (c ∷ cells) (d ∷ cells') (suc n) m z = loads-in cells cells' n m z.1
 
-  loads-out : (cells cells' : List (CellParts N)) (n m : ℕ) → AllZip (LoadsFrom source) cells cells' → Both OutLoads (out_of cells n m) (out_of cells' n m)
+  loads-out : (cells cells' : List (CellParts N)) (n m : ℕ) → AllZip (LoadsFrom keeps source) cells cells' → Both OutLoads (out_of cells n m) (out_of cells' n m)
   loads-out [] [] n m z = tt
   loads-out [] (d ∷ cells') n m z = absurd z
   loads-out (c ∷ cells) [] n m z = absurd z
   loads-out (c ∷ cells) (d ∷ cells') zero m z = zip-both OutLoads c.core.outs.items d.core.outs.items m z.0.outs
   loads-out (c ∷ cells) (d ∷ cells') (suc n) m z = loads-out cells cells' n m z.1
 
-  parents-loaded : (cells cells' : List (CellParts N)) → AllZip (LoadsFrom source) cells cells' → parents_of cells' ≡ parents_of cells
+  parents-loaded : (cells cells' : List (CellParts N)) → AllZip (LoadsFrom keeps source) cells cells' → parents_of cells' ≡ parents_of cells
   parents-loaded [] [] z = refl
   parents-loaded [] (d ∷ cells') z = absurd z
   parents-loaded (c ∷ cells) [] z = absurd z
   parents-loaded (c ∷ cells) (d ∷ cells') z = ap (λ (l : List ℕ). l ∷ parents_of cells') (froms-loaded c.ins.items d.ins.items z.0.ins) ∙ ap (λ (ls : List (List ℕ)). map (λ (e : InEdge). e.from) c.ins.items ∷ ls) (parents-loaded cells cells' z.1)
 
-  counts-loaded : (cells cells' : List (CellParts N)) → AllZip (LoadsFrom source) cells cells' → outs_of cells' ≡ outs_of cells
+  counts-loaded : (cells cells' : List (CellParts N)) → AllZip (LoadsFrom keeps source) cells cells' → outs_of cells' ≡ outs_of cells
   counts-loaded [] [] z = refl
   counts-loaded [] (d ∷ cells') z = absurd z
   counts-loaded (c ∷ cells) [] z = absurd z
   counts-loaded (c ∷ cells) (d ∷ cells') z = ap (λ (n : ℕ). n ∷ outs_of cells') (count-loaded c.core.outs.items d.core.outs.items z.0.outs) ∙ ap (λ (l : List ℕ). length c.core.outs.items ∷ l) (counts-loaded cells cells' z.1)
 
-  unspent-loaded : (cells cells' : List (CellParts N)) → AllZip (LoadsFrom source) cells cells' → Each IsUnspent cells → Each IsUnspent cells'
+  unspent-loaded : (cells cells' : List (CellParts N)) → AllZip (LoadsFrom keeps source) cells cells' → Each IsUnspent cells → Each IsUnspent cells'
   unspent-loaded [] [] z e = tt
   unspent-loaded [] (d ∷ cells') z e = absurd z
   unspent-loaded (c ∷ cells) [] z e = absurd z
   unspent-loaded (c ∷ cells) (d ∷ cells') z e = (z.0.spent ∙ e.0, unspent-loaded cells cells' z.1 e.1)
 
   -- the edges of cells that are quiet stay wired where a load begins
-  wired-loaded : (cells cells' : List (CellParts N)) → IsWired cells → AreQuiet cells → AllZip (LoadsFrom source) cells cells' → IsWired cells'
+  wired-loaded : (cells cells' : List (CellParts N)) → IsWired cells → AreQuiet cells → AllZip (LoadsFrom keeps source) cells cells' → IsWired cells'
   wired-loaded cells cells' w quiet z = record {
     ins = λ n m y at.
         let o : Other (λ x. InLoads x y) (in_of cells n m) = both-left InLoads (in_of cells n m) (in_of cells' n m) y (loads-in cells cells' n m z) at in
@@ -175,7 +175,7 @@ module _ {N : Type 0} (source : List Msg) where
   }
 
   -- nothing was sent or received since a load that begins
-  pub moves-loaded : (cells cells' : List (CellParts N)) → AllZip (LoadsFrom source) cells cells' → moves_of cells' ≡ 0
+  pub moves-loaded : (cells cells' : List (CellParts N)) → AllZip (LoadsFrom keeps source) cells cells' → moves_of cells' ≡ 0
   moves-loaded [] [] z = refl
   moves-loaded [] (d ∷ cells') z = absurd z
   moves-loaded (c ∷ cells) [] z = absurd z
@@ -202,24 +202,24 @@ module _ {N P S : Type 0} (g : Ghosts N P S) where
       })
 
   -- a load that began leaves cells that are ready
-  pub ready-loaded : (source : List Msg) (cells cells' : List (CellParts N)) → IsReady g cells → AreQuiet cells → Each (Keeps g) cells' → AllZip (LoadsFrom source) cells cells' → IsReady g cells'
-  ready-loaded source cells cells' r quiet keeps z = record {
+  pub ready-loaded : (does : Bool) (source : List Msg) (cells cells' : List (CellParts N)) → IsReady g cells → AreQuiet cells → Each (Keeps g) cells' → AllZip (LoadsFrom does source) cells cells' → IsReady g cells'
+  ready-loaded does source cells cells' r quiet keeps z = record {
     keeps = keeps;
-    unspent = unspent-loaded source cells cells' z r.unspent;
-    wired = wired-loaded source cells cells' r.wired quiet z;
+    unspent = unspent-loaded does source cells cells' z r.unspent;
+    wired = wired-loaded does source cells cells' r.wired quiet z;
   }
 
-  plan-loaded : (source : List Msg) (c d : CellParts N) → LoadsFrom source c d → plan_of g d ≡ plan_now g source c
-  plan-loaded source c d b = rw (b.node, b.passed, b.source, froms-loaded c.ins.items d.ins.items b.ins, befores-loaded c.ins.items d.ins.items b.ins) refl
+  plan-loaded : (source : List Msg) (c d : CellParts N) → LoadsFrom (has_inner source) source c d → plan_of g d ≡ plan_now g source c
+  plan-loaded source c d b = rw (b.node, b.passed, b.source, b.kept, froms-loaded c.ins.items d.ins.items b.ins, befores-loaded c.ins.items d.ins.items b.ins) refl
 
   -- each node begins in the state in which it is
-  pub plans-loaded : (source : List Msg) (cells cells' : List (CellParts N)) → AllZip (LoadsFrom source) cells cells' → plans_of g cells' ≡ map (plan_now g source) cells
+  pub plans-loaded : (source : List Msg) (cells cells' : List (CellParts N)) → AllZip (LoadsFrom (has_inner source) source) cells cells' → plans_of g cells' ≡ map (plan_now g source) cells
   plans-loaded source [] [] z = refl
   plans-loaded source [] (d ∷ cells') z = absurd z
   plans-loaded source (c ∷ cells) [] z = absurd z
   plans-loaded source (c ∷ cells) (d ∷ cells') z = ap (λ (p : Plan S). p ∷ plans_of g cells') (plan-loaded source c d z.0) ∙ ap (λ (ps : List (Plan S)). plan_now g source c ∷ ps) (plans-loaded source cells cells' z.1)
 
   -- a load with a barrier behind each point
-  pub loaded-closed : (source : List Msg) (cells cells' : List (CellParts N)) → IsClosed source → AllZip (LoadsFrom source) cells cells' → IsLoaded (plans_of g cells')
+  pub loaded-closed : (source : List Msg) (cells cells' : List (CellParts N)) → IsClosed source → AllZip (LoadsFrom (has_inner source) source) cells cells' → IsLoaded (plans_of g cells')
   loaded-closed source cells cells' closed z =
       subst IsLoaded (sym (plans-loaded source cells cells' z)) (record { barriers = barriers source; closed = all-closed source cells closed })

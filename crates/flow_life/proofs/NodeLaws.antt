@@ -1,5 +1,5 @@
 -- Moves, loads and gathering leave each node what it is, and each edge its room; moves leave what was gathered.
-use Rattle.std.proofs.Common.{◌≡◌, ℕ, ◌<◌, List, [], ◌∷◌, map, set, Some, refl, sym, ap, ◌∙◌, arith}
+use Rattle.std.proofs.Common.{Bool, ◌≡◌, ℕ, ◌<◌, List, [], ◌∷◌, map, set, Some, refl, sym, ap, ◌∙◌, arith}
 use Rattle.std.specs.Prelude.{slice_get}
 use Rattle.std.specs.List.{AllByRecursion as Each, AllZip}
 use Rattle.kap_base.specs.declared.items.Msg.{Msg}
@@ -79,8 +79,8 @@ module _ {N P S : Type 0} (g : Ghosts N P S) where
   specs-gathered (c ∷ cells) (d ∷ cells') z = ap (λ (n : N). g.spec n ∷ specs_of g cells') z.0.node ∙ ap (λ (ps : List P). g.spec c.core.node ∷ ps) (specs-gathered cells cells' z.1)
 
   -- and so does a load
-  pub specs-loaded : (source : List Msg) (cells cells' : List (CellParts N)) → Each (Keeps g) cells' → AllZip (LoadsFrom source) cells cells' → specs_of g cells' ≡ specs_of g cells
-  specs-loaded source [] [] keeps z = refl
-  specs-loaded source [] (d ∷ cells') keeps z = absurd z
-  specs-loaded source (c ∷ cells) [] keeps z = absurd z
-  specs-loaded source (c ∷ cells) (d ∷ cells') keeps z = ap (λ (p : P). p ∷ specs_of g cells') (keeps.0.at.spec ∙ ap g.spec z.0.node) ∙ ap (λ (ps : List P). g.spec c.core.node ∷ ps) (specs-loaded source cells cells' keeps.1 z.1)
+  pub specs-loaded : (does : Bool) (source : List Msg) (cells cells' : List (CellParts N)) → Each (Keeps g) cells' → AllZip (LoadsFrom does source) cells cells' → specs_of g cells' ≡ specs_of g cells
+  specs-loaded does source [] [] keeps z = refl
+  specs-loaded does source [] (d ∷ cells') keeps z = absurd z
+  specs-loaded does source (c ∷ cells) [] keeps z = absurd z
+  specs-loaded does source (c ∷ cells) (d ∷ cells') keeps z = ap (λ (p : P). p ∷ specs_of g cells') (keeps.0.at.spec ∙ ap g.spec z.0.node) ∙ ap (λ (ps : List P). g.spec c.core.node ∷ ps) (specs-loaded does source cells cells' keeps.1 z.1)

@@ -74,6 +74,8 @@ module _ {N : Type 0} where
     outs = refl;
     saved = refl;
     passed = refl;
+    clean = refl;
+    keeps = refl;
     buffer = refl;
     ins = refl;
     base = refl;

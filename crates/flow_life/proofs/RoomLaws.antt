@@ -1,5 +1,5 @@
 -- Moves, looks, loads and gathering leave the edges of a life the room that they have.
-use Rattle.std.proofs.Common.{◌≡◌, ℕ, List, [], ◌∷◌, ap, map, refl, ◌∙◌}
+use Rattle.std.proofs.Common.{◌≡◌, ℕ, Bool, List, [], ◌∷◌, ap, map, refl, ◌∙◌}
 use Rattle.std.specs.List.{AllZip}
 use Rattle.kap_base.specs.declared.items.Msg.{Msg}
 use Rattle.flow_cells.specs.declared.parts.CellParts.{CellParts}
@@ -31,5 +31,5 @@ module _ {N : Type 0} where
   rooms_gathered cells cells' z = same-rooms Gathers (λ c d h. ap (λ outs. map room outs.items) h.outs) cells cells' z
 
   -- cells whose load began
-  pub rooms_loaded : (source : List Msg) (cells cells' : List (CellParts N)) → AllZip (LoadsFrom source) cells cells' → rooms_of cells' ≡ rooms_of cells
-  rooms_loaded source cells cells' z = same-rooms (LoadsFrom source) (λ c d b. rooms_begun _ c d b) cells cells' z
+  pub rooms_loaded : (keeps : Bool) (source : List Msg) (cells cells' : List (CellParts N)) → AllZip (LoadsFrom keeps source) cells cells' → rooms_of cells' ≡ rooms_of cells
+  rooms_loaded keeps source cells cells' z = same-rooms (LoadsFrom keeps source) (λ c d b. rooms_begun _ keeps c d b) cells cells' z

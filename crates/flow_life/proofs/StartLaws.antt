@@ -16,7 +16,7 @@ use Rattle.flow_cells.specs.Looks.{IsQuiet, has_known}
 use Rattle.flow_cells.specs.Made.{HasNothing, IsNothing}
 use Rattle.flow_cells.specs.Outs.{has_unsent}
 use Rattle.flow_life.specs.Loads.{IsGathered}
-use Rattle.flow_life.specs.Making.{IsSaved}
+use Rattle.flow_life.specs.Making.{IsClean}
 use Rattle.flow_life.proofs.PlaceLaws.{CellOfOut, cell-of_out, each-get, each-of, in-at}
 use Rattle.flow_life.specs.Steps.{AreQuiet}
 use Rattle.flow_life.specs.Wired.{IsFed, IsReady}
@@ -35,7 +35,7 @@ empty-next : (l : List Msg) (ls : Lists) → l ≡ [] → next (l ∷ ls) ≡ No
 unfolding next
 empty-next l ls e = subst (λ (x : List Msg). next (x ∷ ls) ≡ None) (sym e) refl
 
-nothing-next : (ins : List InEdge) (source : List Msg) → Each IsNothing (received_of ins source) → next (received_of ins source) ≡ None
+pub nothing-next : (ins : List InEdge) (source : List Msg) → Each IsNothing (received_of ins source) → next (received_of ins source) ≡ None
 nothing-next [] source h = empty-next source [] h.0
 nothing-next (e ∷ ins) source h = empty-next (received e.head) (map (λ (i : InEdge). received i.head) ins) h.0
 
@@ -55,7 +55,7 @@ none-known (e ∷ ins) h = rw (h 0 e refl) (none-known ins (λ k x at. h (suc k)
 
 module _ {N P S : Type 0} (g : Ghosts N P S) where
   -- a cell that received nothing stands where it began
-  begun_at : (c : CellParts N) → Keeps g c → HasNothing c → IsAt g (g.spec c.base.value.node) (run_of g c.base.value []) c.core
+  pub begun_at : (c : CellParts N) → Keeps g c → HasNothing c → IsAt g (g.spec c.base.value.node) (run_of g c.base.value []) c.core
   begun_at c keeps nothing =
       let none : keeps.handled ≡ [] = merges-nothing (received_of c.ins.items c.source.value.items) c.buffer keeps.handled (nothing-next c.ins.items c.source.value.items nothing) keeps.merged in
       subst (λ (ms : List Entry). IsAt g (g.spec c.base.value.node) (run_of g c.base.value ms) c.core) none keeps.at
@@ -79,8 +79,6 @@ module _ {N P S : Type 0} (g : Ghosts N P S) where
     pub nothing-gathered : Each IsGathered cells
     nothing-gathered = each-of IsGathered cells (λ j c at. none-behind (gathered c.core.gathered) c.core.effects (begun-here j c at).effects)
 
-    -- the saved state is the state
-    pub nothing-saved : Each (IsSaved g) cells
-    nothing-saved = each-of (IsSaved g) cells (λ j c at.
-        let b = begun-here j c at in
-        b.saved ∙ sym (rw (b.spec, b.state) refl))
+    -- no item came since the last barrier
+    pub nothing-fed : Each IsClean cells
+    nothing-fed = each-of IsClean cells (λ j c at. (begun-here j c at).clean)

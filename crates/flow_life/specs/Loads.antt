@@ -1,7 +1,8 @@
 -- A load begins on the cells of a life.
-use Rattle.std.specs.Prelude.{◌≡◌, ◌<◌, false, List, [], ◌∷◌, length, map}
+use Rattle.std.specs.Prelude.{◌≡◌, ◌<◌, Bool, false, true, List, [], ◌∷◌, length, map}
 use Rattle.std.specs.List.{AllByRecursion as Each}
 use Rattle.kap_base.specs.declared.items.Msg.{Msg}
+use Rattle.kap_base.specs.declared.items.Msg.TheVariants as messages
 use Rattle.node_core.specs.declared.node.Node.{Ghosts}
 use Rattle.flow_cells.specs.declared.parts.InEdge.{InEdge}
 use Rattle.flow_cells.specs.declared.parts.CellParts.{CellParts}
@@ -22,9 +23,21 @@ HasInputs c = 0 < length c.ins.items
 abbrev pub SeesSame : {N : Type 0} → List Msg → List Msg → CellParts N → Type 0
 SeesSame source other c = own_of c.ins.items source ≡ own_of c.ins.items other
 
--- a load began on a cell
-abbrev pub LoadsFrom : {N : Type 0} → List Msg → CellParts N → CellParts N → Type 0
-LoadsFrom source c d = Begins (own_of c.ins.items source) c d
+-- a barrier stands among messages
+abbrev pub has_barrier : List Msg → Bool
+has_barrier [] = false
+has_barrier (messages.Item x ∷ source) = has_barrier source
+has_barrier (messages.Barrier b ∷ source) = true
+
+-- a barrier stands among them before the last one
+abbrev pub has_inner : List Msg → Bool
+has_inner [] = false
+has_inner (messages.Item x ∷ source) = has_inner source
+has_inner (messages.Barrier b ∷ source) = has_barrier source
+
+-- a load began on a cell, which is to keep the states at barriers or isn't
+abbrev pub LoadsFrom : {N : Type 0} → Bool → List Msg → CellParts N → CellParts N → Type 0
+LoadsFrom keeps source c d = Begins (own_of c.ins.items source) keeps c d
 
 -- nothing is left to do, to send or to gather
 pub record CanLoad {N : Type 0} (c : CellParts N) : Type 0 where
@@ -47,4 +60,5 @@ module _ {N P S : Type 0} (g : Ghosts N P S) where
     source = own_of c.ins.items source;
     parents = map (λ (e : InEdge). e.from) c.ins.items;
     carried = rings_of c.ins.items;
+    keeps = has_inner source;
   }

@@ -1,5 +1,5 @@
 -- A cell is added to a life, edge by edge.
-use Rattle.std.specs.Prelude.{◌≡◌, ℕ, ◌+◌, ◌⊎◌, List, [], Some, length, map, slice_get}
+use Rattle.std.specs.Prelude.{◌≡◌, ℕ, ◌+◌, ◌⊎◌, true, List, [], Some, length, map, slice_get}
 use Rattle.std.specs.List.{AllByRecursion as Each}
 use Rattle.node_core.specs.declared.node.Node.{Ghosts}
 use Rattle.edge_queue.specs.Edges.{ring_received}
@@ -44,11 +44,11 @@ pub record IsWiredWith {N : Type 0} (new : List InEdge) (cells : List (CellParts
   pub even : (f : ℕ → ℕ)
       → sum_of_all f (parents_of cells) + sum_of f (map (λ (e : InEdge). e.from) new) ≡ sum_by_out f 0 (outs_of cells)
 
-module _ {N P S : Type 0} (g : Ghosts N P S) where
-  -- the saved state of a cell is its state
-  abbrev pub IsSaved : CellParts N → Type 0
-  IsSaved c = c.core.saved ≡ g.spell (g.spec c.core.node) (g.state c.core.node)
+-- no item came to a cell since the last barrier
+abbrev pub IsClean : {N : Type 0} → CellParts N → Type 0
+IsClean c = c.core.clean ≡ true
 
+module _ {N P S : Type 0} (g : Ghosts N P S) where
   -- cells on which nothing was received since the load, with the inputs of the one that comes next
   pub record AreBlank (ins : List InEdge) (cells : List (CellParts N)) : Type 0 where
     pub keeps : Each (Keeps g) cells

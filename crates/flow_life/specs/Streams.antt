@@ -1,5 +1,5 @@
 -- What each node of a graph gives out in whole.
-use Rattle.std.specs.Prelude.{◌≡◌, ℕ, List, [], ◌∷◌, None, Some, length, map, slice_get, slice_index_or, take}
+use Rattle.std.specs.Prelude.{◌≡◌, ℕ, Bool, List, [], ◌∷◌, None, Some, length, map, slice_get, slice_index_or, take}
 use Rattle.std.specs.List.{AllZip}
 use mathlib.Core.List.{IsPrefix}
 use Rattle.kap_base.specs.declared.items.Msg.{Msg}
@@ -31,7 +31,7 @@ abbrev pub rings_of : List InEdge → List (List Msg)
 rings_of ins = map (λ (e : InEdge). ring_received e.head) ins
 
 -- a node at a load: its step, its state, the last barrier that it passed, the points and barriers of the load, its
--- parents, and what it had received from each of them before
+-- parents, what it had received from each of them before, and whether its states at barriers are to be kept
 pub record Plan (S : Type 0) : Type 0 where
   pub step : S → Input → Move S
   pub start : S
@@ -39,6 +39,7 @@ pub record Plan (S : Type 0) : Type 0 where
   pub source : List Msg
   pub parents : List ℕ
   pub carried : List (List Msg)
+  pub keeps : Bool
 
 -- how long the stream of a node is
 abbrev pub stream_length : List (List Msg) → ℕ → ℕ
@@ -81,6 +82,7 @@ module _ {N P S : Type 0} (g : Ghosts N P S) where
     source = c.source.value.items;
     parents = map (λ (e : InEdge). e.from) c.ins.items;
     carried = befores_of c.ins.items;
+    keeps = c.base.value.keeps;
   }
 
   -- the nodes of all cells

@@ -7,6 +7,7 @@ mod life;
 mod listing;
 mod loads;
 mod making;
+mod marks;
 mod moves;
 mod playing;
 mod sends;

@@ -7,7 +7,7 @@ ghost use Rattle.flow_cells.specs.Rooms.{HasRoom};
 ghost use Rattle.flow_cells.specs.declared.parts.InEdge.{InEdge};
 ghost use Rattle.flow_life.specs.Lives.{IsLife};
 ghost use Rattle.flow_life.specs.Loads.{IsGathered};
-ghost use Rattle.flow_life.specs.Making.{AreBlank, HasCarriedNothing, IsSaved, IsUntouched, nodes_of, passed_of};
+ghost use Rattle.flow_life.specs.Making.{AreBlank, HasCarriedNothing, IsClean, IsUntouched, nodes_of, passed_of};
 ghost use Rattle.flow_life.specs.Steps.{AreQuiet};
 ghost use Rattle.flow_life.specs.Wired.{parents_of};
 
@@ -98,7 +98,7 @@ pub(crate) fn add_cell<N: Node>(
         ≡ passed_of cells.old.items ++ passed.0 ∷ []) }
     ensures rest { OnOk result (AreQuiet cells.new.items) }
     ensures gathered { OnOk result (Each IsGathered cells.new.items) }
-    ensures saved { OnOk result (Each (IsSaved N.Node) cells.new.items) }
+    ensures clean { OnOk result (Each IsClean cells.new.items) }
     ensures carried { OnOk result (Each HasCarriedNothing cells.old.items
         → Each HasCarriedNothing cells.new.items) }
     ensures room { OnOk result (Each (HasRoom capacity) cells.old.items

@@ -19,7 +19,7 @@ pub use pace::{EFFECT_LIMIT, Pace, TEXT_LIMIT};
 pub use runs::NetRun;
 
 /// How many points an epoch has at most: so few that they stay in a processor's cache from their reading to
-/// their end, and so many that what each epoch costs besides, as the states that are saved at its end, is
+/// their end, and so many that what each epoch costs besides, as the threads that are started for it, is
 /// little a point.
 pub const EPOCH_LIMIT: usize = 1_280;
 

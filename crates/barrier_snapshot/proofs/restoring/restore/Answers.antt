@@ -3,8 +3,8 @@ use Rattle.state_code.specs.declared.fault.CodeFault.TheVariants.{At}
 use Rattle.barrier_snapshot.proofs.LifeLaws.{few_parents, same_place}
 use Rattle.barrier_snapshot.proofs.restoring.restore.Goals as goal
 
-pub make-requires-clause-few : goal.make-requires-clause-few
-make-requires-clause-few g c = few_parents g.N.Node c.args.plans.items c.in-Ok.loaded.items c.in-Ok.ensures.ok.same c.requires.few
+pub make_behind-requires-clause-few : goal.make_behind-requires-clause-few
+make_behind-requires-clause-few g c = few_parents g.N.Node c.args.plans.items c.in-Ok.loaded.items c.in-Ok.ensures.ok.same c.requires.few
 
 pub returns-in-Err-At-clause-named : goal.returns-in-Err-At-clause-named
 returns-in-Err-At-clause-named g c = λ offset e.

@@ -8,7 +8,7 @@ pub returns-clause-keeps : goal.returns-clause-keeps
 returns-clause-keeps g c =
     let cell = c.args.cell.now in
     let all = gathered c.note.new.before in
-    kept-gathered g.N.Node cell.base.value (received_of cell.ins.items cell.source.value.items) cell.buffer cell.core _ c.requires refl refl refl refl refl
+    kept-gathered g.N.Node cell.base.value (received_of cell.ins.items cell.source.value.items) cell.buffer cell.core _ c.requires refl refl refl refl refl refl
     (ap (λ (l : List Effect). all ++ l) c.take_all-effects.ensures.none ∙ append-nil all ∙ c.note.ensures)
 
 pub returns-clause-gathers : goal.returns-clause-gathers
@@ -19,6 +19,8 @@ returns-clause-gathers g c = record {
   outs = refl;
   saved = refl;
   passed = refl;
+  clean = refl;
+  keeps = refl;
   buffer = refl;
   ins = refl;
   base = refl;

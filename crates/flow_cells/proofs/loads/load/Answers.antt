@@ -23,9 +23,6 @@ handle_source-requires-clause-ports g c =
     let cell = c.args.cell.now in
     ports-of g.N.Node cell.base.value _ cell.buffer cell.core c.requires.keeps
 
-pub save_anew-requires : goal.save_anew-requires
-save_anew-requires g c = c.requires.keeps.at.clean
-
 pub returns-clause-keeps : goal.returns-clause-keeps
 returns-clause-keeps g c =
     let node = g.N.Node in
@@ -39,10 +36,10 @@ returns-clause-keeps g c =
       state = refl;
       outs = c.load_outs.ensures.given;
       effects = c.requires.gathered;
-      saved = c.in_ok-save_anew.ensures.saved;
-      fits = c.in_ok-save_anew.ensures.fits;
       passed = refl;
-      clean = λ _. (c.in_ok-save_anew.ensures.saved, c.in_ok-save_anew.ensures.fits);
+      clean = refl;
+      still = λ _. refl;
+      saved = λ _ is. absurd cc;
     }) in
     let handles : Handles node first buffer c.handle_source.new.core c.handle_source.new.buffer =
     subst (λ (x : Core g.row.N.Denot). Handles node x buffer c.handle_source.new.core c.handle_source.new.buffer) (sym c.of.ensures) c.in_ok-handle_source.ensures.handles in
@@ -61,6 +58,7 @@ returns-clause-begins g c = record {
   source = ap (λ v. v.items) c.of-2.ensures;
   node = ap (λ (x : Core g.row.N.Denot). x.node) c.of.ensures;
   passed = ap (λ (x : Core g.row.N.Denot). x.passed) c.of.ensures;
+  kept = ap (λ (x : Core g.row.N.Denot). x.keeps) c.of.ensures;
   ins = c.load_ins.ensures.loads;
   outs = loads-waits c.args.cell.now.core.outs.items c.load_outs.new.outs.items c.handle_source.new.core.outs.items c.load_outs.ensures.loads c.in_ok-handle_source.ensures.outs;
   gathered = ap gathered c.in_ok-handle_source.ensures.gathered;

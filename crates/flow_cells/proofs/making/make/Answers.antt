@@ -13,7 +13,7 @@ returns-clause-keeps g c =
     let parents : c.parents_of.result ≡ one_or_more (length ins) = c.parents_of.ensures ∙ ap (λ (es : List InEdge). one_or_more (length es)) c.deref.ensures.value in
     let buffer : c.in_ok-buffer.buffer ≡ replicate (one_or_more (length ins)) [] = c.in_ok-buffer.ensures ∙ ap (λ (n : ℕ). replicate n []) parents in
     let source : c.of-source.result.value.items ≡ [] = ap (λ v. v.items) c.of-source.ensures ∙ c.new-none.ensures.items in
-    made-keeps g.N.Node c.args.passed.0 c.args.node c.in_ok-core.core c.of-base.result.value ins c.of-source.result.value.items c.in_ok-buffer.buffer c.of-base.ensures c.in_ok-core.ensures
+    made-keeps g.N.Node c.args.passed.0 c.args.node c.make_core-core.result c.of-base.result.value ins c.of-source.result.value.items c.in_ok-buffer.buffer c.of-base.ensures c.make_core-core.ensures
     c.requires.fresh source buffer c.requires.ports
 
 pub returns-clause-nothing : goal.returns-clause-nothing

@@ -14,5 +14,5 @@ pub returns-then-is_clear-clause-handles : goal.returns-then-is_clear-clause-han
 returns-then-is_clear-clause-handles g c =
     let clear : c.args.buffer.now ≡ [] ∷ [] = c.is_clear.ensures.0 c.if-is_clear.true in
     on_ok_weaker c.react.result
-    (Handles-alone g.N.Node c.args.core.now c.react.new.self c.args.buffer.now c.args.input c.args.msg clear c.requires.within c.react.ensures.spec)
+    (Handles-alone g.N.Node c.args.core.now c.react.new.self c.args.buffer.now c.args.input c.args.msg clear c.requires.within c.react.ensures.spec c.react.ensures.keeps)
     c.react.ensures.reacts

@@ -33,7 +33,7 @@ handling-preserved g c =
     record {
       outs = zip-trans Waits Waits-trans _ c.handling.core.outs.items _ c.handling.invariant.outs c.in_ok-react.ensures.outs;
       handles = Handles-more g.N.Node c.args.core.now c.handling.core c.args.buffer.now c.handling.buffer c.next.new.self c.in-Some.parent c.in-Some.msg c.react.new.self
-          c.handling.invariant.handles t c.in_ok-react.ensures.spec c.in_ok-react.ensures.reacts;
+          c.handling.invariant.handles t c.in_ok-react.ensures.spec c.in_ok-react.ensures.keeps c.in_ok-react.ensures.reacts;
       parents = (next-less c.handling.buffer _ t).parents ∙ c.handling.invariant.parents;
       gathered = c.in_ok-react.ensures.gathered ∙ c.handling.invariant.gathered;
     }

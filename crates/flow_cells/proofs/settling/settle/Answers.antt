@@ -44,7 +44,7 @@ returns-clause-parent g c = λ keeps.
     let lt : edge.out < length outs = subst (λ (e : InEdge). e.out < length outs) (sym edge_is) (get-within outs r.edge.out r.out r.at_parent) in
     let new : OutEdge = record out { tail = c.settle.new.tail } in
     let eases : Eases out new = record { tail = c.settle.ensures.tail; unsent = refl; child = refl; input = refl } in
-    kept-outs g.N.Node cell.base.value _ cell.buffer cell.core _ keeps refl refl refl refl refl refl
+    kept-outs g.N.Node cell.base.value _ cell.buffer cell.core _ keeps refl refl refl refl refl refl refl
     (λ given all. given-set given outs edge.out out new lt (sym c.index_mut-out.ensures.value) eases all)
 
 pub returns-clause-child : goal.returns-clause-child
@@ -82,6 +82,6 @@ returns-clause-settles g c =
       settled = c.settle.ensures.settled;
       ins = refl;
       outs = refl;
-      of_parent = record { node = refl; gathered = refl; effects = refl; saved = refl; passed = refl; buffer = refl; ins = refl; base = refl; source = refl; spent = refl };
+      of_parent = record { node = refl; gathered = refl; effects = refl; saved = refl; passed = refl; clean = refl; keeps = refl; buffer = refl; ins = refl; base = refl; source = refl; spent = refl };
       of_child = record { core = refl; buffer = refl; base = refl; source = refl; spent = refl };
     }

@@ -10,4 +10,4 @@ load-requires-clause-own g c = subst (IsOwn c.args.cell.now.ins.items) (sym c.ne
 
 pub returns-clause-loads : goal.returns-clause-loads
 returns-clause-loads g c = on_ok_weaker c.load.result (λ b source.
-    loads-child source c.args.cell.now c.load.new.self c.requires.inputs (subst (λ (l : List Msg). Begins l c.args.cell.now c.load.new.self) c.new.ensures.items b)) c.load.ensures.begins
+    loads-child c.args.keeps source c.args.cell.now c.load.new.self c.requires.inputs (subst (λ (l : List Msg). Begins l c.args.keeps c.args.cell.now c.load.new.self) c.new.ensures.items b)) c.load.ensures.begins

@@ -6,4 +6,4 @@ pub load-requires-clause-own : goal.load-requires-clause-own
 load-requires-clause-own g c = all-own c.args.cell.now.ins.items c.args.source.items c.requires.none
 
 pub returns-clause-loads : goal.returns-clause-loads
-returns-clause-loads g c = on_ok_weaker c.load.result (loads-stream c.args.source.items c.args.cell.now c.load.new.self c.requires.none) c.load.ensures.begins
+returns-clause-loads g c = on_ok_weaker c.load.result (loads-stream c.args.keeps c.args.source.items c.args.cell.now c.load.new.self c.requires.none) c.load.ensures.begins

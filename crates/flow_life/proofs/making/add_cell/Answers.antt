@@ -13,7 +13,7 @@ use Rattle.flow_cells.specs.Made.{HasNothing}
 use Rattle.flow_cells.specs.Rooms.{HasRoom}
 use Rattle.flow_life.proofs.MakingLaws.{blank-first, holds-of, life-cell, map-push}
 use Rattle.flow_life.proofs.SplitLaws.{each-append}
-use Rattle.flow_life.proofs.StartLaws.{nothing-gathered, nothing-quiet, nothing-saved}
+use Rattle.flow_life.proofs.StartLaws.{nothing-fed, nothing-gathered, nothing-quiet}
 use Rattle.flow_life.proofs.making.add_cell.Given as given
 use Rattle.flow_life.proofs.making.add_cell.Goals as goal
 use Rattle.flow_life.proofs.making.add_cell.Goals.{In_ok-push}
@@ -102,10 +102,10 @@ returns-clause-gathered g c =
     let p = (goal.at.returns-clause-gathered g c).In_ok-push in
     nothing-gathered g.N.Node c.push.new.self.items (life g p).ready (nothing g p)
 
-pub returns-clause-saved : goal.returns-clause-saved
-returns-clause-saved g c =
-    let p = (goal.at.returns-clause-saved g c).In_ok-push in
-    nothing-saved g.N.Node c.push.new.self.items (life g p).ready (nothing g p)
+pub returns-clause-clean : goal.returns-clause-clean
+returns-clause-clean g c =
+    let p = (goal.at.returns-clause-clean g c).In_ok-push in
+    nothing-fed g.N.Node c.push.new.self.items (life g p).ready (nothing g p)
 
 pub returns-clause-carried : goal.returns-clause-carried
 returns-clause-carried g c = λ all.

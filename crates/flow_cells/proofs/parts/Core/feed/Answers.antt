@@ -1,8 +1,9 @@
-use Rattle.std.proofs.Common.{◌≡◌, ◌∙◌, ◌++◌, List, sym, ap, subst, append_assoc}
+use Rattle.std.proofs.Common.{◌≡◌, ◌∙◌, ◌++◌, List, sym, ap, refl, subst, append_assoc}
 use Rattle.std.specs.List.{AllByRecursion as Each}
 use Rattle.kap_base.specs.declared.items.Item.{Item}
 use Rattle.flow_cells.specs.Outs.{item_msgs}
 use Rattle.flow_cells.specs.Kept.{IsGiven, gathered}
+use Rattle.flow_cells.proofs.MoveLaws.{spelled_state}
 use Rattle.flow_cells.proofs.OutLaws.{given_by, waits_by}
 use Rattle.flow_cells.proofs.parts.Core.feed.Goals as goal
 
@@ -26,8 +27,8 @@ returns-clause-reacts g c = λ r at.
           ∙ sym (append_assoc (gathered core.gathered) core.effects (node.step (node.spec core.node) (node.state core.node) (c.args.parent, c.args.item)).given.effects)
           ∙ ap (λ l. l ++ (node.step (node.spec core.node) (node.state core.node) (c.args.parent, c.args.item)).given.effects) at.effects
           ∙ ap (λ s. r.effects ++ (node.step (node.spec core.node) s (c.args.parent, c.args.item)).given.effects) at.state;
-      saved = at.saved;
-      fits = at.fits;
       passed = at.passed;
-      clean = λ h. absurd cc;
+      clean = refl;
+      still = λ h. absurd cc;
+      saved = λ does _. spelled_state node (node.spec core.node) r core c.keep_state.new.saved at does (c.in_ok-keep_state.ensures.spelled does) c.in_ok-keep_state.ensures.same;
     }

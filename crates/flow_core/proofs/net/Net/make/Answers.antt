@@ -4,10 +4,10 @@ use Rattle.flow_core.proofs.PlanLaws.{lives_rest, lives_sound}
 use Rattle.flow_core.proofs.net.Net.make.Goals as goal
 
 pub invariant_of-result : goal.invariant_of-result
-invariant_of-result g c = λ _. lives_sound g.N.Node _ _ c.in_ok-lives_of.ensures.lives
+invariant_of-result g c = λ _. lives_sound g.N.Node 0 _ _ c.in_ok-lives_of.ensures.lives
 
 pub returns-clause-rest : goal.returns-clause-rest
-returns-clause-rest g c = lives_rest g.N.Node _ _ c.in_ok-lives_of.ensures.lives
+returns-clause-rest g c = lives_rest g.N.Node 0 _ _ c.in_ok-lives_of.ensures.lives
 
 pub returns-clause-new : goal.returns-clause-new
 returns-clause-new g c = λ first. record { lives = c.in_ok-lives_of.ensures.lives; first = first; gathered = c.new.ensures }
@@ -16,4 +16,4 @@ pub returns-clause-carried : goal.returns-clause-carried
 returns-clause-carried g c = λ first.
     new_carried g.N.Node g.met.N.Node.stamped g.met.N.Node.folds c.args.plans.items _
     (record { lives = c.in_ok-lives_of.ensures.lives; first = first; gathered = c.new.ensures }) refl
-    (lives_rest g.N.Node _ _ c.in_ok-lives_of.ensures.lives)
+    (lives_rest g.N.Node 0 _ _ c.in_ok-lives_of.ensures.lives)
