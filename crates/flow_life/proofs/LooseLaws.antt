@@ -155,6 +155,8 @@ module _ {N : Type 0} where
     effects = refl;
     saved = refl;
     passed = refl;
+    clean = refl;
+    keeps = refl;
     buffer = refl;
     base = refl;
     source = refl;
@@ -170,6 +172,8 @@ module _ {N : Type 0} where
     effects = q.effects ∙ p.effects;
     saved = q.saved ∙ p.saved;
     passed = q.passed ∙ p.passed;
+    clean = q.clean ∙ p.clean;
+    keeps = q.keeps ∙ p.keeps;
     buffer = q.buffer ∙ p.buffer;
     base = q.base ∙ p.base;
     source = q.source ∙ p.source;
@@ -187,6 +191,8 @@ module _ {N : Type 0} where
         effects = o.effects;
         saved = o.saved;
         passed = o.passed;
+        clean = o.clean;
+        keeps = o.keeps;
         buffer = o.buffer;
         base = o.base;
         source = o.source;
@@ -204,6 +210,8 @@ module _ {N : Type 0} where
         effects = ap (λ core. core.effects) o.core;
         saved = ap (λ core. core.saved) o.core;
         passed = ap (λ core. core.passed) o.core;
+        clean = ap (λ core. core.clean) o.core;
+        keeps = ap (λ core. core.keeps) o.core;
         buffer = o.buffer;
         base = o.base;
         source = o.source;

@@ -55,7 +55,7 @@ none-known (e ∷ ins) h = rw (h 0 e refl) (none-known ins (λ k x at. h (suc k)
 
 module _ {N P S : Type 0} (g : Ghosts N P S) where
   -- a cell that received nothing stands where it began
-  begun_at : (c : CellParts N) → Keeps g c → HasNothing c → IsAt g (g.spec c.base.value.node) (run_of g c.base.value []) c.core
+  pub begun_at : (c : CellParts N) → Keeps g c → HasNothing c → IsAt g (g.spec c.base.value.node) (run_of g c.base.value []) c.core
   begun_at c keeps nothing =
       let none : keeps.handled ≡ [] = merges-nothing (received_of c.ins.items c.source.value.items) c.buffer keeps.handled (nothing-next c.ins.items c.source.value.items nothing) keeps.merged in
       subst (λ (ms : List Entry). IsAt g (g.spec c.base.value.node) (run_of g c.base.value ms) c.core) none keeps.at

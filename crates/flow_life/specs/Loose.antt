@@ -58,6 +58,8 @@ pub record HasLooked {N : Type 0} (c d : CellParts N) : Type 0 where
   pub effects : d.core.effects ≡ c.core.effects
   pub saved : d.core.saved ≡ c.core.saved
   pub passed : d.core.passed ≡ c.core.passed
+  pub clean : d.core.clean ≡ c.core.clean
+  pub keeps : d.core.keeps ≡ c.core.keeps
   pub buffer : d.buffer ≡ c.buffer
   pub base : d.base ≡ c.base
   pub source : d.source ≡ c.source
