@@ -7,6 +7,7 @@ use Rattle.node_core.specs.declared.node.Node.{Ghosts}
 use Rattle.flow_cells.specs.declared.parts.CellParts.{CellParts}
 use Rattle.flow_cells.specs.Kept.{HasKept, Keeps}
 use Rattle.flow_life.proofs.PlaceLaws.{each-get, each-of}
+use Rattle.flow_life.proofs.SplitLaws.{each-append}
 use Rattle.flow_life.specs.Loads.{has_inner, plan_now}
 use Rattle.flow_life.specs.Streams.{Plan, plan_of, plans_of}
 use Rattle.flow_life.specs.Making.{IsClean, passed_of}
@@ -52,10 +53,6 @@ module _ {N P S : Type 0} (g : Ghosts N P S) where
       let b = other_at (plan_of g) (plan_now g msgs) cells before plans j c at in
       inr ((each-get (Keeps g) cells j c at keeps).keeps ∙ sym (ap (λ (p : Plan S). p.keeps) b.is) ∙ inner))
 
-  kept-both : (cells others : List (CellParts N)) → Each HasKept cells → Each HasKept others → Each HasKept (cells ++ others)
-  kept-both [] others p q = q
-  kept-both (c ∷ cells) others p q = (p.0, kept-both cells others p.1 q)
-
   -- where a load has barriers inside, the state of each cell at the last one that it has passed can be had
   pub loaded_kept : (msgs : List Msg) (before after : List (NumberedLife N)) → has_inner msgs ≡ true → AreLoadedWith g msgs before after → Each HasKept (cells_in after)
   loaded_kept msgs before after inner go = all after (each-of Kept after (λ i l at.
@@ -67,4 +64,4 @@ module _ {N P S : Type 0} (g : Ghosts N P S) where
 
       all : (ls : List (NumberedLife N)) → Each Kept ls → Each HasKept (cells_in ls)
       all [] k = tt
-      all (l ∷ ls) k = kept-both l.life.cells (cells_in ls) k.0 (all ls k.1)
+      all (l ∷ ls) k = each-append HasKept l.life.cells (cells_in ls) k.0 (all ls k.1)

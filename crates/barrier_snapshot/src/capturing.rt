@@ -5,7 +5,7 @@ ghost use Rattle.std.specs.List.{AllByRecursion as Each};
 ghost use Rattle.flow_cells.specs.Kept.{HasKept};
 ghost use Rattle.flow_cells.specs.declared.parts.CellParts.{CellParts};
 ghost use Rattle.flow_life.specs.Wired.{IsUnspent};
-ghost use Rattle.flow_core.specs.Nets.{IsSound};
+ghost use Rattle.flow_core.specs.Nets.{IsLifeIn, IsSound};
 ghost use Rattle.barrier_snapshot.specs.Barriers.{HavePassed, IsCaptureAt, cells_in};
 ghost use Rattle.barrier_snapshot.specs.Capturing.{PutsCells};
 
@@ -39,23 +39,24 @@ fn put_lives<N: Node>(
     room: &mut Bytes,
     to: &mut Bytes,
 ) -> Result<(), NoMemory>
-    requires sound { Each IsSound lives.now }
+    requires lives { Each (IsLifeIn N.Node) lives.now }
     requires kept { Each HasKept (cells_in lives.now) }
     ensures { OnOk result (PutsCells N.Node (cells_in lives.now) to.old to.new) }
 {
     if let Some((first, others)) = lives.split_first() {
-        first.life.keeps();
         put_cells(first.life.all_cells(), room, to)?;
         put_lives(others, room, to)?;
     }
     Ok(())
 }
 
-/// How many cells lives have. `None` comes exactly where they are 2^32 or more.
+/// How many cells lives have, of which no call failed. `None` comes exactly where they are 2^32 or more.
 fn count<N: Node>(lives: &[Numbered<Life<N>>]) -> Option<u32>
+    requires { Each IsSound lives.now }
     ensures count { MatchOption result (2 ^ 32 ≤ length (cells_in lives.now))
         (λ count. count ≡ length (cells_in lives.now)) }
     ensures below { IfSome result (λ count. count < 2 ^ 32) }
+    ensures lives { IfSome result (λ count. Each (IsLifeIn N.Node) lives.now) }
 {
     let Some((first, others)) = lives.split_first() else {
         return Some(0);
@@ -76,7 +77,8 @@ fn count<N: Node>(lives: &[Numbered<Life<N>>]) -> Option<u32>
 pub fn capture<N: Node>(alloc: Global, net: &Net<N>, upto: Stamp) -> Result<Bytes, NoMemory>
     requires unspent { net.now.spent ≡ false }
     requires passed { HavePassed N.Node upto (cells_in net.now.lives) }
-    ensures { IfOk result (IsCaptureAt N.Node upto (cells_in net.now.lives)) }
+    ensures capture { IfOk result (IsCaptureAt N.Node upto (cells_in net.now.lives)) }
+    ensures lives { OnOk result (Each (IsLifeIn N.Node) net.now.lives) }
 {
     let _ = upto;
     let lives = net.lives();

@@ -4,7 +4,6 @@
 
 mod capturing;
 mod fault;
-mod keeping;
 mod laws;
 mod loading;
 mod passing;
@@ -13,7 +12,6 @@ mod snapshots;
 
 pub use capturing::capture;
 pub use fault::SnapFault;
-pub use keeping::keep_lives;
 pub use laws::{
     captures_are_restored, cells_go_on, faults_have_places, lives_are_planned, lives_stand,
     nets_collect_alike, nets_go_on, states_are_kept, streams_are_steady,

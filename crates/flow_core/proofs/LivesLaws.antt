@@ -174,6 +174,22 @@ module _ {N P S : Type 0} (g : Ghosts N P S) where
       let sounds : Each IsSound (l ∷ others) = subst (λ (ls : List (NumberedLife N)). Each IsSound ls) is sound in
       subst (λ (ls : List (NumberedLife N)). Each (IsLifeIn g) ls) (sym is) (keeps sounds.0.unspent, rest)
 
+  -- and so where that is known of the others as far as no call on them failed
+  pub lives_behind : (lives : List (NumberedLife N)) (l : NumberedLife N) (others : List (NumberedLife N)) → lives ≡ l ∷ others → (l.life.spent ≡ false → IsLife g l.life.cells)
+      → (Each IsSound others → Each (IsLifeIn g) others) → Each IsSound lives → Each (IsLifeIn g) lives
+  lives_behind lives l others is keeps rest sound =
+      lives_more lives l others is sound keeps (rest (subst (λ (ls : List (NumberedLife N)). Each IsSound ls) is sound).1)
+
+  -- where the first life moved
+  pub kept_here : (lives : List (NumberedLife N)) (l l' : NumberedLife N) (others : List (NumberedLife N)) → lives ≡ l ∷ others → IsLifeIn g l' → Each (IsLifeIn g) lives → Each (IsLifeIn g) (l' ∷ others)
+  kept_here lives l l' others is keeps all = (keeps, (subst (λ (ls : List (NumberedLife N)). Each (IsLifeIn g) ls) is all).1)
+
+  -- and where one of the others did
+  pub kept_behind : (lives : List (NumberedLife N)) (l : NumberedLife N) (others others' : List (NumberedLife N)) → lives ≡ l ∷ others → (Each (IsLifeIn g) others → Each (IsLifeIn g) others') → Each (IsLifeIn g) lives → Each (IsLifeIn g) (l ∷ others')
+  kept_behind lives l others others' is keeps all =
+      let split : Each (IsLifeIn g) (l ∷ others) = subst (λ (ls : List (NumberedLife N)). Each (IsLifeIn g) ls) is all in
+      (split.0, keeps split.1)
+
   -- what a life keeps says that its edges have carried prefixes
   pub prefixes_more : (lives : List (NumberedLife N)) (l : NumberedLife N) (others : List (NumberedLife N)) → lives ≡ l ∷ others → Each IsSound lives → (l.life.spent ≡ false → IsLife g l.life.cells) → Each (HasPrefixes g) others → Each (HasPrefixes g) lives
   prefixes_more lives l others is sound keeps rest =

@@ -1,6 +1,6 @@
 -- All steps of lives, which of them can be made, and what lives and their net keep while steps are made.
 use Rattle.std.specs.Prelude.{◌≡◌, ℕ, ◌+◌, ◌≤◌, List, [], ◌∷◌, ◌++◌, length, map}
-use Rattle.std.specs.List.{All}
+use Rattle.std.specs.List.{All, AllByRecursion as Each}
 use Rattle.kap_base.specs.declared.items.Effect.{Effect}
 use Rattle.node_core.specs.declared.node.Node.{Ghosts}
 use Rattle.flow_life.specs.declared.steps.Step.{Step}
@@ -8,7 +8,7 @@ use Rattle.flow_life.specs.Left.{left_of}
 use Rattle.flow_life.specs.Listing.{ends_of, steps_from}
 use Rattle.task_run.specs.Graphs.{Placed}
 use Rattle.kap_base.specs.Points.{PointValue}
-use Rattle.flow_core.specs.Nets.{EnabledIn, NetValue, NumberedLife, numbers_of, plans_in, specs_in}
+use Rattle.flow_core.specs.Nets.{EnabledIn, IsLifeIn, NetValue, NumberedLife, numbers_of, plans_in, specs_in}
 use Rattle.flow_core.specs.Ran.{GathersAll, HasRun, effects_in}
 use Rattle.flow_core.specs.Rooms.{rooms_in}
 
@@ -46,7 +46,8 @@ module _ {N P S : Type 0} (g : Ghosts N P S) where
   left_in [] = 0
   left_in (l ∷ lives) = left_of g l.life.cells + left_in lives
 
-  -- some steps were made, or none: lives, nodes and edges stay, and what was done more is gathered
+  -- some steps were made, or none: lives, nodes and edges stay, cells keep what those of a life keep, and what was done
+  -- more is gathered
   pub record GoesOn (lives lives' : List (NumberedLife N)) (gathered gathered' : List Effect) : Type 0 where
     pub numbers : numbers_of lives' ≡ numbers_of lives
     pub plans : plans_in g lives' ≡ plans_in g lives
@@ -54,6 +55,7 @@ module _ {N P S : Type 0} (g : Ghosts N P S) where
     pub rooms : rooms_in lives' ≡ rooms_in lives
     pub ends : ends_in lives' ≡ ends_in lives
     pub left : left_in lives' ≤ left_in lives
+    pub lives : Each (IsLifeIn g) lives → Each (IsLifeIn g) lives'
     pub gathers : GathersAll (effects_in lives) (effects_in lives') gathered gathered'
 
   -- A net in which some moves were made, or none: its lives with their numbers, nodes, edges and steps stay, and so do

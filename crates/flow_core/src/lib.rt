@@ -17,6 +17,6 @@ pub use gathering::sort_effects;
 pub use laws::{
     effects_are_gathered, lives_go_on, loads_go_on, loads_have_messages, sorted_effects_are_whole,
 };
-pub use lives::{Numbered, keep_lives};
+pub use lives::Numbered;
 pub use loads::messages;
 pub use net::Net;

@@ -1,6 +1,8 @@
 //! The steps of lives, in order.
 
 ghost use Rattle.std.specs.Prelude.{◌≡◌, ◌++◌, [], IfOk, OnOk};
+ghost use Rattle.std.specs.List.{AllByRecursion as Each};
+ghost use Rattle.flow_core.specs.Nets.{IsLifeIn, IsSound};
 ghost use Rattle.flow_core.specs.Running.{ends_in, steps_of, steps_onward};
 
 use crate::lives::Numbered;
@@ -15,7 +17,9 @@ fn list_onward<N: Node>(
     from: usize,
     to: &mut Vec<Step>,
 ) -> Result<(), NoMemory>
-    ensures { OnOk result (to.new.items ≡ to.old.items ++ steps_onward from (ends_in lives.now)) }
+    ensures steps { OnOk result (to.new.items
+        ≡ to.old.items ++ steps_onward from (ends_in lives.now)) }
+    ensures lives { OnOk result (Each IsSound lives.now → Each (IsLifeIn N.Node) lives.now) }
 {
     let Some((first, others)) = lives.split_first() else {
         return Ok(());
@@ -32,7 +36,8 @@ pub(crate) fn list_steps<N: Node>(
     alloc: Global,
     lives: &[Numbered<Life<N>>],
 ) -> Result<Vec<Step>, NoMemory>
-    ensures { IfOk result (λ steps. steps.items ≡ steps_of lives.now) }
+    ensures steps { IfOk result (λ steps. steps.items ≡ steps_of lives.now) }
+    ensures lives { OnOk result (Each IsSound lives.now → Each (IsLifeIn N.Node) lives.now) }
 {
     let mut steps = Vec::new(alloc);
     list_onward(lives, 0, &mut steps)?;

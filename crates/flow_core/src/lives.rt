@@ -71,6 +71,7 @@ fn step_life<N: Node>(
     requires sound { IsSound life.old }
     requires cell { cell_of next < length life.old.life.cells }
     ensures number { life.new.number ≡ life.old.number }
+    ensures life { OnOk result (IsLifeIn N.Node life.new) }
     ensures sound { OnOk result (IsSound life.new) }
     ensures plans { OnOk result
         (plans_of N.Node life.new.life.cells ≡ plans_of N.Node life.old.life.cells) }
@@ -109,6 +110,8 @@ pub(crate) fn step<N: Node>(
     requires { Each IsSound lives.old }
     ensures numbers { numbers_of lives.new ≡ numbers_of lives.old }
     ensures sound { OnOk result (Each IsSound lives.new) }
+    ensures lives { OnOk result (Each (IsLifeIn N.Node) lives.old
+        → Each (IsLifeIn N.Node) lives.new) }
     ensures plans { OnOk result (plans_in N.Node lives.new ≡ plans_in N.Node lives.old) }
     ensures specs { OnOk result (specs_in N.Node lives.new ≡ specs_in N.Node lives.old) }
     ensures rooms { OnOk result (rooms_in lives.new ≡ rooms_in lives.old) }
@@ -136,6 +139,7 @@ pub(crate) fn step<N: Node>(
 /// Whether nothing is left to do in any life.
 pub(crate) fn at_rest<N: Node>(lives: &[Numbered<Life<N>>]) -> bool
     requires { Each IsSound lives.now }
+    ensures lives { IsTrue result → Each (IsLifeIn N.Node) lives.now }
     ensures rest { IsTrue result → Each IsResting lives.now }
     ensures busy { IsFalse result → Each IsResting lives.now → ⊥ }
     ensures streams { IsTrue result → Each (HasStreamsCarried N.Node) lives.now }
@@ -154,7 +158,7 @@ pub(crate) fn at_rest<N: Node>(lives: &[Numbered<Life<N>>]) -> bool
 
 /// What the cells of lives keep, of which no call failed: among it that each edge has carried a prefix of its
 /// stream.
-pub fn keep_lives<N: Node>(lives: &[Numbered<Life<N>>])
+pub(crate) fn keep_lives<N: Node>(lives: &[Numbered<Life<N>>])
     requires { Each IsSound lives.now }
     ensures lives { Each (IsLifeIn N.Node) lives.now }
     ensures prefixes { Each (HasPrefixes N.Node) lives.now }
@@ -175,6 +179,7 @@ fn load_life<N: Node>(
     requires sound { IsSound life.old }
     requires rest { IsResting life.old }
     requires closed { IsClosed source.items }
+    ensures kept { IsLifeIn N.Node life.old }
     ensures number { life.new.number ≡ life.old.number }
     ensures sound { OnOk result (IsSound life.new) }
     ensures plans { OnOk result (plans_of N.Node life.new.life.cells
@@ -203,6 +208,7 @@ pub(crate) fn load<N: Node>(
     requires sound { Each IsSound lives.old }
     requires rest { Each IsResting lives.old }
     requires closed { IsClosed source.items }
+    ensures kept { OnOk result (Each (IsLifeIn N.Node) lives.old) }
     ensures numbers { numbers_of lives.new ≡ numbers_of lives.old }
     ensures sound { OnOk result (Each IsSound lives.new) }
     ensures plans { OnOk result (plans_in N.Node lives.new

@@ -238,7 +238,6 @@ impl<N: Node> Net<N> {
         ensures unspent { OnOk result (self.new.spent ≡ false) }
         ensures spent { OnErr result (self.new.spent ≡ true) }
     {
-        keep_lives(&self.lives);
         self.spent = true;
         let source = messages(alloc, points, upto, marks)?;
         load(alloc, &mut self.lives, source, &mut self.gathered)?;
@@ -347,7 +346,6 @@ impl<N: Node> Net<N> {
         ensures none { IsTrue result → left_in N.Node self.now.lives ≡ 0 }
         ensures alive { IsFalse result → SomeEnabledIn self.now.lives }
     {
-        keep_lives(&self.lives);
         at_rest(&self.lives)
     }
 
@@ -389,10 +387,11 @@ impl<N: Node> Net<N> {
         Ok(())
     }
 
-    /// What each edge has carried is a prefix of its stream.
+    /// What the cells of each life keep: among it that what each edge has carried is a prefix of its stream.
     pub fn keeps(&self)
         requires { self.now.spent ≡ false }
-        ensures { Each (HasPrefixes N.Node) self.now.lives }
+        ensures lives { Each (IsLifeIn N.Node) self.now.lives }
+        ensures prefixes { Each (HasPrefixes N.Node) self.now.lives }
     {
         keep_lives(&self.lives);
     }
@@ -446,7 +445,6 @@ impl<N: Node> Net<N> {
             → HasRun N.Node lives points collected self.now
             → counts ≡ dropped_of N.answer lives points) }
     {
-        keep_lives(&self.lives);
         counts_of(alloc, &self.lives)
     }
 

@@ -6,7 +6,7 @@ ghost use Rattle.flow_core.specs.Nets.{IsLifeIn, IsResting, IsSound};
 ghost use Rattle.flow_core.specs.Running.{AreOff, GoesOn, IsOff, SameEnabledIn, left_in};
 
 use crate::listing::list_steps;
-use crate::lives::{Numbered, cell_of, keep_lives, step};
+use crate::lives::{Numbered, cell_of, step};
 use flow_life::{Life, Step};
 use kap_base::NoMemory;
 use node_core::{Effects, Node};
@@ -189,7 +189,6 @@ pub(crate) fn play_by<N: Node>(
 {
     let steps = list_steps(alloc, lives)?;
     play_turns(alloc, lives, &steps, number, gathered)?;
-    keep_lives(lives);
     Ok(())
 }
 
@@ -207,6 +206,5 @@ pub(crate) fn run<N: Node>(
 {
     let steps = list_steps(alloc, lives)?;
     run_passes(alloc, lives, &steps, gathered)?;
-    keep_lives(lives);
     Ok(())
 }

@@ -129,6 +129,7 @@ impl<N: Node> Life<N> {
     /// life is spent.
     pub fn step(&mut self, alloc: Global, next: Step) -> Result<bool, NoMemory>
         requires { self.old.spent ≡ false }
+        ensures life { OnOk result (IsLife N.Node self.new.cells) }
         ensures prefixes { OnOk result (CarriesPrefixes N.Node self.new.cells) }
         ensures plans { OnOk result (plans_of N.Node self.new.cells
             ≡ plans_of N.Node self.old.cells) }
@@ -193,6 +194,7 @@ impl<N: Node> Life<N> {
     /// where it is so, each edge has carried its stream.
     pub fn at_rest(&self) -> bool
         requires { self.now.spent ≡ false }
+        ensures life { IsLife N.Node self.now.cells }
         ensures rest { IsTrue result → AreQuiet self.now.cells }
         ensures busy { IsFalse result → AreQuiet self.now.cells → ⊥ }
         ensures empty { IsTrue result → Each HasEmptyBuffers self.now.cells }
@@ -216,6 +218,7 @@ impl<N: Node> Life<N> {
         requires rest { AreQuiet self.old.cells }
         requires gathered { Each IsGathered self.old.cells }
         requires closed { IsClosed source.items }
+        ensures kept { IsLife N.Node self.old.cells }
         ensures loads { OnOk result (AllZip (LoadsFrom (has_inner source.items) source.items)
             self.old.cells self.new.cells) }
         ensures plans { OnOk result (plans_of N.Node self.new.cells
@@ -272,6 +275,7 @@ impl<N: Node> Life<N> {
         requires unspent { self.old.spent ≡ false }
         requires cell { cell < length self.old.cells }
         requires others { IsGatheredBut cell self.old.cells }
+        ensures life { OnOk result (IsLife N.Node self.new.cells) }
         ensures gathers { OnOk result (AllZip Gathers self.old.cells self.new.cells) }
         ensures gathered { OnOk result (Each IsGathered self.new.cells) }
         ensures plans { OnOk result (plans_of N.Node self.new.cells
@@ -353,7 +357,8 @@ impl<N: Node> Life<N> {
 
     /// How many cells it has.
     pub fn cells(&self) -> usize
-        ensures { result ≡ length self.now.cells }
+        ensures count { result ≡ length self.now.cells }
+        ensures life { self.now.spent ≡ false → IsLife N.Node self.now.cells }
     {
         self.cells.len()
     }

@@ -18,7 +18,7 @@ use crate::nets::{put, take};
 use crate::points::{check_effects, three_points};
 use crate::taps::{TapNode, plan_of_taps};
 use barrier_snapshot::{
-    capture, has_passed, has_passed_inside, keep_lives, lives_are_planned, lives_stand,
+    capture, has_passed, has_passed_inside, lives_are_planned, lives_stand,
     nets_collect_alike, nets_go_on, restore, streams_are_steady,
 };
 use flow_core::{Net, effects_are_gathered, loads_have_messages, sorted_effects_are_whole};
@@ -100,21 +100,18 @@ fn goes_on<N: Node>(
     let mut net = Net::make(alloc, plans, 1)?;
     net.load(alloc, points, last, &[mark])?;
     net.play(alloc, steps)?;
-    keep_lives(&net);
     if !has_passed_inside(&net, mark) {
         return Ok(None);
     }
     let bytes = capture(alloc, &net, mark)?;
     net.run(alloc)?;
-    keep_lives(&net);
     let plans = Vec::from_array(alloc, [again])?;
-    let Ok(mut other) = restore(alloc, plans, 1, bytes.as_slice()) else {
+    let Ok(mut other) = restore(alloc, plans, 1, bytes.as_slice(), mark) else {
         return Ok(None);
     };
     let (_, behind) = points.split_at(cut);
     other.load(alloc, behind, last, &[])?;
     other.run(alloc)?;
-    keep_lives(&other);
     Ok(Some((net, other)))
 }
 
@@ -151,7 +148,6 @@ fn goes_on_at_rest<N: Node>(
     let mut net = Net::make(alloc, plans, 1)?;
     net.load(alloc, points, last, &[])?;
     net.run(alloc)?;
-    keep_lives(&net);
     if !has_passed(&net, last) {
         return Ok(None);
     }
@@ -159,14 +155,12 @@ fn goes_on_at_rest<N: Node>(
     let before = net.collect(alloc);
     net.load(alloc, more, end, &[])?;
     net.run(alloc)?;
-    keep_lives(&net);
     let plans = Vec::from_array(alloc, [again])?;
-    let Ok(mut other) = restore(alloc, plans, 1, bytes.as_slice()) else {
+    let Ok(mut other) = restore(alloc, plans, 1, bytes.as_slice(), last) else {
         return Ok(None);
     };
     other.load(alloc, more, end, &[])?;
     other.run(alloc)?;
-    keep_lives(&other);
     Ok(Some((net, other, before)))
 }
 

@@ -10,4 +10,4 @@ returns-then-cell-cells g t c = λ parts has.
 pub returns : goal.returns
 returns g t c = λ parts has.
     let le : c.cells-cells.result ≤ c.args.cell = omega arith in
-    c.dropped-2.ensures parts (cell_after _ _ _ c.args.cell _ parts c.in-Some.ensures.cases.0 c.cells-cells.ensures le has)
+    c.dropped-2.ensures parts (cell_after _ _ _ c.args.cell _ parts c.in-Some.ensures.cases.0 c.cells-cells.ensures.count le has)

@@ -2,7 +2,7 @@ use Rattle.std.proofs.Common.{◌<◌, ◌≤◌, length, arith}
 use Rattle.flow_core.proofs.DoneLaws.{gathers_none, lives_behind, lives_here}
 use Rattle.kap_base.proofs.ResultLaws.{on_ok}
 use Rattle.flow_core.specs.Nets.{cell_of}
-use Rattle.flow_core.proofs.LivesLaws.{enabled_behind, enabled_here, grows_behind, grows_here, if_ok, if_ok_with, never_here}
+use Rattle.flow_core.proofs.LivesLaws.{enabled_behind, enabled_here, grows_behind, grows_here, if_ok, if_ok_with, kept_behind, kept_here, never_here}
 use Rattle.flow_core.proofs.RunningLaws.{same_behind, same_here}
 use Rattle.flow_core.proofs.lives.+step.Goals as goal
 
@@ -23,12 +23,12 @@ returns-then-cell_of-cells-clause-grows g t c =
 pub returns-clause-yes : goal.returns-clause-yes
 returns-clause-yes g t c =
     let le : c.cells-cells.result ≤ cell_of c.args.next = omega arith in
-    if_ok c.step.result (λ made yes true'. enabled_behind _ _ _ c.args.next _ _ c.in-Some.ensures.cases.0 c.cells-cells.ensures c.step_behind.ensures le (yes true')) c.step.ensures.yes
+    if_ok c.step.result (λ made yes true'. enabled_behind _ _ _ c.args.next _ _ c.in-Some.ensures.cases.0 c.cells-cells.ensures.count c.step_behind.ensures le (yes true')) c.step.ensures.yes
 
 pub returns-clause-grows : goal.returns-clause-grows
 returns-clause-grows g t c =
     let le : c.cells-cells.result ≤ cell_of c.args.next = omega arith in
-    if_ok c.step.result (λ made grows true'. grows_behind _ _ _ _ c.args.next _ _ c.in-Some.ensures.cases.0 c.cells-cells.ensures c.step_behind.ensures le (grows true')) c.step.ensures.grows
+    if_ok c.step.result (λ made grows true'. grows_behind _ _ _ _ c.args.next _ _ c.in-Some.ensures.cases.0 c.cells-cells.ensures.count c.step_behind.ensures le (grows true')) c.step.ensures.grows
 
 pub returns-in_default-clause-gathers : goal.returns-in_default-clause-gathers
 returns-in_default-clause-gathers g t c = gathers_none _ _
@@ -44,3 +44,9 @@ returns-then-cell_of-cells-clause-still g t c = if_ok_with c.step_life.result (�
 
 pub returns-clause-still : goal.returns-clause-still
 returns-clause-still g t c = if_ok c.step.result (λ made same none. same_behind _ _ _ _ c.in-Some.ensures.cases.0 (same none)) c.step.ensures.still
+
+pub returns-then-cell_of-cells-clause-lives : goal.returns-then-cell_of-cells-clause-lives
+returns-then-cell_of-cells-clause-lives g t c = on_ok c.step_life.result (kept_here g.N.Node _ _ _ _ c.in-Some.ensures.cases.0) c.step_life.ensures.life
+
+pub returns-clause-lives : goal.returns-clause-lives
+returns-clause-lives g t c = on_ok c.step.result (kept_behind g.N.Node _ _ _ _ c.in-Some.ensures.cases.0) c.step.ensures.lives

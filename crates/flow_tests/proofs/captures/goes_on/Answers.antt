@@ -55,22 +55,22 @@ returns-clause-behind g c =
     let stop : AreLoadedWith node msgs made c.play.new.self.lives = record {
       plans = c.in_ok-play.ensures.goes.plans ∙ loaded;
       specs = c.in_ok-play.ensures.goes.specs ∙ c.in_ok-load.ensures.specs;
-      lives = c.keep_lives.ensures;
+      lives = c.in_ok-bytes.ensures.lives;
     } in
     let rest : AreLoadedWith node msgs made c.run.new.self.lives = record {
       plans = c.in_ok-run.ensures.goes.plans ∙ c.in_ok-play.ensures.goes.plans ∙ loaded;
       specs = c.in_ok-run.ensures.goes.specs ∙ c.in_ok-play.ensures.goes.specs ∙ c.in_ok-load.ensures.specs;
-      lives = c.keep_lives-2.ensures;
+      lives = c.in_ok-run.ensures.whole.kept;
     } in
     let go : AreLoadedWith node (load_messages back last []) c.in-Ok.other.lives c.run-2.new.self.lives = record {
       plans = c.in_ok-run-2.ensures.goes.plans ∙ c.in_ok-load-2.ensures.plans ∙ ap (λ l. plans_from node (load_messages l last []) c.in-Ok.other.lives) c.split_at.ensures.back;
       specs = c.in_ok-run-2.ensures.goes.specs ∙ c.in_ok-load-2.ensures.specs;
-      lives = c.keep_lives-3.ensures;
+      lives = c.in_ok-run-2.ensures.whole.kept;
     } in
-    let restores = subst (λ plans. Restores node plans c.as_slice.result.now c.in-Ok.other) c.in_ok-plans-2.ensures.items c.in-Ok.ensures.restores in
-    let capture = subst (λ bytes. IsCaptureAt node mark (cells_in c.play.new.self.lives) bytes) (sym c.as_slice.ensures) c.in_ok-bytes.ensures in
+    let restores = subst (λ plans. Restores node plans mark c.as_slice.result.now c.in-Ok.other) c.in_ok-plans-2.ensures.items c.in-Ok.ensures.restores in
+    let capture = subst (λ bytes. IsCaptureAt node mark (cells_in c.play.new.self.lives) bytes) (sym c.as_slice.ensures) c.in_ok-bytes.ensures.capture in
     let planned = c.lives_are_planned.ensures.loaded msgs again made c.play.new.self.lives (c.lives_are_planned.ensures.made first again made are (c.requires.same, tt)) stop in
-    c.nets_go_on.ensures.behind 0 front back mark last [] [] again c.as_slice.result.now made c.play.new.self.lives c.run.new.self.lives c.in-Ok.other c.run-2.new.self.lives
+    c.nets_go_on.ensures.behind 0 front back mark last [] [] again mark c.as_slice.result.now made c.play.new.self.lives c.run.new.self.lives c.in-Ok.other c.run-2.new.self.lives
     (omega (arith, long, end)) (omega (arith, behind, at, end)) (omega (arith, long, some, at, end), omega (arith, inside, at, end), tt)
     stands stop rest c.in_ok-run.ensures.rest capture planned restores go c.in_ok-run-2.ensures.rest
 

@@ -23,23 +23,23 @@ returns-clause-same g c =
     let stop : AreLoadedWith node msgs made c.run.new.self.lives = record {
       plans = c.in_ok-run.ensures.goes.plans ∙ c.in_ok-load.ensures.plans;
       specs = c.in_ok-run.ensures.goes.specs ∙ c.in_ok-load.ensures.specs;
-      lives = c.keep_lives.ensures;
+      lives = c.in_ok-run.ensures.whole.kept;
     } in
     let more = load_messages c.args.more.now c.args.end [] in
     let rest : AreLoadedWith node more c.run.new.self.lives c.run-2.new.self.lives = record {
       plans = c.in_ok-run-2.ensures.goes.plans ∙ c.in_ok-load-2.ensures.plans ∙ ap (plans_from node more) c.collect-before.ensures.lives;
       specs = c.in_ok-run-2.ensures.goes.specs ∙ c.in_ok-load-2.ensures.specs ∙ ap (specs_in node) c.collect-before.ensures.lives;
-      lives = c.keep_lives-2.ensures;
+      lives = c.in_ok-run-2.ensures.whole.kept;
     } in
     let go : AreLoadedWith node more c.in-Ok.other.lives c.run-3.new.self.lives = record {
       plans = c.in_ok-run-3.ensures.goes.plans ∙ c.in_ok-load-3.ensures.plans;
       specs = c.in_ok-run-3.ensures.goes.specs ∙ c.in_ok-load-3.ensures.specs;
-      lives = c.keep_lives-3.ensures;
+      lives = c.in_ok-run-3.ensures.whole.kept;
     } in
-    let restores = subst (λ plans. Restores node plans c.as_slice.result.now c.in-Ok.other) c.in_ok-plans-2.ensures.items c.in-Ok.ensures.restores in
-    let capture = subst (λ bytes. IsCaptureAt node last (cells_in c.run.new.self.lives) bytes) (sym c.as_slice.ensures) c.in_ok-bytes.ensures in
+    let restores = subst (λ plans. Restores node plans last c.as_slice.result.now c.in-Ok.other) c.in_ok-plans-2.ensures.items c.in-Ok.ensures.restores in
+    let capture = subst (λ bytes. IsCaptureAt node last (cells_in c.run.new.self.lives) bytes) (sym c.as_slice.ensures) c.in_ok-bytes.ensures.capture in
     let planned = c.lives_are_planned.ensures.loaded msgs again made c.run.new.self.lives (c.lives_are_planned.ensures.made first again made are (c.requires.again, tt)) stop in
-    let alike = c.nets_go_on.ensures.rest last again c.as_slice.result.now c.run.new.self.lives c.in-Ok.other capture planned restores 0 points [] made
+    let alike = c.nets_go_on.ensures.rest last again last c.as_slice.result.now c.run.new.self.lives c.in-Ok.other capture planned restores 0 points [] made
     (omega (arith, some, at)) (omega (arith, at)) tt stands stop c.in_ok-run.ensures.rest in
     c.nets_go_on.ensures.same more c.run.new.self.lives c.in-Ok.other.lives c.run-2.new.self.lives c.run-3.new.self.lives alike rest go c.in_ok-run-2.ensures.rest c.in_ok-run-3.ensures.rest
 

@@ -45,7 +45,7 @@ returns-clause-first g c = λ plans is long are.
 pub returns-clause-again : goal.returns-clause-again
 returns-clause-again g c = λ lives before collected h long are.
     let l = loads g (goal.at.returns-clause-again g c).In_ok-load in
-    let kept = subst (Each (IsLifeIn g.N.Node)) (c.deref.ensures.value ∙ ap (λ v. v.lives) c.self.view_is) c.keep_lives.ensures.lives in
+    let kept = subst (Each (IsLifeIn g.N.Node)) (c.deref_mut.ensures.value ∙ ap (λ v. v.lives) c.self.view_is) c.in_ok-load.ensures.kept in
     run_again g.N.Node g.met.N.Node.stamped g.met.N.Node.folds lives before collected _ _ _ c.args.points.now c.args.upto c.args.marks.now h kept c.requires.rest long are l.plans l.specs l.here refl l.given
 
 pub returns-clause-gathers : goal.returns-clause-gathers

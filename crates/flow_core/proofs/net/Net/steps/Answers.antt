@@ -9,4 +9,4 @@ use Rattle.flow_core.proofs.net.Net.steps.Goals as goal
 pub returns-clause-all : goal.returns-clause-all
 returns-clause-all g c =
     let same = c.deref.ensures.value ∙ ap (λ v. v.lives) c.self.view_is in
-    if_ok c.list_steps.result (λ steps is next can. subst (λ (l : List Step). Contains l next) (sym (is ∙ ap steps_of same)) (step_listed c.args.self.now.lives next can)) c.list_steps.ensures
+    if_ok c.list_steps.result (λ steps is next can. subst (λ (l : List Step). Contains l next) (sym (is ∙ ap steps_of same)) (step_listed c.args.self.now.lives next can)) c.list_steps.ensures.steps
