@@ -161,7 +161,8 @@ impl<N: Node> Cell<N> {
 
     /// How many inputs it has.
     pub fn inputs(&self) -> usize
-        ensures { result ≡ length self.now.ins.items }
+        ensures count { result ≡ length self.now.ins.items }
+        ensures keeps { self.now.spent ≡ false → Keeps N.Node self.now }
     {
         self.parts.ins.len()
     }
@@ -270,12 +271,5 @@ impl<N: Node> Cell<N> {
         ensures { result ≡ self.now.spent }
     {
         self.parts.spent
-    }
-
-    /// What a cell keeps, unless it is spent.
-    pub fn keeps(&self)
-        ensures { self.now.spent ≡ false → Keeps N.Node self.now }
-    {
-        let _ = &self.parts;
     }
 }

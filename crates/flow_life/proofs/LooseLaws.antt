@@ -63,6 +63,12 @@ record Found (es : List InEdge) (m : ℕ) : Type 0 where
   edge : InEdge
   at : slice_get es m ≡ Some edge
 
+-- what is below the next number, and not the number, is below it
+pub below : (n j : ℕ) → n < j + 1 → (n ≡ j → ⊥) → n < j
+below n zero lt ne = absurd (ne (omega (arith, lt)))
+below zero (suc j) lt ne = omega arith
+below (suc n) (suc j) lt ne = let h : n < j = below n j (omega (arith, lt)) (λ e. ne (ap suc e)) in omega (arith, h)
+
 module _ {N : Type 0} where
   -- each end is one of the same edge
   pub record HasSameEnds (cells cells' : List (CellParts N)) : Type 0 where
@@ -299,11 +305,6 @@ module _ {N : Type 0} where
           (λ ne. settled-other j m (λ _ e. ne e) (a.inputs_before m (below m k lt ne)))
           (same_place m k);
     }
-      where
-        below : (m k : ℕ) → m < k + 1 → (m ≡ k → ⊥) → m < k
-        below m zero lt ne = absurd (ne (omega (arith, lt)))
-        below zero (suc k) lt ne = omega arith
-        below (suc m) (suc k) lt ne = let h : m < k = below m k (omega (arith, lt)) (λ e. ne (ap suc e)) in omega (arith, h)
 
   -- cells that looked have as many inputs
   pub looked_inputs : (child count : ℕ) (cells cells' : List (CellParts N)) → AllZip HasLooked cells cells' → HasInputs child count cells → HasInputs child count cells'
@@ -357,11 +358,6 @@ module _ {N : Type 0} where
       in-list [] m y e = absurd cc
       in-list (x ∷ es) zero y e = omega arith
       in-list (x ∷ es) (suc m) y e = let h : m < length es = in-list es m y e in omega (arith, h)
-
-      below : (n j : ℕ) → n < j + 1 → (n ≡ j → ⊥) → n < j
-      below n zero lt ne = absurd (ne (omega (arith, lt)))
-      below zero (suc j) lt ne = omega arith
-      below (suc n) (suc j) lt ne = let h : n < j = below n j (omega (arith, lt)) (λ e. ne (ap suc e)) in omega (arith, h)
 
   -- joined cells whose edges are all settled are wired
   pub settled_wired : (n : ℕ) (cells : List (CellParts N)) → length cells ≤ n → IsJoined cells → AreSettledTo cells n 0 → IsWired cells

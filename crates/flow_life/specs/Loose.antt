@@ -6,6 +6,7 @@ use Rattle.edge_queue.specs.Edges.{IsEdge, IsSettled, edge_capacity}
 use Rattle.flow_cells.specs.declared.parts.OutEdge.{OutEdge}
 use Rattle.flow_cells.specs.declared.parts.InEdge.{InEdge}
 use Rattle.flow_cells.specs.declared.parts.CellParts.{CellParts}
+use Rattle.flow_cells.specs.Kept.{Keeps}
 use Rattle.flow_cells.specs.Moves.{Eases, Still}
 use Rattle.flow_life.specs.Graphs.{IsLoaded}
 use Rattle.flow_life.specs.Places.{in_of, out_of}
@@ -66,6 +67,14 @@ pub record HasLooked {N : Type 0} (c d : CellParts N) : Type 0 where
   pub spent : d.spent ≡ c.spent
 
 module _ {N P S : Type 0} (g : Ghosts N P S) where
+  -- the cell at this place keeps what a cell keeps
+  abbrev pub KeepsAt : ℕ → List (CellParts N) → Type 0
+  KeepsAt j cells = (c : CellParts N) → slice_get cells j ≡ Some c → Keeps g c
+
+  -- the cells before this one do
+  abbrev pub KeepTo : ℕ → List (CellParts N) → Type 0
+  KeepTo n cells = (j : ℕ) → j < n → KeepsAt j cells
+
   -- cells of one graph, whose last load ended with a barrier
   pub record IsLoose (cells : List (CellParts N)) : Type 0 where
     pub joined : IsJoined cells

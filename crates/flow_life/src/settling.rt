@@ -4,7 +4,7 @@ ghost use Rattle.std.specs.Prelude.{◌≡◌, ◌+◌, ◌<◌, length, IfOk, I
 ghost use Rattle.std.specs.List.{AllByRecursion as Each, AllZip};
 ghost use Rattle.flow_cells.specs.Kept.{Keeps};
 ghost use Rattle.flow_life.specs.Lives.{IsLife};
-ghost use Rattle.flow_life.specs.Loose.{AreSettledTo, HasInput, HasInputs, HasLooked, IsJoined, IsLoose};
+ghost use Rattle.flow_life.specs.Loose.{AreSettledTo, HasInput, HasInputs, HasLooked, IsJoined, IsLoose, KeepTo, KeepsAt};
 ghost use Rattle.flow_life.specs.Nodes.{gathered_of, specs_of};
 ghost use Rattle.flow_life.specs.Settling.{HasEdge, SettlesIn};
 ghost use Rattle.flow_life.specs.Streams.{plans_of};
@@ -46,7 +46,8 @@ fn settle_one<N: Node>(cells: &mut [Cell<N>], child: u32, input: u32)
 /// How many inputs a cell has. `NoMemory` comes where they are too many.
 fn inputs_of<N: Node>(cells: &[Cell<N>], child: u32) -> Result<u32, NoMemory>
     requires { child < length cells.now }
-    ensures { IfOk result (λ inputs. HasInputs child inputs cells.now) }
+    ensures inputs { IfOk result (λ inputs. HasInputs child inputs cells.now) }
+    ensures keeps { OnOk result (Each IsUnspent cells.now → KeepsAt N.Node child cells.now) }
 {
     let cell = &cells[child as usize];
     let inputs = number_of(cell.inputs())?;
@@ -60,6 +61,8 @@ fn settle_cell<N: Node>(cells: &mut [Cell<N>], child: u32) -> Result<(), NoMemor
     requires settled { AreSettledTo cells.old child 0 }
     ensures looked { OnOk result (AllZip HasLooked cells.old cells.new) }
     ensures settled { OnOk result (AreSettledTo cells.new (child + 1) 0) }
+    ensures keeps { OnOk result (Each IsUnspent cells.old → KeepTo N.Node child cells.old
+        → KeepTo N.Node (child + 1) cells.new) }
 {
     let inputs = inputs_of(cells, child)?;
     'settling: for input in 0..inputs {
@@ -70,9 +73,11 @@ fn settle_cell<N: Node>(cells: &mut [Cell<N>], child: u32) -> Result<(), NoMemor
 
 /// Settles each edge. `NoMemory` comes where the number of cells is too great.
 fn settle_cells<N: Node>(cells: &mut [Cell<N>]) -> Result<(), NoMemory>
-    requires { IsJoined cells.old }
+    requires joined { IsJoined cells.old }
+    requires unspent { Each IsUnspent cells.old }
     ensures looked { OnOk result (AllZip HasLooked cells.old cells.new) }
     ensures wired { OnOk result (IsWired cells.new) }
+    ensures keeps { OnOk result (Each (Keeps N.Node) cells.new) }
 {
     let count = number_of(cells.len())?;
     'settling: for child in 0..count {
@@ -95,17 +100,6 @@ pub(crate) fn are_unspent<N: Node>(cells: &[Cell<N>]) -> bool
     are_unspent(others)
 }
 
-/// What cells keep, of which no call failed.
-fn keep_cells<N: Node>(cells: &[Cell<N>])
-    requires { Each IsUnspent cells.now }
-    ensures { Each (Keeps N.Node) cells.now }
-{
-    if let Some((first, others)) = cells.split_first() {
-        first.keeps();
-        keep_cells(others);
-    }
-}
-
 /// Settles each edge of the cells of a life that moved by themselves.
 pub(crate) fn settle_all<N: Node>(cells: &mut [Cell<N>]) -> Result<(), NoMemory>
     requires unspent { Each IsUnspent cells.old }
@@ -117,6 +111,5 @@ pub(crate) fn settle_all<N: Node>(cells: &mut [Cell<N>]) -> Result<(), NoMemory>
     ensures gathered { OnOk result (gathered_of cells.new ≡ gathered_of cells.old) }
 {
     settle_cells(cells)?;
-    keep_cells(cells);
     Ok(())
 }
