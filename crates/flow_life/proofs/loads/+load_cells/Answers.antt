@@ -21,3 +21,10 @@ returns-clause-loads g t c =
 
 pub returns-clause-keeps : goal.returns-clause-keeps
 returns-clause-keeps g t c = on_ok_weaker c.load_cells-2.result (λ z. (c.in_ok-load_stream.ensures.keeps, z)) c.load_cells-2.ensures.keeps
+
+pub returns-then-inputs-gt0-clause-loads : goal.returns-then-inputs-gt0-clause-loads
+returns-then-inputs-gt0-clause-loads g t c =
+    let source = c.args.source.items in
+    on_ok_weaker c.load_cells.result (λ z.
+    subst (λ (cells : List (CellParts g.row.N.Denot)). AllZip (LoadsFrom c.args.keeps source) cells (c.load_child.new.cell ∷ c.load_cells.new.cells)) (sym c.in-Some.ensures.cases.0)
+    (c.in_ok-load_child.ensures.loads source, z)) c.load_cells.ensures.loads
