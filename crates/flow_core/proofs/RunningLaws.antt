@@ -122,7 +122,7 @@ module _ {N P S : Type 0} (g : Ghosts N P S) where
 
   -- no step was made
   pub goes_none : (lives : List (NumberedLife N)) (gathered : List Effect) → GoesOn g lives lives gathered gathered
-  goes_none lives gathered = record { numbers = refl; plans = refl; specs = refl; rooms = refl; ends = refl; left = omega arith; lives = λ all. all; gathers = gathers_none (_) gathered }
+  goes_none lives gathered = record { numbers = refl; plans = refl; specs = refl; rooms = refl; ends = refl; left = omega arith; keeps = λ all. all; gathers = gathers_none (_) gathered }
 
   -- some steps, and then more
   pub goes_then : (a b c : List (NumberedLife N)) (x y z : List Effect) → GoesOn g a b x y → GoesOn g b c y z → GoesOn g a c x z
@@ -136,7 +136,7 @@ module _ {N P S : Type 0} (g : Ghosts N P S) where
         rooms = q.rooms ∙ p.rooms;
         ends = q.ends ∙ p.ends;
         left = omega (arith, first, more);
-        lives = λ all. q.lives (p.lives all);
+        keeps = λ all. q.keeps (p.keeps all);
         gathers = gathers_then _ _ _ x y z p.gathers q.gathers;
       }
 

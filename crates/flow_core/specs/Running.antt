@@ -55,7 +55,7 @@ module _ {N P S : Type 0} (g : Ghosts N P S) where
     pub rooms : rooms_in lives' ≡ rooms_in lives
     pub ends : ends_in lives' ≡ ends_in lives
     pub left : left_in lives' ≤ left_in lives
-    pub lives : Each (IsLifeIn g) lives → Each (IsLifeIn g) lives'
+    pub keeps : Each (IsLifeIn g) lives → Each (IsLifeIn g) lives'
     pub gathers : GathersAll (effects_in lives) (effects_in lives') gathered gathered'
 
   -- A net in which some moves were made, or none: its lives with their numbers, nodes, edges and steps stay, and so do

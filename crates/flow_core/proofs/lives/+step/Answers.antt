@@ -46,7 +46,7 @@ pub returns-clause-still : goal.returns-clause-still
 returns-clause-still g t c = if_ok c.step.result (λ made same none. same_behind _ _ _ _ c.in-Some.ensures.cases.0 (same none)) c.step.ensures.still
 
 pub returns-then-cell_of-cells-clause-lives : goal.returns-then-cell_of-cells-clause-lives
-returns-then-cell_of-cells-clause-lives g t c = on_ok c.step_life.result (kept_here g.N.Node _ _ _ _ c.in-Some.ensures.cases.0) c.step_life.ensures.life
+returns-then-cell_of-cells-clause-lives g t c = on_ok c.step_life.result (kept_here g.N.Node c.args.lives.now c.in-Some.first.now c.step_life.new.life c.in-Some.others.now c.in-Some.ensures.cases.0) c.step_life.ensures.life
 
 pub returns-clause-lives : goal.returns-clause-lives
-returns-clause-lives g t c = on_ok c.step.result (kept_behind g.N.Node _ _ _ _ c.in-Some.ensures.cases.0) c.step.ensures.lives
+returns-clause-lives g t c = on_ok c.step.result (kept_behind g.N.Node c.args.lives.now c.in-Some.first.now c.in-Some.others.now c.step.new.lives c.in-Some.ensures.cases.0) c.step.ensures.lives

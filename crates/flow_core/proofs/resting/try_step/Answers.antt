@@ -14,7 +14,7 @@ returns-clause-goes g c =
       rooms = e.rooms;
       ends = e.ends;
       left = omega (arith, left);
-      lives = e.lives;
+      keeps = e.lives;
       gathers = e.gathers;
     }
 
