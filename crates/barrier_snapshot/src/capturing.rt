@@ -7,7 +7,7 @@ ghost use Rattle.flow_cells.specs.declared.parts.CellParts.{CellParts};
 ghost use Rattle.flow_life.specs.Wired.{IsUnspent};
 ghost use Rattle.flow_core.specs.Nets.{IsLifeIn, IsSound};
 ghost use Rattle.barrier_snapshot.specs.Barriers.{HavePassed, IsCaptureAt, cells_in};
-ghost use Rattle.barrier_snapshot.specs.Capturing.{PutsCells};
+ghost use Rattle.barrier_snapshot.specs.Capturing.{HasKeptAll, PutsCells};
 
 use flow_cells::Cell;
 use flow_core::{Net, Numbered};
@@ -40,7 +40,7 @@ fn put_lives<N: Node>(
     to: &mut Bytes,
 ) -> Result<(), NoMemory>
     requires lives { Each (IsLifeIn N.Node) lives.now }
-    requires kept { Each HasKept (cells_in lives.now) }
+    requires kept { Each HasKeptAll lives.now }
     ensures { OnOk result (PutsCells N.Node (cells_in lives.now) to.old to.new) }
 {
     if let Some((first, others)) = lives.split_first() {

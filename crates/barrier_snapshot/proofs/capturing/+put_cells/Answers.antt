@@ -1,4 +1,4 @@
-use Rattle.std.proofs.Common.{List, ◌∷◌, ◌++◌, ap, subst, sym, ◌∙◌}
+use Rattle.std.proofs.Common.{◌++◌, ap, subst, sym, ◌∙◌}
 use Rattle.flow_cells.specs.Kept.{SpellsSaved}
 use Rattle.barrier_snapshot.specs.Capturing.{PutsCells}
 use Rattle.barrier_snapshot.proofs.PutLaws.{puts_first, puts_none}
@@ -17,4 +17,4 @@ returns-in_ok-put_cells g t c =
     (puts_first node first others one c.args.to.now c.put_bytes.new.to c.put_cells.new.to spells c.in_ok-put_bytes.ensures.fits c.in_ok-put_bytes.ensures.ok c.in_ok-put_cells.ensures)
 
 pub returns-in_default : goal.returns-in_default
-returns-in_default g t c = subst (λ cells. PutsCells g.N.Node cells c.args.to.now c.args.to.now) (sym c.in_default.ensures.cases) (puts_none g.N.Node c.args.to.now)
+returns-in_default g t c = puts_none g.N.Node c.args.cells.now c.args.to.now c.in_default.ensures.cases

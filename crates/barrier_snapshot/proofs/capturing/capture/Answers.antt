@@ -6,12 +6,14 @@ use Rattle.flow_cells.specs.Kept.{HasKept}
 use Rattle.flow_core.specs.Nets.{IsLifeIn}
 use Rattle.barrier_snapshot.specs.Barriers.{cells_in}
 use Rattle.barrier_snapshot.specs.Capturing.{PutsCells}
+use Rattle.barrier_snapshot.proofs.PutLaws.{kept_lives}
 use Rattle.barrier_snapshot.proofs.SavedLaws.{captured_at, kept_passed}
 use Rattle.barrier_snapshot.proofs.capturing.capture.Goals as goal
 
 pub put_lives-requires-clause-kept : goal.put_lives-requires-clause-kept
 put_lives-requires-clause-kept g c =
-    subst (λ l. Each HasKept (cells_in l)) (sym c.lives-lives.ensures.lives) (kept_passed g.N.Node c.args.upto (cells_in c.args.net.now.lives) c.requires.passed)
+    kept_lives c.lives-lives.result.now
+    (subst (λ l. Each HasKept (cells_in l)) (sym c.lives-lives.ensures.lives) (kept_passed g.N.Node c.args.upto (cells_in c.args.net.now.lives) c.requires.passed))
 
 pub returns-clause-capture : goal.returns-clause-capture
 returns-clause-capture g c =
