@@ -1,5 +1,5 @@
 -- Cells that looked keep what a cell keeps.
-use Rattle.std.proofs.Common.{◌≡◌, ℕ, ◌+◌, ◌<◌, ◌≤◌, List, [], ◌∷◌, ◌++◌, map, length, Some, refl, sym, ap, subst, ◌∙◌, ⊎_elim, arith}
+use Rattle.std.proofs.Common.{◌≡◌, ℕ, ◌+◌, ◌<◌, ◌≤◌, List, [], ◌∷◌, ◌++◌, length, Some, refl, sym, ap, subst, ◌∙◌, ⊎_elim, arith}
 use Rattle.std.specs.Prelude.{slice_get}
 use Rattle.std.specs.List.{AllByRecursion as Each, AllZip}
 use Rattle.kap_base.specs.declared.items.Msg.{Msg}
@@ -51,9 +51,9 @@ module _ {N P S : Type 0} (g : Ghosts N P S) where
   keep_more n cells cells' z before here = λ j lt d at.
       let o : Other (λ x. HasLooked x d) (slice_get cells j) = both-left HasLooked (slice_get cells j) (slice_get cells' j) d (zip-both HasLooked cells cells' j z) at in
       keeps-looked o.value d o.fact (⊎_elim
-          (λ e. here o.value (subst (λ (k : ℕ). slice_get cells k ≡ Some o.value) e o.is))
-          (λ ne. before j (below j n lt ne) o.value o.is)
-          (same_place j n))
+      (λ e. here o.value (subst (λ (k : ℕ). slice_get cells k ≡ Some o.value) e o.is))
+      (λ ne. before j (below j n lt ne) o.value o.is)
+      (same_place j n))
 
   -- all cells do
   pub keep_all : (n : ℕ) (cells : List (CellParts N)) → length cells ≤ n → KeepTo g n cells → Each (Keeps g) cells

@@ -18,8 +18,8 @@ use crate::nets::{put, take};
 use crate::points::{check_effects, three_points};
 use crate::taps::{TapNode, plan_of_taps};
 use barrier_snapshot::{
-    capture, has_passed, has_passed_inside, lives_are_planned, lives_stand,
-    nets_collect_alike, nets_go_on, restore, streams_are_steady,
+    capture, has_passed, has_passed_inside, lives_are_planned, lives_stand, nets_collect_alike,
+    nets_go_on, restore, streams_are_steady,
 };
 use flow_core::{Net, effects_are_gathered, loads_have_messages, sorted_effects_are_whole};
 use flow_life::Step;
