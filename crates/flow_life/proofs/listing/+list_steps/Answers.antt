@@ -1,5 +1,4 @@
-use Rattle.std.proofs.Common.{Result, Ok, Err, ◌∙◌}
-use Rattle.std.specs.Prelude.{OnOk}
+use Rattle.std.proofs.Common.{◌∙◌}
 use Rattle.flow_life.proofs.ListingLaws.{listed_cell}
 use Rattle.flow_life.proofs.listing.+list_steps.Goals as goal
 use Rattle.kap_base.proofs.ResultLaws.{on_ok}
