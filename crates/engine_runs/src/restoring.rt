@@ -34,7 +34,10 @@ fn is_next(begun: usize, number: u32) -> bool
     ensures yes { IsTrue result → number ≡ begun + 1 }
     ensures no { IsFalse result → number ≡ begun + 1 → ⊥ }
 {
-    u64::from(number) == begun as u64 + 1
+    if number == 0 {
+        return false;
+    }
+    begun == number as usize - 1
 }
 
 /// The life with this number is planned, and put behind others.

@@ -8,14 +8,14 @@ use Rattle.engine_runs.proofs.turning.begin_lives.Goals as goal
 pub returns-then-not-has_begun-clause-away : goal.returns-then-not-has_begun-clause-away
 returns-then-not-has_begun-clause-away g c = λ rise.
     away_later c.args.points 1 (length c.beginning.names.items) c.args.lives.now c.in-Some.life.now rise
-    (got_at c.args.lives.now c.len.result (length c.beginning.names.items) c.in-Some.life.now c.len.ensures c.in-Some.ensures.lookup.3.0 c.in-Some.ensures.lookup.1)
+    (got_at c.args.lives.now c.len.result (length c.beginning.names.items) c.in-Some.life.now (c.len.ensures ∙ c.beginning.names.ok.0) c.in-Some.ensures.lookup.3.0 c.in-Some.ensures.lookup.1)
     (c.if-not-has_begun.ensures.no refl)
 
 pub beginning-preserved : goal.beginning-preserved
 beginning-preserved g c =
     let lives = c.args.lives.now in
     let i = length c.beginning.names.items in
-    let at = got_at lives c.len.result i c.in-Some.life.now c.len.ensures c.in-Some.ensures.lookup.3.0 c.in-Some.ensures.lookup.1 in
+    let at = got_at lives c.len.result i c.in-Some.life.now (c.len.ensures ∙ c.beginning.names.ok.0) c.in-Some.ensures.lookup.3.0 c.in-Some.ensures.lookup.1 in
     record {
       unspent = c.begin_next.ensures.unspent;
       rest = c.begin_next.ensures.rest;
