@@ -175,3 +175,13 @@ module _ {P : Type 0} (planned : Planned P) where
   course_at n points (other ∷ lives) (one ∷ tasks) (suc i) life task at is =
       let same : n + 1 + i ≡ n + suc i = omega arith in
       course_at (n + 1) points lives tasks i life task at is ∙ ap (λ (m : ℕ). Some (course_of life (life_nodes planned m life task) points)) same
+
+-- where none was got there is none
+pub none_got : {A : Type 0} (xs : List A) (i n : ℕ) → i ≡ n → length xs ≤ i → slice_get xs n ≡ None
+none_got xs i n e le = ap (slice_get xs) (sym e) ∙ none xs i le
+  where
+    none : {A : Type 0} (xs : List A) (i : ℕ) → length xs ≤ i → slice_get xs i ≡ None
+    none [] zero le = refl
+    none [] (suc i) le = refl
+    none (x ∷ xs) zero le = absurd (omega (arith, le))
+    none (x ∷ xs) (suc i) le = none xs i (omega (arith, le))
