@@ -40,7 +40,7 @@ module _ {P : Type 0} where
     pub ends : end_of (course_of life nodes points) ≡ length points
     pub grows : course_of life nodes (points ++ new) ≡ grown new (course_of life nodes points)
 
-  open_goes : (points new : List PointValue) (life : Life) (nodes : List (Placed P)) → IsOpenOver (length points) (length new) life → GoesOn points new life nodes
+  pub open_goes : (points new : List PointValue) (life : Life) (nodes : List (Placed P)) → IsOpenOver (length points) (length new) life → GoesOn points new life nodes
   open_goes points new life nodes h =
       let n = length points + length new in
       let some : 0 < life.first = h.first in

@@ -1,6 +1,6 @@
 -- What stands at the place of a life.
-use Rattle.std.proofs.Common.{◌≡◌, ℕ, zero, suc, ◌+◌, ◌-◌, ◌<◌, ◌≤◌, Bool, true, false, List, [], ◌∷◌, ◌++◌, get_or, length, map, Option, None, Some, refl, sym, ap, subst, ◌∙◌, arith}
-use Rattle.std.specs.Prelude.{Contains, slice_get, nat_lt}
+use Rattle.std.proofs.Common.{◌≡◌, ℕ, zero, suc, ◌+◌, ◌-◌, ◌<◌, ◌≤◌, Bool, true, false, List, [], ◌∷◌, ◌++◌, drop, get_or, length, map, Option, None, Some, refl, sym, ap, subst, ◌∙◌, arith}
+use Rattle.std.specs.Prelude.{Contains, slice_get, slice_index_or, nat_lt}
 use Rattle.std.specs.List.{AllByRecursion as Each, AllZip, remove}
 use Rattle.std.proofs.lemmas.Bool.Decides.{nat_tests}
 use Rattle.kap_base.specs.Points.{PointValue}
@@ -57,6 +57,24 @@ map_remove f [] zero = refl
 map_remove f [] (suc i) = refl
 map_remove f (x ∷ xs) zero = refl
 map_remove f (x ∷ xs) (suc i) = ap (λ l. f x ∷ l) (map_remove f xs i)
+
+-- the one that was got stands at its place
+pub got_at : {A : Type 0} (xs : List A) (i n : ℕ) (x : A) → i ≡ n → i < length xs → x ≡ slice_index_or xs i x → slice_get xs n ≡ Some x
+got_at xs i n x e lt is = ap (slice_get xs) (sym e) ∙ there xs i x lt is
+  where
+    there : {A : Type 0} (xs : List A) (i : ℕ) (x : A) → i < length xs → x ≡ slice_index_or xs i x → slice_get xs i ≡ Some x
+    there [] i x lt is = absurd (omega (arith, lt))
+    there (y ∷ xs) zero x lt is = ap (λ (z : _). Some z) (sym is)
+    there (y ∷ xs) (suc i) x lt is = there xs i x (omega (arith, lt)) is
+
+pub each_behind : {A : Type 0} (Q : A → Type 0) (i : ℕ) (xs : List A) → Each Q (drop i xs) → Each Q (drop (i + 1) xs)
+each_behind Q i xs h = let one : suc i ≡ i + 1 = omega arith in subst (λ (j : ℕ). Each Q (drop j xs)) one (next i xs h)
+  where
+    next : (i : ℕ) (xs : List _) → Each Q (drop i xs) → Each Q (drop (suc i) xs)
+    next zero [] h = tt
+    next zero (x ∷ xs) h = h.1
+    next (suc i) [] h = tt
+    next (suc i) (x ∷ xs) h = next i xs h
 
 pub removed_less : {A : Type 0} (xs : List A) (i : ℕ) → i < length xs → length (remove xs i) < length xs
 removed_less [] i lt = absurd (omega (arith, lt))
@@ -157,3 +175,13 @@ module _ {P : Type 0} (planned : Planned P) where
   course_at n points (other ∷ lives) (one ∷ tasks) (suc i) life task at is =
       let same : n + 1 + i ≡ n + suc i = omega arith in
       course_at (n + 1) points lives tasks i life task at is ∙ ap (λ (m : ℕ). Some (course_of life (life_nodes planned m life task) points)) same
+
+-- where none was got there is none
+pub none_got : {A : Type 0} (xs : List A) (i n : ℕ) → i ≡ n → length xs ≤ i → slice_get xs n ≡ None
+none_got xs i n e le = ap (slice_get xs) (sym e) ∙ none xs i le
+  where
+    none : {A : Type 0} (xs : List A) (i : ℕ) → length xs ≤ i → slice_get xs i ≡ None
+    none [] zero le = refl
+    none [] (suc i) le = refl
+    none (x ∷ xs) zero le = absurd (omega (arith, le))
+    none (x ∷ xs) (suc i) le = none xs i (omega (arith, le))

@@ -274,3 +274,8 @@ planned_short spec planned lives runs number others names plans h at =
     let none : drop (length h.passed) lives ≡ [] = none-behind (length h.passed) lives (ap (slice_get lives) long ∙ at) in
     let e : number ∷ others ≡ [] = h.rest_is ∙ ap (λ (ls : List Life). picked h.left (numbers_from (1 + length h.passed) ls)) none ∙ picked-empty (1 + length h.passed) h.left in
     absurd cc
+
+-- a plan that was put behind others has few parents too
+pub puts_few : {N P S : Type 0} (planned : Planned P) (spec : N → P) (state : N → S) (first : P → S) (number : ℕ) (life : Life) (names names' : List TaskNames) (plans plans' : List (PlanValue N))
+    → PutsPlan planned spec state first number life names names' plans plans' → Each HasFewParents plans → Each HasFewParents plans'
+puts_few planned spec state first number life names names' plans plans' p few = subst (Each HasFewParents) (sym p.plans_are) (each_more HasFewParents plans p.made.1 few p.planned_is.few)

@@ -9,7 +9,7 @@ use Rattle.kap_base.specs.declared.items.Effect.{Effect}
 use Rattle.kap_base.specs.declared.items.Event.{Event}
 use Rattle.effect_text.specs.Lines.{event_in, events_of, task_of}
 use Rattle.effect_text.specs.declared.names.TaskNames.{TaskNames}
-use Rattle.flow_core.specs.Nets.{IsResting, NetValue, numbers_of}
+use Rattle.flow_core.specs.Nets.{IsResting, NetValue, NumberedLife, numbers_of}
 use Rattle.life_effects.specs.Effects.{LivesFit, open_courses, stored_effects}
 use Rattle.life_effects.specs.Times.{times_fit}
 use Rattle.net_epochs.specs.Epochs.{AreNumberedBy, IsOnCourse, NumbersRise, StandsAt}
@@ -26,9 +26,10 @@ use Rattle.topic_core.specs.Topics.{StandsFor, TopicsValue, Trans}
 use Rattle.topic_core.specs.declared.transition.Transition.{Transition}
 use Rattle.engine_runs.specs.Running.{HasRun, LivesRun, RunValue, courses_on, due_behind, life_events}
 use Rattle.engine_runs.specs.Scripts.{graphs_from, names_from}
-use Rattle.engine_runs.specs.Spans.{FirstsRise, HasEnded, IsAway, IsOnward, Spans, picked}
+use Rattle.engine_runs.specs.Spans.{FirstsRise, HasEnded, IsAway, IsOnward, Spans, last_of, picked}
 use Rattle.engine_runs.proofs.LaterLaws.{effects_span, picked_grown}
 use Rattle.engine_runs.proofs.OpenLaws.{courses_open, numbers_open, spans_open}
+use Rattle.engine_runs.proofs.TurnLaws.{lives_are_onward, lives_onward}
 use Rattle.engine_runs.proofs.SpanLaws.{away_at, away_later, away_none, each_to, spans_less, spans_part}
 
 pub both_fit : (xs ys : List Event) → times_fit xs ≡ true → times_fit ys ≡ true → times_fit (xs ++ ys) ≡ true
@@ -227,3 +228,22 @@ module _ {N P S : Type 0} (g : Ghosts N P S) (planned : Planned P) (lives : List
   open_stands points r fit h =
       let s = spans_of points 1 r h in
       subst (λ (cs : List (Course P)). StandsAt g (length points) cs r.net) (courses_open (length points) h.lives_run.runs lives (graphs_from planned 1 lives tasks) points fit s.there s.away) h.lives_run.stands
+
+  -- ---- how long an epoch is
+
+  pub epoch_before : (points : List PointValue) (n : ℕ) (r : RunValue N) (begun : ℕ) (net : List (NumberedLife N)) → FirstsRise lives → (h : Ran points 1 r) → begun ≡ length r.names → net ≡ r.net.lives
+      → (Each (IsOnward (r.points + 1)) (map (last_of lives) (numbers_of net)) → Each (IsOnward (r.points + n)) (map (last_of lives) (numbers_of net)))
+      → ((life : Life) → slice_get lives begun ≡ Some life → r.points + 1 < life.first → r.points + n < life.first)
+      → ((life : Life) → slice_get lives begun ≡ Some life → life.first ≤ r.points + 1 → n ≤ 1)
+      → Ran points n r
+  epoch_before points n r begun net rise h long same onward later soon =
+      let count : r.points ≡ length points = h.count in
+      let was : Each (IsOnward (r.points + 1)) (map (last_of lives) (numbers_of net)) =
+      subst (λ (ls : List (NumberedLife N)). Each (IsOnward (r.points + 1)) (map (last_of lives) (numbers_of ls))) (sym same)
+      (subst (λ (k : ℕ). Each (IsOnward (k + 1)) (map (last_of lives) (numbers_of r.net.lives))) (sym count) (lives_are_onward g planned lives tasks points 1 r.names r.net h.lives_run)) in
+      let now : Each (IsOnward (length points + n)) (map (last_of lives) (numbers_of r.net.lives)) =
+      subst (λ (k : ℕ). Each (IsOnward (k + n)) (map (last_of lives) (numbers_of r.net.lives))) count
+      (subst (λ (ls : List (NumberedLife N)). Each (IsOnward (r.points + n)) (map (last_of lives) (numbers_of ls))) same (onward was)) in
+      ran_before points n r rise h (lives_onward g planned lives tasks points 1 n r.names r.net h.lives_run now)
+      (λ life at lt. subst (λ (k : ℕ). k + n < life.first) count (later life (ap (slice_get lives) long ∙ at) (subst (λ (k : ℕ). k + 1 < life.first) (sym count) lt)))
+      (λ life at le. soon life (ap (slice_get lives) long ∙ at) (subst (λ (k : ℕ). life.first ≤ k + 1) (sym count) le))

@@ -34,7 +34,10 @@ fn is_next(begun: usize, number: u32) -> bool
     ensures yes { IsTrue result → number ≡ begun + 1 }
     ensures no { IsFalse result → number ≡ begun + 1 → ⊥ }
 {
-    u64::from(number) == begun as u64 + 1
+    if number == 0 {
+        return false;
+    }
+    begun == number as usize - 1
 }
 
 /// The life with this number is planned, and put behind others.
@@ -79,6 +82,8 @@ fn plan_next<P: Patterns, N: ScriptNode>(
         → HasPlanned N.spec N.planned lives runs (number ∷ others) names.old.items plans.old.items
         → HasPlanned N.spec N.planned lives runs (drop count (number ∷ others))
         names.new.items plans.new.items) }
+    ensures few { OnOk result (Each HasFewParents plans.old.items
+        → Each HasFewParents plans.new.items) }
     ensures why { IfErr result
         (IsWhy (P.refusals pats.old) (P.refusals pats.new) (P.refused pats.new) life.now) }
     ensures kept { OnOk result (P.refusals pats.new ≡ P.refusals pats.old) }
@@ -108,6 +113,8 @@ pub(crate) fn plan_open<P: Patterns, N: ScriptNode>(
         → numbers.now ≡ picked runs (numbers_from 1 lives.now)
         → HasPlanned N.spec N.planned lives.now runs numbers.now names.old.items plans.old.items
         → HasPlanned N.spec N.planned lives.now runs [] names.new.items plans.new.items) }
+    ensures few { OnOk result (Each HasFewParents plans.old.items
+        → Each HasFewParents plans.new.items) }
     ensures why { IfErr result (IsWhyOne (P.refusals pats.old) (P.refusals pats.new)
         (P.refused pats.new) lives.now) }
     ensures kept { OnOk result (P.refusals pats.new ≡ P.refusals pats.old) }

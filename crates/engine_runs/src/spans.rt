@@ -94,6 +94,8 @@ fn up_to_first(lives: &[Life], begun: usize, points: u64, most: usize) -> usize
     ensures some { 0 < most → 0 < result }
     ensures first { (life : Life) → slice_get lives.now begun ≡ Some life
         → points + 1 < life.first → points + result < life.first }
+    ensures soon { (life : Life) → slice_get lives.now begun ≡ Some life
+        → life.first ≤ points + 1 → result ≤ 1 }
 {
     let Some(life) = lives.get(begun) else {
         return most;
@@ -120,6 +122,8 @@ pub(crate) fn points_before<N: Node>(
         → Each (IsOnward (points + result)) (map (last_of lives.now) (numbers_of net.now)) }
     ensures first { (life : Life) → slice_get lives.now begun ≡ Some life
         → points + 1 < life.first → points + result < life.first }
+    ensures soon { (life : Life) → slice_get lives.now begun ≡ Some life
+        → life.first ≤ points + 1 → result ≤ 1 }
 {
     let fewer = up_to_first(lives, begun, points, most);
     up_to_lasts(net, lives, points, fewer)

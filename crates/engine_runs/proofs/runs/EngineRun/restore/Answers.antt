@@ -1,0 +1,26 @@
+use Rattle.std.proofs.Common.{◌≡◌, ℕ, ◌≤◌, List, [], Bool, length, ap, refl, sym, subst, ◌∙◌, arith}
+use Rattle.std.specs.List.{AllByRecursion as Each}
+use Rattle.effect_text.specs.declared.names.TaskNames.{TaskNames}
+use Rattle.flow_core.specs.Making.{HasFewParents}
+use Rattle.engine_runs.specs.Restoring.{HasPlanned}
+use Rattle.engine_runs.proofs.PlanLaws.{planned_none}
+use Rattle.engine_runs.proofs.RestoreLaws.{restored_run}
+use Rattle.engine_runs.proofs.runs.EngineRun.restore.Goals as goal
+
+pub restore_net-requires-clause-few : goal.restore_net-requires-clause-few
+restore_net-requires-clause-few g c = c.in_default.ensures.few (subst (Each HasFewParents) (sym c.new-plans.ensures.items) tt)
+
+pub returns-clause-runs : goal.returns-clause-runs
+returns-clause-runs g c = λ tasks before there are long spans same snap stands times.
+    let node = g.N.Node in
+    let planned = g.N.ScriptNode.planned in
+    let lives = c.args.lives.now in
+    let met = g.met.N.Node g.world.𝓛 g.world.𝓜 g.world.𝓡 (λ s x. x, λ x. x, λ x. x, λ x. x) in
+    let script = g.met.N.ScriptNode g.world.𝓛 g.world.𝓜 g.world.𝓡 (λ s x. x, λ x. x, λ x. x, λ x. x) in
+    let start : HasPlanned node.spec planned lives there c.args.numbers.now c.new-names.result.items c.new-plans.result.items =
+    subst (λ ns. HasPlanned node.spec planned lives there c.args.numbers.now ns c.new-plans.result.items) (sym c.new-names.ensures.items)
+    (subst (λ ps. HasPlanned node.spec planned lives there c.args.numbers.now [] ps) (sym c.new-plans.ensures.items) (planned_none node.spec planned lives there c.args.numbers.now same)) in
+    let h = c.in_default.ensures.planned there same start in
+    let last : c.in-Ok.net.last.0 ≡ 0 = c.in-Ok.ensures.restores.last in
+    let runs = restored_run node planned script.sits met.spelled lives tasks before there _ _ c.args.states.now c.in-Ok.net are h spans snap c.in-Ok.ensures.restores (omega (arith, last)) in
+    record { lives_run = runs.runs; away = runs.away; topics = stands; times = times; count = long }
