@@ -147,13 +147,7 @@ impl<N: ScriptNode + NumberingNode + Send> EngineRun<N> {
             → HasRun N.Node N.planned lives.now tasks before result self.now }
     {
         let most = left.min(EPOCH_LIMIT);
-        points_before(
-            self.net.lives(),
-            lives,
-            self.names.len(),
-            self.points,
-            most,
-        )
+        points_before(self.net.lives(), lives, self.names.len(), self.points, most)
     }
 
     /// Runs an epoch of points, within which no life begins or ends, and puts the transitions that they make
