@@ -1,5 +1,5 @@
 -- What polls of a connection come to.
-use Rattle.std.specs.Prelude.{◌≡◌, ◌⊎◌, ℕ, List, Option}
+use Rattle.std.specs.Prelude.{◌⊎◌, ℕ, List, Option}
 use Rattle.kap_base.specs.Words.{HasRisen}
 use Rattle.kap_http.specs.Calls.{Call}
 use Rattle.http_dialog.specs.declared.ending.LinkEnd.{LinkEnd}

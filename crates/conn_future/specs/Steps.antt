@@ -1,5 +1,5 @@
 -- Steps of a connection over a link that doesn't wait.
-use Rattle.std.specs.Prelude.{◌≡◌, ◌≢◌, ℕ, ◌+◌, ⊤, List, [], None, Ok}
+use Rattle.std.specs.Prelude.{◌≡◌, ◌≢◌, ℕ, ◌+◌, ⊤, [], None, Ok}
 use Rattle.kap_base.specs.Words.{HasRisen}
 use Rattle.kap_http.specs.Reading.{Gives}
 use Rattle.http_dialog.specs.declared.ending.LinkEnd.{LinkEnd}

@@ -1,6 +1,6 @@
 -- Why lives don't run.
-use Rattle.std.proofs.Common.{◌≡◌, ℕ, suc, zero, true, List, [], ◌∷◌, Some, refl, sym, ap, subst, ◌∙◌}
-use Rattle.std.specs.Prelude.{◌≢◌, Contains, slice_get}
+use Rattle.std.proofs.Common.{◌≡◌, ℕ, true, List, refl}
+use Rattle.std.specs.Prelude.{◌≢◌, Contains}
 use Rattle.kap_base.specs.Words.{HasRisen}
 use Rattle.store_records.specs.declared.task.Life.{Life}
 use Rattle.tick_compile.specs.Scripts.{Refuses}
@@ -9,7 +9,7 @@ use Rattle.tick_compile.specs.declared.script_fault.ScriptFault.{ScriptFault}
 use Rattle.tick_compile.specs.declared.script_fault.ScriptFault.TheVariants as scripts
 use Rattle.engine_runs.specs.declared.fault.RunFault.{RunFault}
 use Rattle.engine_runs.specs.declared.fault.RunFault.TheVariants as runs
-use Rattle.engine_runs.specs.Faults.{IsRefused, IsRefusedOne, IsWhy, IsWhyOne, fault_at}
+use Rattle.engine_runs.specs.Faults.{IsWhy, IsWhyOne, fault_at}
 
 module _ (before after : ℕ) (refused : List ℕ) where
   -- a script's first fault is why its life doesn't run, unless memory lacked

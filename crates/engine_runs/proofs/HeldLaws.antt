@@ -1,10 +1,10 @@
 -- The lives of a store behind records: where they begin, and what they are later.
-use Rattle.std.proofs.Common.{◌≡◌, ℕ, zero, suc, ◌+◌, ◌-◌, ◌<◌, ◌≤◌, Bool, true, false, not, cond, List, [], ◌∷◌, ◌++◌, length, map, drop, Option, None, Some, inl, inr, refl, sym, ap, subst, ◌∙◌, append-nil, append_assoc, length-append, arith}
+use Rattle.std.proofs.Common.{◌≡◌, ℕ, ◌+◌, ◌-◌, ◌<◌, ◌≤◌, Bool, true, false, not, cond, List, [], ◌∷◌, ◌++◌, length, Option, None, Some, refl, sym, ap, subst, ◌∙◌, append-nil, append_assoc, length-append, arith}
 use Rattle.std.specs.Prelude.{bytes_eq, is_some}
 use Rattle.std.specs.List.{AllByRecursion as Each, list_any}
 use Rattle.kap_base.proofs.TestLaws.{second_of}
 use Rattle.kap_base.specs.Points.{PointValue}
-use Rattle.life_effects.proofs.FitLaws.{fits_after, held_fits}
+use Rattle.life_effects.proofs.FitLaws.{fits_after}
 use Rattle.life_effects.specs.Effects.{LifeFits, LivesFit}
 use Rattle.store_records.specs.Held.{Held, after, begun, end_life, ended, is_enabled, is_open, is_open_of, life_from, life_of, nothing, points_in, task_of}
 use Rattle.store_records.specs.Histories.{end_from, first_gate, held, held_from, next_gate}

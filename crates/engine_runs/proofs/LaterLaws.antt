@@ -1,6 +1,6 @@
 -- What lives do with points of which none begins or ends one.
-use Rattle.std.proofs.Common.{◌≡◌, ℕ, zero, suc, ◌+◌, ◌-◌, ◌<◌, ◌≤◌, Bool, true, false, List, [], ◌∷◌, ◌++◌, length, map, drop, min, Option, None, Some, inl, inr, refl, sym, ap, subst, ◌∙◌, length-append, arith}
-use Rattle.std.specs.Prelude.{◌⊎◌, take}
+use Rattle.std.proofs.Common.{◌≡◌, ℕ, zero, suc, ◌+◌, ◌-◌, ◌<◌, ◌≤◌, Bool, true, false, List, [], ◌∷◌, ◌++◌, length, map, drop, min, Option, None, Some, inl, inr, refl, sym, ap, ◌∙◌, length-append, arith}
+use Rattle.std.specs.Prelude.{take}
 use Rattle.std.specs.List.{AllByRecursion as Each}
 use Rattle.std.proofs.lemmas.List.{drop-append-le, drop_all, length-drop, length-take, take_all}
 use Rattle.kap_base.specs.Points.{PointValue}
@@ -17,7 +17,7 @@ use Rattle.task_run.proofs.CourseLaws.{AllEmpty, gives-nothing, outs-more}
 use Rattle.task_run.proofs.LaterLaws.{gives_streams}
 use Rattle.life_effects.specs.Effects.{course_of, courses_of, seen_by, stored_effects, up_to}
 use Rattle.life_effects.proofs.EffectLaws.{effects_fare}
-use Rattle.engine_runs.specs.Spans.{AreThere, HasEnded, IsAway, IsOnward, IsOpenOver, IsThere, Spans, picked}
+use Rattle.engine_runs.specs.Spans.{AreThere, HasEnded, IsAway, IsOnward, IsOpenOver, Spans, picked}
 use Rattle.engine_runs.proofs.SpanLaws.{spans_fare}
 
 -- no more are seen than there are

@@ -1,7 +1,7 @@
 -- What stands at the place of a life.
-use Rattle.std.proofs.Common.{◌≡◌, ℕ, zero, suc, ◌+◌, ◌-◌, ◌<◌, ◌≤◌, Bool, true, false, List, [], ◌∷◌, ◌++◌, drop, get_or, length, map, Option, None, Some, refl, sym, ap, subst, ◌∙◌, arith}
+use Rattle.std.proofs.Common.{◌≡◌, ℕ, zero, suc, ◌+◌, ◌-◌, ◌<◌, ◌≤◌, Bool, true, false, List, [], ◌∷◌, ◌++◌, drop, get_or, length, map, None, Some, refl, sym, ap, subst, ◌∙◌, arith}
 use Rattle.std.specs.Prelude.{Contains, slice_get, slice_index_or, nat_lt}
-use Rattle.std.specs.List.{AllByRecursion as Each, AllZip, remove}
+use Rattle.std.specs.List.{AllByRecursion as Each, remove}
 use Rattle.std.proofs.lemmas.Bool.Decides.{nat_tests}
 use Rattle.kap_base.specs.Points.{PointValue}
 use Rattle.effect_text.specs.Lines.{task_of}
@@ -9,8 +9,6 @@ use Rattle.effect_text.specs.declared.names.TaskNames.{TaskNames}
 use Rattle.life_effects.specs.Effects.{course_of, courses_of}
 use Rattle.node_set.specs.Tasks.{Planned}
 use Rattle.store_records.specs.declared.task.Life.{Life}
-use Rattle.task_run.specs.Courses.{Course}
-use Rattle.task_run.specs.Graphs.{Placed}
 use Rattle.tick_compile.specs.declared.tasks.Task.{Task}
 use Rattle.engine_runs.specs.Scripts.{AreTasksOf, IsTaskOf, graphs_from, life_names, life_nodes, names_from}
 use Rattle.engine_runs.specs.Spans.{numbers_from, picked}

@@ -1,7 +1,7 @@
 -- Lives that were open at a snapshot are planned again, one after the other.
-use Rattle.std.proofs.Common.{◌≡◌, ℕ, zero, suc, ◌+◌, ◌-◌, ◌<◌, ◌≤◌, Bool, true, false, List, [], ◌∷◌, ◌++◌, length, map, drop, Option, None, Some, inl, inr, refl, sym, ap, subst, ◌∙◌, append-nil, append_assoc, arith}
+use Rattle.std.proofs.Common.{◌≡◌, ℕ, zero, suc, ◌+◌, ◌-◌, ◌<◌, ◌≤◌, Bool, true, false, List, [], ◌∷◌, ◌++◌, length, map, drop, None, Some, inl, inr, refl, sym, ap, subst, ◌∙◌, append-nil, append_assoc, arith}
 use Rattle.std.specs.Prelude.{◌⊎◌, slice_get}
-use Rattle.std.specs.List.{AllByRecursion as Each, AllZip}
+use Rattle.std.specs.List.{AllByRecursion as Each}
 use Rattle.std.proofs.lemmas.List.{length-append, map-append}
 use Rattle.effect_text.specs.Lines.{task_of}
 use Rattle.effect_text.specs.declared.names.TaskNames.{TaskNames}
@@ -13,10 +13,10 @@ use Rattle.task_run.specs.Plans.{PlanValue, graph_of}
 use Rattle.tick_compile.specs.Scripts.{Accepts}
 use Rattle.tick_compile.specs.declared.tasks.Task.{Task}
 use Rattle.engine_runs.specs.Restoring.{HasPlanned}
-use Rattle.engine_runs.specs.Scripts.{AreTasksOf, IsPlanned, IsTaskOf, PutsPlan, graphs_from, life_names, life_nodes, names_from}
-use Rattle.engine_runs.specs.Spans.{AreThere, HasEnded, IsAway, IsOpenOver, numbers_from, picked}
-use Rattle.engine_runs.proofs.PlaceLaws.{TaskAt, each_more, graph_at, name_at, name_new, name_stays, names_at, number_at, numbers_below, task_at}
-use Rattle.engine_runs.proofs.SpanLaws.{each_to, picked_more}
+use Rattle.engine_runs.specs.Scripts.{AreTasksOf, PutsPlan, graphs_from, life_names, life_nodes, names_from}
+use Rattle.engine_runs.specs.Spans.{AreThere, IsAway, numbers_from, picked}
+use Rattle.engine_runs.proofs.PlaceLaws.{each_more, graph_at, name_at, name_new, name_stays, names_at, number_at, numbers_below, task_at}
+use Rattle.engine_runs.proofs.SpanLaws.{picked_more}
 
 -- ---- lists
 

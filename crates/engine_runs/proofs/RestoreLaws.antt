@@ -1,18 +1,19 @@
 -- Lives that are restored from a snapshot run on from where their points had brought them.
-use Rattle.std.proofs.Common.{◌≡◌, ℕ, zero, suc, ◌+◌, ◌-◌, ◌<◌, ◌≤◌, Bool, true, false, List, [], ◌∷◌, ◌++◌, length, map, drop, refl, sym, ap, subst, ◌∙◌, arith}
+use Rattle.std.proofs.Common.{◌≡◌, ℕ, ◌+◌, ◌-◌, ◌≤◌, Bool, true, false, List, [], ◌∷◌, length, map, drop, refl, sym, ap, subst, ◌∙◌, arith}
 use Rattle.std.specs.List.{AllByRecursion as Each, AllZip}
 use Rattle.kap_base.specs.Points.{PointValue}
 use Rattle.kap_base.specs.Tree.{Tree}
+use Rattle.kap_base.specs.declared.items.Stamp.{Stamp}
 use Rattle.barrier_snapshot.proofs.SnapshotLaws.{lives_are_restored}
 use Rattle.barrier_snapshot.specs.Loading.{IsSameLife}
 use Rattle.barrier_snapshot.specs.Restoring.{Restores}
 use Rattle.barrier_snapshot.specs.Snapshots.{IsSnapshot}
 use Rattle.effect_text.specs.Lines.{task_of}
 use Rattle.effect_text.specs.declared.names.TaskNames.{TaskNames}
-use Rattle.flow_core.specs.Making.{AreLivesOf}
+use Rattle.flow_core.specs.Making.{AreLivesBehind}
 use Rattle.flow_core.specs.Nets.{NetValue, NumberedLife, numbers_of}
-use Rattle.life_effects.specs.Effects.{course_of, courses_of}
-use Rattle.net_epochs.specs.Epochs.{AreNumberedBy, NumbersRise, StandsAt, nodes_in}
+use Rattle.life_effects.specs.Effects.{courses_of}
+use Rattle.net_epochs.specs.Epochs.{AreNumberedBy, NumbersRise, nodes_in}
 use Rattle.node_core.specs.declared.node.Node.{Ghosts}
 use Rattle.node_set.specs.Tasks.{Planned, Sits}
 use Rattle.state_code.specs.Spelling.{IsSpelling}
@@ -25,7 +26,7 @@ use Rattle.tick_compile.specs.declared.tasks.Task.{Task}
 use Rattle.engine_runs.specs.Restoring.{HasPlanned}
 use Rattle.engine_runs.specs.Running.{LivesRun, courses_on}
 use Rattle.engine_runs.specs.Scripts.{AreTasksOf, graphs_from, life_nodes, names_from}
-use Rattle.engine_runs.specs.Spans.{AreThere, IsAway, IsOpenOver, Spans, numbers_from, picked}
+use Rattle.engine_runs.specs.Spans.{AreThere, IsAway, Spans, numbers_from, picked}
 use Rattle.engine_runs.proofs.LaterLaws.{open_goes}
 use Rattle.engine_runs.proofs.PlanLaws.{all_planned, same_picked}
 use Rattle.engine_runs.proofs.ScriptLaws.{courses_numbered, numbers_rise}
@@ -61,11 +62,11 @@ module _ {N P S : Type 0} (g : Ghosts N P S) where
   same-numbers (p ∷ plans) [] same = absurd same
   same-numbers (p ∷ plans) (o ∷ loaded) same = ap (λ (n : ℕ). n ∷ map (λ plan. plan.life) loaded) same.0.life ∙ ap (λ (ns : List ℕ). p.life ∷ ns) (same-numbers plans loaded same.1)
 
-  life-numbers : (loaded : List (PlanValue N)) (lives : List (NumberedLife N)) → AreLivesOf g loaded lives → numbers_of lives ≡ map (λ plan. plan.life) loaded
-  life-numbers [] [] are = refl
-  life-numbers [] (l ∷ lives) are = absurd are
-  life-numbers (o ∷ loaded) [] are = absurd are
-  life-numbers (o ∷ loaded) (l ∷ lives) are = ap (λ (n : ℕ). n ∷ numbers_of lives) are.0.number ∙ ap (λ (ns : List ℕ). o.life ∷ ns) (life-numbers loaded lives are.1)
+  life-numbers : (stamp : ℕ) (loaded : List (PlanValue N)) (lives : List (NumberedLife N)) → AreLivesBehind g stamp loaded lives → numbers_of lives ≡ map (λ plan. plan.life) loaded
+  life-numbers stamp [] [] are = refl
+  life-numbers stamp [] (l ∷ lives) are = absurd are
+  life-numbers stamp (o ∷ loaded) [] are = absurd are
+  life-numbers stamp (o ∷ loaded) (l ∷ lives) are = ap (λ (n : ℕ). n ∷ numbers_of lives) are.0.number ∙ ap (λ (ns : List ℕ). o.life ∷ ns) (life-numbers stamp loaded lives are.1)
 
   module _ (planned : Planned P)
       (sits : (task : List ℕ) (life number : ℕ) (node : NodeSpec Tree) → Sits g.ports g.life g.number life number (length node.parents) node.spec (planned task life number node))
@@ -74,16 +75,17 @@ module _ {N P S : Type 0} (g : Ghosts N P S) where
       pub runs : LivesRun g planned lives tasks points 0 names net
       pub away : Each (IsAway (length points) 0) (drop (length names) lives)
 
-    pub restored_run : (lives : List Life) (tasks : List Task) (points : List PointValue) (runs : List Bool) (names : List TaskNames) (plans : List (PlanValue N)) (bytes : List ℕ) (net : NetValue N)
+    pub restored_run : (lives : List Life) (tasks : List Task) (points : List PointValue) (runs : List Bool) (names : List TaskNames) (plans : List (PlanValue N)) (there : Stamp) (bytes : List ℕ) (net : NetValue N)
         → AreTasksOf lives tasks → HasPlanned g.spec planned lives runs [] names plans → Spans (length points) 0 runs lives
-        → IsSnapshot g (picked runs (courses_on g planned lives tasks points)) bytes → Restores g plans bytes net → net.last.0 ≤ length points
+        → IsSnapshot g (picked runs (courses_on g planned lives tasks points)) bytes → Restores g plans there bytes net → there.0 ≤ length points
         → RunsOn lives tasks points names net
-    restored_run lives tasks points runs names plans bytes net are h s snap res last =
+    restored_run lives tasks points runs names plans there bytes net are h s snap res low =
         let all = courses_on g planned lives tasks points in
         let same : picked runs all ≡ picked h.passed all = same_picked lives runs h.passed h.left all h.split h.rest_is (courses-few planned 1 points lives tasks) in
         let front = all_planned (length points) lives runs h.passed h.left h.split h.rest_is s.there s.away in
+        let at : net.last.0 ≡ there.0 = ap (λ (t : Stamp). t.0) res.last in
         let nodes : map (graph_of g.spec) plans ≡ nodes_in (picked h.passed all) = h.graphs tasks are ∙ sym (nodes-picked planned 1 points h.passed lives tasks) in
-        let numbers : numbers_of net.lives ≡ picked h.passed (numbers_from 1 lives) = life-numbers res.loaded net.lives res.lives ∙ same-numbers plans res.loaded res.are.same ∙ h.numbers in
+        let numbers : numbers_of net.lives ≡ picked h.passed (numbers_from 1 lives) = life-numbers there.0 res.loaded net.lives res.lives ∙ same-numbers plans res.loaded res.are.same ∙ h.numbers in
         record {
           runs = record {
             runs = h.passed;
@@ -94,9 +96,9 @@ module _ {N P S : Type 0} (g : Ghosts N P S) where
               unspent = res.unspent;
               rest = res.rest;
               none = res.gathered;
-              last = last;
+              last = omega (arith, at, low);
               ends = ends-picked planned 1 points h.passed lives tasks front.there;
-              lives = lives_are_restored g spelled plans bytes net (picked h.passed all) res nodes (subst (λ (cs : List (Course P)). IsSnapshot g cs bytes) same snap);
+              lives = lives_are_restored g spelled plans there bytes net (picked h.passed all) res nodes (subst (λ (cs : List (Course P)). IsSnapshot g cs bytes) same snap);
               numbered = subst (λ (ns : List ℕ). AreNumberedBy g ns (picked h.passed all)) (sym numbers) (courses_numbered g planned sits 1 points h.passed lives tasks are);
               rise = subst (NumbersRise 0) (sym numbers) (numbers_rise 0 1 h.passed lives (omega arith));
             };

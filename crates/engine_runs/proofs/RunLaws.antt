@@ -1,7 +1,7 @@
 -- Lives that ran on more points.
-use Rattle.std.proofs.Common.{◌≡◌, ℕ, zero, suc, ◌+◌, ◌-◌, ◌<◌, ◌≤◌, Bool, true, false, ◌&&◌, List, [], ◌∷◌, ◌++◌, length, map, drop, Option, None, Some, inl, inr, refl, sym, ap, subst, ◌∙◌, append-nil, append_assoc, arith}
-use Rattle.std.specs.Prelude.{◌⊎◌, slice_get, flat_map}
-use Rattle.std.specs.List.{AllByRecursion as Each, AllZip, list_all}
+use Rattle.std.proofs.Common.{◌≡◌, ℕ, ◌+◌, ◌-◌, ◌<◌, ◌≤◌, true, false, ◌&&◌, List, [], ◌∷◌, ◌++◌, length, map, drop, Option, None, Some, inl, inr, refl, sym, ap, subst, ◌∙◌, append-nil, append_assoc, arith}
+use Rattle.std.specs.Prelude.{slice_get, flat_map}
+use Rattle.std.specs.List.{AllByRecursion as Each, AllZip}
 use Rattle.std.proofs.lemmas.List.{length-append}
 use Rattle.std.proofs.lemmas.List.Concat.{flat_map-append}
 use Rattle.kap_base.specs.Points.{PointValue, is_time}
@@ -9,7 +9,7 @@ use Rattle.kap_base.specs.declared.items.Effect.{Effect}
 use Rattle.kap_base.specs.declared.items.Event.{Event}
 use Rattle.effect_text.specs.Lines.{event_in, events_of, task_of}
 use Rattle.effect_text.specs.declared.names.TaskNames.{TaskNames}
-use Rattle.flow_core.specs.Nets.{IsResting, NetValue, NumberedLife, numbers_of}
+use Rattle.flow_core.specs.Nets.{IsResting, NumberedLife, numbers_of}
 use Rattle.life_effects.specs.Effects.{LivesFit, open_courses, stored_effects}
 use Rattle.life_effects.specs.Times.{times_fit}
 use Rattle.net_epochs.specs.Epochs.{AreNumberedBy, IsOnCourse, NumbersRise, StandsAt}
@@ -20,13 +20,12 @@ use Rattle.node_set.specs.Tasks.{Planned}
 use Rattle.store_records.specs.Held.{open_from}
 use Rattle.store_records.specs.declared.task.Life.{Life}
 use Rattle.task_run.specs.Courses.{Course, grown, later_effects}
-use Rattle.task_run.specs.Graphs.{Placed}
 use Rattle.tick_compile.specs.declared.tasks.Task.{Task}
-use Rattle.topic_core.specs.Topics.{StandsFor, TopicsValue, Trans}
+use Rattle.topic_core.specs.Topics.{StandsFor}
 use Rattle.topic_core.specs.declared.transition.Transition.{Transition}
 use Rattle.engine_runs.specs.Running.{HasRun, LivesRun, RunValue, courses_on, due_behind, life_events}
 use Rattle.engine_runs.specs.Scripts.{graphs_from, names_from}
-use Rattle.engine_runs.specs.Spans.{FirstsRise, HasEnded, IsAway, IsOnward, Spans, last_of, picked}
+use Rattle.engine_runs.specs.Spans.{FirstsRise, IsAway, IsOnward, Spans, last_of, picked}
 use Rattle.engine_runs.proofs.LaterLaws.{effects_span, picked_grown}
 use Rattle.engine_runs.proofs.OpenLaws.{courses_open, numbers_open, spans_open}
 use Rattle.engine_runs.proofs.TurnLaws.{lives_are_onward, lives_onward}

@@ -1,10 +1,9 @@
 -- The nodes of the lives of a store, by their scripts.
-use Rattle.std.proofs.Common.{◌≡◌, ℕ, zero, suc, ◌+◌, ◌<◌, ◌≤◌, Bool, true, false, List, [], ◌∷◌, ◌++◌, length, map, zip, drop, Option, Some, refl, sym, ap, subst, ◌∙◌, arith}
-use Rattle.std.specs.List.{AllByRecursion as Each, AllZip}
+use Rattle.std.proofs.Common.{◌≡◌, ℕ, ◌+◌, ◌<◌, ◌≤◌, Bool, true, false, List, [], ◌∷◌, length, map, zip, sym, ap, ◌∙◌, arith}
 use Rattle.kap_base.specs.Points.{PointValue}
 use Rattle.kap_base.specs.Tree.{Tree}
 use Rattle.life_effects.specs.Effects.{courses_of}
-use Rattle.net_epochs.specs.Epochs.{AreNumberedBy, IsNumbered, NumbersRise}
+use Rattle.net_epochs.specs.Epochs.{AreNumberedBy, NumbersRise}
 use Rattle.node_core.specs.declared.node.Node.{Ghosts}
 use Rattle.node_set.specs.Tasks.{Planned, Sits, nodes_from}
 use Rattle.store_records.specs.declared.task.Life.{Life}

@@ -1,6 +1,6 @@
 -- Lives that run while points come of which none begins or ends one.
 use Rattle.std.proofs.Common.{◌≡◌, ℕ, zero, suc, ◌+◌, ◌-◌, ◌<◌, ◌≤◌, Bool, true, false, cond, List, [], ◌∷◌, ◌++◌, length, map, drop, Option, None, Some, inl, inr, refl, sym, ap, subst, ◌∙◌, arith}
-use Rattle.std.specs.Prelude.{◌⊎◌, Contains, MatchOption, slice_get}
+use Rattle.std.specs.Prelude.{Contains, MatchOption, slice_get}
 use Rattle.std.specs.List.{AllByRecursion as Each, remove}
 use Rattle.std.specs.Option.{option_map_or}
 use Rattle.store_records.specs.declared.task.Life.{Life}

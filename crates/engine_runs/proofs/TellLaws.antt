@@ -1,5 +1,5 @@
 -- What lives do with points is told.
-use Rattle.std.proofs.Common.{◌≡◌, ℕ, zero, suc, ◌+◌, ◌≤◌, List, [], ◌∷◌, ◌++◌, length, map, refl, sym, ap, subst, ◌∙◌, append-nil, append_assoc, arith}
+use Rattle.std.proofs.Common.{◌≡◌, ℕ, zero, suc, ◌+◌, ◌≤◌, List, [], ◌∷◌, ◌++◌, length, map, sym, ap, subst, ◌∙◌, append-nil, append_assoc, arith}
 use Rattle.std.specs.List.{AllByRecursion as Each}
 use Rattle.std.proofs.lemmas.List.Concat.{flat_map-append}
 use Rattle.kap_base.specs.Points.{PointValue}
@@ -7,7 +7,6 @@ use Rattle.kap_base.specs.declared.items.Effect.{Effect}
 use Rattle.kap_base.specs.declared.items.Event.{Event}
 use Rattle.effect_text.proofs.TextLaws.{text_by_names, text_more}
 use Rattle.effect_text.specs.Lines.{event_in, events_of, task_of, text_behind}
-use Rattle.effect_text.specs.declared.names.TaskNames.{TaskNames}
 use Rattle.flow_core.proofs.RisingLaws.{IsFrom, each-map, each_append, nodes-from}
 use Rattle.flow_core.specs.Gathering.{NumbersEffects}
 use Rattle.flow_core.specs.Nets.{numbers_of}
@@ -21,7 +20,7 @@ use Rattle.store_records.specs.declared.task.Life.{Life}
 use Rattle.task_run.specs.Courses.{Course, course_effects_with, course_gives, end_of, grown, items_of, later_effects}
 use Rattle.task_run.specs.Lives.{node_effects_with}
 use Rattle.tick_compile.specs.declared.tasks.Task.{Task}
-use Rattle.topic_core.specs.Topics.{StandsFor, TopicsValue, Trans}
+use Rattle.topic_core.specs.Topics.{StandsFor, Trans}
 use Rattle.topic_core.specs.declared.transition.Transition.{Transition}
 use Rattle.engine_runs.specs.Running.{HasRun, RunValue, Tells, courses_on, life_events}
 use Rattle.engine_runs.specs.Scripts.{graphs_from, names_from}

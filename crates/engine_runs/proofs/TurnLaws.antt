@@ -1,6 +1,6 @@
 -- Lives end and begin between two points.
-use Rattle.std.proofs.Common.{◌≡◌, ℕ, zero, suc, ◌+◌, ◌-◌, ◌<◌, ◌≤◌, Bool, true, false, List, [], ◌∷◌, ◌++◌, length, map, drop, Option, None, Some, inl, inr, refl, sym, ap, subst, ◌∙◌, append-nil, arith}
-use Rattle.std.specs.Prelude.{◌⊎◌, slice_get}
+use Rattle.std.proofs.Common.{◌≡◌, ℕ, ◌+◌, ◌-◌, ◌<◌, ◌≤◌, Bool, true, false, List, [], ◌∷◌, ◌++◌, length, map, Option, None, Some, inl, inr, refl, sym, ap, subst, ◌∙◌, arith}
+use Rattle.std.specs.Prelude.{slice_get}
 use Rattle.std.specs.List.{AllByRecursion as Each, remove}
 use Rattle.std.proofs.lemmas.List.{length-append, map-append}
 use Rattle.kap_base.specs.Points.{PointValue}
@@ -20,12 +20,12 @@ use Rattle.task_run.specs.Graphs.{Placed}
 use Rattle.task_run.specs.Plans.{PlanValue}
 use Rattle.tick_compile.specs.Scripts.{Accepts}
 use Rattle.tick_compile.specs.declared.tasks.Task.{Task}
-use Rattle.engine_runs.specs.Running.{HasRun, LivesRun, RunValue, courses_on}
-use Rattle.engine_runs.specs.Scripts.{AreTasksOf, IsTaskOf, graphs_from, life_names, life_nodes, names_from}
-use Rattle.engine_runs.specs.Spans.{AreThere, FirstsRise, HasEnded, HasEndedBy, IsAway, IsOnward, IsOpenOver, last_of, numbers_from, picked}
+use Rattle.engine_runs.specs.Running.{LivesRun, courses_on}
+use Rattle.engine_runs.specs.Scripts.{AreTasksOf, IsTaskOf, life_names, life_nodes, names_from}
+use Rattle.engine_runs.specs.Spans.{AreThere, HasEnded, HasEndedBy, IsAway, IsOnward, IsOpenOver, last_of, numbers_from, picked}
 use Rattle.engine_runs.proofs.LaterLaws.{none_seen}
-use Rattle.engine_runs.proofs.PlaceLaws.{TaskAt, course_at, each_more, get_map, map_remove, name_at, name_new, name_stays, names_at, number_at, numbers_below, task_at}
-use Rattle.engine_runs.proofs.SpanLaws.{away_at, away_later, away_none, each_to, lasts_picked, onward_less, picked_more, picked_without, spans_less, there_more, there_onward, there_without, without, without_length}
+use Rattle.engine_runs.proofs.PlaceLaws.{course_at, each_more, get_map, map_remove, name_at, name_new, name_stays, names_at, number_at, numbers_below, task_at}
+use Rattle.engine_runs.proofs.SpanLaws.{each_to, lasts_picked, picked_more, picked_without, there_more, there_onward, there_without, without, without_length}
 
 -- ---- one life, whose last stamp is looked at
 

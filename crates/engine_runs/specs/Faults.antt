@@ -1,5 +1,5 @@
 -- Why the lives of a store don't run.
-use Rattle.std.specs.Prelude.{◌≡◌, ◌≢◌, ℕ, ⊤, true, Contains, List}
+use Rattle.std.specs.Prelude.{◌≡◌, ℕ, ⊤, true, Contains, List}
 use Rattle.kap_base.specs.Words.{HasRisen}
 use Rattle.store_records.specs.declared.task.Life.{Life}
 use Rattle.tick_compile.specs.Scripts.{Refuses}

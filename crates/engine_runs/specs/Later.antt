@@ -1,5 +1,5 @@
 -- The lives of a store, seen later.
-use Rattle.std.specs.Prelude.{◌≡◌, ℕ, ◌<◌, ◌≤◌, List, [], ◌∷◌, Option, Some, None}
+use Rattle.std.specs.Prelude.{◌≡◌, ℕ, ◌<◌, List, [], ◌∷◌, Option, Some, None}
 use Rattle.std.specs.List.{AllByRecursion as Each}
 use Rattle.store_records.specs.declared.task.Life.{Life}
 use Rattle.engine_runs.specs.Spans.{IsOnward}

@@ -21,6 +21,7 @@ use barrier_snapshot::{SnapFault, restore};
 use edge_queue::CAPACITY_LIMIT;
 use effect_text::TaskNames;
 use flow_core::Net;
+use kap_base::Stamp;
 use lambda_types::Patterns;
 use node_core::Node;
 use node_set::ScriptNode;
@@ -133,22 +134,23 @@ pub(crate) fn plan_open<P: Patterns, N: ScriptNode>(
     Ok(())
 }
 
-/// A net of planned lives, at rest in the states that a snapshot holds.
+/// A net of planned lives, at rest in the states that a snapshot holds, behind this barrier.
 pub(crate) fn restore_net<N: Node>(
     alloc: Global,
     plans: Vec<LifePlan<N>>,
     capacity: u32,
     states: &[u8],
+    there: Stamp,
 ) -> Result<Net<N>, RunFault>
     requires few { Each HasFewParents plans.items }
     requires some { 0 < capacity }
     requires limit { capacity ≤ CAPACITY_LIMIT }
-    ensures restores { IfOk result (Restores N.Node plans.items states.now) }
+    ensures restores { IfOk result (Restores N.Node plans.items there states.now) }
     ensures states { (held : List N.State) → result ≡ Err RunFault.States
         → IsCapture N.fits N.spell (in_lives N.spec plans.items) held states.now → ⊥ }
     ensures script { (at : ℕ) → result ≡ Err (RunFault.Script at) → ⊥ }
 {
-    match restore(alloc, plans, capacity, states) {
+    match restore(alloc, plans, capacity, states, there) {
         Ok(net) => Ok(net),
         Err(SnapFault::At(_)) => Err(RunFault::States),
         Err(SnapFault::NoMemory) => Err(RunFault::NoMemory),

@@ -265,7 +265,7 @@ impl<N: ScriptNode + NumberingNode + Send> EngineRun<N> {
         if let Err(fault) = plan_open(alloc, lives, numbers, &mut names, &mut plans, pats) {
             return Err(fault);
         }
-        let net = match restore_net(alloc, plans, capacity, states) {
+        let net = match restore_net(alloc, plans, capacity, states, Stamp(points)) {
             Ok(net) => net,
             Err(fault) => return Err(fault),
         };

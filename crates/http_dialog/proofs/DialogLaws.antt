@@ -1,19 +1,19 @@
 -- Steps of a connection.
-use Rattle.std.proofs.Common.{◌≡◌, ◌≢◌, ◌⊎◌, ℕ, zero, suc, ◌+◌, ◌-◌, ◌*◌, ◌<◌, ◌≤◌, Bool, true, false, ◌||◌, ◌==◌, List, [], ◌∷◌, ◌++◌, length, take, drop, map, min, refl, sym, ap, subst, ◌∙◌, arith, inl, inr, Option, Some, None, Result, Ok, Err, All, if◌then◌else◌, append_assoc, append-nil, length-append, zero-add}
+use Rattle.std.proofs.Common.{◌≡◌, ◌≢◌, ℕ, zero, suc, ◌+◌, ◌-◌, ◌<◌, ◌≤◌, Bool, true, false, ◌||◌, ◌==◌, List, [], ◌∷◌, ◌++◌, length, take, drop, map, min, refl, sym, ap, subst, ◌∙◌, arith, inl, inr, Option, Some, None, Ok, Err, All, if◌then◌else◌, append_assoc, append-nil, length-append, zero-add}
 use Rattle.std.proofs.lemmas.List.{map-append, length-map, take-append-drop}
 use Rattle.std.proofs.lemmas.Bool.Decides.{nat_tests}
 use Rattle.std.proofs.lemmas.List.Elements.{All-cons, All-nil, All-append}
 use Rattle.http_dialog.specs.declared.ending.DialogEnd.{DialogEnd}
 use Rattle.http_dialog.specs.declared.ending.DialogEnd.TheVariants as ends
 use Rattle.http_dialog.specs.Endings.{end_of, ending_after}
-use Rattle.http_dialog.specs.Dialogs.{Past, DialogValue, HasPast, IsOf, Stands, IsOpen, IsOver, Steps, Answered, IsPrinted, requests_of, refusal, no_past, fresh, reach_of, reach, room, with_piece, with_end, with_calls, with_gone}
+use Rattle.http_dialog.specs.Dialogs.{Past, DialogValue, HasPast, IsOf, Stands, IsOpen, Steps, Answered, IsPrinted, requests_of, refusal, no_past, fresh, reach_of, reach, room, with_piece, with_end, with_calls, with_gone}
 use Rattle.kap_http.specs.declared.fault.HttpFault.{HttpFault}
-use Rattle.kap_http.specs.Calls.{Call, AddsCalls, AddsCall}
+use Rattle.kap_http.specs.Calls.{Call, AddsCall}
 use Rattle.kap_http.specs.Reading.{Gives}
 use Rattle.kap_http.specs.RequestValues.{RequestValue}
 use Rattle.kap_http.specs.ReplyValues.{ReplyValue}
 use Rattle.kap_http.specs.Replies.{reply_text, fault_reply}
-use Rattle.kap_http.specs.Requests.{Stop, behind_last, behind_most, at_end, inside, at_fault, StopsAt, BehindIt, Requests, BeginsWith, IsFinal}
+use Rattle.kap_http.specs.Requests.{Stop, behind_last, behind_most, at_fault, StopsAt, BehindIt, Requests, BeginsWith}
 use Rattle.http_dialog.proofs.NumberLaws.{Told, calls_none}
 use Rattle.kap_http.proofs.StreamLaws.{begun_more, begun_next, begun_then}
 

@@ -1,5 +1,5 @@
 -- What reading and writing make of a connection: laws that its drivers share, whatever kind of link they have.
-use Rattle.std.proofs.Common.{◌≡◌, ◌≢◌, ◌⊎◌, ℕ, Bool, true, List, [], ◌∷◌, ◌++◌, length, take, ◌≤◌, refl, sym, ap, subst, ◌∙◌, inl, inr, Option, Some, None, All, append-nil}
+use Rattle.std.proofs.Common.{◌≡◌, ◌≢◌, ℕ, List, [], ◌∷◌, ◌++◌, length, take, ◌≤◌, refl, sym, ap, subst, ◌∙◌, inl, inr, Option, Some, None, All, append-nil}
 use Rattle.std.proofs.lemmas.List.{take-take}
 use Rattle.std.specs.Io.KnownBytes.{Appends, Consumes, IsAtEnd}
 use Rattle.std.proofs.KnownBytes.{Appends-nil, Appends-trans, Consumes-nil, Consumes-trans}
@@ -11,7 +11,7 @@ use Rattle.http_dialog.specs.declared.ending.DialogEnd.{DialogEnd}
 use Rattle.http_dialog.specs.declared.ending.DialogEnd.TheVariants as stops
 use Rattle.http_dialog.specs.Endings.{end_of, of_link}
 use Rattle.http_dialog.specs.Dialogs.{Past, DialogValue, HasPast, Stands, Steps, Answered, no_past, with_piece, with_end, with_calls, with_gone}
-use Rattle.http_dialog.specs.Links.{EndsAt, IsTold, Goes, HasEnded, HasStopped, WasCut, Fate, Connected}
+use Rattle.http_dialog.specs.Links.{EndsAt, Goes, HasEnded, HasStopped, WasCut, Fate, Connected}
 use Rattle.http_dialog.specs.Driving.{GoesOn, GoesLost, ComesOn, ComesTo}
 use Rattle.http_dialog.proofs.NumberLaws.{Told, adds_none, adds_own, adds_others}
 use Rattle.http_dialog.proofs.DialogLaws.{came_goes}

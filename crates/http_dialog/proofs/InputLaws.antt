@@ -1,15 +1,15 @@
 -- What is known of bytes that came.
-use Rattle.std.proofs.Common.{◌≡◌, ◌≢◌, ℕ, ◌<◌, ◌≤◌, ◌+◌, List, [], ◌++◌, length, refl, sym, ap, subst, ◌∙◌, arith, Option, Some, None, Result, Ok, Err, append_assoc, append-nil}
+use Rattle.std.proofs.Common.{◌≡◌, ◌≢◌, ℕ, ◌<◌, ◌≤◌, ◌+◌, List, [], ◌++◌, length, refl, sym, subst, arith, Option, Some, None, Ok, Err, append_assoc, append-nil}
 use Rattle.std.proofs.lemmas.Bool.{lt-leb, le-leb}
 use Rattle.kap_http.specs.declared.fault.HttpFault.{HttpFault}
 use Rattle.kap_http.specs.declared.fault.HttpFault.TheVariants as faults
 use Rattle.kap_http.specs.HeadValues.{HeadValue}
 use Rattle.kap_http.specs.RequestValues.{RequestValue}
-use Rattle.kap_http.specs.Reading.{Gives, GivesHead, ReadResult, HeadResult, total_of, request_in, whole_in}
+use Rattle.kap_http.specs.Reading.{Gives, GivesHead, HeadResult, total_of, request_in, whole_in}
 use Rattle.kap_http.proofs.HeadFirstLaws.{whole_gives, none_gives, fault_gives}
 use Rattle.kap_http.proofs.SizeLaws.{gives_short}
 use Rattle.http_dialog.specs.declared.input.TheConstants.{HELD_LIMIT}
-use Rattle.http_dialog.specs.Inputs.{IsHeadOf, Knows}
+use Rattle.http_dialog.specs.Inputs.{IsHeadOf}
 
 pub head_of_more : (head : HeadValue) (bytes more : List ℕ) → IsHeadOf head bytes → IsHeadOf head (bytes ++ more)
 head_of_more head bytes more known rest =

@@ -1,10 +1,10 @@
 -- Bytes that are due, in two parts.
-use Rattle.std.proofs.Common.{◌≡◌, ◌≢◌, ◌⊎◌, ℕ, zero, suc, ◌+◌, ◌-◌, ◌<◌, ◌≤◌, Bool, true, false, List, [], ◌∷◌, ◌++◌, length, take, drop, refl, sym, ap, subst, ◌∙◌, arith, inl, inr, append_assoc, append-nil, length-append}
+use Rattle.std.proofs.Common.{◌≡◌, ◌≢◌, ℕ, ◌+◌, ◌-◌, ◌<◌, ◌≤◌, false, List, [], ◌∷◌, ◌++◌, length, take, drop, refl, sym, ap, ◌∙◌, arith, inl, inr, append-nil, length-append}
 use Rattle.std.proofs.lemmas.List.{drop-append-le, drop-drop, drop_all, length-drop}
 use Rattle.std.proofs.Math.Seq.{take-append_seam, drop-append-add}
 use Rattle.http_dialog.specs.declared.output.Tail.{Tail}
 use Rattle.http_dialog.specs.declared.output.Tail.TheVariants as tails
-use Rattle.http_dialog.specs.Outputs.{OutputValue, IsFree, has_tail, tail_bytes}
+use Rattle.http_dialog.specs.Outputs.{IsFree, has_tail, tail_bytes}
 
 -- the first part is a front of both
 pub front_of : (xs ys : List ℕ) → xs ≡ take (length xs) (xs ++ ys)

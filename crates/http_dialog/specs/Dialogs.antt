@@ -1,7 +1,6 @@
 -- A connection, and what came of it so far.
 use Rattle.std.specs.Prelude.{◌≡◌, ◌⊎◌, ℕ, ◌+◌, ◌-◌, ◌*◌, ◌<◌, Bool, true, false, ◌||◌, ◌==◌, List, [], ◌∷◌, ◌++◌, length, map, min, Option, Some, None, All}
 use Rattle.http_dialog.specs.declared.ending.DialogEnd.{DialogEnd}
-use Rattle.http_dialog.specs.declared.input.TheConstants.{HELD_LIMIT}
 use Rattle.http_dialog.specs.Endings.{end_of}
 use Rattle.kap_http.specs.Calls.{Call, AddsCalls}
 use Rattle.kap_http.specs.RequestValues.{RequestValue}

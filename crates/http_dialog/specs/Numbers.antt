@@ -1,5 +1,5 @@
 -- Calls by the number of their connection, where one Serve answers the requests of many.
-use Rattle.std.specs.Prelude.{◌≡◌, ℕ, ⊤, Bool, ◌==◌, List, ◌++◌, Option, Some, None, All}
+use Rattle.std.specs.Prelude.{◌≡◌, ℕ, ⊤, ◌==◌, List, ◌++◌, Option, Some, None, All}
 use Rattle.std.specs.List.{filter}
 use Rattle.kap_http.specs.Calls.{Call, AddsCalls}
 use Rattle.http_dialog.specs.Dialogs.{IsOf}

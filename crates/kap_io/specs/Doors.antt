@@ -1,5 +1,5 @@
 -- The links that come at a door.
-use Rattle.std.specs.Prelude.{◌≡◌, ℕ, ◌+◌, ⊤, Bool, true, List, length, Option, Some, None, Result, Ok, Err, if◌then◌else◌}
+use Rattle.std.specs.Prelude.{◌≡◌, ℕ, ◌+◌, ⊤, Bool, true, List, Option, Some, None, Result, Ok, Err, if◌then◌else◌}
 use Rattle.kap_io.specs.Fakes.{next_count}
 use Rattle.kap_io.specs.Links.{LinkState}
 

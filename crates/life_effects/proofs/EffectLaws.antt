@@ -91,7 +91,7 @@ module _ {P : Type 0} where
       let none : (ps : List PointValue) → length ps ≤ length points + length new → seen_by life ps ≡ [] = λ ps le. drop_all (life.first - 1) (up_to life.last ps) (omega (arith, shorter life.last ps, le, lt)) in
       inr (inr (none points (omega arith)), ap (λ (qs : List PointValue). record { nodes = nodes; base = life.first - 1; points = qs }) (none (points ++ new) (omega (arith, whole)) ∙ sym (none points (omega arith))))
 
-  fares-open : (last : Option ℕ) (life : Life) (nodes : List (Placed P)) (points new : List PointValue) → life.last ≡ last → 0 < life.first → life.first ≤ length points + 1 → IfSome last (λ k. length points + length new ≤ k)
+  pub fares-open : (last : Option ℕ) (life : Life) (nodes : List (Placed P)) (points new : List PointValue) → life.last ≡ last → 0 < life.first → life.first ≤ length points + 1 → IfSome last (λ k. length points + length new ≤ k)
       → Goes (length points) new (course_of life nodes points) (course_of life nodes (points ++ new))
   fares-open last life nodes points new e some began onward =
       let whole : length (points ++ new) ≡ length points + length new = length-append points new in
@@ -191,11 +191,11 @@ module _ {P : Type 0} where
   -- ---- what the open lives do later is what all do
 
   module _ (answer : P → Answer) (life_of number : P → ℕ) (stamped : (p : P) (before : List Input) (x : Input) → IsStamped (life_of p) (number p) x.1.stamp.0 (answer p before x)) where
-    none-later : (n s : ℕ) (gs : List Given) → n < s → Each (λ (g : Given). IsStream of_effect n g.effects) gs → node_effects_with s gs ≡ []
+    pub none-later : (n s : ℕ) (gs : List Given) → n < s → Each (λ (g : Given). IsStream of_effect n g.effects) gs → node_effects_with s gs ≡ []
     none-later n s [] lt h = refl
     none-later n s (g ∷ gs) lt h = rw (none_above of_effect s n g.effects lt h.0.up_to, none-later n s gs lt h.1) refl
 
-    ended-later : (s : ℕ) (c : Course P) → end_of c < s → node_effects_with s (course_gives answer c) ≡ []
+    pub ended-later : (s : ℕ) (c : Course P) → end_of c < s → node_effects_with s (course_gives answer c) ≡ []
     ended-later s c lt = none-later (end_of c) s (course_gives answer c) lt (gives_streams answer life_of number stamped (end_of c) (items_of c) [] c.nodes)
 
     end-low : (n : ℕ) (last : Option ℕ) (life : Life) (nodes : List (Placed P)) (points : List PointValue) → life.last ≡ last → is_some last ≡ true → LifeFits n life → end_of (course_of life nodes points) ≤ n

@@ -1,6 +1,6 @@
 -- Places in a text: the first byte that passes a test, and where a text may be cut.
-use Rattle.std.proofs.Common.{◌≡◌, ℕ, ◌+◌, ◌<◌, ◌≤◌, Bool, true, false, not, cond, List, [], ◌∷◌, ◌++◌, Option, Some, None, length, take, drop, refl, ap, subst, ◌∙◌, one-add, arith, ltb}
-use Rattle.std.specs.Prelude.{IsUtf8, position}
+use Rattle.std.proofs.Common.{◌≡◌, ℕ, ◌+◌, ◌<◌, Bool, true, false, not, List, [], ◌∷◌, ◌++◌, length, take, drop, refl, ap, subst, ◌∙◌, one-add, arith, ltb}
+use Rattle.std.specs.Prelude.{IsUtf8}
 use Rattle.std.specs.List.{list_all, before_first, position_or_len}
 use Rattle.std.specs.Str.{IsCharBoundary}
 use Rattle.std.proofs.lemmas.Bool.{ltb-true, ltb-false}

@@ -46,7 +46,7 @@ zip-remove R (x ∷ xs) [] i z = absurd z
 zip-remove R (x ∷ xs) (y ∷ ys) zero z = z.1
 zip-remove R (x ∷ xs) (y ∷ ys) (suc i) z = (z.0, zip-remove R xs ys i z.1)
 
-map-remove : {A B : Type 0} (f : A → B) (xs : List A) (i : ℕ) → map f (remove xs i) ≡ remove (map f xs) i
+pub map-remove : {A B : Type 0} (f : A → B) (xs : List A) (i : ℕ) → map f (remove xs i) ≡ remove (map f xs) i
 map-remove f [] zero = refl
 map-remove f [] (suc i) = refl
 map-remove f (x ∷ xs) zero = refl

@@ -33,6 +33,7 @@ pub fn plan_task<N: ScriptNode>(
 ) -> Result<TaskPlan<N>, NoMemory>
     ensures nodes { IfOk result (λ made. graph_of N.spec made.plan
         ≡ nodes_from N.planned task.now life 0 graph) }
+    ensures life { IfOk result (λ made. made.plan.life ≡ life) }
     ensures begin { IfOk result (λ made. AreFirstNodes N.spec N.state N.first made.plan.nodes) }
     ensures few { IfOk result (λ made. Each (λ ps. length ps ≤ PARENT_LIMIT) made.plan.parents) }
     ensures names { IfOk result (λ made. made.names ≡ map (λ node. node.name) graph) }

@@ -1,6 +1,6 @@
 -- What the tests that a point or a group passes as it is read say, and that each passes them.
-use Rattle.std.proofs.Common.{◌≡◌, ℕ, ℤ, Bool, true, List, Option, Result, Ok, Err}
-use Rattle.std.specs.Prelude.{◌&&◌, nat_lt, IsTrue, OnOk}
+use Rattle.std.proofs.Common.{◌≡◌, ℕ, ℤ, Bool, true, List, Option}
+use Rattle.std.specs.Prelude.{◌&&◌, nat_lt, IsTrue}
 use Rattle.std.specs.FinMap.{len}
 use Rattle.std.specs.Option.{option_map_or}
 use Rattle.kap_base.specs.Groups.{IsGroup, are_tag_values}

@@ -142,7 +142,7 @@ module _ {P : Type 0} (answer : P → Answer) where
   pub gives-nothing : (n : ℕ) (earlier : List Given) (d : Placed P) → AllEmpty (outs_of earlier) → node_gives answer n [] earlier d ≡ nothing
   gives-nothing n earlier d h = ap (λ (xs : List Input). given (answer d.spec) xs) (merged-empty n (lists_of [] (outs_of earlier) d.parents) (lists-empty (outs_of earlier) d.parents h))
 
-  none-behind : (s n : ℕ) (earlier : List Given) (nodes : List (Placed P)) → AllEmpty (outs_of earlier) → node_effects_with s (gives_behind answer n [] earlier nodes) ≡ []
+  pub none-behind : (s n : ℕ) (earlier : List Given) (nodes : List (Placed P)) → AllEmpty (outs_of earlier) → node_effects_with s (gives_behind answer n [] earlier nodes) ≡ []
   none-behind s n earlier [] h = refl
   none-behind s n earlier (d ∷ nodes) h =
       let g = node_gives answer n [] earlier d in

@@ -8,7 +8,7 @@ use Rattle.tick_parser.specs.declared.fault.ParseFault.{ParseFault}
 use Rattle.tick_parser.specs.declared.fault.ParseFault.TheVariants.{NoMemory}
 use Rattle.tick_parser.specs.Script.{Reads, Within}
 use Rattle.tick_parser.specs.Refusal.{Refused, ended, end_of}
-use Rattle.tick_parser.specs.Machine.{run, step, finish, Between, Stopped, Got, Refuses}
+use Rattle.tick_parser.specs.Machine.{run, step, finish, Between, Stopped, Refuses}
 use Rattle.tick_parser.specs.Machine as machine
 use Rattle.tick_parser.specs.States.{Finishes}
 use Rattle.tick_parser.proofs.Room.{run_stopped}

@@ -1,7 +1,7 @@
-use Rattle.std.proofs.Common.{◌≡◌, ◌≤◌, ℕ, List, take, length, sym, subst, ◌∙◌, arith}
+use Rattle.std.proofs.Common.{ℕ, List, take, subst, ◌∙◌, arith}
 use Rattle.std.specs.Io.KnownBytes.{Appends}
-use Rattle.kap_io.proofs.KnownLaws.{keeps_consumes, keeps_appends}
-use Rattle.http_dialog.proofs.DriveLaws.{goes_more, wrote_on, keeps_on, front_taken}
+use Rattle.kap_io.proofs.KnownLaws.{keeps_consumes}
+use Rattle.http_dialog.proofs.DriveLaws.{goes_more, wrote_on, front_taken}
 use Rattle.conn_future.proofs.link_io.flush.Goals as goal
 
 pub writing-preserved : goal.writing-preserved

@@ -1,4 +1,4 @@
-use Rattle.std.proofs.Common.{◌≡◌, ◌+◌, ◌<◌, ◌≤◌, ℕ, List, [], None, Some, refl, sym, subst, ap, ◌∙◌, arith}
+use Rattle.std.proofs.Common.{◌≡◌, [], refl, sym, subst, ap, ◌∙◌, arith}
 use Rattle.http_dialog.specs.declared.ending.LinkEnd.{LinkEnd}
 use Rattle.http_dialog.specs.Driving.{ComesTo, GoesOn}
 use Rattle.http_dialog.specs.Dialogs.{DialogValue}

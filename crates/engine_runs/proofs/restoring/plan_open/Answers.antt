@@ -1,4 +1,4 @@
-use Rattle.std.proofs.Common.{List, ℕ, ◌∷◌, [], drop, length, ap, sym, subst, ◌∙◌}
+use Rattle.std.proofs.Common.{List, ℕ, drop, length, ap, sym, subst, ◌∙◌}
 use Rattle.engine_runs.specs.Restoring.{HasPlanned}
 use Rattle.engine_runs.proofs.PlaceLaws.{got_at, none_got}
 use Rattle.engine_runs.proofs.PlanLaws.{planned_short}

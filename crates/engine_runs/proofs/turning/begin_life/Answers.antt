@@ -1,4 +1,4 @@
-use Rattle.std.proofs.Common.{◌≡◌, ℕ, ◌+◌, List, [], ◌∷◌, ◌++◌, length, sym, ap, subst, ◌∙◌}
+use Rattle.std.proofs.Common.{ℕ, ◌+◌, [], ◌∷◌, ◌++◌, length, ap, subst, ◌∙◌}
 use Rattle.effect_text.specs.declared.names.TaskNames.{TaskNames}
 use Rattle.flow_core.specs.Nets.{numbers_of}
 use Rattle.net_epochs.proofs.StandLaws.{net_begun}

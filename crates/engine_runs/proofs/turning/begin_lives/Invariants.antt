@@ -1,4 +1,4 @@
-use Rattle.std.proofs.Common.{◌≡◌, ◌-◌, List, [], drop, false, length}
+use Rattle.std.proofs.Common.{◌≡◌, ◌-◌, List, drop, false, length}
 use Rattle.std.specs.List.{AllByRecursion as Each}
 use Rattle.kap_base.specs.Points.{PointValue}
 use Rattle.flow_core.specs.Nets.{IsResting}

@@ -1,4 +1,4 @@
-use Rattle.std.proofs.Common.{◌≡◌, ℕ, ◌+◌, ◌<◌, length, map, sym, subst, ◌∙◌}
+use Rattle.std.proofs.Common.{ℕ, ◌+◌, ◌<◌, length, map, sym, subst, ◌∙◌}
 use Rattle.std.specs.List.{AllByRecursion as Each}
 use Rattle.flow_core.specs.Nets.{numbers_of}
 use Rattle.engine_runs.specs.Spans.{HasEndedBy, IsOnward, last_of}

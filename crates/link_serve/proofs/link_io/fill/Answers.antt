@@ -1,4 +1,4 @@
-use Rattle.std.proofs.Common.{◌≡◌, ◌<◌, ℕ, List, [], take, length, refl, sym, ap, subst, ◌∙◌, arith, Result, Ok, Err, OnErr}
+use Rattle.std.proofs.Common.{◌≡◌, ℕ, List, [], take, sym, ap, subst, arith, Result, Ok, Err, OnErr}
 use Rattle.std.specs.Io.KnownBytes.{Consumes}
 use Rattle.kap_io.proofs.KnownLaws.{keeps_appends}
 use Rattle.http_dialog.proofs.DriveLaws.{came_on, over_on, lost_on}

@@ -1,4 +1,4 @@
-use Rattle.std.proofs.Common.{◌≡◌, ◌≤◌, ℕ, List, take, length, sym, subst, ◌∙◌, arith}
+use Rattle.std.proofs.Common.{ℕ, List, take, subst, ◌∙◌, arith}
 use Rattle.std.specs.Io.KnownBytes.{Appends}
 use Rattle.kap_io.proofs.KnownLaws.{keeps_consumes}
 use Rattle.http_dialog.proofs.DriveLaws.{goes_more, wrote_on, front_taken}

@@ -1,8 +1,5 @@
-use Rattle.std.proofs.Common.{◌≡◌, ℕ, ◌+◌, ◌<◌, ◌≤◌, length, map, sym, subst, ◌∙◌}
-use Rattle.std.specs.List.{AllByRecursion as Each}
-use Rattle.flow_core.specs.Nets.{numbers_of}
-use Rattle.engine_runs.specs.Running.{HasRun, RunValue}
-use Rattle.engine_runs.specs.Spans.{IsOnward, last_of}
+use Rattle.std.proofs.Common.{sym, subst, ◌∙◌}
+use Rattle.engine_runs.specs.Running.{HasRun}
 use Rattle.engine_runs.proofs.RunLaws.{epoch_before}
 use Rattle.engine_runs.proofs.runs.EngineRun.epoch_len.Goals as goal
 

@@ -1,6 +1,5 @@
-use Rattle.std.proofs.Common.{◌≡◌, ℕ, ◌≤◌, List, [], Bool, length, ap, refl, sym, subst, ◌∙◌, arith}
+use Rattle.std.proofs.Common.{◌≡◌, [], sym, subst, arith}
 use Rattle.std.specs.List.{AllByRecursion as Each}
-use Rattle.effect_text.specs.declared.names.TaskNames.{TaskNames}
 use Rattle.flow_core.specs.Making.{HasFewParents}
 use Rattle.engine_runs.specs.Restoring.{HasPlanned}
 use Rattle.engine_runs.proofs.PlanLaws.{planned_none}
@@ -21,6 +20,5 @@ returns-clause-runs g c = λ tasks before there are long spans same snap stands 
     subst (λ ns. HasPlanned node.spec planned lives there c.args.numbers.now ns c.new-plans.result.items) (sym c.new-names.ensures.items)
     (subst (λ ps. HasPlanned node.spec planned lives there c.args.numbers.now [] ps) (sym c.new-plans.ensures.items) (planned_none node.spec planned lives there c.args.numbers.now same)) in
     let h = c.in_default.ensures.planned there same start in
-    let last : c.in-Ok.net.last.0 ≡ 0 = c.in-Ok.ensures.restores.last in
-    let runs = restored_run node planned script.sits met.spelled lives tasks before there _ _ c.args.states.now c.in-Ok.net are h spans snap c.in-Ok.ensures.restores (omega (arith, last)) in
+    let runs = restored_run node planned script.sits met.spelled lives tasks before there _ _ _ c.args.states.now c.in-Ok.net are h spans snap c.in-Ok.ensures.restores (omega (arith, long)) in
     record { lives_run = runs.runs; away = runs.away; topics = stands; times = times; count = long }

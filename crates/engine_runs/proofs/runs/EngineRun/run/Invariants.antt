@@ -1,7 +1,7 @@
 use Rattle.std.proofs.Common.{◌≡◌, List, false, length}
 use Rattle.kap_base.specs.Points.{PointValue}
 use Rattle.tick_compile.specs.declared.tasks.Task.{Task}
-use Rattle.engine_runs.specs.Running.{HasRun, due_behind}
+use Rattle.engine_runs.specs.Running.{HasRun}
 use Rattle.engine_runs.specs.Scripts.{AreTasksOf}
 use Rattle.engine_runs.specs.Spans.{FirstsRise}
 use Rattle.engine_runs.proofs.RunLaws.{RanSome}

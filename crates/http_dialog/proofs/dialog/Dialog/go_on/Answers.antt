@@ -1,4 +1,4 @@
-use Rattle.std.proofs.Common.{◌≡◌, ◌≢◌, ◌-◌, ◌++◌, ℕ, List, Ok, Err, Some, None, drop, refl, sym, ap, subst, ◌∙◌}
+use Rattle.std.proofs.Common.{◌≡◌, ◌-◌, ◌++◌, ℕ, List, Ok, Err, Some, drop, refl, ap, subst, ◌∙◌}
 use Rattle.http_dialog.specs.Endings.{ending_after}
 use Rattle.http_dialog.specs.Dialogs.{DialogValue}
 use Rattle.kap_http.specs.Reading.{Gives}
