@@ -175,6 +175,7 @@ impl Dialog {
 
     fn end(&mut self, ending: DialogEnd)
         ensures held { self.new.held ≡ self.old.held }
+        ensures left { self.new.left ≡ self.old.left }
         ensures due { self.new.due ≡ self.old.due }
         ensures ending { self.new.ending ≡ Some ending }
     {
@@ -194,6 +195,7 @@ impl Dialog {
         requires waits { Gives self.old.held (Ok None) }
         ensures due { self.new.due ≡ self.old.due }
         ensures held { self.new.held ≡ self.old.held }
+        ensures left { self.new.left ≡ self.old.left }
         ensures ends { self.new.ending ≢ None }
         ensures goes { (number : ℕ) (past : Past) → HasPast number past self.old →
             HasPast number (with_end past) self.new }

@@ -28,10 +28,10 @@ fn patience_of(idle: u64, whole: u64) -> Patience {
     }
 }
 
-/// How the last of some links ended, and how many requests were served.
+/// How many of some links were cut off, how the last one ended, and how many requests were served.
 #[derive(Clone, Copy, Debug, PartialEq, Eq)]
 struct Ended {
-    first: Option<LinkEnd>,
+    cut_off: u32,
     last: Option<LinkEnd>,
     served: u32,
 }
@@ -44,15 +44,18 @@ fn serve_links<B: Door<L>, L: kap_io::Link + Drop>(
 ) -> Ended {
     let mut serve = Pings { served: 0 };
     let mut ended = Ended {
-        first: None,
+        cut_off: 0,
         last: None,
         served: 0,
     };
     for _ in 0..links {
         if let Ok(Some(link)) = door.accept() {
             let mut link = link;
-            ended.last = Some(serve_link(alloc, &mut link, &mut serve));
-            ended.first = ended.first.or(ended.last);
+            let end = serve_link(alloc, &mut link, &mut serve);
+            if end == LinkEnd::ReadFault {
+                ended.cut_off = ended.cut_off.saturating_add(1);
+            }
+            ended.last = Some(end);
         }
     }
     ended.served = serve.served;
@@ -88,9 +91,10 @@ fn a_pipeline_of_1500_gets_1000_replies(rt: HostRuntime) -> Result<(), Fail> {
 fn a_413_arrives_behind_an_unread_body(rt: HostRuntime) -> Result<(), Fail> {
     let alloc = rt.alloc();
     let (mut door, addr) = door_of(&rt, patience_of(5_000, 5_000))?;
+    let head = b"POST /write?db=d HTTP/1.1\r\nContent-Length: 20000000\r\n\r\n";
     let mut text = Vec::new(alloc);
-    text.extend_from_slice(b"POST /write?db=d HTTP/1.1\r\nContent-Length: 20000000\r\n\r\n")?;
-    text.resize(2_000_000, b'm')?;
+    text.extend_from_slice(head)?;
+    text.resize(head.len() + 2_000_000, b'm')?;
     let (ended, came) = join(
         &rt,
         || serve_links(alloc, &mut door, 1),
@@ -101,29 +105,52 @@ fn a_413_arrives_behind_an_unread_body(rt: HostRuntime) -> Result<(), Fail> {
     Ok(())
 }
 
-/// Sends a byte of a head every 100 ms, until the socket is closed.
-fn trickle(rt: &HostRuntime, addr: SocketAddr) -> io::Result<u32> {
-    let mut stream = TcpStream::connect(rt, addr)?;
-    for sent in 0..100 {
-        if stream.write_all(b"G").is_err() {
-            return Ok(sent);
+/// A head that is never whole.
+const SLOW_HEAD: &[u8] = b"GET /kapacitor/v1/ping HTTP/1.1\r\nHost: kapacitor.example.org";
+
+/// Sends the head over each of these, a byte every 100 ms, until all are closed.
+fn trickle(rt: &HostRuntime, streams: &mut [TcpStream]) {
+    for byte in SLOW_HEAD {
+        let mut open = false;
+        for stream in streams.iter_mut() {
+            open |= stream.write_all(&[*byte]).is_ok();
+        }
+        if !open {
+            return;
         }
         thread::sleep(rt, Duration::from_millis(100));
     }
-    Ok(100)
+}
+
+/// Holds four connections by a byte at a time, and asks over a fifth.
+fn ask_behind_slow(rt: &HostRuntime, addr: SocketAddr) -> io::Result<Vec<u8>> {
+    let mut slow = [
+        TcpStream::connect(rt, addr)?,
+        TcpStream::connect(rt, addr)?,
+        TcpStream::connect(rt, addr)?,
+        TcpStream::connect(rt, addr)?,
+    ];
+    let mut fifth = TcpStream::connect(rt, addr)?;
+    fifth.write_all(b"GET / HTTP/1.1\r\nConnection: close\r\n\r\n")?;
+    trickle(rt, &mut slow);
+    let mut came = Vec::new(rt.alloc());
+    fifth.read_to_end(&mut came)?;
+    Ok(came)
 }
 
 #[test]
-fn a_client_of_a_byte_at_a_time_is_cut_off(rt: HostRuntime) -> Result<(), Fail> {
+fn four_clients_of_a_byte_at_a_time_are_cut_off(rt: HostRuntime) -> Result<(), Fail> {
     let alloc = rt.alloc();
     let (mut door, addr) = door_of(&rt, patience_of(5_000, 500))?;
-    let (ended, sent) = join(
+    let (ended, came) = join(
         &rt,
-        || serve_links(alloc, &mut door, 1),
-        || trickle(&rt, addr),
+        || serve_links(alloc, &mut door, 5),
+        || ask_behind_slow(&rt, addr),
     );
-    assert_eq!(rt; ended.last, Some(LinkEnd::ReadFault));
-    assert!(rt; sent? < 50);
+    assert_eq!(rt; ended.cut_off, 4);
+    assert_eq!(rt; ended.last, Some(LinkEnd::Closed));
+    assert_eq!(rt; ended.served, 1);
+    assert_eq!(rt; came?.len(), 46);
     Ok(())
 }
 
@@ -142,7 +169,7 @@ fn an_idle_client_is_cut_off(rt: HostRuntime) -> Result<(), Fail> {
         || serve_links(alloc, &mut door, 2),
         || ask_beside_idle(&rt, addr),
     );
-    assert_eq!(rt; ended.first, Some(LinkEnd::ReadFault));
+    assert_eq!(rt; ended.cut_off, 1);
     assert_eq!(rt; ended.last, Some(LinkEnd::Closed));
     assert_eq!(rt; came?.len(), 46);
     Ok(())

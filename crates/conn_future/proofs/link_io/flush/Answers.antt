@@ -14,7 +14,7 @@ writing-preserved g c =
     let count = c.in-Ok.count in
     let due = c.writing.dialog.due in
     let e = c.in-Ok.ensures in
-    let same = front_taken due c.due-in-writing.result.now count c.due-in-writing.ensures.front e.bound.1 in
+    let same = front_taken due c.due.result.now count c.due.ensures.front e.bound.1 in
     let wrote : Appends w x (take count due) = subst (λ (p : List ℕ). Appends w x p) same e.bytes in
     record {
       held = c.sent.ensures.held ∙ i.held;

@@ -13,7 +13,7 @@ writing-preserved g c =
     let n = g.L.Link.left c.write.new.self in
     let count = c.in_ok-count.count in
     let due = c.writing.dialog.due in
-    let same = front_taken due c.due-in-writing.result.now count c.due-in-writing.ensures.front c.in_ok-count.ensures.bound.1 in
+    let same = front_taken due c.due.result.now count c.due.ensures.front c.in_ok-count.ensures.bound.1 in
     let wrote : Appends w x (take count due) = subst (λ (p : List ℕ). Appends w x p) same c.in_ok-count.ensures.bytes in
     record {
       held = c.sent.ensures.held ∙ i.held;

@@ -140,3 +140,33 @@ returns-in-Memory-clause-connected g c =
     let said = c.in-Memory.ensures.memory refl in
     no_memory 0 l m s u v w c.advance.new.self on
       (ap (λ (x : DialogValue). x.ending) said.0 ∙ said.1) (ap (λ (x : DialogValue). x.due) said.0 ∙ said.2)
+
+pub returns-in-Err-clause-only : goal.returns-in-Err-clause-only
+returns-in-Err-clause-only g c =
+    let step = c.advance.ensures.steps in
+    only_more 0 (g.H.Serve.served c.args.serve.now) (g.H.Serve.served c.turns.serve) (g.H.Serve.served c.advance.new.serve)
+      step.calls c.turns.invariant.only step.told step.numbers
+
+pub returns-in-Err-Failed-clause-only : goal.returns-in-Err-Failed-clause-only
+returns-in-Err-Failed-clause-only g c =
+    let step = c.advance.ensures.steps in
+    only_more 0 (g.H.Serve.served c.args.serve.now) (g.H.Serve.served c.turns.serve) (g.H.Serve.served c.advance.new.serve)
+      step.calls c.turns.invariant.only step.told step.numbers
+
+pub returns-in-Err-NoMemory-clause-only : goal.returns-in-Err-NoMemory-clause-only
+returns-in-Err-NoMemory-clause-only g c =
+    let step = c.advance.ensures.steps in
+    only_more 0 (g.H.Serve.served c.args.serve.now) (g.H.Serve.served c.turns.serve) (g.H.Serve.served c.advance.new.serve)
+      step.calls c.turns.invariant.only step.told step.numbers
+
+pub returns-in-End-clause-only : goal.returns-in-End-clause-only
+returns-in-End-clause-only g c =
+    let step = c.advance.ensures.steps in
+    only_more 0 (g.H.Serve.served c.args.serve.now) (g.H.Serve.served c.turns.serve) (g.H.Serve.served c.advance.new.serve)
+      step.calls c.turns.invariant.only step.told step.numbers
+
+pub returns-in-Memory-clause-only : goal.returns-in-Memory-clause-only
+returns-in-Memory-clause-only g c =
+    let step = c.advance.ensures.steps in
+    only_more 0 (g.H.Serve.served c.args.serve.now) (g.H.Serve.served c.turns.serve) (g.H.Serve.served c.advance.new.serve)
+      step.calls c.turns.invariant.only step.told step.numbers
