@@ -24,5 +24,5 @@ writing-preserved g c =
       writes = let before = i.writes in let later = e.cause.later in omega arith;
       waits = let before = i.waits in let later = e.cause.waited in omega arith;
       goes = goes_more (g.L.TryLink.left c.args.link.now) m n (g.L.TryLink.written c.args.link.now) w x c.args.dialog.now c.writing.dialog c.sent.new.self i.goes
-        (wrote_on m n w x c.writing.dialog c.sent.new.self (take count due) (keeps_consumes m n e.kept) wrote c.sent.ensures.goes);
+          (wrote_on m n w x c.writing.dialog c.sent.new.self (take count due) (keeps_consumes m n e.kept) wrote c.sent.ensures.goes);
     }

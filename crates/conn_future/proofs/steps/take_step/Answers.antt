@@ -217,7 +217,7 @@ returns-in-End-clause-ends g c =
     let on = comes_stepped number a b s t u v w old c.turns.dialog new i.goes step in
     let said = c.in-End.ensures.ended c.in-End.ending refl in
     let ended = comes_end number a b s u v w old new c.in-End.ending on
-      (ap (λ (x : DialogValue). x.ending) said.0 ∙ said.1) (ap (λ (x : DialogValue). x.due) said.0 ∙ said.2) in
+    (ap (λ (x : DialogValue). x.ending) said.0 ∙ said.1) (ap (λ (x : DialogValue). x.due) said.0 ∙ said.2) in
     subst (λ (e : LinkEnd). ComesTo number a b s u v w old e) (sym c.of_link.ensures) ended
 
 pub returns-in-Memory-clause-ends : goal.returns-in-Memory-clause-ends
@@ -237,55 +237,55 @@ returns-in-Memory-clause-ends g c =
     let on = comes_stepped number a b s t u v w old c.turns.dialog new i.goes step in
     let said = c.in-Memory.ensures.memory refl in
     comes_memory number a b s u v w old new on
-      (ap (λ (x : DialogValue). x.ending) said.0 ∙ said.1) (ap (λ (x : DialogValue). x.due) said.0 ∙ said.2)
+    (ap (λ (x : DialogValue). x.ending) said.0 ∙ said.1) (ap (λ (x : DialogValue). x.due) said.0 ∙ said.2)
 
 pub returns-then-budget-eq0-clause-only : goal.returns-then-budget-eq0-clause-only
 returns-then-budget-eq0-clause-only g c =
     let step = c.advance.ensures.steps in
     only_more c.args.number (g.H.Serve.served c.args.serve.now) (g.H.Serve.served c.turns.serve) (g.H.Serve.served c.advance.new.serve)
-      step.calls c.turns.invariant.only step.told step.numbers
+    step.calls c.turns.invariant.only step.told step.numbers
 
 pub returns-in-Err-Waits-clause-only : goal.returns-in-Err-Waits-clause-only
 returns-in-Err-Waits-clause-only g c =
     let step = c.advance.ensures.steps in
     only_more c.args.number (g.H.Serve.served c.args.serve.now) (g.H.Serve.served c.turns.serve) (g.H.Serve.served c.advance.new.serve)
-      step.calls c.turns.invariant.only step.told step.numbers
+    step.calls c.turns.invariant.only step.told step.numbers
 
 pub returns-in-Err-Failed-clause-only : goal.returns-in-Err-Failed-clause-only
 returns-in-Err-Failed-clause-only g c =
     let step = c.advance.ensures.steps in
     only_more c.args.number (g.H.Serve.served c.args.serve.now) (g.H.Serve.served c.turns.serve) (g.H.Serve.served c.advance.new.serve)
-      step.calls c.turns.invariant.only step.told step.numbers
+    step.calls c.turns.invariant.only step.told step.numbers
 
 pub returns-in-Err-Waits-fill-clause-only : goal.returns-in-Err-Waits-fill-clause-only
 returns-in-Err-Waits-fill-clause-only g c =
     let step = c.advance.ensures.steps in
     only_more c.args.number (g.H.Serve.served c.args.serve.now) (g.H.Serve.served c.turns.serve) (g.H.Serve.served c.advance.new.serve)
-      step.calls c.turns.invariant.only step.told step.numbers
+    step.calls c.turns.invariant.only step.told step.numbers
 
 pub returns-in-Err-Failed-fill-clause-only : goal.returns-in-Err-Failed-fill-clause-only
 returns-in-Err-Failed-fill-clause-only g c =
     let step = c.advance.ensures.steps in
     only_more c.args.number (g.H.Serve.served c.args.serve.now) (g.H.Serve.served c.turns.serve) (g.H.Serve.served c.advance.new.serve)
-      step.calls c.turns.invariant.only step.told step.numbers
+    step.calls c.turns.invariant.only step.told step.numbers
 
 pub returns-in-Err-NoMemory-clause-only : goal.returns-in-Err-NoMemory-clause-only
 returns-in-Err-NoMemory-clause-only g c =
     let step = c.advance.ensures.steps in
     only_more c.args.number (g.H.Serve.served c.args.serve.now) (g.H.Serve.served c.turns.serve) (g.H.Serve.served c.advance.new.serve)
-      step.calls c.turns.invariant.only step.told step.numbers
+    step.calls c.turns.invariant.only step.told step.numbers
 
 pub returns-in-End-clause-only : goal.returns-in-End-clause-only
 returns-in-End-clause-only g c =
     let step = c.advance.ensures.steps in
     only_more c.args.number (g.H.Serve.served c.args.serve.now) (g.H.Serve.served c.turns.serve) (g.H.Serve.served c.advance.new.serve)
-      step.calls c.turns.invariant.only step.told step.numbers
+    step.calls c.turns.invariant.only step.told step.numbers
 
 pub returns-in-Memory-clause-only : goal.returns-in-Memory-clause-only
 returns-in-Memory-clause-only g c =
     let step = c.advance.ensures.steps in
     only_more c.args.number (g.H.Serve.served c.args.serve.now) (g.H.Serve.served c.turns.serve) (g.H.Serve.served c.advance.new.serve)
-      step.calls c.turns.invariant.only step.told step.numbers
+    step.calls c.turns.invariant.only step.told step.numbers
 
 pub returns-then-budget-eq0-clause-goes : goal.returns-then-budget-eq0-clause-goes
 returns-then-budget-eq0-clause-goes g c =
@@ -324,4 +324,4 @@ returns-then-budget-eq0-clause-ends g c =
     let on = comes_stepped number a b s t u v w old c.turns.dialog new c.turns.invariant.goes c.advance.ensures.steps in
     let moved = comes_moved number a b d s u v w x old new rested on c.rest.ensures.goes in
     rest_ends (g.L.TryLink.write_faults c.turns.link) (g.L.TryLink.write_faults c.rest.new.link) (g.L.TryLink.waits c.turns.link) (g.L.TryLink.waits c.rest.new.link)
-      rested c.rest.result (λ e. ComesTo number a d s u v x old e) c.rest.ensures.answer (comes_cut number a d s u v x old rested moved)
+    rested c.rest.result (λ e. ComesTo number a d s u v x old e) c.rest.ensures.answer (comes_cut number a d s u v x old rested moved)

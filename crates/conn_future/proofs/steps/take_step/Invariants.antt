@@ -13,7 +13,7 @@ invariant-turns g l = record {
   waits : g.L.TryLink.waits l.fn.link ≤ g.L.TryLink.waits l.link;
   only : AddsOnly l.fn.number (g.H.Serve.served l.fn.serve) (g.H.Serve.served l.serve);
   goes : ComesOn l.fn.number (g.L.TryLink.left l.fn.link) (g.L.TryLink.left l.link) (g.H.Serve.served l.fn.serve) (g.H.Serve.served l.serve)
-    (g.L.TryLink.written l.fn.link) (g.L.TryLink.written l.link) l.fn.dialog l.dialog;
+      (g.L.TryLink.written l.fn.link) (g.L.TryLink.written l.link) l.fn.dialog l.dialog;
 }
 
 abbrev pub decreases-turns : goal.decreases-turns

@@ -14,15 +14,15 @@ returns-then-count-eq0-clause-goes g c =
     let x = g.L.Link.written c.read.new.self in
     let none : take c.in_ok-count.count c.read.new.buf ≡ [] = ap (λ (k : ℕ). take k c.read.new.buf) c.if-count-eq0.true in
     over_on (g.L.Link.left c.args.link.now) (g.L.Link.left c.read.new.self) w x c.args.dialog.now c.close.new.self
-      (take c.in_ok-count.count c.read.new.buf) none c.in_ok-count.ensures.bytes.0 (c.in_ok-count.ensures.bytes.1 c.if-count-eq0.true (omega arith))
-      (keeps_appends w x c.in_ok-count.ensures.kept) c.close.ensures.goes
+    (take c.in_ok-count.count c.read.new.buf) none c.in_ok-count.ensures.bytes.0 (c.in_ok-count.ensures.bytes.1 c.if-count-eq0.true (omega arith))
+    (keeps_appends w x c.in_ok-count.ensures.kept) c.close.ensures.goes
 
 pub returns-in_err-take_in-clause-lost : goal.returns-in_err-take_in-clause-lost
 returns-in_err-take_in-clause-lost g c =
     let w = g.L.Link.written c.args.link.now in
     let x = g.L.Link.written c.read.new.self in
     always _ _ (lost_on (g.L.Link.left c.args.link.now) (g.L.Link.left c.read.new.self) w x c.args.dialog.now
-      (take c.in_ok-count.count c.read.new.buf) c.requires.open c.in_ok-count.ensures.bytes.0 (keeps_appends w x c.in_ok-count.ensures.kept))
+    (take c.in_ok-count.count c.read.new.buf) c.requires.open c.in_ok-count.ensures.bytes.0 (keeps_appends w x c.in_ok-count.ensures.kept))
 
 pub returns-clause-goes : goal.returns-clause-goes
 returns-clause-goes g c =
@@ -31,5 +31,5 @@ returns-clause-goes g c =
     let w = g.L.Link.written c.args.link.now in
     let x = g.L.Link.written c.read.new.self in
     came_on m n w x c.args.dialog.now c.take_in.new.self _
-      (subst (λ (p : List ℕ). Consumes m n p) (sym c.split_at.ensures.front) c.in_ok-count.ensures.bytes.0)
-      (keeps_appends w x c.in_ok-count.ensures.kept) c.in_ok-take_in.ensures.goes
+    (subst (λ (p : List ℕ). Consumes m n p) (sym c.split_at.ensures.front) c.in_ok-count.ensures.bytes.0)
+    (keeps_appends w x c.in_ok-count.ensures.kept) c.in_ok-take_in.ensures.goes

@@ -22,5 +22,5 @@ writing-preserved g c =
       reads = let before = i.reads in let later = c.in_ok-count.ensures.other in omega arith;
       writes = let before = i.writes in let later = c.in_ok-count.ensures.cause.later in omega arith;
       goes = goes_more (g.L.Link.left c.args.link.now) m n (g.L.Link.written c.args.link.now) w x c.args.dialog.now c.writing.dialog c.sent.new.self i.goes
-        (wrote_on m n w x c.writing.dialog c.sent.new.self (take count due) (keeps_consumes m n c.in_ok-count.ensures.kept) wrote c.sent.ensures.goes);
+          (wrote_on m n w x c.writing.dialog c.sent.new.self (take count due) (keeps_consumes m n c.in_ok-count.ensures.kept) wrote c.sent.ensures.goes);
     }

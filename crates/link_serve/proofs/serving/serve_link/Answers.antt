@@ -124,7 +124,7 @@ returns-in-End-clause-connected g c =
     let on = stepped 0 l m s t u v w c.turns.dialog c.advance.new.self c.turns.invariant.goes c.advance.ensures.steps in
     let said = c.in-End.ensures.ended c.in-End.ending refl in
     let ended = ends_so 0 l m s u v w c.advance.new.self c.in-End.ending on
-      (ap (λ (x : DialogValue). x.ending) said.0 ∙ said.1) (ap (λ (x : DialogValue). x.due) said.0 ∙ said.2) in
+    (ap (λ (x : DialogValue). x.ending) said.0 ∙ said.1) (ap (λ (x : DialogValue). x.due) said.0 ∙ said.2) in
     subst (λ (end_is : LinkEnd). Connected 0 l m s u v w end_is) (sym c.of_link.ensures) ended
 
 pub returns-in-Memory-clause-connected : goal.returns-in-Memory-clause-connected
@@ -139,34 +139,34 @@ returns-in-Memory-clause-connected g c =
     let on = stepped 0 l m s t u v w c.turns.dialog c.advance.new.self c.turns.invariant.goes c.advance.ensures.steps in
     let said = c.in-Memory.ensures.memory refl in
     no_memory 0 l m s u v w c.advance.new.self on
-      (ap (λ (x : DialogValue). x.ending) said.0 ∙ said.1) (ap (λ (x : DialogValue). x.due) said.0 ∙ said.2)
+    (ap (λ (x : DialogValue). x.ending) said.0 ∙ said.1) (ap (λ (x : DialogValue). x.due) said.0 ∙ said.2)
 
 pub returns-in-Err-clause-only : goal.returns-in-Err-clause-only
 returns-in-Err-clause-only g c =
     let step = c.advance.ensures.steps in
     only_more 0 (g.H.Serve.served c.args.serve.now) (g.H.Serve.served c.turns.serve) (g.H.Serve.served c.advance.new.serve)
-      step.calls c.turns.invariant.only step.told step.numbers
+    step.calls c.turns.invariant.only step.told step.numbers
 
 pub returns-in-Err-Failed-clause-only : goal.returns-in-Err-Failed-clause-only
 returns-in-Err-Failed-clause-only g c =
     let step = c.advance.ensures.steps in
     only_more 0 (g.H.Serve.served c.args.serve.now) (g.H.Serve.served c.turns.serve) (g.H.Serve.served c.advance.new.serve)
-      step.calls c.turns.invariant.only step.told step.numbers
+    step.calls c.turns.invariant.only step.told step.numbers
 
 pub returns-in-Err-NoMemory-clause-only : goal.returns-in-Err-NoMemory-clause-only
 returns-in-Err-NoMemory-clause-only g c =
     let step = c.advance.ensures.steps in
     only_more 0 (g.H.Serve.served c.args.serve.now) (g.H.Serve.served c.turns.serve) (g.H.Serve.served c.advance.new.serve)
-      step.calls c.turns.invariant.only step.told step.numbers
+    step.calls c.turns.invariant.only step.told step.numbers
 
 pub returns-in-End-clause-only : goal.returns-in-End-clause-only
 returns-in-End-clause-only g c =
     let step = c.advance.ensures.steps in
     only_more 0 (g.H.Serve.served c.args.serve.now) (g.H.Serve.served c.turns.serve) (g.H.Serve.served c.advance.new.serve)
-      step.calls c.turns.invariant.only step.told step.numbers
+    step.calls c.turns.invariant.only step.told step.numbers
 
 pub returns-in-Memory-clause-only : goal.returns-in-Memory-clause-only
 returns-in-Memory-clause-only g c =
     let step = c.advance.ensures.steps in
     only_more 0 (g.H.Serve.served c.args.serve.now) (g.H.Serve.served c.turns.serve) (g.H.Serve.served c.advance.new.serve)
-      step.calls c.turns.invariant.only step.told step.numbers
+    step.calls c.turns.invariant.only step.told step.numbers

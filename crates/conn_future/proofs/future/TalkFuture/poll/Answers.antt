@@ -24,9 +24,13 @@ may_end number l m s t v w dialog Pending p = tt
 -- what may come of a connection behind a poll may come of it before
 from_later : (number later : ℕ) (l m : Known) (s t : Told) (v w : Known) (old new : DialogValue) (e : LinkEnd)
     → later ≡ number → ComesOn number l m s t v w old new → MayEndSo later m t w new e → MayEndSo number l s v old e
-from_later number later l m s t v w old new e same on may =
-    (may.0, may.1, may.2, λ k x r goes.
-      subst (λ (n : ℕ). ComesTo n m may.0 t may.1 w may.2 new e) same may.3 k x r (on k x r goes))
+from_later number later l m s t v w old new e same on may = (
+  may.0,
+  may.1,
+  may.2,
+  λ k x r goes.
+      subst (λ (n : ℕ). ComesTo n m may.0 t may.1 w may.2 new e) same may.3 k x r (on k x r goes),
+)
 
 on_pending : (r : Poll LinkEnd) (P Q : Type 0) → (P → Q) → OnPending r P → OnPending r Q
 on_pending (Ready e) P Q f p = tt
@@ -37,7 +41,7 @@ returns-clause-value g c =
     let old = c.args.self.now.conn.now in
     let new = c.poll.new.self in
     may_end old.number (g.L.TryLink.left old.link) (g.L.TryLink.left new.link) (g.H.Serve.served c.args.self.now.serve.now) (g.H.Serve.served c.poll.new.serve)
-      (g.L.TryLink.written old.link) (g.L.TryLink.written new.link) old.dialog c.poll.result c.poll.ensures.ends
+    (g.L.TryLink.written old.link) (g.L.TryLink.written new.link) old.dialog c.poll.result c.poll.ensures.ends
 
 pub returns-clause-same : goal.returns-clause-same
 returns-clause-same g c =
@@ -50,4 +54,4 @@ returns-clause-same g c =
     let v = g.L.TryLink.written old.link in
     let w = g.L.TryLink.written new.link in
     on_pending c.poll.result (ComesOn old.number l m s t v w old.dialog new.dialog) _
-      (λ on e may. from_later old.number new.number l m s t v w old.dialog new.dialog e c.poll.ensures.number on may) c.poll.ensures.pending
+    (λ on e may. from_later old.number new.number l m s t v w old.dialog new.dialog e c.poll.ensures.number on may) c.poll.ensures.pending

@@ -1,5 +1,4 @@
 use Rattle.std.proofs.Common.{◌≡◌, ℕ, List, refl, subst, Ok, Err, Some}
-use Rattle.kap_http.specs.declared.fault.HttpFault.TheVariants as faults
 use Rattle.kap_http.specs.Reading.{GivesHead}
 use Rattle.http_dialog.proofs.InputLaws.{head_is, refused}
 use Rattle.http_dialog.proofs.input.Input.first.Goals as goal

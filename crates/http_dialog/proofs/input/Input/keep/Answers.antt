@@ -1,4 +1,4 @@
-use Rattle.std.proofs.Common.{rules, ◌≡◌, ◌+◌, ◌++◌, ℕ, List, length, sym, ap, subst, ◌∙◌, arith, length-append}
+use Rattle.std.proofs.Common.{rules, ◌≡◌, ◌++◌, ℕ, List, length, sym, ap, subst, ◌∙◌, arith, length-append}
 use Rattle.http_dialog.specs.declared.input.Front.{Front}
 use Rattle.http_dialog.specs.Inputs.{Knows}
 use Rattle.http_dialog.proofs.input.Input.keep.Goals as goal
