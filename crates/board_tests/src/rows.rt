@@ -10,10 +10,13 @@ use std::marker::Brand;
 use std::process::Abort;
 use std::sync::Wait;
 use std::test::Fail;
-use topic_board::{Look, Naming, Opened, Shown, board};
+use topic_board::{Look, Naming, Opened, Poster, Shown, board};
 
 /// The topic of an alert node without a name.
 const TOPIC: &str = "main:c:alert2";
+
+/// The text of that topic.
+const TEXT: &str = "main:c:alert2 CRITICAL m=CRITICAL; ";
 
 /// Whether the topic has this level to the look, and its copy this text.
 fn reads<J: Naming, O: Drop, T: Shown<J, O>>(
@@ -29,29 +32,35 @@ fn reads<J: Naming, O: Drop, T: Shown<J, O>>(
     Ok(read == Ok(level) && copied.as_slice() == kept.as_bytes())
 }
 
-fn read_in_turn<J: Naming, R: Wait + Abort>(
-    rt: &R,
+/// Reads before a transition is posted, while it is pending, and once it is published.
+fn read_in_turn<J: Naming, O: Drop, T: Shown<J, O>, R: Wait + Drop>(
     alloc: Global,
-    opened: Opened,
-) -> Result<(), Fail>
+    poster: &mut Poster<J, O, T, R>,
+    look: &mut Look<J, O, T>,
+) -> Result<bool, Fail> {
+    let topic = Text::from_str(alloc, TOPIC)?;
+    let before = reads(alloc, look, &topic, None, "")?;
+    poster.post(alloc, &transition(alloc, 1, TOPIC, "m", Level::Critical)?)?;
+    look.learn(poster.tell());
+    let pending = reads(alloc, look, &topic, None, "")?;
+    poster.publish()?;
+    look.learn(poster.tell());
+    let behind = reads(alloc, look, &topic, Some(Level::Critical), TEXT)?;
+    Ok(before && pending && behind && poster.count() == 1 && look.aways() == 0)
+}
+
+fn read_one<J: Naming, R: Wait>(rt: &R, alloc: Global, opened: Opened) -> Result<bool, Fail>
     requires { opened ≡ J.book }
 {
     let (mut poster, mut looks) = board::<J, &R>(rt, alloc, opened, 2)?;
-    let topic = Text::from_str(alloc, TOPIC)?;
-    let mut look = looks.pop().ok_or("no look")?;
-    assert!(rt; reads(alloc, &mut look, &topic, None, "")?);
-    let next = transition(alloc, 1, TOPIC, "m", Level::Critical)?;
-    poster.post(alloc, &next)?;
-    assert!(rt; reads(alloc, &mut look, &topic, None, "")? && poster.tell().len() == 0);
-    poster.publish()?;
-    look.learn(poster.tell());
-    let kept = "main:c:alert2 CRITICAL m=CRITICAL; ";
-    assert!(rt; reads(alloc, &mut look, &topic, Some(Level::Critical), kept)?);
-    assert!(rt; (poster.count(), poster.tell().len(), look.aways()) == (1, 1, 0));
-    Ok(())
+    match looks.pop() {
+        None => Ok(false),
+        Some(mut look) => read_in_turn(alloc, &mut poster, &mut look),
+    }
 }
 
 #[test]
 fn a_look_reads_what_was_published(rt: HostRuntime) -> Result<(), Fail> {
-    read_in_turn::<Brand, _>(&rt, rt.alloc(), Opened::new())
+    assert!(rt; read_one::<Brand, _>(&rt, rt.alloc(), Opened::new())?);
+    Ok(())
 }
