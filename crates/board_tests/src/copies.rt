@@ -1,7 +1,7 @@
 //! What topics hold, as text, and a copy of them.
 
 use crate::posts::transition;
-use kap_base::{Bytes, Duplicate, Level, NoMemory, Text};
+use kap_base::{Bytes, Duplicate, Level, NoMemory};
 use std::alloc::Global;
 use std::process::Abort;
 use std::test::Fail;
@@ -31,6 +31,12 @@ pub fn text_of(alloc: Global, topics: &Topics) -> Result<Bytes, NoMemory> {
     Ok(to)
 }
 
+/// Whether the topics have this text, and so many transitions were taken.
+fn stand(alloc: Global, topics: &Topics, text: &str, count: u64) -> Result<bool, NoMemory> {
+    let to = text_of(alloc, topics)?;
+    Ok(to.as_slice() == text.as_bytes() && topics.count() == count)
+}
+
 fn put(
     alloc: Global,
     topics: &mut Topics,
@@ -41,23 +47,38 @@ fn put(
     topics.put(alloc, &transition(alloc, 1, topic, id, level)?)
 }
 
+fn put_disks(alloc: Global, topics: &mut Topics) -> Result<(), NoMemory> {
+    put(alloc, topics, "disk", "b", Level::Critical)?;
+    put(alloc, topics, "disk", "b", Level::Fine)
+}
+
+fn put_cpus(alloc: Global, topics: &mut Topics) -> Result<(), NoMemory> {
+    put(alloc, topics, "cpu", "south", Level::Info)?;
+    put(alloc, topics, "cpu", "east", Level::Warning)?;
+    put(alloc, topics, "cpu", "eas", Level::Fine)
+}
+
+/// The text of the topics of disks and cpus.
+const TEXT: &str = "cpu WARNING eas=OK east=WARNING south=INFO; disk OK b=OK; ";
+
+/// The same, behind a topic without a name.
+const TEXT_BEHIND: &str = " INFO =INFO; cpu WARNING eas=OK east=WARNING south=INFO; disk OK b=OK; ";
+
+/// Whether a copy stays as it is where another transition is taken.
+fn copy_stays(alloc: Global, topics: &mut Topics) -> Result<bool, NoMemory> {
+    let copy = topics.copy(alloc)?;
+    put(alloc, topics, "", "", Level::Info)?;
+    stand(alloc, &copy, TEXT, 5)
+}
+
 #[test]
 fn topics_stand_in_byte_order(rt: HostRuntime) -> Result<(), Fail> {
-    let alloc = rt.alloc();
-    let mut topics = Topics::new(alloc);
-    put(alloc, &mut topics, "disk", "b", Level::Critical)?;
-    put(alloc, &mut topics, "cpu", "south", Level::Info)?;
-    put(alloc, &mut topics, "cpu", "east", Level::Warning)?;
-    put(alloc, &mut topics, "cpu", "eas", Level::Fine)?;
-    put(alloc, &mut topics, "disk", "b", Level::Fine)?;
-    let copy = topics.copy(alloc)?;
-    put(alloc, &mut topics, "", "", Level::Info)?;
-    let kept = "cpu WARNING eas=OK east=WARNING south=INFO; disk OK b=OK; ";
-    assert!(rt; text_of(alloc, &copy)?.as_slice() == kept.as_bytes());
-    let more = format!(in alloc; " INFO =INFO; {kept}")?;
-    assert!(rt; text_of(alloc, &topics)?.as_slice() == more.as_bytes());
-    assert!(rt; (copy.count(), topics.count()) == (5, 6));
-    assert!(rt; copy.level(&Text::from_str(alloc, "mem")?).is_none());
+    let mut topics = Topics::new(rt.alloc());
+    put_disks(rt.alloc(), &mut topics)?;
+    put_cpus(rt.alloc(), &mut topics)?;
+    assert!(rt; stand(rt.alloc(), &topics, TEXT, 5)?);
+    assert!(rt; copy_stays(rt.alloc(), &mut topics)?);
+    assert!(rt; stand(rt.alloc(), &topics, TEXT_BEHIND, 6)?);
     Ok(())
 }
 

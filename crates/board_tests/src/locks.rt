@@ -35,7 +35,7 @@ fn sees_both<J: Naming, O: Drop, T: Shown<J, O>, R: Wait + Drop>(
     alloc: Global,
     poster: &Poster<J, O, T, R>,
     look: &mut Look<J, O, T>,
-) -> Result<bool, Fail> {
+) -> Result<bool, NoMemory> {
     look.learn(poster.tell());
     let one = look.level(&Text::from_str(alloc, "one")?);
     let other = look.level(&Text::from_str(alloc, "other")?);
@@ -55,34 +55,35 @@ fn share<
     rt: &H,
     alloc: Global,
     poster: Poster<J, O, T, R>,
-    mut look: Look<J, O, T>,
-) -> Result<bool, Fail> {
+    look: &mut Look<J, O, T>,
+) -> Result<bool, NoMemory> {
     let lock = Mutex::new(poster);
     let (one, other) = join(
         rt,
         || post_some(rt, alloc, &lock, "one"),
         || post_some(rt, alloc, &lock, "other"),
     );
-    one?;
-    other?;
     let poster = lock.into_inner();
-    sees_both(alloc, &poster, &mut look)
+    let posted = one.is_ok() && other.is_ok();
+    Ok(posted && sees_both(alloc, &poster, look)?)
 }
 
-fn shared<J: Naming + Send + Sync, R: Threads + Wait + Abort + Sync>(
+fn shared<J: Naming + Send + Sync, R: Threads + Wait + Sync>(
     rt: &R,
     alloc: Global,
     opened: Opened,
-) -> Result<(), Fail>
+) -> Result<bool, NoMemory>
     requires { opened ≡ J.book }
 {
     let (poster, mut looks) = board::<J, &R>(rt, alloc, opened, 1)?;
-    let look = looks.pop().ok_or("no look")?;
-    assert!(rt; share(rt, alloc, poster, look)?);
-    Ok(())
+    match looks.pop() {
+        None => Ok(false),
+        Some(mut look) => share(rt, alloc, poster, &mut look),
+    }
 }
 
 #[test]
 fn two_threads_post_under_a_lock(rt: HostRuntime) -> Result<(), Fail> {
-    shared::<Brand, _>(&rt, rt.alloc(), Opened::new())
+    assert!(rt; shared::<Brand, _>(&rt, rt.alloc(), Opened::new())?);
+    Ok(())
 }

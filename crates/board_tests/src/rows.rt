@@ -4,16 +4,26 @@ ghost use Rattle.std.specs.Prelude.{◌≡◌};
 
 use crate::copies::text_of;
 use crate::posts::transition;
-use kap_base::{Level, Text};
+use kap_base::{Level, NoMemory, Text};
 use std::alloc::Global;
 use std::marker::Brand;
 use std::process::Abort;
 use std::sync::Wait;
 use std::test::Fail;
-use topic_board::{Look, Naming, Opened, Shown, board};
+use topic_board::{Look, Naming, Opened, Poster, Shown, board};
+use topic_core::Topics;
 
 /// The topic of an alert node without a name.
 const TOPIC: &str = "main:c:alert2";
+
+/// The text of that topic.
+const TEXT: &str = "main:c:alert2 CRITICAL m=CRITICAL; ";
+
+/// Whether topics have this text.
+fn have_text(alloc: Global, topics: &Topics, kept: &str) -> Result<bool, NoMemory> {
+    let text = text_of(alloc, topics)?;
+    Ok(text.as_slice() == kept.as_bytes())
+}
 
 /// Whether the topic has this level to the look, and its copy this text.
 fn reads<J: Naming, O: Drop, T: Shown<J, O>>(
@@ -22,36 +32,65 @@ fn reads<J: Naming, O: Drop, T: Shown<J, O>>(
     topic: &Text,
     level: Option<Level>,
     kept: &str,
-) -> Result<bool, Fail> {
+) -> Result<bool, NoMemory> {
     let read = look.level(topic);
-    let topics = look.copy(alloc).map_err(|_| "no copy")?;
-    let copied = text_of(alloc, &topics)?;
-    Ok(read == Ok(level) && copied.as_slice() == kept.as_bytes())
+    match look.copy(alloc) {
+        Ok(topics) => Ok(have_text(alloc, &topics, kept)? && read == Ok(level)),
+        Err(_) => Ok(false),
+    }
 }
 
-fn read_in_turn<J: Naming, R: Wait + Abort>(
-    rt: &R,
+/// Reads before a transition is posted and while it is pending.
+fn read_before<J: Naming, O: Drop, T: Shown<J, O>, R: Wait + Drop>(
     alloc: Global,
-    opened: Opened,
-) -> Result<(), Fail>
+    poster: &mut Poster<J, O, T, R>,
+    look: &mut Look<J, O, T>,
+    topic: &Text,
+) -> Result<bool, NoMemory> {
+    let before = reads(alloc, look, topic, None, "")?;
+    poster.post(alloc, &transition(alloc, 1, TOPIC, "m", Level::Critical)?)?;
+    look.learn(poster.tell());
+    let pending = reads(alloc, look, topic, None, "")?;
+    Ok(before && pending)
+}
+
+/// Reads once it is published.
+fn read_behind<J: Naming, O: Drop, T: Shown<J, O>, R: Wait + Drop>(
+    alloc: Global,
+    poster: &mut Poster<J, O, T, R>,
+    look: &mut Look<J, O, T>,
+    topic: &Text,
+) -> Result<bool, NoMemory> {
+    poster.publish()?;
+    look.learn(poster.tell());
+    let behind = reads(alloc, look, topic, Some(Level::Critical), TEXT)?;
+    Ok(behind && poster.count() == 1 && look.aways() == 0)
+}
+
+/// Reads before a transition is posted, while it is pending, and once it is published.
+fn read_in_turn<J: Naming, O: Drop, T: Shown<J, O>, R: Wait + Drop>(
+    alloc: Global,
+    poster: &mut Poster<J, O, T, R>,
+    look: &mut Look<J, O, T>,
+) -> Result<bool, NoMemory> {
+    let topic = Text::from_str(alloc, TOPIC)?;
+    let before = read_before(alloc, poster, look, &topic)?;
+    let behind = read_behind(alloc, poster, look, &topic)?;
+    Ok(before && behind)
+}
+
+fn read_one<J: Naming, R: Wait>(rt: &R, alloc: Global, opened: Opened) -> Result<bool, NoMemory>
     requires { opened ≡ J.book }
 {
     let (mut poster, mut looks) = board::<J, &R>(rt, alloc, opened, 2)?;
-    let topic = Text::from_str(alloc, TOPIC)?;
-    let mut look = looks.pop().ok_or("no look")?;
-    assert!(rt; reads(alloc, &mut look, &topic, None, "")?);
-    let next = transition(alloc, 1, TOPIC, "m", Level::Critical)?;
-    poster.post(alloc, &next)?;
-    assert!(rt; reads(alloc, &mut look, &topic, None, "")? && poster.tell().len() == 0);
-    poster.publish()?;
-    look.learn(poster.tell());
-    let kept = "main:c:alert2 CRITICAL m=CRITICAL; ";
-    assert!(rt; reads(alloc, &mut look, &topic, Some(Level::Critical), kept)?);
-    assert!(rt; (poster.count(), poster.tell().len(), look.aways()) == (1, 1, 0));
-    Ok(())
+    match looks.pop() {
+        None => Ok(false),
+        Some(mut look) => read_in_turn(alloc, &mut poster, &mut look),
+    }
 }
 
 #[test]
 fn a_look_reads_what_was_published(rt: HostRuntime) -> Result<(), Fail> {
-    read_in_turn::<Brand, _>(&rt, rt.alloc(), Opened::new())
+    assert!(rt; read_one::<Brand, _>(&rt, rt.alloc(), Opened::new())?);
+    Ok(())
 }

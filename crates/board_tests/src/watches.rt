@@ -32,8 +32,8 @@ fn level_of(number: u64) -> Level {
 /// Publishes the transitions one by one, of three ids in turn.
 fn publish_all<J: Naming, O: Drop, T: Shown<J, O>, R: Wait + Drop>(
     alloc: Global,
-    mut poster: Poster<J, O, T, R>,
-) -> Result<Poster<J, O, T, R>, NoMemory> {
+    poster: &mut Poster<J, O, T, R>,
+) -> Result<(), NoMemory> {
     'publishing: for number in 0..POSTS {
         let id = match number % 3 {
             0 => "east",
@@ -41,9 +41,9 @@ fn publish_all<J: Naming, O: Drop, T: Shown<J, O>, R: Wait + Drop>(
             _ => "south",
         };
         let next = transition(alloc, number + 1, "cpu", id, level_of(number))?;
-        show(alloc, &mut poster, &next)?;
+        show(alloc, poster, &next)?;
     }
-    Ok(poster)
+    Ok(())
 }
 
 fn is_below(one: Option<Level>, other: Option<Level>) -> bool {
@@ -85,20 +85,20 @@ fn read_on<J: Naming, O: Drop, T: Shown<J, O>>(
 /// Reads until all was seen, or often enough. None where the look was refused or went back.
 fn watch<J: Naming, O: Drop, T: Shown<J, O>>(
     alloc: Global,
-    mut look: Look<J, O, T>,
+    look: &mut Look<J, O, T>,
     topic: &Text,
-) -> Option<Look<J, O, T>> {
+) -> Option<Last> {
     let mut last = Last {
         level: None,
         count: 0,
     };
     'watching: for _ in 0..READS {
-        last = read_on(alloc, &mut look, topic, last)?;
+        last = read_on(alloc, look, topic, last)?;
         if last.count == POSTS {
             break;
         }
     }
-    Some(look)
+    Some(last)
 }
 
 /// Whether the look, once it was told, sees all, and is refused when the board has ended.
@@ -127,40 +127,62 @@ fn count_of(topics: Result<Topics, LookFault>) -> Option<u64> {
     }
 }
 
-/// A look in one thread, the poster in another.
+/// A look in one thread, the poster in another. Whether all was posted, and the look never went back.
 fn beside<
     J: Naming + Send + Sync,
     O: Drop + Send + Sync,
     T: Shown<J, O> + Send + Sync,
     R: Wait + Drop + Send + Sync,
     H: Threads + Sync,
->(rt: &H, alloc: Global, poster: Poster<J, O, T, R>, look: Look<J, O, T>, topic: &Text) -> bool {
-    let (look, poster) = join(
+>(
+    rt: &H,
+    alloc: Global,
+    poster: &mut Poster<J, O, T, R>,
+    look: &mut Look<J, O, T>,
+    topic: &Text,
+) -> bool {
+    let (seen, posted) = join(
         rt,
-        move || watch(alloc, look, topic),
-        move || publish_all(alloc, poster),
+        || watch(alloc, look, topic),
+        || publish_all(alloc, poster),
     );
-    match (look, poster) {
-        (Some(mut look), Ok(poster)) => sees_the_end(alloc, poster, &mut look, topic),
-        _ => false,
-    }
+    seen.is_some() && posted.is_ok()
 }
 
-fn watched<J: Naming + Send + Sync, R: Threads + Wait + Abort + Sync>(
+/// The same, and what the look sees at the end.
+fn watch_all<
+    J: Naming + Send + Sync,
+    O: Drop + Send + Sync,
+    T: Shown<J, O> + Send + Sync,
+    R: Wait + Drop + Send + Sync,
+    H: Threads + Sync,
+>(
+    rt: &H,
+    alloc: Global,
+    mut poster: Poster<J, O, T, R>,
+    look: &mut Look<J, O, T>,
+) -> Result<bool, NoMemory> {
+    let topic = Text::from_str(alloc, "cpu")?;
+    let went_on = beside(rt, alloc, &mut poster, look, &topic);
+    Ok(went_on && sees_the_end(alloc, poster, look, &topic))
+}
+
+fn watched<J: Naming + Send + Sync, R: Threads + Wait + Sync>(
     rt: &R,
     alloc: Global,
     opened: Opened,
-) -> Result<(), Fail>
+) -> Result<bool, NoMemory>
     requires { opened ≡ J.book }
 {
     let (poster, mut looks) = board::<J, &R>(rt, alloc, opened, 2)?;
-    let topic = Text::from_str(alloc, "cpu")?;
-    let look = looks.pop().ok_or("no look")?;
-    assert!(rt; beside(rt, alloc, poster, look, &topic));
-    Ok(())
+    match looks.pop() {
+        None => Ok(false),
+        Some(mut look) => watch_all(rt, alloc, poster, &mut look),
+    }
 }
 
 #[test]
 fn a_look_never_goes_back(rt: HostRuntime) -> Result<(), Fail> {
-    watched::<Brand, _>(&rt, rt.alloc(), Opened::new())
+    assert!(rt; watched::<Brand, _>(&rt, rt.alloc(), Opened::new())?);
+    Ok(())
 }
