@@ -5,6 +5,7 @@ pub mod PlaceLaws
 pub mod ScriptLaws
 pub mod GatherLaws
 pub mod TurnLaws
+pub mod TimeLaws
 pub mod RunLaws
 pub mod PlanLaws
 pub mod HeldLaws

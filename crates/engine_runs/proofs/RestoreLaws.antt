@@ -1,10 +1,11 @@
 -- Lives that are restored from a snapshot run on from where their points had brought them.
-use Rattle.std.proofs.Common.{◌≡◌, ℕ, ◌+◌, ◌-◌, ◌≤◌, Bool, true, false, List, [], ◌∷◌, length, map, drop, refl, sym, ap, subst, ◌∙◌, arith}
+use Rattle.std.proofs.Common.{◌≡◌, ℕ, ◌+◌, ◌-◌, ◌≤◌, Bool, true, false, List, [], ◌∷◌, ◌++◌, length, map, drop, zip, refl, sym, ap, subst, ◌∙◌, arith}
 use Rattle.std.specs.List.{AllByRecursion as Each, AllZip}
 use Rattle.kap_base.specs.Points.{PointValue}
 use Rattle.kap_base.specs.Tree.{Tree}
 use Rattle.kap_base.specs.declared.items.Stamp.{Stamp}
 use Rattle.barrier_snapshot.proofs.SnapshotLaws.{lives_are_restored}
+use Rattle.barrier_snapshot.specs.Captures.{in_lives}
 use Rattle.barrier_snapshot.specs.Loading.{IsSameLife}
 use Rattle.barrier_snapshot.specs.Restoring.{Restores}
 use Rattle.barrier_snapshot.specs.Snapshots.{IsSnapshot}
@@ -21,11 +22,11 @@ use Rattle.store_records.specs.declared.task.Life.{Life}
 use Rattle.task_graph.specs.declared.spec.NodeSpec.{NodeSpec}
 use Rattle.task_run.specs.Courses.{Course, end_of}
 use Rattle.task_run.specs.Graphs.{Placed}
-use Rattle.task_run.specs.Plans.{PlanValue, graph_of}
+use Rattle.task_run.specs.Plans.{AreNodesFrom, IsPlan, PlanValue, graph_of}
 use Rattle.tick_compile.specs.declared.tasks.Task.{Task}
 use Rattle.engine_runs.specs.Restoring.{HasPlanned}
 use Rattle.engine_runs.specs.Running.{LivesRun, courses_on}
-use Rattle.engine_runs.specs.Scripts.{AreTasksOf, graphs_from, life_nodes, names_from}
+use Rattle.engine_runs.specs.Scripts.{AreTasksOf, graphs_from, life_nodes, names_from, node_specs}
 use Rattle.engine_runs.specs.Spans.{AreThere, IsAway, Spans, numbers_from, picked}
 use Rattle.engine_runs.proofs.LaterLaws.{open_goes}
 use Rattle.engine_runs.proofs.PlanLaws.{all_planned, same_picked}
@@ -55,7 +56,34 @@ module _ {P : Type 0} (planned : Planned P) where
   ends-picked n points (true ∷ runs) (life ∷ lives) (task ∷ tasks) h = ((open_goes points [] life (life_nodes planned n life task) h.0).ends, ends-picked (n + 1) points runs lives tasks h.1)
   ends-picked n points (false ∷ runs) (life ∷ lives) (task ∷ tasks) h = ends-picked (n + 1) points runs lives tasks h.1
 
+  graphs-few : (n : ℕ) (lives : List Life) (tasks : List Task) → length (graphs_from planned n lives tasks) ≤ length lives
+  graphs-few n [] tasks = omega arith
+  graphs-few n (life ∷ lives) [] = omega arith
+  graphs-few n (life ∷ lives) (task ∷ tasks) = let rest = graphs-few (n + 1) lives tasks in omega (arith, rest)
+
 module _ {N P S : Type 0} (g : Ghosts N P S) where
+  -- what the nodes of plans are, by their graphs
+  nodes-specs : (which at : ℕ) (nodes : List N) (parents : List (List ℕ)) → AreNodesFrom g.spec g.ports g.life g.number which at nodes parents
+      → map (λ d. d.spec) (map (λ (p : N × List ℕ). record { spec = g.spec p.0; parents = p.1 }) (zip nodes parents)) ≡ map g.spec nodes
+  nodes-specs which at [] [] h = refl
+  nodes-specs which at [] (ps ∷ parents) h = absurd h
+  nodes-specs which at (n ∷ nodes) [] h = absurd h
+  nodes-specs which at (n ∷ nodes) (ps ∷ parents) h = ap (λ (l : List P). g.spec n ∷ l) (nodes-specs which (at + 1) nodes parents h.1)
+
+  plans-specs : (plans : List (PlanValue N)) → Each (IsPlan g.spec g.ports g.life g.number) plans → in_lives g.spec plans ≡ node_specs (map (graph_of g.spec) plans)
+  plans-specs [] h = refl
+  plans-specs (plan ∷ plans) h =
+      ap (λ (l : List P). l ++ in_lives g.spec plans) (sym (nodes-specs plan.life 0 plan.nodes plan.parents h.0.nodes))
+      ∙ ap (λ (l : List P). map (λ d. d.spec) (graph_of g.spec plan) ++ l) (plans-specs plans h.1)
+
+  -- what the nodes of the lives are that were planned again
+  pub specs_planned : (planned : Planned P) (lives : List Life) (tasks : List Task) (runs : List Bool) (names : List TaskNames) (plans : List (PlanValue N)) → AreTasksOf lives tasks → HasPlanned g.spec planned lives runs [] names plans
+      → Each (IsPlan g.spec g.ports g.life g.number) plans → node_specs (picked runs (graphs_from planned 1 lives tasks)) ≡ in_lives g.spec plans
+  specs_planned planned lives tasks runs names plans are h kept =
+      let graphs = graphs_from planned 1 lives tasks in
+      ap node_specs (same_picked lives runs h.passed h.left graphs h.split h.rest_is (graphs-few planned 1 lives tasks) ∙ sym (h.graphs tasks are))
+      ∙ sym (plans-specs plans kept)
+
   same-numbers : (plans loaded : List (PlanValue N)) → AllZip (IsSameLife g.spec) plans loaded → map (λ plan. plan.life) loaded ≡ map (λ plan. plan.life) plans
   same-numbers [] [] same = refl
   same-numbers [] (o ∷ loaded) same = absurd same

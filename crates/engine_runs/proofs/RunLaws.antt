@@ -1,10 +1,10 @@
 -- Lives that ran on more points.
-use Rattle.std.proofs.Common.{◌≡◌, ℕ, ◌+◌, ◌-◌, ◌<◌, ◌≤◌, true, false, ◌&&◌, List, [], ◌∷◌, ◌++◌, length, map, drop, Option, None, Some, inl, inr, refl, sym, ap, subst, ◌∙◌, append-nil, append_assoc, arith}
+use Rattle.std.proofs.Common.{◌≡◌, ℕ, ◌+◌, ◌-◌, ◌<◌, ◌≤◌, true, List, [], ◌∷◌, ◌++◌, length, map, drop, Option, None, Some, inl, inr, refl, sym, ap, subst, ◌∙◌, append-nil, append_assoc, arith}
 use Rattle.std.specs.Prelude.{slice_get, flat_map}
 use Rattle.std.specs.List.{AllByRecursion as Each, AllZip}
 use Rattle.std.proofs.lemmas.List.{length-append}
 use Rattle.std.proofs.lemmas.List.Concat.{flat_map-append}
-use Rattle.kap_base.specs.Points.{PointValue, is_time}
+use Rattle.kap_base.specs.Points.{PointValue}
 use Rattle.kap_base.specs.declared.items.Effect.{Effect}
 use Rattle.kap_base.specs.declared.items.Event.{Event}
 use Rattle.effect_text.specs.Lines.{event_in, events_of, task_of}
@@ -21,22 +21,16 @@ use Rattle.store_records.specs.Held.{open_from}
 use Rattle.store_records.specs.declared.task.Life.{Life}
 use Rattle.task_run.specs.Courses.{Course, grown, later_effects}
 use Rattle.tick_compile.specs.declared.tasks.Task.{Task}
-use Rattle.topic_core.specs.Topics.{StandsFor}
+use Rattle.topic_core.specs.Topics.{StandsFor, Trans, event_of}
 use Rattle.topic_core.specs.declared.transition.Transition.{Transition}
 use Rattle.engine_runs.specs.Running.{HasRun, LivesRun, RunValue, courses_on, due_behind, life_events}
 use Rattle.engine_runs.specs.Scripts.{graphs_from, names_from}
 use Rattle.engine_runs.specs.Spans.{FirstsRise, IsAway, IsOnward, Spans, last_of, picked}
 use Rattle.engine_runs.proofs.LaterLaws.{effects_span, picked_grown}
 use Rattle.engine_runs.proofs.OpenLaws.{courses_open, numbers_open, spans_open}
+use Rattle.engine_runs.proofs.TimeLaws.{no_times, times_more}
 use Rattle.engine_runs.proofs.TurnLaws.{lives_are_onward, lives_onward}
 use Rattle.engine_runs.proofs.SpanLaws.{away_at, away_later, away_none, each_to, spans_less, spans_part}
-
-pub both_fit : (xs ys : List Event) → times_fit xs ≡ true → times_fit ys ≡ true → times_fit (xs ++ ys) ≡ true
-both_fit [] ys a b = b
-both_fit (x ∷ xs) ys a b = elim (is_time x.time) as (λ t. (t && times_fit xs) ≡ true → (t && times_fit (xs ++ ys)) ≡ true) [
-  | true ↦ λ c. both_fit xs ys c b
-  | false ↦ λ c. absurd cc
-] a
 
 module _ {N P S : Type 0} (g : Ghosts N P S) (planned : Planned P) (lives : List Life) (tasks : List Task) where
   abbrev Ran : List PointValue → ℕ → RunValue N → Type 0
@@ -66,7 +60,7 @@ module _ {N P S : Type 0} (g : Ghosts N P S) (planned : Planned P) (lives : List
         };
         away = subst (λ (i : ℕ). Each (IsAway 0 0) (drop i lives)) (sym (ap length names)) (each_to (λ (l : Life). 0 < l.first) (IsAway 0 0) lives (λ l (lt : 0 < l.first). inl (omega (arith, lt))) firsts);
         topics = topics;
-        times = refl;
+        times = no_times;
         count = count;
       }
 
@@ -132,7 +126,7 @@ module _ {N P S : Type 0} (g : Ghosts N P S) (planned : Planned P) (lives : List
           };
           away = subst (λ (i : ℕ). Each (IsAway (length (points ++ new)) m) (drop i lives)) (h.lives_run.long ∙ ap length (sym names)) t.away;
           topics = subst (λ (l : List Event). StandsFor l r'.topics) (sym more) (takes (life_events g planned lives tasks points) h.topics);
-          times = ap times_fit more ∙ both_fit (life_events g planned lives tasks points) (events_of es) h.times fits;
+          times = ap (λ (l : List Event). times_fit (map event_of (Trans l))) more ∙ times_more (life_events g planned lives tasks points) (events_of es) h.times fits;
           count = omega (arith, counts, long, count);
         }
       where

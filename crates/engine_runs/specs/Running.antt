@@ -1,5 +1,5 @@
 -- The lives of a store, run behind points.
-use Rattle.std.specs.Prelude.{◌≡◌, ℕ, ◌<◌, ◌≤◌, true, false, Bool, List, [], ◌++◌, length, drop}
+use Rattle.std.specs.Prelude.{◌≡◌, ℕ, ◌<◌, ◌≤◌, true, false, Bool, List, [], ◌++◌, length, drop, map}
 use Rattle.std.specs.List.{AllByRecursion as Each}
 use Rattle.kap_base.specs.Points.{PointValue}
 use Rattle.kap_base.specs.declared.items.Effect.{Effect}
@@ -16,7 +16,7 @@ use Rattle.node_set.specs.Tasks.{Planned}
 use Rattle.store_records.specs.declared.task.Life.{Life}
 use Rattle.task_run.specs.Courses.{Course}
 use Rattle.tick_compile.specs.declared.tasks.Task.{Task}
-use Rattle.topic_core.specs.Topics.{StandsFor, Trans, TopicsValue}
+use Rattle.topic_core.specs.Topics.{StandsFor, Trans, TopicsValue, event_of}
 use Rattle.topic_core.specs.declared.transition.Transition.{Transition}
 use Rattle.engine_runs.specs.Scripts.{graphs_from, names_from}
 use Rattle.engine_runs.specs.Spans.{AreThere, IsAway, numbers_from, picked}
@@ -56,13 +56,13 @@ module _ {N P S : Type 0} (g : Ghosts N P S) (planned : Planned P) (lives : List
     pub stands : StandsAt g (length points) (picked runs (courses_on points)) net
     pub named : Each (λ number. task_of names number ≡ task_of (names_from lives tasks) number) (numbers_of net.lives)
 
-  -- The lives have run on points, and none begins or ends at the next n: the topics are those of all their events, whose
-  -- times may be stored.
+  -- The lives have run on points, and none begins or ends at the next n: the topics are those of all their events, and
+  -- the times of the transitions that these make may be stored.
   pub record HasRun (points : List PointValue) (n : ℕ) (r : RunValue N) : Type 0 where
     pub lives_run : LivesRun points n r.names r.net
     pub away : Each (IsAway (length points) n) (drop (length r.names) lives)
     pub topics : StandsFor (life_events points) r.topics
-    pub times : times_fit (life_events points) ≡ true
+    pub times : times_fit (map event_of (Trans (life_events points))) ≡ true
     pub count : r.points ≡ length points
 
   -- Behind points the lives ran on more: the text of what they do with these was appended, by the names of all lives,

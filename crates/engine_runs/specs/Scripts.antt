@@ -28,6 +28,11 @@ names_from [] tasks = []
 names_from (life ∷ lives) [] = []
 names_from (life ∷ lives) (task ∷ tasks) = life_names life task ∷ names_from lives tasks
 
+-- what the nodes of lives are, life by life and node by node
+abbrev pub node_specs : {P : Type 0} → List (List (Placed P)) → List P
+node_specs [] = []
+node_specs (nodes ∷ graphs) = map (λ node. node.spec) nodes ++ node_specs graphs
+
 module _ {P : Type 0} (planned : Planned P) where
   -- the nodes of the life with this number
   abbrev pub life_nodes : ℕ → Life → Task → List (Placed P)

@@ -45,7 +45,7 @@ impl<T: Drop> From<AllocFailed<T>> for RunFault {
 
 /// A script that has this fault, and that was defined by the record whose gate has this offset, is none of a
 /// task, unless memory ran out.
-pub(crate) fn fault_at(at: u64, fault: &ScriptFault) -> RunFault
+pub fn fault_at(at: u64, fault: &ScriptFault) -> RunFault
     ensures { result ≡ fault_at at fault.now }
 {
     match fault {

@@ -11,6 +11,6 @@ mod runs;
 mod spans;
 mod turning;
 
-pub use fault::RunFault;
+pub use fault::{RunFault, fault_at};
 pub use laws::{effects_come_behind, lives_go_on_later, lives_lie_behind_records, open_lives_run};
 pub use runs::EngineRun;

@@ -1,6 +1,7 @@
 //! What is planned of a stored life.
 
 ghost use Rattle.std.specs.Prelude.{◌≡◌, ◌+◌, ◌≤◌, IfErr, IfOk, IfSome, OnOk, length};
+ghost use Rattle.std.specs.List.{AllByRecursion as Each};
 ghost use Rattle.kap_base.specs.declared.limits.TheConstants.{SCRIPT_LIMIT};
 ghost use Rattle.task_run.specs.Plans.{IsPlan};
 ghost use Rattle.engine_runs.specs.Faults.{IsWhy};
@@ -46,6 +47,16 @@ pub(crate) fn keep_plan<N: Node>(plan: &LifePlan<N>)
     ensures { IsPlan N.spec N.ports N.life N.number plan.now }
 {
     let _ = &plan.life;
+}
+
+/// What plans keep.
+pub(crate) fn keep_plans<N: Node>(plans: &[LifePlan<N>])
+    ensures { Each (IsPlan N.spec N.ports N.life N.number) plans.now }
+{
+    if let Some((first, others)) = plans.split_first() {
+        keep_plan(first);
+        keep_plans(others);
+    }
 }
 
 /// The number of the life behind so many others.

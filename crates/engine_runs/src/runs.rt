@@ -2,6 +2,7 @@
 
 use crate::fault::RunFault;
 use crate::gathering::{accept_effects, are_timely};
+use crate::planning::keep_plans;
 use crate::restoring::{plan_open, restore_net};
 use crate::spans::points_before;
 use crate::turning::{begin_lives, end_lives};
@@ -64,9 +65,10 @@ impl<N: Node> Model for EngineRun<N> {
 }
 
 impl<N: ScriptNode + NumberingNode + Send> EngineRun<N> {
-    ghost use Rattle.std.specs.Prelude.{◌≡◌, ◌≢◌, ◌++◌, ◌<◌, ◌≤◌, true, false, ℕ, [], Bool, IfErr, IfOk, List, OnOk, is_err, length};
+    ghost use Rattle.std.specs.Prelude.{◌≡◌, ◌≢◌, ◌++◌, ◌<◌, ◌≤◌, true, false, ℕ, [], Bool, Err, IfErr, IfOk, List, OnOk, is_err, length, map};
     ghost use Rattle.std.specs.List.{AllByRecursion as Each};
     ghost use Rattle.kap_base.specs.Points.{PointValue};
+    ghost use Rattle.barrier_snapshot.specs.Captures.{IsCapture};
     ghost use Rattle.barrier_snapshot.specs.Snapshots.{IsSnapshot};
     ghost use Rattle.edge_queue.specs.declared.TheConstants.{CAPACITY_LIMIT};
     ghost use Rattle.life_effects.specs.Times.{times_fit};
@@ -75,9 +77,9 @@ impl<N: ScriptNode + NumberingNode + Send> EngineRun<N> {
     ghost use Rattle.store_records.specs.declared.task.Life.{Life};
     ghost use Rattle.tick_compile.specs.declared.tasks.Task.{Task};
     ghost use Rattle.engine_runs.specs.Faults.{IsWhyOne};
-    ghost use Rattle.topic_core.specs.Topics.{StandsFor};
+    ghost use Rattle.topic_core.specs.Topics.{StandsFor, Trans, event_of};
     ghost use Rattle.engine_runs.specs.Running.{HasRun, courses_on, due_behind, life_events};
-    ghost use Rattle.engine_runs.specs.Scripts.{AreTasksOf};
+    ghost use Rattle.engine_runs.specs.Scripts.{AreTasksOf, graphs_from, node_specs};
     ghost use Rattle.engine_runs.specs.Spans.{FirstsRise, Spans, numbers_from, picked};
 
     /// Before the first point. Each edge of the net has room for just `capacity` messages, 1 to 65,536.
@@ -231,8 +233,8 @@ impl<N: ScriptNode + NumberingNode + Send> EngineRun<N> {
     }
 
     /// The lives with these numbers, which were open at a snapshot of so many points, run on in the states
-    /// that it holds. The topics are those behind these points. `States` comes only where the states aren't
-    /// those in which the points had brought the nodes of these lives.
+    /// that it holds. The topics are those behind these points. `States` comes only where they are no states
+    /// of the nodes of these lives.
     pub fn restore<P: Patterns>(
         alloc: Global,
         lives: &[Life],
@@ -254,8 +256,15 @@ impl<N: ScriptNode + NumberingNode + Send> EngineRun<N> {
             → IsSnapshot N.Node
             (picked open_there (courses_on N.Node N.planned lives.now tasks before)) states.now
             → StandsFor (life_events N.Node N.planned lives.now tasks before) topics
-            → times_fit (life_events N.Node N.planned lives.now tasks before) ≡ true
+            → times_fit (map event_of (Trans (life_events N.Node N.planned lives.now tasks before)))
+            ≡ true
             → HasRun N.Node N.planned lives.now tasks before 0 run) }
+        ensures states { result ≡ Err RunFault.States → (tasks : List Task)
+            (open_there : List Bool) (held : List N.State) → AreTasksOf lives.now tasks
+            → numbers.now ≡ picked open_there (numbers_from 1 lives.now)
+            → IsCapture N.fits N.spell
+            (node_specs (picked open_there (graphs_from N.planned 1 lives.now tasks))) held states.now
+            → ⊥ }
         ensures why { IfErr result (λ f. f ≢ RunFault.States → IsWhyOne (P.refusals pats.old)
             (P.refusals pats.new) (P.refused pats.new) lives.now f) }
         ensures kept { OnOk result (P.refusals pats.new ≡ P.refusals pats.old) }
@@ -265,6 +274,7 @@ impl<N: ScriptNode + NumberingNode + Send> EngineRun<N> {
         if let Err(fault) = plan_open(alloc, lives, numbers, &mut names, &mut plans, pats) {
             return Err(fault);
         }
+        keep_plans(&plans);
         let net = match restore_net(alloc, plans, capacity, states, Stamp(points)) {
             Ok(net) => net,
             Err(fault) => return Err(fault),
