@@ -73,7 +73,13 @@ fn begin_run<N: ScriptNode + NumberingNode + Send, D: Disk, P: Patterns>(
 
 /// The lives of a store run on the points behind those on which they have run, and the transitions are told
 /// that aren't stored.
-fn run_rest<N, D, P, R, G>(
+fn run_rest<
+    N: ScriptNode + NumberingNode + Send,
+    D: Disk,
+    P: Patterns,
+    R: Threads + Sync,
+    G: Gate + Sync,
+>(
     alloc: Global,
     store: &Store,
     disk: &mut D,
@@ -81,12 +87,6 @@ fn run_rest<N, D, P, R, G>(
     way: &Way<'_, R, G>,
     pats: &mut P,
 ) -> Result<Vec<Transition>, EngineFault>
-where
-    N: ScriptNode + NumberingNode + Send,
-    D: Disk,
-    P: Patterns,
-    R: Threads + Sync,
-    G: Gate + Sync,
     requires usable { store.now.log.spent ≡ false }
     requires valid { AreValid store.now.kept }
     requires unspent { run.old.spent ≡ false }
@@ -127,7 +127,13 @@ where
 
 /// The lives of a store, run on all its points, and the transitions that aren't stored. Behind the last point
 /// those lives are gone that have ended, and those are there that begin.
-pub(crate) fn run_store<N, D, P, R, G>(
+pub(crate) fn run_store<
+    N: ScriptNode + NumberingNode + Send,
+    D: Disk,
+    P: Patterns,
+    R: Threads + Sync,
+    G: Gate + Sync,
+>(
     alloc: Global,
     store: &Store,
     disk: &mut D,
@@ -135,12 +141,6 @@ pub(crate) fn run_store<N, D, P, R, G>(
     way: &Way<'_, R, G>,
     pats: &mut P,
 ) -> Result<(EngineRun<N>, Vec<Transition>), EngineFault>
-where
-    N: ScriptNode + NumberingNode + Send,
-    D: Disk,
-    P: Patterns,
-    R: Threads + Sync,
-    G: Gate + Sync,
     requires usable { store.now.log.spent ≡ false }
     requires valid { AreValid store.now.kept }
     requires some { 0 < capacity }
