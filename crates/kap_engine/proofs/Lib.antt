@@ -5,3 +5,4 @@ pub mod PassLaws
 pub mod StoredLaws
 pub mod GoodLaws
 pub mod OpenLaws
+pub mod WhyLaws

@@ -54,6 +54,14 @@ no-trans = refl
 events-append : (es fs : List Effect) → events_of (es ++ fs) ≡ events_of es ++ events_of fs
 events-append es fs = flat_map-append (λ (e : Effect). event_in e.what) es fs
 
+-- the lives that were open at a snapshot are those with these numbers
+later-than : (rs : List Rec) (s : LastSnap rs) → AreLater (length (held s.before).points) (held s.before).lives (held rs).lives
+later-than rs s =
+    subst (λ (l : List Rec). AreLater (length (held s.before).points) (held s.before).lives (held l).lives) (sym s.split) (held_later s.before (kinds.Snap s.points s.trans s.states ∷ s.behind))
+
+pub open_numbers : (rs : List Rec) (s : LastSnap rs) → picked (map is_open (held s.before).lives) (numbers_from 1 (held rs).lives) ≡ open_from 1 (held s.before).lives
+open_numbers rs s = numbers_later (length (held s.before).points) 1 (held s.before).lives (held rs).lives (later-than rs s)
+
 module _ {N P S : Type 0} (g : Ghosts N P S) (planned : Planned P) (rs : List Rec) (tasks : List Task) where
   -- before the first point none is missing
   pub begun_new : (r : RunValue N) → HasRun g planned (held rs).lives tasks [] 0 r → HasBegun g planned rs tasks r
@@ -78,7 +86,7 @@ module _ {N P S : Type 0} (g : Ghosts N P S) (planned : Planned P) (rs : List Re
     snap = kinds.Snap s.points s.trans s.states
 
     later : AreLater (length there) (held s.before).lives (held rs).lives
-    later = subst (λ (l : List Rec). AreLater (length there) (held s.before).lives (held l).lives) (sym s.split) (held_later s.before (snap ∷ s.behind))
+    later = later-than rs s
 
     effects : stored_effects g.answer (held rs).lives (graphs_in g planned rs tasks) there ≡ stored_effects g.answer (held s.before).lives (graphs_in g planned rs tasks) there
     effects = effects_later g.answer (length there) (held s.before).lives (held rs).lives (graphs_in g planned rs tasks) there refl later
@@ -134,7 +142,7 @@ module _ {N P S : Type 0} (g : Ghosts N P S) (planned : Planned P) (rs : List Re
     can_restore = record {
       points_are = (may_at rs s.before snap s.behind follow s.split).points_are;
       spans = spans_later (length there) (held s.before).lives (held rs).lives (held_fits s.before) later;
-      numbers = numbers_later (length there) 1 (held s.before).lives (held rs).lives later;
+      numbers = open_numbers rs s;
       states =
           subst (λ (cs : List (Course P)). IsSnapshot g cs s.states) (sym (courses_later (length there) (held s.before).lives (held rs).lives (graphs_in g planned rs tasks) there refl later))
           (c.snap s).states_are;

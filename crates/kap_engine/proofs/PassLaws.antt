@@ -11,6 +11,12 @@ pub each_both : {A : Type 0} (P Q R : A → Type 0) (xs : List A) → ((x : A) �
 each_both P Q R [] f a b = tt
 each_both P Q R (x ∷ xs) f a b = (f x a.0 b.0, each_both P Q R xs f a.1 b.1)
 
+-- each is one of which P holds
+pub each_contains : {A : Type 0} (P : A → Type 0) (xs : List A) (x : A) → Contains xs x → Each P xs → P x
+each_contains P [] x c h = let lt = c.1 in absurd (omega (arith, lt))
+each_contains P (y ∷ xs) x (zero, lt, e) h = subst P e h.0
+each_contains P (y ∷ xs) x (suc k, lt, e) h = each_contains P xs x (k, omega (arith, lt), e) h.1
+
 pub each_append : {A : Type 0} (P : A → Type 0) (xs ys : List A) → Each P xs → Each P ys → Each P (xs ++ ys)
 each_append P [] ys a b = b
 each_append P (x ∷ xs) ys a b = (a.0, each_append P xs ys a.1 b)

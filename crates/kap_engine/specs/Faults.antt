@@ -1,6 +1,5 @@
 -- Why no engine is made.
-use Rattle.std.specs.Prelude.{◌≡◌, ℕ, ◌≤◌, Bool, List, None, Result, map, IsErrOf}
-use Rattle.std.specs.List.{flat_map}
+use Rattle.std.specs.Prelude.{◌≡◌, ◌⊎◌, ℕ, ◌≤◌, List, Result, map, IsErrOf}
 use Rattle.kap_base.specs.Words.{HasRisen}
 use Rattle.kap_io.specs.Disk.{Image}
 use Rattle.kap_io.specs.declared.disk.Part.{Part}
@@ -15,11 +14,11 @@ use Rattle.topic_store.specs.Snapshots.{LastSnap}
 use Rattle.topic_store.specs.Stores.{IsNamed, IsNoStore, Stands}
 use Rattle.topic_store.specs.declared.fault.StoreFault.{StoreFault}
 use Rattle.topic_store.specs.declared.fault.StoreFault.TheVariants as stores
-use Rattle.engine_runs.specs.Scripts.{AreTasksOf}
+use Rattle.engine_runs.specs.Scripts.{AreTasksOf, node_specs}
 use Rattle.engine_runs.specs.Spans.{picked}
 use Rattle.engine_runs.specs.declared.fault.RunFault.{RunFault}
 use Rattle.engine_runs.specs.declared.fault.RunFault.TheVariants as runs
-use Rattle.kap_engine.specs.Asking.{IsFirstRefused}
+use Rattle.kap_engine.specs.Asking.{AreScripts, IsFirstRefused}
 use Rattle.kap_engine.specs.Good.{graphs_in}
 use Rattle.kap_engine.specs.declared.fault.EngineFault.{EngineFault}
 use Rattle.kap_engine.specs.declared.fault.EngineFault.TheVariants.{DiskFault, NoMemory, NotStore}
@@ -41,3 +40,27 @@ run_fault part snap runs.NoMemory = NoMemory
 pub record EngineCause {T : Type 0} (before now : ℕ) (result : Result T EngineFault) : Type 0 where
   pub later : before ≤ now
   pub failed : IsErrOf result DiskFault → HasRisen before now
+
+module _ {N P S : Type 0} (g : Ghosts N P S) (planned : Planned P) where
+  -- The states of the last snapshot, whose gate stands at this offset, are no states of the nodes of the lives that
+  -- were open there.
+  pub record HasOtherStates (rs : List Rec) (offset : ℕ) : Type 0 where
+    pub scripts : AreScripts (held rs).tasks (held rs).lives
+    pub snap : LastSnap rs
+    pub at : offset ≡ end_of snap.before
+    pub none : (tasks : List Task) (states : List S) → AreTasksOf (held rs).lives tasks
+        → IsCapture g.fits g.spell (node_specs (picked (map is_open (held snap.before).lives) (graphs_in g planned rs tasks)))
+        states snap.states
+        → ⊥
+
+  module _ (before after : ℕ) (refused : List ℕ) where
+    -- why the lives of a store don't run: for the first script that is none of a task, or for the last snapshot
+    abbrev pub IsWhyNone : List Rec → ℕ → Type 0
+    IsWhyNone rs offset =
+        IsFirstRefused before after refused (held rs).tasks (held rs).lives offset ⊎ HasOtherStates rs offset
+
+    -- why the files are no right store: they are none, or for its lives
+    pub data IsNoGood (files : Image) (part : Part) (offset : ℕ) : Type 0 where
+      no_store : IsNoStore files part offset → IsNoGood files part offset
+      no_lives : (rs : List Rec) → Stands rs files → IsNamed files part → IsWhyNone rs offset
+          → IsNoGood files part offset

@@ -55,7 +55,7 @@ impl<N: ScriptNode + NumberingNode + Send> Engine<N> {
     ghost use Rattle.store_records.specs.declared.rec.Rec.{Rec};
     ghost use Rattle.topic_store.specs.Stores.{Stands};
     ghost use Rattle.kap_engine.specs.Engines.{IsEngineBehind};
-    ghost use Rattle.kap_engine.specs.Faults.{EngineCause};
+    ghost use Rattle.kap_engine.specs.Faults.{EngineCause, IsNoGood};
     ghost use Rattle.kap_engine.specs.Good.{IsFull, IsGood, stays_or_good};
 
     /// Opens the store on a disk, restores the lives of its tasks from its last snapshot, runs them on the
@@ -83,6 +83,17 @@ impl<N: ScriptNode + NumberingNode + Send> Engine<N> {
         ensures again { IsTrue D.tells → (rs : List Rec) → Stands rs (D.seen disk.old)
             → IsFull N.Node N.planned rs
             → Quiet D.seen D.moment D.may_leave D.left_since disk.old disk.new }
+        ensures refused { IsTrue D.tells → (part : Part) (offset : ℕ)
+            → IsErrOf result (EngineFault.NotStore part offset) → IsNoGood N.Node N.planned
+            (P.refusals pats.old) (P.refusals pats.new) (P.refused pats.new)
+            (D.seen disk.old) part offset }
+        ensures still { IsTrue D.tells → (part : Part) (offset : ℕ)
+            → IsErrOf result (EngineFault.NotStore part offset)
+            → Quiet D.seen D.moment D.may_leave D.left_since disk.old disk.new }
+        ensures rose { IsTrue D.tells → (rs : List Rec) → Stands rs (D.seen disk.old)
+            → IsGood N.Node N.planned rs → (part : Part) (offset : ℕ)
+            → IsErrOf result (EngineFault.NotStore part offset)
+            → HasRisen (P.refusals pats.old) (P.refusals pats.new) }
         ensures usable { IfOk result (λ engine. engine.store.log.spent ≡ false) }
         ensures unspent { IfOk result (λ engine. engine.run.spent ≡ false) }
         ensures valid { IfOk result (λ engine. AreValid engine.store.kept) }

@@ -2,6 +2,7 @@
 
 ghost use Rattle.std.specs.Prelude.{◌≡◌, ◌<◌, ◌≤◌, ◌+◌, ◌^◌, ℕ, false, length, IfErr, IfOk, IsErrOf, IsTrue, List, OnOk};
 ghost use Rattle.kap_io.specs.Moments.{Quiet};
+ghost use Rattle.kap_io.specs.declared.disk.Part.{Part};
 ghost use Rattle.edge_queue.specs.declared.TheConstants.{CAPACITY_LIMIT};
 ghost use Rattle.store_kept.specs.Keeping.{AreValid};
 ghost use Rattle.store_records.specs.Histories.{held};
@@ -10,7 +11,9 @@ ghost use Rattle.tick_compile.specs.declared.tasks.Task.{Task};
 ghost use Rattle.topic_store.specs.Stores.{IsOn};
 ghost use Rattle.engine_runs.specs.Scripts.{AreTasksOf};
 ghost use Rattle.engine_runs.specs.Whole.{IsConsistent};
+ghost use Rattle.kap_engine.specs.Asking.{AreScripts};
 ghost use Rattle.kap_engine.specs.Faults.{EngineCause, IsWhyNone};
+ghost use Rattle.kap_engine.specs.declared.fault.EngineFault.TheVariants.{NotStore};
 ghost use Rattle.kap_engine.specs.Good.{graphs_in};
 ghost use Rattle.kap_engine.specs.Opening.{HasBegun, HasRunAll};
 
@@ -45,6 +48,12 @@ fn begin_run<N: ScriptNode + NumberingNode + Send, D: Disk, P: Patterns>(
         → AreTasksOf (held rs).lives tasks
         → IsConsistent N.Node (graphs_in N.Node N.planned rs tasks) rs
         → IfOk result (HasBegun N.Node N.planned rs tasks) }
+    ensures why { IsTrue D.tells → (rs : List Rec)
+        → IsOn rs (D.seen disk.old) (D.may_leave disk.old) store.now
+        → AreScripts (held rs).tasks (held rs).lives → (part : Part) (offset : ℕ)
+        → IsErrOf result (NotStore part offset) → (part ≡ store.now.log.part)
+        × IsWhyNone N.Node N.planned (P.refusals pats.old) (P.refusals pats.new)
+        (P.refused pats.new) rs offset }
     ensures quiet { IsTrue D.tells
         → Quiet D.seen D.moment D.may_leave D.left_since disk.old disk.new }
     ensures cause { EngineCause (D.faults disk.old) (D.faults disk.new) result }
@@ -95,6 +104,12 @@ fn run_rest<
         → IsOn rs (D.seen disk.old) (D.may_leave disk.old) store.now
         → AreTasksOf (held rs).lives tasks → HasBegun N.Node N.planned rs tasks run.old
         → IfOk result (λ due. HasRunAll N.Node N.planned rs tasks 0 run.new due.items) }
+    ensures why { IsTrue D.tells → (rs : List Rec)
+        → IsOn rs (D.seen disk.old) (D.may_leave disk.old) store.now
+        → AreScripts (held rs).tasks (held rs).lives → (part : Part) (offset : ℕ)
+        → IsErrOf result (NotStore part offset) → (part ≡ store.now.log.part)
+        × IsWhyNone N.Node N.planned (P.refusals pats.old) (P.refusals pats.new)
+        (P.refused pats.new) rs offset }
     ensures quiet { IsTrue D.tells
         → Quiet D.seen D.moment D.may_leave D.left_since disk.old disk.new }
     ensures cause { EngineCause (D.faults disk.old) (D.faults disk.new) result }
@@ -152,6 +167,12 @@ pub(crate) fn run_store<
         → IsConsistent N.Node (graphs_in N.Node N.planned rs tasks) rs
         → IfOk result (λ made. HasRunAll N.Node N.planned rs tasks 1 made.0 made.1.items) }
     ensures few { IfOk result (λ made. store.now.kept.transitions + length made.1.items < 2 ^ 64) }
+    ensures why { IsTrue D.tells → (rs : List Rec)
+        → IsOn rs (D.seen disk.old) (D.may_leave disk.old) store.now
+        → (part : Part) (offset : ℕ)
+        → IsErrOf result (NotStore part offset) → (part ≡ store.now.log.part)
+        × IsWhyNone N.Node N.planned (P.refusals pats.old) (P.refusals pats.new)
+        (P.refused pats.new) rs offset }
     ensures quiet { IsTrue D.tells
         → Quiet D.seen D.moment D.may_leave D.left_since disk.old disk.new }
     ensures cause { EngineCause (D.faults disk.old) (D.faults disk.new) result }
