@@ -259,6 +259,10 @@ impl<N: ScriptNode + NumberingNode + Send> EngineRun<N> {
             → times_fit (map event_of (Trans (life_events N.Node N.planned lives.now tasks before)))
             ≡ true
             → HasRun N.Node N.planned lives.now tasks before 0 run) }
+        ensures fits { OnOk result ((tasks : List Task) (open_there : List Bool)
+            → AreTasksOf lives.now tasks → numbers.now ≡ picked open_there (numbers_from 1 lives.now)
+            → (held : List N.State) × IsCapture N.fits N.spell
+            (node_specs (picked open_there (graphs_from N.planned 1 lives.now tasks))) held states.now) }
         ensures states { result ≡ Err RunFault.States → (tasks : List Task)
             (open_there : List Bool) (held : List N.State) → AreTasksOf lives.now tasks
             → numbers.now ≡ picked open_there (numbers_from 1 lives.now)

@@ -6,3 +6,4 @@ pub mod StoredLaws
 pub mod GoodLaws
 pub mod OpenLaws
 pub mod WhyLaws
+pub mod MakeLaws

@@ -1,5 +1,6 @@
 -- Why no engine is made.
-use Rattle.std.specs.Prelude.{◌≡◌, ◌⊎◌, ℕ, ◌≤◌, List, Result, map, IsErrOf}
+use Rattle.std.specs.Prelude.{◌≡◌, ◌⊎◌, ℕ, ◌≤◌, false, List, Result, map, IsErrOf}
+use Rattle.std.specs.List.{list_any}
 use Rattle.kap_base.specs.Words.{HasRisen}
 use Rattle.kap_io.specs.Disk.{Image}
 use Rattle.kap_io.specs.declared.disk.Part.{Part}
@@ -10,7 +11,7 @@ use Rattle.store_records.specs.Held.{is_open}
 use Rattle.store_records.specs.Histories.{end_of, held}
 use Rattle.store_records.specs.declared.rec.Rec.{Rec}
 use Rattle.tick_compile.specs.declared.tasks.Task.{Task}
-use Rattle.topic_store.specs.Snapshots.{LastSnap}
+use Rattle.topic_store.specs.Snapshots.{LastSnap, is_snap}
 use Rattle.topic_store.specs.Stores.{IsNamed, IsNoStore, Stands}
 use Rattle.topic_store.specs.declared.fault.StoreFault.{StoreFault}
 use Rattle.topic_store.specs.declared.fault.StoreFault.TheVariants as stores
@@ -42,16 +43,30 @@ pub record EngineCause {T : Type 0} (before now : ℕ) (result : Result T Engine
   pub failed : IsErrOf result DiskFault → HasRisen before now
 
 module _ {N P S : Type 0} (g : Ghosts N P S) (planned : Planned P) where
-  -- The states of the last snapshot, whose gate stands at this offset, are no states of the nodes of the lives that
-  -- were open there.
+  -- the bytes of a snapshot hold these states, of the nodes of the lives that were open there
+  abbrev pub HoldsStates : (rs : List Rec) → LastSnap rs → List Task → List S → Type 0
+  HoldsStates rs snap tasks states =
+      IsCapture g.fits g.spell (node_specs (picked (map is_open (held snap.before).lives) (graphs_in g planned rs tasks)))
+      states snap.states
+
+  -- The states of the last snapshot, where there is one, are states of the nodes of the lives that were open there.
+  abbrev pub HasStates : List Rec → Type 0
+  HasStates rs =
+      (list_any is_snap rs ≡ false)
+      ⊎ ((snap : LastSnap rs) × ((tasks : List Task) → AreTasksOf (held rs).lives tasks → (states : List S) × HoldsStates rs snap tasks states))
+
+  -- What is asked of a store: its scripts are those of tasks, and the states of its last snapshot are those of lives.
+  pub record IsAsked (rs : List Rec) : Type 0 where
+    pub scripts : AreScripts (held rs).tasks (held rs).lives
+    pub states : HasStates rs
+
+  -- The states of the last snapshot, whose gate stands at this offset, are no states of these nodes.
   pub record HasOtherStates (rs : List Rec) (offset : ℕ) : Type 0 where
     pub scripts : AreScripts (held rs).tasks (held rs).lives
     pub snap : LastSnap rs
     pub at : offset ≡ end_of snap.before
     pub none : (tasks : List Task) (states : List S) → AreTasksOf (held rs).lives tasks
-        → IsCapture g.fits g.spell (node_specs (picked (map is_open (held snap.before).lives) (graphs_in g planned rs tasks)))
-        states snap.states
-        → ⊥
+        → HoldsStates rs snap tasks states → ⊥
 
   module _ (before after : ℕ) (refused : List ℕ) where
     -- why the lives of a store don't run: for the first script that is none of a task, or for the last snapshot

@@ -55,7 +55,7 @@ impl<N: ScriptNode + NumberingNode + Send> Engine<N> {
     ghost use Rattle.store_records.specs.declared.rec.Rec.{Rec};
     ghost use Rattle.topic_store.specs.Stores.{Stands};
     ghost use Rattle.kap_engine.specs.Engines.{IsEngineBehind};
-    ghost use Rattle.kap_engine.specs.Faults.{EngineCause, IsNoGood};
+    ghost use Rattle.kap_engine.specs.Faults.{EngineCause, IsAsked, IsNoGood};
     ghost use Rattle.kap_engine.specs.Good.{IsFull, IsGood, stays_or_good};
 
     /// Opens the store on a disk, restores the lives of its tasks from its last snapshot, runs them on the
@@ -74,6 +74,8 @@ impl<N: ScriptNode + NumberingNode + Send> Engine<N> {
         requires few_workers { workers ≤ WORKER_LIMIT }
         requires some_room { 0 < capacity }
         requires room_limit { capacity ≤ CAPACITY_LIMIT }
+        ensures opened { IsTrue D.tells → IfOk result (λ engine. (rs : List Rec)
+            × Stands rs (D.seen disk.old) × IsAsked N.Node N.planned rs) }
         ensures made { IsTrue D.tells → (rs : List Rec) → Stands rs (D.seen disk.old)
             → IsGood N.Node N.planned rs → IfOk result (λ engine. IsEngineBehind N.Node N.planned rs
             (D.seen disk.new) (D.may_leave disk.new) engine) }

@@ -12,7 +12,7 @@ ghost use Rattle.topic_store.specs.Stores.{IsOn};
 ghost use Rattle.engine_runs.specs.Scripts.{AreTasksOf};
 ghost use Rattle.engine_runs.specs.Whole.{IsConsistent};
 ghost use Rattle.kap_engine.specs.Asking.{AreScripts};
-ghost use Rattle.kap_engine.specs.Faults.{EngineCause, IsWhyNone};
+ghost use Rattle.kap_engine.specs.Faults.{EngineCause, HasStates, IsAsked, IsWhyNone};
 ghost use Rattle.kap_engine.specs.declared.fault.EngineFault.TheVariants.{NotStore};
 ghost use Rattle.kap_engine.specs.Good.{graphs_in};
 ghost use Rattle.kap_engine.specs.Opening.{HasBegun, HasRunAll};
@@ -43,6 +43,9 @@ fn begin_run<N: ScriptNode + NumberingNode + Send, D: Disk, P: Patterns>(
     requires some { 0 < capacity }
     requires limit { capacity ≤ CAPACITY_LIMIT }
     ensures unspent { IfOk result (λ run. run.spent ≡ false) }
+    ensures fits { IsTrue D.tells → (rs : List Rec)
+        → IsOn rs (D.seen disk.old) (D.may_leave disk.old) store.now
+        → OnOk result (HasStates N.Node N.planned rs) }
     ensures begun { IsTrue D.tells → (rs : List Rec) (tasks : List Task)
         → IsOn rs (D.seen disk.old) (D.may_leave disk.old) store.now
         → AreTasksOf (held rs).lives tasks
@@ -161,6 +164,9 @@ pub(crate) fn run_store<
     requires some { 0 < capacity }
     requires limit { capacity ≤ CAPACITY_LIMIT }
     ensures unspent { IfOk result (λ made. made.0.spent ≡ false) }
+    ensures asked { IsTrue D.tells → (rs : List Rec)
+        → IsOn rs (D.seen disk.old) (D.may_leave disk.old) store.now
+        → OnOk result (IsAsked N.Node N.planned rs) }
     ensures runs { IsTrue D.tells → (rs : List Rec) (tasks : List Task)
         → IsOn rs (D.seen disk.old) (D.may_leave disk.old) store.now
         → AreTasksOf (held rs).lives tasks
