@@ -22,15 +22,15 @@ use Rattle.kap_engine.proofs.SnapLaws.{last_before, still_behind}
 
 module _ {N P S : Type 0} (g : Ghosts N P S) (planned : Planned P) where
   -- the transitions that are due of a store's lives and points
-  abbrev pub due-on : List Life → List Task → List PointValue → List Transition
-  due-on lives tasks points = Trans (life_events g planned lives tasks points)
+  abbrev pub due_on : List Life → List Task → List PointValue → List Transition
+  due_on lives tasks points = Trans (life_events g planned lives tasks points)
 
-  due-same : (rs rs' : List Rec) (more : List Transition) (tasks : List Task) → HasAdded rs more rs' → due-on (held rs').lives tasks (held rs').points ≡ due-on (held rs).lives tasks (held rs).points
-  due-same rs rs' more tasks a =
-      ap (λ (ls : List Life). due-on ls tasks (held rs').points) a.lives
-      ∙ ap (λ (ps : List PointValue). due-on (held rs).lives tasks ps) a.points
+  pub due_same : (rs rs' : List Rec) (more : List Transition) (tasks : List Task) → HasAdded rs more rs' → due_on (held rs').lives tasks (held rs').points ≡ due_on (held rs).lives tasks (held rs).points
+  due_same rs rs' more tasks a =
+      ap (λ (ls : List Life). due_on ls tasks (held rs').points) a.lives
+      ∙ ap (λ (ps : List PointValue). due_on (held rs).lives tasks ps) a.points
 
-  pub good_added : (rs rs' : List Rec) (more others : List Transition) (good : IsGood g planned rs) → HasAdded rs more rs' → due-on (held rs).lives good.tasks (held rs).points ≡ (held rs).transitions ++ (more ++ others) → IsGood g planned rs'
+  abbrev pub good_added : (rs rs' : List Rec) (more others : List Transition) (good : IsGood g planned rs) → HasAdded rs more rs' → due_on (held rs).lives good.tasks (held rs).points ≡ (held rs).transitions ++ (more ++ others) → IsGood g planned rs'
   good_added rs rs' more others good a due = record {
     scripts = record {
       of_tasks = subst (Each (λ (t : StoredTask). IsScript t.script)) (sym a.tasks) good.scripts.of_tasks;
@@ -41,7 +41,7 @@ module _ {N P S : Type 0} (g : Ghosts N P S) (planned : Planned P) where
     consistent = record {
       others = others;
       prefix =
-          due-same rs rs' more good.tasks a
+          due_same rs rs' more good.tasks a
           ∙ due
           ∙ sym (append_assoc (held rs).transitions more others)
           ∙ ap (λ (l : List Transition). l ++ others) (sym a.transitions);
@@ -53,10 +53,10 @@ module _ {N P S : Type 0} (g : Ghosts N P S) (planned : Planned P) where
   }
 
   -- and full where these are all
-  pub full_added : (rs rs' : List Rec) (more : List Transition) (good : IsGood g planned rs) → HasAdded rs more rs' → due-on (held rs).lives good.tasks (held rs).points ≡ (held rs).transitions ++ more → IsFull g planned rs'
+  abbrev pub full_added : (rs rs' : List Rec) (more : List Transition) (good : IsGood g planned rs) → HasAdded rs more rs' → due_on (held rs).lives good.tasks (held rs).points ≡ (held rs).transitions ++ more → IsFull g planned rs'
   full_added rs rs' more good a due = record {
     good = good_added rs rs' more [] good a (due ∙ ap (λ (l : List Transition). (held rs).transitions ++ l) (sym (append-nil more)));
-    all = due-same rs rs' more good.tasks a ∙ due ∙ sym a.transitions;
+    all = due_same rs rs' more good.tasks a ∙ due ∙ sym a.transitions;
   }
 
   -- the lives have run on it as before
@@ -67,7 +67,7 @@ module _ {N P S : Type 0} (g : Ghosts N P S) (planned : Planned P) where
       (subst (λ (ps : List PointValue). HasRun g planned (held rs).lives tasks ps 1 r) (sym a.points) h)
 
   -- files that stand for it with some of the transitions stand for a right store
-  pub some_good : (rs : List Rec) (due : List Transition) (files : Image) (good : IsGood g planned rs) → due-on (held rs).lives good.tasks (held rs).points ≡ (held rs).transitions ++ due
+  pub some_good : (rs : List Rec) (due : List Transition) (files : Image) (good : IsGood g planned rs) → due_on (held rs).lives good.tasks (held rs).points ≡ (held rs).transitions ++ due
       → StandsWithSome rs due files → StandsGood g planned rs files
   some_good rs due files good is s = record {
     records = s.records;

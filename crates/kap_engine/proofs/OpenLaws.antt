@@ -27,7 +27,6 @@ use Rattle.task_run.specs.Graphs.{Placed}
 use Rattle.tick_compile.specs.declared.tasks.Task.{Task}
 use Rattle.topic_core.specs.Topics.{StandsFor, TopicsValue, Trans, changes, event_of, numbered}
 use Rattle.topic_core.specs.declared.transition.Transition.{Transition}
-use Rattle.topic_core.proofs.EventLaws.{stood, trans_again}
 use Rattle.topic_store.specs.Behind.{AreBehind}
 use Rattle.topic_store.specs.Snapshots.{LastSnap}
 use Rattle.engine_runs.specs.Later.{AreLater}
@@ -75,14 +74,14 @@ module _ {N P S : Type 0} (g : Ghosts N P S) (planned : Planned P) (rs : List Re
 
   -- ---- behind a snapshot
 
-  module _ (stamped : (p : P) (before : List Input) (x : Input) → IsStamped (g.life p) (g.number p) x.1.stamp.0 (g.answer p before x)) (s : LastSnap rs) (follow : Follow rs) (c : IsConsistent g (graphs_in g planned rs tasks) rs) where
-    there : List PointValue
+  module _ (stamped : (p : P) (before : List Input) (x : Input) → IsStamped (g.life p) (g.number p) x.1.stamp.0 (g.answer p before x)) (stood : (events : List Event) (kept : TopicsValue) → StandsFor (map event_of (Trans events)) kept → StandsFor events kept) (s : LastSnap rs) (follow : Follow rs) (c : IsConsistent g (graphs_in g planned rs tasks) rs) where
+    abbrev pub there : List PointValue
     there = (held s.before).points
 
-    open_there : List Bool
+    abbrev pub open_there : List Bool
     open_there = map is_open (held s.before).lives
 
-    snap : Rec
+    abbrev snap : Rec
     snap = kinds.Snap s.points s.trans s.states
 
     later : AreLater (length there) (held s.before).lives (held rs).lives
@@ -167,8 +166,8 @@ module _ {N P S : Type 0} (g : Ghosts N P S) (planned : Planned P) (rs : List Re
     due_are = c.prefix ∙ ap (λ (l : List Transition). (held rs).transitions ++ l) (sym (h.due_is ∙ ap (drop (length (held rs).transitions)) c.prefix ∙ drop_at (held rs).transitions c.others (length (held rs).transitions) refl))
 
     -- these may be stored
-    pub due_next : length (held rs).transitions + length due < 2 ^ 64 → IsTrue (are_next (held rs).transitions due)
-    due_next lt =
+    pub due_next : (trans_again : (events : List Event) → Trans (map event_of (Trans events)) ≡ Trans events) → length (held rs).transitions + length due < 2 ^ 64 → IsTrue (are_next (held rs).transitions due)
+    due_next trans_again lt =
         let long : length (Trans (life_events g planned (held rs).lives tasks (held rs).points)) ≡ length (held rs).transitions + length due = ap length due_are ∙ length-append (held rs).transitions due in
         let again = trans_again (life_events g planned (held rs).lives tasks (held rs).points) in
         let low : length (Trans (map event_of (Trans (life_events g planned (held rs).lives tasks (held rs).points)))) < 2 ^ 64 = subst (λ (ts : List Transition). length ts < 2 ^ 64) (sym again) (omega (arith, long, lt)) in

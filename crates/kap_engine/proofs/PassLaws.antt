@@ -47,14 +47,13 @@ passed_to P Q all rest f p = record { passed = p.passed; split = p.split; holds 
 pub passed_all : {A : Type 0} (P : A → Type 0) (all rest : List A) → Passed P all rest → rest ≡ [] → Each P all
 passed_all P all rest p e = subst (Each P) (sym (p.split ∙ ap (λ l. p.passed ++ l) e ∙ append-nil p.passed)) p.holds
 
+stands-behind : {A : Type 0} (front others : List A) (x : A) → Contains (front ++ x ∷ others) x
+stands-behind [] others x = (0, omega arith, refl)
+stands-behind (y ∷ front) others x = let s = stands-behind front others x in let lt = s.1 in (suc s.0, omega (arith, lt), s.2)
+
 -- the next one is one of them all
 pub next_among : {A : Type 0} (P : A → Type 0) (all rest others : List A) (x : A) → Passed P all rest → rest ≡ x ∷ others → Contains all x
-next_among P all rest others x p e =
-    subst (λ l. Contains l x) (sym (p.split ∙ ap (λ l. p.passed ++ l) e)) (stands p.passed)
-  where
-    stands : (front : List A) → Contains (front ++ x ∷ others) x
-    stands [] = (0, omega arith, refl)
-    stands (y ∷ front) = let s = stands front in let lt = s.1 in (suc s.0, omega (arith, lt), s.2)
+next_among P all rest others x p e = subst (λ l. Contains l x) (sym (p.split ∙ ap (λ l. p.passed ++ l) e)) (stands-behind p.passed others x)
 
 -- and of it holds what holds of each
 pub next_holds : {A : Type 0} (P Q : A → Type 0) (all rest others : List A) (x : A) → Passed P all rest → rest ≡ x ∷ others → Each Q all → Q x

@@ -28,11 +28,14 @@ body-more ts t =
     let alone : length (spell_transition t ++ []) ≡ length (spell_transition t) = ap length (append-nil (spell_transition t)) in
     omega (arith, body-is ts, body-is (ts ++ t ∷ []), joined, length-append (flat_map spell_transition ts) (spell_transition t ++ []), alone)
 
-pub take_more : (n : ℕ) (ts : List Transition) (t : Transition) → slice_get ts n ≡ Some t → take (n + 1) ts ≡ take n ts ++ t ∷ []
-take_more zero [] t e = absurd cc
-take_more zero (x ∷ ts) t e = let same : x ≡ t = cc in ap (λ (y : Transition). y ∷ []) same
-take_more (suc n) [] t e = absurd cc
-take_more (suc n) (x ∷ ts) t e = ap (λ (l : List Transition). x ∷ l) (take_more n ts t e)
+take-next : (n : ℕ) (ts : List Transition) (t : Transition) → slice_get ts n ≡ Some t → take (suc n) ts ≡ take n ts ++ t ∷ []
+take-next zero [] t e = absurd cc
+take-next zero (x ∷ ts) t e = let same : x ≡ t = cc in ap (λ (y : Transition). y ∷ []) same
+take-next (suc n) [] t e = absurd cc
+take-next (suc n) (x ∷ ts) t e = ap (λ (l : List Transition). x ∷ l) (take-next n ts t e)
+
+take_more : (n : ℕ) (ts : List Transition) (t : Transition) → slice_get ts n ≡ Some t → take (n + 1) ts ≡ take n ts ++ t ∷ []
+take_more n ts t e = let one : n + 1 ≡ suc n = omega arith in ap (λ (m : ℕ). take m ts) one ∙ take-next n ts t e
 
 pub len_more : (n : ℕ) (ts : List Transition) (t : Transition) → slice_get ts n ≡ Some t → body_len (take (n + 1) ts) ≡ body_len (take n ts) + length (spell_transition t)
 len_more n ts t e = ap body_len (take_more n ts t e) ∙ body-more (take n ts) t

@@ -29,8 +29,8 @@ held_trans before behind =
     (rest.0, ap (λ (h : Held). h.transitions) (held-both nothing first_gate before behind) ∙ rest.1)
 
 may-from : (h : Held) (at : ℕ) (before : List Rec) (r : Rec) (behind : List Rec) → FollowFrom h at (before ++ r ∷ behind) → MayFollow (held_from h at before) r
-may-from h at [] r behind f = f.1.0
-may-from h at (b ∷ before) r behind f = may-from (after h at b) (next_gate at b) before r behind f.1.1
+may-from h at [] r behind f = f.1
+may-from h at (b ∷ before) r behind f = may-from (after h at b) (next_gate at b) before r behind f.2
 
 -- a record of a store may follow those before it
 pub may_at : (rs before : List Rec) (r : Rec) (behind : List Rec) → Follow rs → rs ≡ before ++ r ∷ behind → MayFollow (held before) r
@@ -115,6 +115,6 @@ pub still_behind : (rs rs' : List Rec) (pieces : List (List Transition)) → rs'
 still_behind rs rs' pieces records s =
     is-behind rs (map kinds.Trans pieces) s.before s.points s.trans s.states s.behind (no-snaps pieces) (sym records ∙ s.split) s.none_behind
 
-pub last_before : (rs before : List Rec) (points trans : ℕ) (states : List ℕ) → IsBehind rs before points trans states → LastSnap rs
+abbrev pub last_before : (rs before : List Rec) (points trans : ℕ) (states : List ℕ) → IsBehind rs before points trans states → LastSnap rs
 last_before rs before points trans states b =
     record { before = before; points = points; trans = trans; states = states; behind = b.behind; split = b.split; none_behind = b.none_behind }

@@ -46,13 +46,13 @@ none-timely old a = ap (λ (ts : List Transition). times_fit (map event_of ts)) 
 
 timely-from : (h : Held) (at : ℕ) (rs : List Rec) → FollowFrom h at rs → Timely h.transitions → Timely (held_from h at rs).transitions
 timely-from h at [] f a = a
-timely-from h at (kinds.Define id script enabled ∷ rs) f a = timely-from (after h at (kinds.Define id script enabled)) (next_gate at (kinds.Define id script enabled)) rs f.1.1 (none-timely h.transitions a)
-timely-from h at (kinds.Enable id ∷ rs) f a = timely-from (after h at (kinds.Enable id)) (next_gate at (kinds.Enable id)) rs f.1.1 (none-timely h.transitions a)
-timely-from h at (kinds.Disable id ∷ rs) f a = timely-from (after h at (kinds.Disable id)) (next_gate at (kinds.Disable id)) rs f.1.1 (none-timely h.transitions a)
-timely-from h at (kinds.Delete id ∷ rs) f a = timely-from (after h at (kinds.Delete id)) (next_gate at (kinds.Delete id)) rs f.1.1 (none-timely h.transitions a)
-timely-from h at (kinds.Batch db rp points ∷ rs) f a = timely-from (after h at (kinds.Batch db rp points)) (next_gate at (kinds.Batch db rp points)) rs f.1.1 (none-timely h.transitions a)
-timely-from h at (kinds.Trans ts ∷ rs) f a = timely-from (after h at (kinds.Trans ts)) (next_gate at (kinds.Trans ts)) rs f.1.1 (more-timely h.transitions ts a (next-times h.transitions ts f.1.0))
-timely-from h at (kinds.Snap points trans states ∷ rs) f a = timely-from (after h at (kinds.Snap points trans states)) (next_gate at (kinds.Snap points trans states)) rs f.1.1 (none-timely h.transitions a)
+timely-from h at (kinds.Define id script enabled ∷ rs) f a = timely-from (after h at (kinds.Define id script enabled)) (next_gate at (kinds.Define id script enabled)) rs f.2 (none-timely h.transitions a)
+timely-from h at (kinds.Enable id ∷ rs) f a = timely-from (after h at (kinds.Enable id)) (next_gate at (kinds.Enable id)) rs f.2 (none-timely h.transitions a)
+timely-from h at (kinds.Disable id ∷ rs) f a = timely-from (after h at (kinds.Disable id)) (next_gate at (kinds.Disable id)) rs f.2 (none-timely h.transitions a)
+timely-from h at (kinds.Delete id ∷ rs) f a = timely-from (after h at (kinds.Delete id)) (next_gate at (kinds.Delete id)) rs f.2 (none-timely h.transitions a)
+timely-from h at (kinds.Batch db rp points ∷ rs) f a = timely-from (after h at (kinds.Batch db rp points)) (next_gate at (kinds.Batch db rp points)) rs f.2 (none-timely h.transitions a)
+timely-from h at (kinds.Trans ts ∷ rs) f a = timely-from (after h at (kinds.Trans ts)) (next_gate at (kinds.Trans ts)) rs f.2 (more-timely h.transitions ts a (next-times h.transitions ts f.1))
+timely-from h at (kinds.Snap points trans states ∷ rs) f a = timely-from (after h at (kinds.Snap points trans states)) (next_gate at (kinds.Snap points trans states)) rs f.2 (none-timely h.transitions a)
 
 pub times_stored : (rs : List Rec) → Follow rs → times_fit (map event_of (held rs).transitions) ≡ true
 times_stored rs f = timely-from nothing first_gate rs f refl

@@ -61,8 +61,8 @@ module _ (before after : ℕ) (refused : List ℕ) where
   }
 
 defined-script : (tasks : List StoredTask) (lives : List Life) (at : ℕ) (text : List ℕ) → AreScripts tasks lives → IsDefinedAt tasks lives at text → IsScript text
-defined-script tasks lives at text all (inl t) = subst IsScript t.2.2 (each_contains (λ (t : StoredTask). IsScript t.script) tasks t.0 t.1 all.of_tasks)
-defined-script tasks lives at text all (inr l) = subst IsScript l.2.2 (each_contains (λ (l : Life). IsScript l.script) lives l.0 l.1 all.of_lives)
+defined-script tasks lives at text all (inl t) = subst IsScript t.3 (each_contains (λ (t : StoredTask). IsScript t.script) tasks t.0 t.1 all.of_tasks)
+defined-script tasks lives at text all (inr l) = subst IsScript l.3 (each_contains (λ (l : Life). IsScript l.script) lives l.0 l.1 all.of_lives)
 
 -- ---- states
 
@@ -71,6 +71,7 @@ module _ {P S : Type 0} where
   specs-placed [] = refl
   specs-placed (x ∷ xs) = ap (λ (l : List P). x.spec ∷ l) (specs-placed xs)
 
+module _ {P : Type 0} where
   nodes-open : (lives : List Life) (graphs : List (List (Placed P))) (points : List PointValue) → map (λ (c : Course P). c.nodes) (open_courses lives graphs points) ≡ picked (map is_open lives) graphs
   nodes-open [] graphs points = refl
   nodes-open (life ∷ lives) [] points = refl
