@@ -355,14 +355,12 @@ impl<N: Node> Net<N> {
         requires { self.old.spent ≡ false }
         ensures cells { result.lives.items ≡ self.old.lives }
         ensures sound { Each IsSound result.lives.items }
-        ensures lives { Each (IsLifeIn N.Node) result.lives.items }
         ensures none { self.new.lives ≡ [] }
         ensures goes { NetGoesOn N.Node self.old (with_lives result.lives.items self.new) }
         ensures gathered { self.new.gathered ≡ self.old.gathered }
         ensures last { self.new.last ≡ self.old.last }
         ensures spent { self.new.spent ≡ true }
     {
-        keep_lives(&self.lives);
         self.spent = true;
         let lives = mem::replace(&mut self.lives, Vec::new(alloc));
         Cells { lives }

@@ -310,6 +310,7 @@ impl<N: Node> Life<N> {
     /// settled. It takes no memory.
     pub fn take_cells(&mut self, alloc: Global) -> Vec<Cell<N>>
         ensures cells { result.items ≡ self.old.cells }
+        ensures life { self.old.spent ≡ false → IsLife N.Node self.old.cells }
         ensures none { self.new.cells ≡ [] }
         ensures spent { self.new.spent ≡ true }
     {

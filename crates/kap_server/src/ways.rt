@@ -5,17 +5,7 @@ ghost use Rattle.net_run.specs.declared.moving.Way.{Way};
 ghost use Rattle.kap_server.specs.Options.{AreWithinLimits};
 
 use crate::options::{ReplayOptions, workers_of};
-use net_run::{Way, Workers};
-
-/// How many points of an epoch of one task are worth the making of threads, where no option says how many
-/// workers there are.
-const FEW_POINTS: usize = 512;
-
-/// How many points of an epoch are worth it for so many tasks, each of which has work of its own at each
-/// point.
-fn few_points(tasks: usize) -> usize {
-    FEW_POINTS / tasks.max(1)
-}
+use net_run::{Way, Workers, few_points};
 
 /// The way that the options say for so many tasks: by workers, unless they give an order.
 pub(crate) fn way_of<'a, R, G>(

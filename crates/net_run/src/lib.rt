@@ -3,6 +3,7 @@
 #![tactic(auto)]
 
 ghost use Rattle.std.specs.Prelude.{◌≡◌, ◌^◌};
+ghost use Rattle.net_run.specs.declared.moving.TheConstants.{FEW_POINTS};
 ghost use Rattle.net_run.specs.declared.pace.TheConstants.{EFFECT_LIMIT, TEXT_LIMIT};
 
 mod epochs;
@@ -13,7 +14,7 @@ mod runs;
 mod trail;
 
 pub use epochs::run_epoch;
-pub use moving::{Way, Workers};
+pub use moving::{FEW_POINTS, Way, Workers, few_points};
 pub use numbering::NumberingNode;
 pub use pace::{EFFECT_LIMIT, Pace, TEXT_LIMIT};
 pub use runs::NetRun;
@@ -23,9 +24,11 @@ pub use runs::NetRun;
 /// little a point.
 pub const EPOCH_LIMIT: usize = 1_280;
 
-/// The limits of an epoch as numbers: of points, of effects, and of bytes of their text.
+/// The limits of an epoch as numbers: of points, of effects, and of bytes of their text; and how many points are
+/// worth threads.
 pub fn limits_are_numbers()
     ensures points { EPOCH_LIMIT ≡ 1280 }
     ensures effects { EFFECT_LIMIT ≡ 2 ^ 13 }
     ensures text { TEXT_LIMIT ≡ 2 ^ 20 }
+    ensures few { FEW_POINTS ≡ 512 }
 {}

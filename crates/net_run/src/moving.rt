@@ -1,10 +1,11 @@
 //! Ways in which nets come to rest.
 
-ghost use Rattle.std.specs.Prelude.{◌≡◌, ◌<◌, ◌≤◌, false, true, OnErr, OnOk};
+ghost use Rattle.std.specs.Prelude.{◌≡◌, ◌/◌, ◌<◌, ◌≤◌, false, max, true, OnErr, OnOk};
 ghost use Rattle.std.specs.List.{AllByRecursion as Each};
 ghost use Rattle.flow_core.specs.Nets.{IsResting};
 ghost use Rattle.flow_core.specs.Running.{NetGoesOn};
 ghost use Rattle.flow_core.specs.Wholes.{IsWhole};
+ghost use Rattle.net_run.specs.declared.moving.TheConstants.{FEW_POINTS};
 ghost use Rattle.node_workers.specs.declared.TheConstants.{WORKER_LIMIT};
 
 use flow_core::Net;
@@ -14,6 +15,17 @@ use node_core::Node;
 use node_workers::{WORKER_LIMIT, work_to_rest};
 use std::alloc::Global;
 use std::thread::Threads;
+
+/// How many points of an epoch of one life are worth the making of threads, where nobody says how many workers
+/// there are.
+pub const FEW_POINTS: usize = 512;
+
+/// How many points of an epoch are worth it for so many lives, each of which has work of its own at each point.
+pub fn few_points(lives: usize) -> usize
+    ensures { result ≡ FEW_POINTS / max 1 lives }
+{
+    FEW_POINTS / lives.max(1)
+}
 
 /// Workers in threads, and the gate that they pass before each of their turns.
 #[derive(Drop)]

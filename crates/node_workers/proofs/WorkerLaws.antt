@@ -58,14 +58,21 @@ module _ {N : Type 0} where
   all-moved (c ∷ cs) [] z e = absurd z
   all-moved (c ∷ cs) (d ∷ ds) z e = (z.0 e.0, all-moved cs ds z.1 e.1)
 
-  -- where no call on a cell failed, each made moves of its own
-  stood_moved : (lives lives' : List (NumberedLife N)) → AllZip HasStoodLife lives lives' → Each HasUnspentCells lives' → AllZip HasMovedLife lives lives'
-  stood_moved [] [] z e = tt
-  stood_moved [] (l ∷ ls) z e = absurd z
-  stood_moved (l ∷ ls) [] z e = absurd z
-  stood_moved (l ∷ ls) (m ∷ ms) z e = (record { number = z.0.number; cells = all-moved l.life.cells m.life.cells z.0.cells e.0; unspent = e.0 }, stood_moved ls ms z.1 e.1)
-
 module _ {N P S : Type 0} (g : Ghosts N P S) where
+  -- where no call on a cell failed, each made moves of its own
+  stood-moved : (lives lives' : List (NumberedLife N)) → AllZip (HasStoodLife g) lives lives' → Each HasUnspentCells lives' → AllZip HasMovedLife lives lives'
+  stood-moved [] [] z e = tt
+  stood-moved [] (l ∷ ls) z e = absurd z
+  stood-moved (l ∷ ls) [] z e = absurd z
+  stood-moved (l ∷ ls) (m ∷ ms) z e = (record { number = z.0.number; cells = all-moved l.life.cells m.life.cells z.0.cells e.0; unspent = e.0 }, stood-moved ls ms z.1 e.1)
+
+  -- and those of sound lives kept what those of lives keep
+  stood-lives : (lives lives' : List (NumberedLife N)) → AllZip (HasStoodLife g) lives lives' → Each IsSound lives → Each (IsLifeIn g) lives
+  stood-lives [] [] z sound = tt
+  stood-lives [] (l ∷ ls) z sound = absurd z
+  stood-lives (l ∷ ls) [] z sound = absurd z
+  stood-lives (l ∷ ls) (m ∷ ms) z sound = (z.0.was sound.0.unspent, stood-lives ls ms z.1 sound.1)
+
   -- and then the cells that a net had are back
-  pub stood_back : (lives lives' : List (NumberedLife N)) → Each IsSound lives → Each (IsLifeIn g) lives → AllZip HasStoodLife lives lives' → Each HasUnspentCells lives' → IsBack g lives lives'
-  stood_back lives lives' sound life stood unspent = record { sound = sound; lives = life; moved = stood_moved lives lives' stood unspent }
+  pub stood_back : (lives lives' : List (NumberedLife N)) → Each IsSound lives → AllZip (HasStoodLife g) lives lives' → Each HasUnspentCells lives' → IsBack g lives lives'
+  stood_back lives lives' sound stood unspent = record { sound = sound; lives = stood-lives lives lives' stood sound; moved = stood-moved lives lives' stood unspent }

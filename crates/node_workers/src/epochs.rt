@@ -25,7 +25,7 @@ fn move_cells<N: Node + Send, G: Gate + Sync, R: Threads + Sync>(
     gate: &G,
 )
     requires { 0 < workers }
-    ensures { AllZip HasStoodLife cells.old.lives.items cells.new.lives.items }
+    ensures { AllZip (HasStoodLife N.Node) cells.old.lives.items cells.new.lives.items }
 {
     run_workers(rt, alloc, &mut cells.lives, workers, gate);
 }

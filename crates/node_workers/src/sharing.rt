@@ -22,7 +22,7 @@ fn work_lives<N: Node, G: Gate>(
     worker: &mut Worker,
     gate: &G,
 )
-    ensures { AllZip HasStoodLife lives.old lives.new }
+    ensures { AllZip (HasStoodLife N.Node) lives.old lives.new }
 {
     if let Some((first, others)) = lives.split_first_mut() {
         let mut cells = first.life.take_cells(alloc);
@@ -41,7 +41,7 @@ fn deal_lives<N: Node + Send, G: Gate + Sync, R: Threads + Sync>(
     gate: &G,
 )
     requires { 0 < size }
-    ensures { AllZip HasStoodLife lives.old lives.new }
+    ensures { AllZip (HasStoodLife N.Node) lives.old lives.new }
 {
     thread::for_each_chunk_mut(
         rt,
@@ -49,7 +49,7 @@ fn deal_lives<N: Node + Send, G: Gate + Sync, R: Threads + Sync>(
         size,
         &|start: usize, own: &mut [Numbered<Life<N>>]|
             requires { 0 < size }
-            ensures { AllZip HasStoodLife own.entry.now own.exit.now }
+            ensures { AllZip (HasStoodLife N.Node) own.entry.now own.exit.now }
         {
             let mut worker = Worker {
                 number: short(start / size),
@@ -101,7 +101,7 @@ fn share_lives<N: Node + Send, G: Gate + Sync, R: Threads + Sync>(
     gate: &G,
 )
     requires { 0 < workers }
-    ensures { AllZip HasStoodLife lives.old lives.new }
+    ensures { AllZip (HasStoodLife N.Node) lives.old lives.new }
 {
     if let Some((life, others)) = lives.split_first_mut() {
         let mut cells = life.life.take_cells(alloc);
@@ -121,7 +121,7 @@ fn split_lives<N: Node + Send, G: Gate + Sync, R: Threads + Sync>(
     gate: &G,
 )
     requires { 0 < workers }
-    ensures { AllZip HasStoodLife lives.old lives.new }
+    ensures { AllZip (HasStoodLife N.Node) lives.old lives.new }
 {
     thread::for_each_chunk_mut(
         rt,
@@ -129,7 +129,7 @@ fn split_lives<N: Node + Send, G: Gate + Sync, R: Threads + Sync>(
         1,
         &|start: usize, own: &mut [Numbered<Life<N>>]|
             requires { 0 < workers }
-            ensures { AllZip HasStoodLife own.entry.now own.exit.now }
+            ensures { AllZip (HasStoodLife N.Node) own.entry.now own.exit.now }
         {
             let first = start.saturating_mul(workers);
             share_lives(rt, alloc, own, workers, first, gate);
@@ -147,7 +147,7 @@ pub(crate) fn run_workers<N: Node + Send, G: Gate + Sync, R: Threads + Sync>(
     gate: &G,
 )
     requires { 0 < workers }
-    ensures { AllZip HasStoodLife lives.old lives.new }
+    ensures { AllZip (HasStoodLife N.Node) lives.old lives.new }
 {
     let workers = workers as usize;
     let count = lives.len().max(1);

@@ -8,5 +8,5 @@ pub returns : goal.returns
 returns g c =
     let old = c.args.cells.now.lives in
     let new = c.run_workers.new.lives in
-    subst (AllZip HasStoodLife old.items) (sym (with_items_is old new (search (rules, places))))
-    (subst (λ l. AllZip HasStoodLife l new) c.deref_mut.ensures.value c.run_workers.ensures)
+    subst (AllZip (HasStoodLife g.N.Node) old.items) (sym (with_items_is old new (search (rules, places))))
+    (subst (λ l. AllZip (HasStoodLife g.N.Node) l new) c.deref_mut.ensures.value c.run_workers.ensures)

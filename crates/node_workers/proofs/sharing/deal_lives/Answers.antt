@@ -15,7 +15,7 @@ pub returns : goal.returns
 returns g c =
     let lives = c.args.lives.now in
     let now = c.for_each_chunk_mut.new.s in
-    zip_by HasStoodLife lives now c.for_each_chunk_mut.auto.s (λ i d lt.
+    zip_by (HasStoodLife g.N.Node) lives now c.for_each_chunk_mut.auto.s (λ i d lt.
     let k = (c.for_each_chunk_mut.ensures.by_index i d lt).1 in
-    let z : AllZip HasStoodLife k.argument.now k.after_call.now = k.call in
-    rw (← k.old_element, ← k.new_element) (zip_at HasStoodLife k.argument.now k.after_call.now k.offset d k.offset_in_chunk z))
+    let z : AllZip (HasStoodLife g.N.Node) k.argument.now k.after_call.now = k.call in
+    rw (← k.old_element, ← k.new_element) (zip_at (HasStoodLife g.N.Node) k.argument.now k.after_call.now k.offset d k.offset_in_chunk z))
