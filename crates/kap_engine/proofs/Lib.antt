@@ -5,5 +5,6 @@ pub mod PassLaws
 pub mod StoredLaws
 pub mod GoodLaws
 pub mod OpenLaws
+pub mod AskLaws
 pub mod WhyLaws
 pub mod MakeLaws

@@ -11,6 +11,10 @@ pub each_both : {A : Type 0} (P Q R : A → Type 0) (xs : List A) → ((x : A) �
 each_both P Q R [] f a b = tt
 each_both P Q R (x ∷ xs) f a b = (f x a.0 b.0, each_both P Q R xs f a.1 b.1)
 
+pub nil_of : {A : Type 0} (xs : List A) → length xs ≡ 0 → xs ≡ []
+nil_of [] e = refl
+nil_of (x ∷ xs) e = absurd (omega (arith, e))
+
 -- each is one of which P holds
 pub each_contains : {A : Type 0} (P : A → Type 0) (xs : List A) (x : A) → Contains xs x → Each P xs → P x
 each_contains P [] x c h = let lt = c.1 in absurd (omega (arith, lt))

@@ -1,6 +1,6 @@
 //! The scripts of a store are asked, in the order of the records that brought them.
 
-ghost use Rattle.std.specs.Prelude.{◌≡◌, ◌≤◌, ℕ, IfErr, IfSome, IsTrue, List, OnOk, Some, length, option_map};
+ghost use Rattle.std.specs.Prelude.{◌≡◌, ◌≤◌, ℕ, IfErr, IfSome, IsTrue, List, OnOk, length, option_map};
 ghost use Rattle.std.specs.List.{AllByRecursion as Each};
 ghost use Rattle.kap_base.specs.declared.limits.TheConstants.{SCRIPT_LIMIT};
 ghost use Rattle.store_records.specs.Orders.{AreValidLives, AreValidTasks};
@@ -59,31 +59,31 @@ impl Defined for Life {
     }
 }
 
-/// The lesser of a place and another one, if there is one.
-fn lesser(place: u64, other: Option<u64>) -> u64
-    ensures one { result ≤ place }
-    ensures other { (o : ℕ) → other ≡ Some o → result ≤ o }
-    ensures low { (low : ℕ) → low ≤ place → IfSome other (λ o. low ≤ o) → low ≤ result }
+/// The lesser of a place and another one, where the place isn't before this one.
+fn lesser_of(place: u64, from: u64, other: Option<u64>) -> Option<u64>
+    ensures place { from ≤ place → IsNotAbove result place }
+    ensures other { (o : ℕ) → IsNotAbove other o → IsNotAbove result o }
+    ensures low { IfSome other (λ o. from ≤ o) → IfSome result (λ o. from ≤ o) }
 {
+    if place < from {
+        return other;
+    }
     match other {
-        Some(other) => place.min(other),
-        None => place,
+        Some(other) => Some(place.min(other)),
+        None => Some(place),
     }
 }
 
 /// The least place from this one on, of these and of another one that is no lower.
 fn least_from<T: Defined>(items: &[T], from: u64, other: Option<u64>) -> Option<u64>
     ensures items { Each (λ item. from ≤ T.place item → IsNotAbove result (T.place item)) items.now }
-    ensures other { (o : ℕ) → other ≡ Some o → IsNotAbove result o }
+    ensures other { (o : ℕ) → IsNotAbove other o → IsNotAbove result o }
     ensures low { IfSome other (λ o. from ≤ o) → IfSome result (λ o. from ≤ o) }
 {
     let mut least = other;
     let mut rest = items;
     'looking: while let Some((item, others)) = rest.split_first() {
-        let place = item.place();
-        if from <= place {
-            least = Some(lesser(place, least));
-        }
+        least = lesser_of(item.place(), from, least);
         rest = others;
     }
     least
@@ -91,7 +91,7 @@ fn least_from<T: Defined>(items: &[T], from: u64, other: Option<u64>) -> Option<
 
 /// Whether the text is the one that was asked last.
 fn is_last(asked: Option<&[u8]>, text: &[u8]) -> bool
-    ensures { IsTrue result → IsLastAsked (option_map (λ a. a.now) asked) text.now }
+    ensures { IsTrue result → IsLastAsked (option_map (λ a. a.now) asked.entry) text.now }
 {
     match asked {
         Some(asked) => asked == text,

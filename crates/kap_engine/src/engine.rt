@@ -8,7 +8,7 @@ use engine_runs::EngineRun;
 use flow_core::Net;
 use kap_io::{Disk, Gate};
 use lambda_types::Patterns;
-use net_run::{NumberingNode, Way, Workers};
+use net_run::{NumberingNode, Way, Workers, few_points};
 use node_core::Node;
 use node_set::ScriptNode;
 use node_workers::WORKER_LIMIT;
@@ -18,9 +18,6 @@ use std::thread::Threads;
 use store_records::Transitions;
 use topic_core::Topics;
 use topic_store::{Store, open_store};
-
-/// How many points of an epoch are worth the making of threads.
-const FEW_POINTS: usize = 512;
 
 /// An engine: a store on a disk, and the lives of its tasks as they run. Contracts see these two, and the
 /// transitions that the last change on it stored.
@@ -102,8 +99,9 @@ impl<N: ScriptNode + NumberingNode + Send> Engine<N> {
         ensures stored { IfOk result (λ engine. engine.stored ≡ []) }
         ensures cause { EngineCause (D.faults disk.old) (D.faults disk.new) result }
     {
-        let way = Way::Workers(Workers::new(rt, workers, gate, FEW_POINTS));
         let mut store = open_store(alloc, disk)?;
+        let least = few_points(store.tasks().len());
+        let way = Way::Workers(Workers::new(rt, workers, gate, least));
         let (run, due) = run_store(alloc, &store, disk, capacity, &way, pats)?;
         add_transitions(&mut store, disk, due)?;
         Ok(Engine {
