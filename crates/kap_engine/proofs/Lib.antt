@@ -7,4 +7,6 @@ pub mod GoodLaws
 pub mod OpenLaws
 pub mod AskLaws
 pub mod WhyLaws
+pub mod ReadLaws
+pub mod CauseLaws
 pub mod MakeLaws

@@ -61,3 +61,11 @@ without-last ts t =
 pub closed_behind : (n : ℕ) (ts : List Transition) (t : Transition) → slice_get ts n ≡ Some t → body_len (take n ts) ≤ PIECE_LIMIT → IsClosed (take (n + 1) ts)
 closed_behind n ts t e le =
     subst IsClosed (sym (take_more n ts t e)) (subst (λ (l : List Transition). body_len l ≤ PIECE_LIMIT) (sym (without-last (take n ts) t)) le)
+
+-- what is counted is the length, where it doesn't pass the limit
+pub counted : (size len spelled sum before after : ℕ) → spelled ≡ min len (2 ^ 64 - 1) → sum ≡ min (size + spelled) (2 ^ 64 - 1) → size ≡ before → after ≡ before + len → sum ≤ PIECE_LIMIT → sum ≡ after
+counted size len spelled sum before after a b d e low = let limit : PIECE_LIMIT ≡ 1048576 = refl in omega (arith, a, b, d, e, low, limit)
+
+-- and where it passes it the length does
+pub over_limit : (size len spelled sum before after : ℕ) → spelled ≡ min len (2 ^ 64 - 1) → sum ≡ min (size + spelled) (2 ^ 64 - 1) → size ≡ before → after ≡ before + len → PIECE_LIMIT < sum → PIECE_LIMIT < after
+over_limit size len spelled sum before after a b d e high = omega (arith, a, b, d, e, high)

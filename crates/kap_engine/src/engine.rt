@@ -16,7 +16,8 @@ use std::alloc::Global;
 use std::marker::Model;
 use std::thread::Threads;
 use store_records::Transitions;
-use topic_core::Topics;
+use tick_compile::scripts_have_one_answer;
+use topic_core::{Topics, transition_laws};
 use topic_store::{Store, open_store};
 
 /// An engine: a store on a disk, and the lives of its tasks as they run. Contracts see these two, and the
@@ -99,6 +100,8 @@ impl<N: ScriptNode + NumberingNode + Send> Engine<N> {
         ensures stored { IfOk result (λ engine. engine.stored ≡ []) }
         ensures cause { EngineCause (D.faults disk.old) (D.faults disk.new) result }
     {
+        transition_laws();
+        scripts_have_one_answer();
         let mut store = open_store(alloc, disk)?;
         let least = few_points(store.tasks().len());
         let way = Way::Workers(Workers::new(rt, workers, gate, least));

@@ -27,7 +27,7 @@ use net_run::{NumberingNode, Way};
 use node_set::ScriptNode;
 use std::alloc::Global;
 use std::thread::Threads;
-use topic_core::Transition;
+use topic_core::{Transition, transition_laws};
 use topic_store::Store;
 
 /// The lives of a store behind its last snapshot, or before the first point where there is none.
@@ -62,6 +62,7 @@ fn begin_run<N: ScriptNode + NumberingNode + Send, D: Disk, P: Patterns>(
     ensures cause { EngineCause (D.faults disk.old) (D.faults disk.new) result }
     ensures kept { OnOk result (P.refusals pats.new ≡ P.refusals pats.old) }
 {
+    transition_laws();
     let Some((gate, numbers, states)) = store.snap(disk)? else {
         return Ok(EngineRun::new(alloc, capacity));
     };
