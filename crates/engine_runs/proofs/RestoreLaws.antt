@@ -64,7 +64,7 @@ module _ {P : Type 0} (planned : Planned P) where
 module _ {N P S : Type 0} (g : Ghosts N P S) where
   -- what the nodes of plans are, by their graphs
   nodes-specs : (which at : ℕ) (nodes : List N) (parents : List (List ℕ)) → AreNodesFrom g.spec g.ports g.life g.number which at nodes parents
-      → map (λ d. d.spec) (map (λ (p : N × List ℕ). record { spec = g.spec p.0; parents = p.1 }) (zip nodes parents)) ≡ map g.spec nodes
+      → map (λ (d : Placed P). d.spec) (map (λ (p : N × List ℕ). record { spec = g.spec p.0; parents = p.1 }) (zip nodes parents)) ≡ map g.spec nodes
   nodes-specs which at [] [] h = refl
   nodes-specs which at [] (ps ∷ parents) h = absurd h
   nodes-specs which at (n ∷ nodes) [] h = absurd h
@@ -74,7 +74,7 @@ module _ {N P S : Type 0} (g : Ghosts N P S) where
   plans-specs [] h = refl
   plans-specs (plan ∷ plans) h =
       ap (λ (l : List P). l ++ in_lives g.spec plans) (sym (nodes-specs plan.life 0 plan.nodes plan.parents h.0.nodes))
-      ∙ ap (λ (l : List P). map (λ d. d.spec) (graph_of g.spec plan) ++ l) (plans-specs plans h.1)
+      ∙ ap (λ (l : List P). map (λ (d : Placed P). d.spec) (graph_of g.spec plan) ++ l) (plans-specs plans h.1)
 
   -- what the nodes of the lives are that were planned again
   pub specs_planned : (planned : Planned P) (lives : List Life) (tasks : List Task) (runs : List Bool) (names : List TaskNames) (plans : List (PlanValue N)) → AreTasksOf lives tasks → HasPlanned g.spec planned lives runs [] names plans

@@ -31,7 +31,7 @@ use Rattle.topic_store.specs.Behind.{AreBehind}
 use Rattle.topic_store.specs.Snapshots.{LastSnap}
 use Rattle.engine_runs.specs.Later.{AreLater}
 use Rattle.engine_runs.specs.Running.{HasRun, RunValue, courses_on, life_events}
-use Rattle.engine_runs.specs.Scripts.{graphs_from}
+use Rattle.engine_runs.specs.Scripts.{AreTasksOf}
 use Rattle.engine_runs.specs.Spans.{Spans, numbers_from, picked}
 use Rattle.engine_runs.specs.Whole.{IsConsistent, due_of, events_on}
 use Rattle.engine_runs.proofs.HeldLaws.{held_later, held_points}
@@ -157,6 +157,29 @@ module _ {N P S : Type 0} (g : Ghosts N P S) (planned : Planned P) (rs : List Re
         none = drop_all (length (held rs).transitions) (Trans (life_events g planned (held rs).lives tasks there)) (omega (arith, few, within));
       };
     }
+
+    -- what restoring promises of lives
+    abbrev pub RestoresFrom : List Life → List ℕ → List ℕ → ℕ → TopicsValue → RunValue N → Type 0
+    RestoresFrom lives numbers states points topics r =
+        (ts : List Task) (before : List PointValue) (open_before : List Bool) → AreTasksOf lives ts → points ≡ length before
+        → Spans (length before) 0 open_before lives
+        → numbers ≡ picked open_before (numbers_from 1 lives)
+        → IsSnapshot g (picked open_before (courses_on g planned lives ts before)) states
+        → StandsFor (life_events g planned lives ts before) topics
+        → times_fit (map event_of (Trans (life_events g planned lives ts before))) ≡ true
+        → HasRun g planned lives ts before 0 r
+
+    -- the lives of the snapshot, restored, have begun
+    pub restored : (lives : List Life) (numbers states : List ℕ) (points trans : ℕ) (topics : TopicsValue) (r : RunValue N) → lives ≡ (held rs).lives → AreTasksOf (held rs).lives tasks
+        → numbers ≡ open_from 1 (held s.before).lives → states ≡ s.states → points ≡ s.points → trans ≡ s.trans → AreBehind (held rs).transitions topics trans
+        → RestoresFrom lives numbers states points topics r → HasBegun g planned rs tasks r
+    restored lives numbers states points trans topics r same are numbers_are states_are points_are trans_are behind clause =
+        let here : RestoresFrom (held rs).lives numbers states points topics r = subst (λ (ls : List Life). RestoresFrom ls numbers states points topics r) same clause in
+        let can = can_restore in
+        can.begun r
+        (here tasks there open_there are (points_are ∙ can.points_are) can.spans (numbers_are ∙ sym can.numbers)
+        (subst (λ (b : List ℕ). IsSnapshot g (picked open_there (courses_on g planned (held rs).lives tasks there)) b) (sym states_are) can.states)
+        (can.topics topics (subst (λ (n : ℕ). AreBehind (held rs).transitions topics n) trans_are behind)) can.times)
 
   -- ---- behind all points
 

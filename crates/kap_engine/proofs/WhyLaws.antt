@@ -11,8 +11,8 @@ use Rattle.lambda_types.specs.declared.fault.TypeFault.{TypeFault}
 use Rattle.life_effects.specs.Effects.{open_courses, seen_by}
 use Rattle.node_core.specs.declared.node.Node.{Ghosts}
 use Rattle.node_set.specs.Tasks.{Planned}
-use Rattle.store_records.specs.Held.{is_open}
-use Rattle.store_records.specs.Histories.{held}
+use Rattle.store_records.specs.Held.{is_open, open_from}
+use Rattle.store_records.specs.Histories.{end_of, held}
 use Rattle.store_records.specs.declared.rec.Rec.{Rec}
 use Rattle.store_records.specs.declared.task.Life.{Life}
 use Rattle.store_records.specs.declared.task.StoredTask.{StoredTask}
@@ -24,12 +24,14 @@ use Rattle.tick_compile.specs.Tasks.{is_refusal, refusal_in}
 use Rattle.tick_compile.specs.declared.script_fault.ScriptFault.{ScriptFault}
 use Rattle.tick_compile.specs.declared.script_fault.ScriptFault.TheVariants as scripts
 use Rattle.tick_compile.specs.declared.tasks.Task.{Task}
+use Rattle.topic_store.specs.Snapshots.{LastSnap}
 use Rattle.engine_runs.specs.Faults.{IsRefused, IsRefusedOne, IsWhyOne}
-use Rattle.engine_runs.specs.Scripts.{node_specs}
-use Rattle.engine_runs.specs.Spans.{picked}
+use Rattle.engine_runs.specs.Scripts.{AreTasksOf, graphs_from, node_specs}
+use Rattle.engine_runs.specs.Spans.{numbers_from, picked}
 use Rattle.kap_engine.specs.Asking.{AreScripts, IsDefinedAt, IsFirstRefused, IsScript}
-use Rattle.kap_engine.specs.Faults.{HasOtherStates, IsWhyNone}
+use Rattle.kap_engine.specs.Faults.{HasOtherStates, HasStates, IsWhyNone}
 use Rattle.kap_engine.specs.Good.{IsGood, graphs_in}
+use Rattle.kap_engine.proofs.OpenLaws.{open_numbers}
 use Rattle.kap_engine.proofs.PassLaws.{each_contains, each_to}
 
 -- ---- scripts
@@ -109,3 +111,36 @@ module _ {N P S : Type 0} (g : Ghosts N P S) where
         absurd (o.none good.tasks (states_all s.acts) good.are
         (subst (λ (ns : List (List (Placed P))). IsCapture g.fits g.spell (node_specs ns) (states_all s.acts) o.snap.states) (nodes-open (held o.snap.before).lives graphs (held o.snap.before).points)
         (snapshot-fits courses o.snap.states s)))
+
+    -- ---- the states of the last snapshot
+
+    pub fits_of : (rs : List Rec) (s : LastSnap rs) (lives : List Life) (numbers states : List ℕ) → lives ≡ (held rs).lives → numbers ≡ open_from 1 (held s.before).lives → states ≡ s.states
+        → ((tasks : List Task) (open_there : List Bool) → AreTasksOf lives tasks → numbers ≡ picked open_there (numbers_from 1 lives)
+        → (holds : List S) × IsCapture g.fits g.spell (node_specs (picked open_there (graphs_from planned 1 lives tasks))) holds states)
+        → HasStates g planned rs
+    fits_of rs s lives numbers states same numbers_are states_are fits = inr (s, λ tasks are.
+        let open_there = map is_open (held s.before).lives in
+        let there : numbers ≡ picked open_there (numbers_from 1 lives) = numbers_are ∙ sym (open_numbers rs s) ∙ ap (λ (ls : List Life). picked open_there (numbers_from 1 ls)) (sym same) in
+        let got = fits tasks open_there (subst (λ (ls : List Life). AreTasksOf ls tasks) (sym same) are) there in
+        (
+          got.0,
+          subst (λ (b : List ℕ). IsCapture g.fits g.spell (node_specs (picked open_there (graphs_from planned 1 (held rs).lives tasks))) got.0 b) states_are
+          (subst (λ (ls : List Life). IsCapture g.fits g.spell (node_specs (picked open_there (graphs_from planned 1 ls tasks))) got.0 states) same got.1),
+        ))
+
+    pub others_of : (rs : List Rec) (s : LastSnap rs) (lives : List Life) (numbers states : List ℕ) (gate : ℕ) → lives ≡ (held rs).lives → numbers ≡ open_from 1 (held s.before).lives → states ≡ s.states → gate ≡ end_of s.before
+        → AreScripts (held rs).tasks (held rs).lives
+        → ((tasks : List Task) (open_there : List Bool) (holds : List S) → AreTasksOf lives tasks → numbers ≡ picked open_there (numbers_from 1 lives)
+        → IsCapture g.fits g.spell (node_specs (picked open_there (graphs_from planned 1 lives tasks))) holds states → ⊥)
+        → HasOtherStates g planned rs gate
+    others_of rs s lives numbers states gate same numbers_are states_are at all others = record {
+      scripts = all;
+      snap = s;
+      at = at;
+      none = λ tasks holds are capture.
+          let open_there = map is_open (held s.before).lives in
+          let there : numbers ≡ picked open_there (numbers_from 1 lives) = numbers_are ∙ sym (open_numbers rs s) ∙ ap (λ (ls : List Life). picked open_there (numbers_from 1 ls)) (sym same) in
+          others tasks open_there holds (subst (λ (ls : List Life). AreTasksOf ls tasks) (sym same) are) there
+          (subst (λ (ls : List Life). IsCapture g.fits g.spell (node_specs (picked open_there (graphs_from planned 1 ls tasks))) holds states) (sym same)
+          (subst (λ (b : List ℕ). IsCapture g.fits g.spell (node_specs (picked open_there (graphs_from planned 1 (held rs).lives tasks))) holds b) (sym states_are) capture));
+    }
