@@ -42,7 +42,7 @@ cause_store {T = T} {U = U} old new e f is c = subst (λ (x : EngineFault). Engi
 pub cause_other : {T : Type 0} (old new : ℕ) (f : EngineFault) → old ≤ new → (f ≡ DiskFault → ⊥) → EngineCause {T = T} old new (Err f)
 cause_other old new f le other = record { later = le; failed = λ e. absurd (other (same f DiskFault e)) }
   where
-    same : {T : Type 0} (a b : EngineFault) → Err {T = T} a ≡ Err b → a ≡ b
+    same : {T : Type 0} (a b : EngineFault) → IsErrOf {T = T} (Err a) b → a ≡ b
     same a b e = cc
 
 -- a fault of its lives isn't

@@ -1,4 +1,5 @@
 use Rattle.std.proofs.Common.{◌≡◌, [], Err, sym, ap, subst, arith}
+use Rattle.std.specs.Prelude.{IsErrOf}
 use Rattle.std.specs.List.{AllByRecursion as Each}
 use Rattle.barrier_snapshot.specs.Captures.{IsCapture, in_lives}
 use Rattle.flow_core.specs.Making.{HasFewParents}
@@ -10,7 +11,7 @@ use Rattle.engine_runs.proofs.PlanLaws.{planned_none}
 use Rattle.engine_runs.proofs.RestoreLaws.{restored_run, specs_planned}
 use Rattle.engine_runs.proofs.runs.EngineRun.restore.Goals as goal
 
-fault_of : {T : Type 0} (f g : RunFault) → Err {T = T} f ≡ Err g → f ≡ g
+fault_of : {T : Type 0} (f g : RunFault) → IsErrOf {T = T} (Err f) g → f ≡ g
 fault_of f g e = cc
 
 pub restore_net-requires-clause-few : goal.restore_net-requires-clause-few
