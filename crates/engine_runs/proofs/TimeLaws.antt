@@ -9,7 +9,7 @@ use Rattle.kap_base.specs.declared.items.Level.{Level}
 use Rattle.kap_base.specs.declared.items.Level.TheVariants.{Fine}
 use Rattle.life_effects.proofs.TransLaws.{trans_append}
 use Rattle.life_effects.specs.Times.{times_fit}
-use Rattle.topic_core.specs.Topics.{Trans, change, changes, event_of, last_level, numbered}
+use Rattle.topic_core.specs.Topics.{Trans, changes, event_of, last_level, numbered}
 
 both-fit : (xs ys : List Event) → times_fit xs ≡ true → times_fit ys ≡ true → times_fit (xs ++ ys) ≡ true
 both-fit [] ys a b = b
