@@ -46,8 +46,8 @@ impl<L: PollLink + Drop> Conn<L> {
     }
 
     /// Goes on as far as the link allows, by at most 64 requests: the end, or `Pending`, which comes only
-    /// where the link would have had to wait in this poll, or where 64 requests were served. The task is woken
-    /// then, where the link may go on or at once. Behind its end a connection isn't polled again.
+    /// where the link would have had to wait in this poll, or where 64 requests were served. The task is
+    /// woken then, where the link may go on or at once. Behind its end a connection isn't polled again.
     ///
     /// A poll says of the connection what came of it, wherever it came from, so that polls compose, over any
     /// number of them, and while others are polled with the same `Serve`. `ReadFault` and `WriteFault` come

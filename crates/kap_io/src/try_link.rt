@@ -43,8 +43,8 @@ pub trait TryLink {
             (write_faults self.new) (waits self.old) (waits self.new) result };
 
     /// Takes a prefix of the piece, and answers how many bytes that is, 1 at least. `Failed` comes only where
-    /// the count of failed writes rose in this call, `Waits` only where that of waits did, and then nothing is
-    /// taken.
+    /// the count of failed writes rose in this call, `Waits` only where that of waits did, and then nothing
+    /// is taken.
     fn try_write(&mut self, piece: &[u8]) -> Result<usize, Stop>
         requires { 0 < length piece.now }
         ensures bound { TakesSome result piece.now }

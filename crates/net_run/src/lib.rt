@@ -24,8 +24,8 @@ pub use runs::NetRun;
 /// little a point.
 pub const EPOCH_LIMIT: usize = 1_280;
 
-/// The limits of an epoch as numbers: of points, of effects, and of bytes of their text; and how many points are
-/// worth threads.
+/// The limits of an epoch as numbers: of points, of effects, and of bytes of their text; and how many points
+/// are worth threads.
 pub fn limits_are_numbers()
     ensures points { EPOCH_LIMIT ≡ 1280 }
     ensures effects { EFFECT_LIMIT ≡ 2 ^ 13 }

@@ -16,11 +16,12 @@ use node_workers::{WORKER_LIMIT, work_to_rest};
 use std::alloc::Global;
 use std::thread::Threads;
 
-/// How many points of an epoch of one life are worth the making of threads, where nobody says how many workers
-/// there are.
+/// How many points of an epoch of one life are worth the making of threads, where nobody says how many
+/// workers there are.
 pub const FEW_POINTS: usize = 512;
 
-/// How many points of an epoch are worth it for so many lives, each of which has work of its own at each point.
+/// How many points of an epoch are worth it for so many lives, each of which has work of its own at each
+/// point.
 pub fn few_points(lives: usize) -> usize
     ensures { result ≡ FEW_POINTS / max 1 lives }
 {

@@ -1,7 +1,7 @@
 //! `link STEP CALLS TIMES BYTES`: bytes, so many times one behind the other, that come over a connection, so
-//! many a read, whose calls with these numbers fail; `prefixes STEP BYTES`: how the connections end over which
-//! each prefix of these bytes comes; `door CALLS BYTES`: two connections with these bytes at a door whose
-//! calls with these numbers fail.
+//! many a read, whose calls with these numbers fail; `prefixes STEP BYTES`: how the connections end over
+//! which each prefix of these bytes comes; `door CALLS BYTES`: two connections with these bytes at a door
+//! whose calls with these numbers fail.
 
 ghost use Rattle.std.specs.Prelude.{◌<◌, IfOk};
 

@@ -213,7 +213,8 @@ fn set_state_changes_only<L: Drop>(
     args: Args<L>,
     at: u32,
 ) -> Result<AlertSpec<L>, NodeFault>
-    ensures { Answers NodeFault.NoMemory result (set_named other_rows alert (codes "stateChangesOnly") args at) }
+    ensures { Answers NodeFault.NoMemory result
+        (set_named other_rows alert (codes "stateChangesOnly") args at) }
 {
     nothing(args, at)?;
     alert.state_changes_only = true;

@@ -84,7 +84,8 @@ fn set_group_by_measurement<L: Drop>(
     args: Args<L>,
     at: u32,
 ) -> Result<FromSpec<L>, NodeFault>
-    ensures { Answers NodeFault.NoMemory result (set_named from_rows from (codes "groupByMeasurement") args at) }
+    ensures { Answers NodeFault.NoMemory result
+        (set_named from_rows from (codes "groupByMeasurement") args at) }
 {
     nothing(args, at)?;
     from.by_measurement = true;

@@ -85,7 +85,8 @@ fn set_use_point_times<L: Drop>(
     args: Args<L>,
     at: u32,
 ) -> Result<SelectProps, NodeFault>
-    ensures { Answers NodeFault.NoMemory result (set_named select_rows props (codes "usePointTimes") args at) }
+    ensures { Answers NodeFault.NoMemory result
+        (set_named select_rows props (codes "usePointTimes") args at) }
 {
     nothing(args, at)?;
     props.use_point_times = true;

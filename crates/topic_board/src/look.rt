@@ -132,8 +132,8 @@ impl<J: Naming, O: Drop, T: Shown<J, O>> Look<J, O, T> {
         self.aways
     }
 
-    /// What it saw or learnt of, for other looks to learn. By `Front::begins` it begins what the poster tells, or
-    /// is begun by that.
+    /// What it saw or learnt of, for other looks to learn. By `Front::begins` it begins what the poster
+    /// tells, or is begun by that.
     pub fn known(&self) -> Front<J>
         ensures { result ≡ self.now.known }
     {

@@ -1,0 +1,14 @@
+pub mod SpanLaws
+pub mod FaultLaws
+pub mod LaterLaws
+pub mod PlaceLaws
+pub mod ScriptLaws
+pub mod GatherLaws
+pub mod TurnLaws
+pub mod TimeLaws
+pub mod RunLaws
+pub mod PlanLaws
+pub mod HeldLaws
+pub mod OpenLaws
+pub mod RestoreLaws
+pub mod TellLaws

@@ -1,0 +1,124 @@
+//! The transitions of effects.
+
+ghost use Rattle.std.specs.Prelude.{◌≡◌, ◌∷◌, ◌++◌, [], drop, length, List, OnOk};
+ghost use Rattle.std.specs.List.{list_all};
+ghost use Rattle.kap_base.specs.declared.items.Event.{Event};
+ghost use Rattle.effect_text.specs.Lines.{event_in, events_of};
+ghost use Rattle.life_effects.specs.Times.{times_fit};
+ghost use Rattle.topic_core.specs.Topics.{StandsFor, Trans};
+ghost use Rattle.topic_core.specs.declared.transition.Transition.{Transition};
+
+use kap_base::{Effect, Event, NoMemory, What, is_time};
+use std::alloc::Global;
+use topic_core::{Topics, Transition};
+
+/// Whether the time of an effect's event, where it is one, lies in the range of times.
+fn is_timely(effect: &Effect) -> bool
+    ensures { result ≡ times_fit (event_in effect.now.what) }
+{
+    match &effect.what {
+        What::Line(_) => true,
+        What::Event(event) => is_time(event.value().time),
+    }
+}
+
+/// Whether each does.
+fn each_is_timely(effects: &[Effect]) -> bool
+    ensures { result ≡ list_all (λ e. times_fit (event_in e.what)) effects.now }
+{
+    effects.iter().all(|effect| is_timely(effect))
+}
+
+/// Whether the times of the events of effects lie in the range of times, so that their transitions may be
+/// stored.
+pub(crate) fn are_timely(effects: &[Effect]) -> bool
+    ensures { result ≡ times_fit (events_of effects.now) }
+{
+    each_is_timely(effects)
+}
+
+/// Puts a transition, the last of so many, behind others, unless its number is one of those that are stored.
+fn put_due(
+    transition: Transition,
+    count: u64,
+    stored: u64,
+    due: &mut Vec<Transition>,
+) -> Result<(), NoMemory>
+    ensures { (before : List Transition) → due.old.items ≡ drop stored before
+        → count ≡ length (before ++ transition ∷ [])
+        → OnOk result (due.new.items ≡ drop stored (before ++ transition ∷ [])) }
+{
+    if stored < count {
+        due.push(transition)?;
+    }
+    Ok(())
+}
+
+/// Has topics take an event, and puts its transition, where it makes one, behind others, unless its number is
+/// one of those that are stored.
+fn accept_event(
+    alloc: Global,
+    topics: &mut Topics,
+    event: &Event,
+    stored: u64,
+    due: &mut Vec<Transition>,
+) -> Result<(), NoMemory>
+    ensures topics { (events : List Event) → StandsFor events topics.old
+        → OnOk result (StandsFor (events ++ event.now ∷ []) topics.new) }
+    ensures due { (events : List Event) → StandsFor events topics.old
+        → due.old.items ≡ drop stored (Trans events)
+        → OnOk result (due.new.items ≡ drop stored (Trans (events ++ event.now ∷ []))) }
+{
+    match topics.accept(alloc, event)? {
+        Some(transition) => {
+            let count = topics.count();
+            if count == u64::MAX {
+                return Err(NoMemory);
+            }
+            put_due(transition, count, stored, due)
+        }
+        None => Ok(()),
+    }
+}
+
+/// Has topics take the event of an effect, where it is one.
+fn accept_effect(
+    alloc: Global,
+    topics: &mut Topics,
+    effect: &Effect,
+    stored: u64,
+    due: &mut Vec<Transition>,
+) -> Result<(), NoMemory>
+    ensures topics { (events : List Event) → StandsFor events topics.old
+        → OnOk result (StandsFor (events ++ event_in effect.now.what) topics.new) }
+    ensures due { (events : List Event) → StandsFor events topics.old
+        → due.old.items ≡ drop stored (Trans events)
+        → OnOk result (due.new.items ≡ drop stored (Trans (events ++ event_in effect.now.what))) }
+{
+    match &effect.what {
+        What::Line(_) => Ok(()),
+        What::Event(event) => accept_event(alloc, topics, event.value(), stored, due),
+    }
+}
+
+/// Has topics take the events of effects, and puts the transitions that these make behind others, but for
+/// those with the first so many numbers, which are stored. `NoMemory` comes also where there are 2^64 - 1
+/// transitions.
+pub(crate) fn accept_effects(
+    alloc: Global,
+    topics: &mut Topics,
+    effects: &[Effect],
+    stored: u64,
+    due: &mut Vec<Transition>,
+) -> Result<(), NoMemory>
+    ensures topics { (events : List Event) → StandsFor events topics.old
+        → OnOk result (StandsFor (events ++ events_of effects.now) topics.new) }
+    ensures due { (events : List Event) → StandsFor events topics.old
+        → due.old.items ≡ drop stored (Trans events)
+        → OnOk result (due.new.items ≡ drop stored (Trans (events ++ events_of effects.now))) }
+{
+    'accepting: for effect in effects {
+        accept_effect(alloc, topics, effect, stored, due)?;
+    }
+    Ok(())
+}

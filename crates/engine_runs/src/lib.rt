@@ -1,0 +1,16 @@
+//! The lives of a store as they run: their scripts are compiled to nodes of a net, points go through it, and
+//! the transitions of their alerts are told. It knows no disk.
+#![tactic(auto)]
+
+mod fault;
+mod gathering;
+mod laws;
+mod planning;
+mod restoring;
+mod runs;
+mod spans;
+mod turning;
+
+pub use fault::{RunFault, fault_at};
+pub use laws::{effects_come_behind, lives_go_on_later, lives_lie_behind_records, open_lives_run};
+pub use runs::EngineRun;

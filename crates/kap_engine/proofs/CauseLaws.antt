@@ -1,0 +1,82 @@
+-- What the faults of a store and of its lives are for an engine.
+use Rattle.std.proofs.Common.{◌≡◌, ◌⊎◌, inl, inr, ℕ, ◌+◌, ◌-◌, ◌^◌, ◌≤◌, Err, Ok, List, min, refl, sym, ap, subst, ◌∙◌, arith}
+use Rattle.std.specs.Prelude.{IsErrOf, Option, Result}
+use Rattle.kap_base.specs.Words.{HasRisen}
+use Rattle.kap_io.specs.declared.disk.Part.{Part}
+use Rattle.node_core.specs.declared.node.Node.{Ghosts}
+use Rattle.node_set.specs.Tasks.{Planned}
+use Rattle.store_records.specs.Histories.{held}
+use Rattle.store_records.specs.declared.rec.Rec.{Rec}
+use Rattle.topic_store.specs.Opening.{StoreCause}
+use Rattle.topic_store.specs.declared.fault.StoreFault.{StoreFault}
+use Rattle.topic_store.specs.declared.fault.StoreFault.TheVariants as stores
+use Rattle.engine_runs.specs.Faults.{IsWhyOne}
+use Rattle.engine_runs.specs.declared.fault.RunFault.{RunFault}
+use Rattle.engine_runs.specs.declared.fault.RunFault.TheVariants as runs
+use Rattle.kap_engine.specs.Asking.{AreScripts, IsFirstRefused, IsWhyFirst}
+use Rattle.kap_engine.specs.Faults.{EngineCause, IsWhyNone, run_fault, store_fault}
+use Rattle.kap_engine.specs.declared.fault.EngineFault.{EngineFault}
+use Rattle.kap_engine.specs.declared.fault.EngineFault.TheVariants.{DiskFault, NoMemory, NotStore}
+use Rattle.kap_engine.proofs.WhyLaws.{first_of_one}
+
+-- ---- causes
+
+pub risen_later : (old mid new : ℕ) → old ≤ mid → HasRisen mid new → HasRisen old new
+risen_later old mid new le rose = let r : min (mid + 1) (2 ^ 64 - 1) ≤ new = rose in omega (arith, le, r)
+
+-- the disk failed in the later of two steps
+pub cause_later : {T : Type 0} (old mid new : ℕ) (result : Result T EngineFault) → old ≤ mid → EngineCause mid new result → EngineCause old new result
+cause_later old mid new result le c = let more : mid ≤ new = c.later in record { later = omega (arith, le, more); failed = λ e. risen_later old mid new le (c.failed e) }
+
+-- a fault of the store
+pub cause_store : {T U : Type 0} (old new : ℕ) (e : StoreFault) (f : EngineFault) → f ≡ store_fault e → StoreCause {T = T} old new (Err e) → EngineCause {T = U} old new (Err f)
+cause_store {T = T} {U = U} old new e f is c = subst (λ (x : EngineFault). EngineCause {T = U} old new (Err x)) (sym is) (by e c)
+  where
+    by : (e : StoreFault) → StoreCause {T = T} old new (Err e) → EngineCause {T = U} old new (Err (store_fault e))
+    by (stores.NotStore part offset) c = record { later = c.later; failed = λ e. absurd cc }
+    by stores.DiskFault c = record { later = c.later; failed = λ e. c.failed refl }
+    by stores.Long c = record { later = c.later; failed = λ e. absurd cc }
+    by stores.NoMemory c = record { later = c.later; failed = λ e. absurd cc }
+
+-- a fault that isn't the disk's
+pub cause_other : {T : Type 0} (old new : ℕ) (f : EngineFault) → old ≤ new → (f ≡ DiskFault → ⊥) → EngineCause {T = T} old new (Err f)
+cause_other old new f le other = record { later = le; failed = λ e. absurd (other (same f DiskFault e)) }
+  where
+    same : {T : Type 0} (a b : EngineFault) → IsErrOf {T = T} (Err a) b → a ≡ b
+    same a b e = cc
+
+-- a fault of its lives isn't
+pub run_no_disk : (part : Part) (snap : ℕ) (fault : RunFault) → run_fault part snap fault ≡ DiskFault → ⊥
+run_no_disk part snap (runs.Script at) e = absurd cc
+run_no_disk part snap runs.States e = absurd cc
+run_no_disk part snap runs.NoMemory e = absurd cc
+
+-- ---- places
+
+-- a fault of the store that tells no place is no place for an engine
+pub no_place : {T : Type 0} (e : StoreFault) (f : EngineFault) → f ≡ store_fault e → ((part : Part) (offset : ℕ) → e ≡ stores.NotStore part offset → ⊥) → (part : Part) (offset : ℕ) → IsErrOf {T = T} (Err f) (NotStore part offset) → ⊥
+no_place (stores.NotStore there at) f is none part offset e = none there at refl
+no_place stores.DiskFault f is none part offset e = absurd (cc (is, e))
+no_place stores.Long f is none part offset e = absurd (cc (is, e))
+no_place stores.NoMemory f is none part offset e = absurd (cc (is, e))
+
+module _ {N P S : Type 0} (g : Ghosts N P S) (planned : Planned P) (before after : ℕ) (refused : List ℕ) (rs : List Rec) where
+  -- where asking tells one
+  pub why_asked : {T : Type 0} (there : Part) (snap : ℕ) (fault : RunFault) (f : EngineFault) → f ≡ run_fault there snap fault → IsWhyFirst before after refused (held rs).tasks (held rs).lives fault
+      → (part : Part) (offset : ℕ) → IsErrOf {T = T} (Err f) (NotStore part offset) → (part ≡ there) × IsWhyNone g planned before after refused rs offset
+  why_asked there snap (runs.Script at) f is why part offset e =
+      let part_is : part ≡ there = cc in
+      let offset_is : at ≡ offset = cc in
+      (part_is, inl (subst (IsFirstRefused before after refused (held rs).tasks (held rs).lives) offset_is why))
+  why_asked there snap runs.States f is why part offset e = absurd why
+  why_asked there snap runs.NoMemory f is why part offset e = absurd (cc (is, e))
+
+  -- where running does, once all scripts were asked
+  pub why_run : {T : Type 0} (there : Part) (snap : ℕ) (fault : RunFault) (f : EngineFault) → f ≡ run_fault there snap fault → AreScripts (held rs).tasks (held rs).lives → IsWhyOne before after refused (held rs).lives fault
+      → (part : Part) (offset : ℕ) → IsErrOf {T = T} (Err f) (NotStore part offset) → (part ≡ there) × IsWhyNone g planned before after refused rs offset
+  why_run there snap (runs.Script at) f is all why part offset e =
+      let part_is : part ≡ there = cc in
+      let offset_is : at ≡ offset = cc in
+      (part_is, inl (subst (IsFirstRefused before after refused (held rs).tasks (held rs).lives) offset_is (first_of_one before after refused (held rs).tasks (held rs).lives at all why)))
+  why_run there snap runs.States f is all why part offset e = absurd why
+  why_run there snap runs.NoMemory f is all why part offset e = absurd (cc (is, e))
