@@ -24,7 +24,7 @@ module _ {N P S : Type 0} (g : Ghosts N P S) where
     pub specs : specs_in g net.lives ≡ specs_in g made
     pub gathered : HasGathered [] net
     pub runs : HasRun g (graph_of g.spec plan ∷ []) points [] net
-    pub last : net.last ≡ last
+    pub there : net.last ≡ last
     pub unspent : net.spent ≡ false
 
   -- lives of a plan were made, loaded with points and barriers, and captured at one of these

@@ -19,6 +19,6 @@ returns g c =
       specs = loaded.specs;
       gathered = c.effects_are_gathered.ensures.loaded net c.load.new.self made.gathered loaded.gathers;
       runs = loaded.first first new c.requires.last c.requires.marks;
-      last = loaded.last;
+      there = loaded.last;
       unspent = loaded.unspent;
     }

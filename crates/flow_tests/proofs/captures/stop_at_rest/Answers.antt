@@ -21,4 +21,4 @@ returns-clause-stopped g c =
     }
 
 pub returns-clause-last : goal.returns-clause-last
-returns-clause-last g c = c.in_ok-run.ensures.goes.last ∙ c.in_ok-net.ensures.last
+returns-clause-last g c = c.in_ok-run.ensures.goes.last ∙ c.in_ok-net.ensures.there
