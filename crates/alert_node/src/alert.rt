@@ -1,4 +1,3 @@
-ghost use Rattle.std.specs.Prelude.{◌≡◌};
 ghost use Rattle.alert_node.specs.AlertLaws.{alert_goes_on};
 ghost use Rattle.alert_node.specs.Alerts.{alert_says, alert_step};
 ghost use Rattle.alert_node.specs.Watches.{watch_in};

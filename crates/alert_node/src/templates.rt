@@ -1,6 +1,6 @@
 //! Templates and topics where a script gives none.
 
-ghost use Rattle.std.specs.Prelude.{◌≡◌, ◌++◌, IfOk, OnOk, string_bytes, unwrap_or};
+ghost use Rattle.std.specs.Prelude.{◌≡◌, IfOk, unwrap_or};
 ghost use Rattle.alert_node.specs.Events.{default_id, default_message, default_topic};
 
 use kap_base::{NoMemory, Text};

@@ -1,9 +1,8 @@
 //! The states of a net's nodes are captured.
 
-ghost use Rattle.std.specs.Prelude.{◌≡◌, ◌<◌, ◌≤◌, ◌^◌, IfOk, IfSome, MatchOption, OnOk, false, length, map};
+ghost use Rattle.std.specs.Prelude.{◌≡◌, ◌<◌, ◌≤◌, ◌^◌, IfOk, IfSome, MatchOption, OnOk, false, length};
 ghost use Rattle.std.specs.List.{AllByRecursion as Each};
 ghost use Rattle.flow_cells.specs.Kept.{HasKept};
-ghost use Rattle.flow_cells.specs.declared.parts.CellParts.{CellParts};
 ghost use Rattle.flow_life.specs.Wired.{IsUnspent};
 ghost use Rattle.flow_core.specs.Nets.{IsLifeIn, IsSound};
 ghost use Rattle.barrier_snapshot.specs.Barriers.{HavePassed, IsCaptureAt, cells_in};

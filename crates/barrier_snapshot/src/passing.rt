@@ -1,6 +1,6 @@
 //! Which barriers the cells of a net have passed.
 
-ghost use Rattle.std.specs.Prelude.{◌≡◌, IsFalse, IsTrue};
+ghost use Rattle.std.specs.Prelude.{IsFalse, IsTrue};
 ghost use Rattle.barrier_snapshot.specs.Barriers.{HavePassed, cells_in};
 ghost use Rattle.barrier_snapshot.specs.Passing.{AreBehind, IsBehind, StandAt};
 ghost use Rattle.barrier_snapshot.specs.Steady.{HasSteadyStreams};

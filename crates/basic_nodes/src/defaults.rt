@@ -1,6 +1,6 @@
 //! `default`.
 
-ghost use Rattle.std.specs.Prelude.{◌≡◌, IfOk, IsTrue, OnErr, OnOk};
+ghost use Rattle.std.specs.Prelude.{◌≡◌, IfOk, IsTrue, OnOk};
 ghost use Rattle.std.specs.FinMap as map;
 ghost use Rattle.kap_base.specs.Points.{is_value};
 ghost use Rattle.kap_base.specs.Texts.{is_name};

@@ -3,7 +3,7 @@
 ghost use Rattle.std.specs.Prelude.{◌≡◌, bytes_eq, filter, IfOk};
 ghost use Rattle.std.specs.List.{list_all, list_any};
 ghost use Rattle.std.specs.FinMap.{retain_keys};
-ghost use Rattle.basic_nodes.specs.Deletions.{delete_says, is_left, without};
+ghost use Rattle.basic_nodes.specs.Deletions.{delete_says, is_left};
 
 use kap_base::{Duplicate, KeyMap, Names, NoMemory, Point, PointDims, SharedText, Text, copies};
 use node_core::{Said, pass_new};

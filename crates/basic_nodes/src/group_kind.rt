@@ -1,4 +1,3 @@
-ghost use Rattle.std.specs.Prelude.{◌≡◌, ℕ, IfOk, OnOk};
 ghost use Rattle.basic_nodes.specs.GroupKinds.{count_in, group_goes_on, group_says, group_step};
 
 use crate::selection::{Selection, feed_from, feed_where};

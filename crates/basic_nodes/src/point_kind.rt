@@ -1,4 +1,4 @@
-ghost use Rattle.std.specs.Prelude.{◌≡◌, ℕ, IfOk};
+ghost use Rattle.std.specs.Prelude.{◌≡◌, IfOk};
 ghost use Rattle.node_core.specs.Groups.{is_point};
 ghost use Rattle.basic_nodes.specs.PointKinds.{point_says, point_silent, says_of};
 

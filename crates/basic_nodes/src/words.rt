@@ -1,7 +1,6 @@
 //! What nodes say of a point.
 
 ghost use Rattle.std.specs.Prelude.{◌≡◌};
-ghost use Rattle.node_core.specs.Meaning.{passed, passed_if};
 ghost use Rattle.basic_nodes.specs.Words.{passed_where};
 
 use kap_base::{Point, Shared, Value};

@@ -1,6 +1,6 @@
 //! Laws of edges, and no code.
 
-ghost use Rattle.std.specs.Prelude.{◌≡◌, ◌<◌, List, ◌++◌, length};
+ghost use Rattle.std.specs.Prelude.{◌≡◌, ◌<◌, ◌++◌, length};
 ghost use Rattle.kap_base.specs.declared.items.Msg.{Msg};
 ghost use Rattle.edge_queue.specs.declared.ends.Head.{Head};
 ghost use Rattle.edge_queue.specs.declared.ends.Tail.{Tail};

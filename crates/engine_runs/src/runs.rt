@@ -65,7 +65,7 @@ impl<N: Node> Model for EngineRun<N> {
 }
 
 impl<N: ScriptNode + NumberingNode + Send> EngineRun<N> {
-    ghost use Rattle.std.specs.Prelude.{◌≡◌, ◌≢◌, ◌++◌, ◌<◌, ◌≤◌, true, false, ℕ, [], Bool, Err, IfErr, IfOk, List, OnOk, is_err, length, map};
+    ghost use Rattle.std.specs.Prelude.{◌≡◌, ◌≢◌, ◌++◌, ◌<◌, ◌≤◌, true, false, [], Bool, Err, IfErr, IfOk, List, OnOk, is_err, length, map};
     ghost use Rattle.std.specs.List.{AllByRecursion as Each};
     ghost use Rattle.kap_base.specs.Points.{PointValue};
     ghost use Rattle.barrier_snapshot.specs.Captures.{IsCapture};

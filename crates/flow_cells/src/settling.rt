@@ -1,6 +1,6 @@
 //! An edge between two cells is settled.
 
-ghost use Rattle.std.specs.Prelude.{◌≡◌, ◌<◌, length};
+ghost use Rattle.std.specs.Prelude.{◌<◌};
 ghost use Rattle.flow_cells.specs.Kept.{Keeps};
 ghost use Rattle.flow_cells.specs.Settles.{IsFedBy, Settles};
 

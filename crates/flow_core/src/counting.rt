@@ -1,6 +1,6 @@
 //! How many inputs the nodes of lives dropped and counted.
 
-ghost use Rattle.std.specs.Prelude.{◌≡◌, ◌++◌, false, IfOk, OnOk};
+ghost use Rattle.std.specs.Prelude.{◌≡◌, false, IfOk, OnOk};
 ghost use Rattle.std.specs.List.{AllByRecursion as Each};
 ghost use Rattle.flow_life.specs.Lives.{IsLife};
 ghost use Rattle.flow_core.specs.Drops.{drops_in, drops_of};

@@ -1,6 +1,6 @@
 //! The steps of lives, in order.
 
-ghost use Rattle.std.specs.Prelude.{◌≡◌, ◌++◌, [], IfOk, OnOk};
+ghost use Rattle.std.specs.Prelude.{◌≡◌, ◌++◌, IfOk, OnOk};
 ghost use Rattle.std.specs.List.{AllByRecursion as Each};
 ghost use Rattle.flow_core.specs.Nets.{IsLifeIn, IsSound};
 ghost use Rattle.flow_core.specs.Running.{ends_in, steps_of, steps_onward};

@@ -1,6 +1,6 @@
 //! Lives side by side.
 
-ghost use Rattle.std.specs.Prelude.{◌≡◌, ◌+◌, ◌++◌, ◌<◌, ◌≤◌, ℕ, Contains, IfOk, IsFalse, IsTrue, OnOk, Some, length, map, slice_get};
+ghost use Rattle.std.specs.Prelude.{◌≡◌, ◌+◌, ◌++◌, ◌<◌, ◌≤◌, Contains, IfOk, IsFalse, IsTrue, OnOk, Some, length, map, slice_get};
 ghost use Rattle.std.specs.List.{AllByRecursion as Each};
 ghost use Rattle.flow_life.specs.Left.{left_of};
 ghost use Rattle.flow_life.specs.Listing.{ends_of};

@@ -1,6 +1,6 @@
 //! Lives are made from plans.
 
-ghost use Rattle.std.specs.Prelude.{◌≡◌, ◌<◌, ◌≤◌, ◌++◌, [], false, IfOk, OnOk, length, reverse};
+ghost use Rattle.std.specs.Prelude.{◌≡◌, ◌<◌, ◌≤◌, ◌++◌, false, IfOk, OnOk, length, reverse};
 ghost use Rattle.std.specs.List.{AllByRecursion as Each};
 ghost use Rattle.flow_cells.specs.Made.{HasNothing};
 ghost use Rattle.flow_cells.specs.Rooms.{HasRoom};

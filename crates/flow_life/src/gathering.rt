@@ -5,13 +5,12 @@ ghost use Rattle.std.specs.List.{AllByRecursion as Each, AllZip};
 ghost use Rattle.flow_cells.specs.Gathers.{Gathers};
 ghost use Rattle.flow_cells.specs.Kept.{Keeps};
 ghost use Rattle.flow_life.specs.Gathers.{effects_of};
-ghost use Rattle.flow_life.specs.Listing.{ends_of};
 ghost use Rattle.flow_life.specs.Lives.{IsLife};
 ghost use Rattle.flow_life.specs.Loads.{IsGathered};
 ghost use Rattle.flow_life.specs.Nodes.{specs_of};
 ghost use Rattle.flow_life.specs.Steps.{moves_of};
 ghost use Rattle.flow_life.specs.Streams.{plans_of};
-ghost use Rattle.flow_life.specs.Trying.{IsGatheredBut, SameEnabled};
+ghost use Rattle.flow_life.specs.Trying.{IsGatheredBut};
 ghost use Rattle.flow_life.specs.Wired.{IsUnspent};
 
 use flow_cells::Cell;

@@ -1,6 +1,6 @@
 //! Nets whose states are captured, and that go on in another net.
 
-ghost use Rattle.std.specs.Prelude.{◌≡◌, ℕ, ◌+◌, ◌<◌, ◌≤◌, [], ◌∷◌, false, IfOk, IfSome, IsPermutation, List, OnOk, length};
+ghost use Rattle.std.specs.Prelude.{◌≡◌, ℕ, ◌+◌, ◌<◌, ◌≤◌, [], ◌∷◌, false, IfOk, IfSome, IsPermutation, List, length};
 ghost use Rattle.std.specs.List.{AllByRecursion as Each, AllZip};
 ghost use Rattle.kap_base.specs.Points.{PointValue};
 ghost use Rattle.task_run.specs.Graphs.{Placed};

@@ -4,7 +4,7 @@ ghost use Rattle.std.specs.Prelude.{◌≡◌, ◌<◌, ◌≤◌, false, [], If
 ghost use Rattle.std.specs.List.{AllByRecursion as Each};
 ghost use Rattle.kap_base.specs.declared.items.Body.TheVariants as bodies;
 ghost use Rattle.node_core.specs.Groups.{is_point};
-ghost use Rattle.flow_cells.specs.Made.{HasNothing, one_or_more};
+ghost use Rattle.flow_cells.specs.Made.{HasNothing};
 ghost use Rattle.flow_life.specs.Loads.{IsGathered};
 ghost use Rattle.flow_life.specs.Steps.{AreQuiet};
 ghost use Rattle.flow_tests.specs.Relays.{relay_says, relay_silent};

@@ -1,11 +1,11 @@
 //! Opening one more gate of the head.
 
-ghost use Rattle.std.specs.Prelude.{◌≡◌, ◌≤◌, ◌+◌, ◌<◌, ◌^◌, OnOk, IsTrue};
+ghost use Rattle.std.specs.Prelude.{◌≤◌, ◌+◌, ◌<◌, ◌^◌, OnOk, IsTrue};
 ghost use Rattle.kap_base.specs.Words.{HasRisen};
 ghost use Rattle.kap_io.specs.Disk.{Elsewhere, On, OnlyIn};
 ghost use Rattle.kap_io.specs.Moments.{Moments};
 ghost use Rattle.gate_log.specs.Causes.{SwitchFault, WriteCause};
-ghost use Rattle.gate_log.specs.Head.{IsGated, IsHead, IsRunOrNext, IsSettledHead};
+ghost use Rattle.gate_log.specs.Head.{IsGated, IsRunOrNext, IsSettledHead};
 
 use crate::append::write_synced;
 use crate::fault::LogFault;

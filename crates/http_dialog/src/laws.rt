@@ -1,6 +1,6 @@
 //! The laws of a connection that shares what answers its requests with others.
 
-ghost use Rattle.std.specs.Prelude.{◌≡◌, ◌≢◌, ◌++◌, ℕ, List, Option, All};
+ghost use Rattle.std.specs.Prelude.{◌≢◌, ◌++◌, ℕ, List, Option, All};
 ghost use Rattle.kap_http.specs.Calls.{AddsCalls, Call};
 ghost use Rattle.http_dialog.specs.Dialogs.{DialogValue, IsOf};
 ghost use Rattle.http_dialog.specs.Links.{Goes};

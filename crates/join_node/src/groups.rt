@@ -1,6 +1,5 @@
 //! What is kept of a group.
 
-ghost use Rattle.std.specs.Prelude.{◌≡◌};
 ghost use Rattle.state_code.specs.Laws.{option_spelled};
 ghost use Rattle.state_code.specs.Spelling.{FitsOption, read_option, spell_option};
 ghost use Rattle.join_node.specs.States.{FitsKept, kept_spelled, read_kept, spell_kept};

@@ -5,7 +5,7 @@ ghost use Rattle.std.specs.FinMap.{empty as no_fields, entries, len};
 ghost use Rattle.std.specs.Option.{option_copied};
 ghost use Rattle.kap_base.specs.Maps.{with_entries};
 ghost use Rattle.kap_base.specs.Points.{are_fields, is_time};
-ghost use Rattle.kap_base.specs.Texts.{is_line, is_measurement, is_name};
+ghost use Rattle.kap_base.specs.Texts.{is_line, is_measurement};
 ghost use Rattle.join_node.specs.Results.{are_entries, delimiter_of, field_name, first_in, joined, name_or, named_fields, parent_fields, result_of, set_fields, value_or};
 
 use crate::queues::Set;

@@ -1,4 +1,4 @@
-ghost use Rattle.std.specs.Prelude.{◌≡◌, ◌≤◌, ◌++◌, length, IfOk, IsOk, IsUtf8, OnErr, OnOk, string_bytes, take};
+ghost use Rattle.std.specs.Prelude.{◌≡◌, ◌≤◌, ◌++◌, length, IfOk, IsUtf8, OnErr, OnOk, string_bytes, take};
 ghost use Rattle.std.specs.Str.{IsCharBoundary};
 ghost use Rattle.kap_base.specs.declared.short_text.TheConstants.{SHORT_LIMIT};
 

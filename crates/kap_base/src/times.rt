@@ -1,6 +1,6 @@
 //! Multiples of durations.
 
-ghost use Rattle.std.specs.Prelude.{◌≡◌, pos, negsuc, ◌*◌, ◌^◌, ◌≤ℤ◌, ◌<ℤ◌, ◌-ℤ◌, IsTrue};
+ghost use Rattle.std.specs.Prelude.{◌≡◌, pos, ◌≤ℤ◌, ◌<ℤ◌, ◌-ℤ◌, IsTrue};
 ghost use Rattle.std.specs.Int.{int_rem_euclid};
 ghost use Rattle.kap_base.specs.Points.{is_time};
 ghost use Rattle.kap_base.specs.Times.{IsDuration, IsGreatestMultiple, IsInReach, round, trunc, year_one};

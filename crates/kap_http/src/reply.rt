@@ -1,6 +1,6 @@
 //! Replies, and their bytes.
 
-ghost use Rattle.std.specs.Prelude.{◌≡◌, ◌++◌, IfOk, IsTrue, OnOk, length};
+ghost use Rattle.std.specs.Prelude.{◌≡◌, IfOk, IsTrue, OnOk};
 ghost use Rattle.kap_http.specs.ReplyValues.{is_status};
 ghost use Rattle.kap_http.specs.Replies.{fault_reply, last_text, out_of_memory, reply_text, status_text, with_fields};
 

@@ -1,13 +1,13 @@
 //! What requests ask.
 
-ghost use Rattle.std.specs.Prelude.{◌≡◌, ◌≤◌, ◌&&◌, IfOk, IfSome, IsTrue, IsUtf8, false, length, not, option_map};
+ghost use Rattle.std.specs.Prelude.{◌≡◌, ◌≤◌, ◌&&◌, IfOk, IsTrue, false, length, not};
 ghost use Rattle.std.specs.Str.{is_utf8};
 ghost use Rattle.form_urlencoded.specs.Form.{raw_pairs};
 ghost use Rattle.kap_base.specs.Texts.{is_empty, is_line};
 ghost use Rattle.kap_base.specs.Words.{Answers};
 ghost use Rattle.kap_http.specs.Refusals.{as_reply};
 ghost use Rattle.kap_http.specs.Replies.{out_of_memory};
-ghost use Rattle.kap_http.specs.Routes.{ask_of, ask_at, database_of, line_of, name_of, ping_ask, precision_of, task_ask, task_of, tasks_ask, topic_ask, topics_ask, write_ask, write_of};
+ghost use Rattle.kap_http.specs.Routes.{ask_of, database_of, line_of, name_of, ping_ask, precision_of, task_ask, task_of, tasks_ask, topic_ask, topics_ask, write_ask, write_of};
 ghost use Rattle.kap_http.specs.declared.refusal.Refusal.TheVariants.{NoMemory as no_memory};
 
 use crate::ask::{Ask, Precision, TaskAct, TaskAsk, TopicAsk, WriteAsk};

@@ -1,7 +1,6 @@
-ghost use Rattle.std.specs.Prelude.{◌≡◌, ◌<◌, ◌≤◌, ◌+◌, ◌⊎◌, ◌↔◌, [], Some, Err, IsTrue, IfOk, length};
+ghost use Rattle.std.specs.Prelude.{◌≡◌, ◌<◌, ◌+◌, ◌⊎◌, ◌↔◌, [], Some, Err, IsTrue, IfOk, length};
 ghost use Rattle.std.specs.Io.{ReadsAtMost};
 ghost use Rattle.std.specs.Io.KnownBytes.{ReadConsumes, WriteAppends};
-ghost use Rattle.futures.specs.Task.{IsArmed, Keeps as KeepsTask};
 ghost use Rattle.kap_io.specs.Fakes.{given_of, taken_of};
 ghost use Rattle.kap_io.specs.Pieces.{Keeps, TakesSome};
 ghost use Rattle.kap_io.specs.Tries.{MayStop, TryCounts, fails_next, waits_next};

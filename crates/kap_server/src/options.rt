@@ -1,6 +1,6 @@
 //! The options of a replay.
 
-ghost use Rattle.std.specs.Prelude.{◌≡◌, ◌==◌, ◌<◌, ◌≤◌, IfSome, slice_index, string_bytes};
+ghost use Rattle.std.specs.Prelude.{◌≡◌, ◌==◌, ◌<◌, ◌≤◌, IfSome, slice_index};
 ghost use Rattle.edge_queue.specs.declared.TheConstants.{CAPACITY_LIMIT};
 ghost use Rattle.node_workers.specs.declared.TheConstants.{WORKER_LIMIT};
 ghost use Rattle.kap_server.specs.Options.{AreWithinLimits, capacity_of, has_leading_zero, no_options, number_in, number_within, with_capacity, with_counts, with_schedule, with_value, with_workers, workers_for, workers_of};

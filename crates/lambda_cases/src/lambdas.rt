@@ -1,7 +1,7 @@
 //! `lambda value EARLIER LINE LAMBDA`: the value of a lambda at the point of a line, behind so many
 //! evaluations, twice; `lambda all COUNT LINE LAMBDA`: that of so many copies joined by `AND`.
 
-ghost use Rattle.std.specs.Prelude.{◌<◌, ◌^◌};
+ghost use Rattle.std.specs.Prelude.{◌<◌};
 
 use case_text::{LineFault, bytes, first_of, number, point_of};
 use kap_base::{Bytes, Duplicate, NoMemory, Point, SCRIPT_LIMIT, SharedExpr, Text, Value};

@@ -1,6 +1,6 @@
 //! The types of an expression, or the first fault in it.
 
-ghost use Rattle.std.specs.Prelude.{◌≡◌, ◌≢◌, false, true, IfErr, IfOk, None, Option, Some};
+ghost use Rattle.std.specs.Prelude.{◌≡◌, ◌≢◌, false, IfErr, IfOk, None, Option, Some};
 ghost use Rattle.kap_base.specs.Tree.{Tree};
 ghost use Rattle.lambda_types.specs.Builds.{AtMostOneMore};
 ghost use Rattle.lambda_types.specs.Faults.{FailsBy, IsCounted, Refusal, first_fault, is_pattern};

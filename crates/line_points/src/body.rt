@@ -1,4 +1,4 @@
-ghost use Rattle.std.specs.Prelude.{◌≡◌, ◌≢◌, ◌==◌, not, position, IsTrue, IfOk, IfErr, OnOk, Ok, Err};
+ghost use Rattle.std.specs.Prelude.{◌≡◌, ◌≢◌, ◌==◌, not, IsTrue, IfOk, IfErr, OnOk, Ok, Err};
 ghost use Rattle.std.specs.List.{before_first, after_first};
 ghost use Rattle.kap_base.specs.Texts.{has_line_feed, line_feed};
 ghost use Rattle.line_points.specs.Line.{has_time, line_of};

@@ -1,9 +1,9 @@
-ghost use Rattle.std.specs.Prelude.{◌≡◌, ◌==◌, ◌||◌, ◌≤◌, ◌<◌, length, drop, take, position, is_ok, IfOk, IfErr};
+ghost use Rattle.std.specs.Prelude.{◌≡◌, ◌==◌, ◌||◌, ◌≤◌, ◌<◌, position, is_ok, IfOk, IfErr};
 ghost use Rattle.std.specs.Char.{is_ascii};
 ghost use Rattle.std.specs.Str.{is_utf8};
-ghost use Rattle.std.specs.List.{before_first, list_all, position_or_len};
+ghost use Rattle.std.specs.List.{list_all, position_or_len};
 ghost use Rattle.kap_base.specs.Texts.{begins_with};
-ghost use Rattle.line_points.specs.Parts.{is_separator, is_space, without_spaces};
+ghost use Rattle.line_points.specs.Parts.{is_separator, without_spaces};
 ghost use Rattle.line_points.specs.Line.{is_blank};
 
 use crate::fault::LineFault;

@@ -1,4 +1,4 @@
-ghost use Rattle.std.specs.Prelude.{◌≡◌, ◌≤◌, ℕ, Bool, IfSome, length, drop, position};
+ghost use Rattle.std.specs.Prelude.{◌≡◌, ℕ, Bool, IfSome, drop};
 ghost use Rattle.std.specs.List.{list_all, before_first, position_or_len};
 ghost use Rattle.line_points.specs.Parts.{is_space};
 ghost use Rattle.line_points.specs.Cap.{cap, parts};

@@ -1,4 +1,4 @@
-ghost use Rattle.std.specs.Prelude.{◌≡◌, ◌+◌, ◌<◌, length, take, drop, position, ℕ, Bool};
+ghost use Rattle.std.specs.Prelude.{◌≡◌, ◌+◌, ◌<◌, length, take, drop, ℕ, Bool};
 ghost use Rattle.std.specs.Option.{option_map};
 ghost use Rattle.line_points.specs.Words.{is_point, is_exponent_mark, cut, without, is_sign, is_mantissa, is_float, is_unsigned, integer_of, int_value, other_value, word_value};
 ghost use Rattle.line_points.specs.Numbers.{is_minus};

@@ -1,4 +1,4 @@
-ghost use Rattle.std.specs.Prelude.{◌≡◌, ◌<◌, ℕ, Bool, false, List, IfOk, refl};
+ghost use Rattle.std.specs.Prelude.{◌≡◌, ◌<◌, ℕ, Bool, false, IfOk, refl};
 ghost use Rattle.kap_base.specs.declared.items.Body.{Body};
 ghost use Rattle.node_core.specs.Alone.{NothingKept, alone_stays};
 ghost use Rattle.node_core.specs.Meaning.{silence};

@@ -1,4 +1,3 @@
-ghost use Rattle.std.specs.Prelude.{◌≡◌, ℕ, List};
 ghost use Rattle.node_core.specs.Both.{FitsBoth, counts_both, either, folds_both, of_both, read_both, spell_both, stamped_both, stays_both, both_spelled, step_both};
 
 use crate::node::Node;

@@ -1,4 +1,4 @@
-ghost use Rattle.std.specs.Prelude.{◌≡◌, ℕ, List, []};
+ghost use Rattle.std.specs.Prelude.{[]};
 ghost use Rattle.node_core.specs.Groups.{in_groups, is_point};
 ghost use Rattle.node_core.specs.Machine.{group_step, no_groups, KeptCells};
 ghost use Rattle.node_core.specs.GroupLaws.{groups_begin, groups_go_on, groups_say, groups_stay};

@@ -1,4 +1,4 @@
-ghost use Rattle.std.specs.Prelude.{◌≡◌, ◌+◌, ◌++◌, ℕ, [], List, IfOk, OnOk, length};
+ghost use Rattle.std.specs.Prelude.{◌≡◌, ◌+◌, ◌++◌, [], IfOk, OnOk, length};
 ghost use Rattle.node_core.specs.FewItems.{few_items};
 ghost use Rattle.node_core.specs.Numbering.{items_at, effects_from, stamped, running_step, running_first};
 ghost use Rattle.node_core.specs.NumberLaws.{folds, counts, is_stamped, running_stays};

@@ -1,6 +1,5 @@
 //! The node of any kind.
 
-ghost use Rattle.std.specs.Prelude.{◌≡◌, ℕ, List};
 ghost use Rattle.node_set.specs.Kinds.{any, spec_of, state_of};
 
 use alert_node::{Alert, Watch};

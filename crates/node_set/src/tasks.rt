@@ -3,7 +3,7 @@
 ghost use Rattle.std.specs.Prelude.{◌≡◌, ◌≤◌, IfOk, length, map};
 ghost use Rattle.std.specs.List.{AllByRecursion as Each};
 ghost use Rattle.task_graph.specs.declared.graph.TheConstants.{PARENT_LIMIT};
-ghost use Rattle.task_run.specs.Plans.{AreFirstNodes, graph_of};
+ghost use Rattle.task_run.specs.Plans.{AreFirstNodes, IsPlan, graph_of};
 ghost use Rattle.node_set.specs.Tasks.{nodes_from};
 
 use crate::drafts::{Draft, add_nodes};
@@ -34,6 +34,7 @@ pub fn plan_task<N: ScriptNode>(
     ensures nodes { IfOk result (λ made. graph_of N.spec made.plan
         ≡ nodes_from N.planned task.now life 0 graph) }
     ensures life { IfOk result (λ made. made.plan.life ≡ life) }
+    ensures plan { IfOk result (λ made. IsPlan N.spec N.ports N.life N.number made.plan) }
     ensures begin { IfOk result (λ made. AreFirstNodes N.spec N.state N.first made.plan.nodes) }
     ensures few { IfOk result (λ made. Each (λ ps. length ps ≤ PARENT_LIMIT) made.plan.parents) }
     ensures names { IfOk result (λ made. made.names ≡ map (λ node. node.name) graph) }

@@ -1,6 +1,6 @@
 //! Workers beside each other, each with cells of its own.
 
-ghost use Rattle.std.specs.Prelude.{◌≡◌, ◌<◌};
+ghost use Rattle.std.specs.Prelude.{◌<◌};
 ghost use Rattle.std.specs.List.{AllZip};
 ghost use Rattle.node_workers.specs.Workers.{HasStood, HasStoodLife};
 

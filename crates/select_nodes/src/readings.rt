@@ -1,6 +1,6 @@
 //! The integers that stand at a field of points.
 
-ghost use Rattle.std.specs.Prelude.{◌≡◌, ◌+ℤ◌, ◌-ℤ◌, IfOk, take};
+ghost use Rattle.std.specs.Prelude.{◌≡◌, ◌-ℤ◌, IfOk, take};
 ghost use Rattle.std.specs.Int.{int_wrap, w64};
 ghost use Rattle.std.specs.Ordering.{is_lt};
 ghost use Rattle.select_nodes.specs.Choices.{spread_in, sum_in};

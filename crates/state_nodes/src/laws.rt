@@ -1,6 +1,6 @@
 //! What holds of definitions: laws, and no code.
 
-ghost use Rattle.std.specs.Prelude.{◌≡◌, ◌↔◌, ℕ, IsTrue, Option};
+ghost use Rattle.std.specs.Prelude.{◌≡◌, ◌↔◌, IsTrue, Option};
 ghost use Rattle.kap_base.specs.declared.value.Value.{Value};
 ghost use Rattle.state_nodes.specs.ChangeDetects.{is_same};
 ghost use Rattle.state_nodes.specs.Rows.{DifferenceWraps, FallingTimes, FalseEndsARow, FaultIsDropped, FirstInteger, FirstIsAChange, FirstTrue, FirstWithTheField, KindsDiffer, LessThanBefore, MissingDiffers, NoInteger, RowGoesOn, SecondTrue, SumWraps, WholeUnits};

@@ -2,7 +2,6 @@
 
 ghost use Rattle.std.specs.Prelude.{◌≡◌, IfOk, IsTrue};
 ghost use Rattle.kap_base.specs.Texts.{is_name, is_plain};
-ghost use Rattle.node_core.specs.Meaning.{passed};
 ghost use Rattle.state_nodes.specs.Words.{int_at, result_name, with_number, with_number_alone};
 
 use kap_base::{Duplicate, Fields, NoMemory, Point, Text, Value};

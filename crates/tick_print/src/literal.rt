@@ -1,10 +1,9 @@
 //! Literals, references and operators.
 
 ghost use Rattle.std.specs.Prelude.{◌≡◌, ◌++◌, ◌<◌, OnOk, string_bytes};
-ghost use Rattle.std.specs.Fmt.{decimal};
 ghost use Rattle.kap_base.specs.Texts.{backslash, ends_with};
-ghost use Rattle.tick_lexer.specs.Spelling.{escaped, operator_bytes, unit_bytes, unit_nanos};
-ghost use Rattle.tick_print.specs.Print.{counted, divides, duration_text, in_quotes, largest_unit, lit_text, string_text, unit_of};
+ghost use Rattle.tick_lexer.specs.Spelling.{escaped, operator_bytes, unit_bytes};
+ghost use Rattle.tick_print.specs.Print.{counted, divides, duration_text, in_quotes, largest_unit, lit_text, string_text};
 
 use kap_base::{Lit, NoMemory, Op};
 use tick_lexer::Unit;

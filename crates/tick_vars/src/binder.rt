@@ -1,7 +1,7 @@
 //! Statements, bound from left to right.
 
 ghost use Rattle.std.specs.Prelude.{◌≡◌, ◌≢◌, IfErr, IfOk, Err, Ok};
-ghost use Rattle.tick_parser.specs.Trees.{script_tree, stmt_tree, val_tree};
+ghost use Rattle.tick_parser.specs.Trees.{script_tree, stmt_tree};
 ghost use Rattle.tick_vars.specs.Binding.{at_first, bound_of, bound_stmt, bound_stmts, stream_node};
 ghost use Rattle.tick_vars.specs.Making.{Gives, made_by};
 ghost use Rattle.tick_vars.specs.Names.{first_scope, scope_of, with_name};

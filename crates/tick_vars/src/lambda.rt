@@ -1,6 +1,5 @@
 //! Lambdas with values in the place of names.
 
-ghost use Rattle.std.specs.Prelude.{◌≡◌};
 ghost use Rattle.kap_base.specs.Tree.{tree_of, trees_of};
 ghost use Rattle.tick_vars.specs.Making.{Gives};
 ghost use Rattle.tick_vars.specs.Names.{bound_lambda, bound_lambdas, scope_of};

@@ -1,8 +1,8 @@
 //! Values as arguments, and chains as nodes.
 
 ghost use Rattle.std.specs.Prelude.{◌≡◌, ◌++◌, ◌∷◌, [], length, IfOk, OnOk};
-ghost use Rattle.tick_parser.specs.Trees.{MoreJoints, joint_tree, joints_tree, val_tree, vals_tree, chain_tree};
-ghost use Rattle.tick_vars.specs.Binding.{WithNodes, bound_links, bound_val, bound_vals, linked, with_prop};
+ghost use Rattle.tick_parser.specs.Trees.{joint_tree, joints_tree, val_tree, vals_tree, chain_tree};
+ghost use Rattle.tick_vars.specs.Binding.{bound_links, bound_val, bound_vals, with_prop};
 ghost use Rattle.tick_vars.specs.Making.{Gives, made_with};
 ghost use Rattle.tick_vars.specs.Names.{scope_of};
 ghost use Rattle.tick_vars.specs.Nodes.{arg_tree, arg_trees, node_trees, prop_tree};

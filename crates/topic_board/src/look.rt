@@ -1,6 +1,6 @@
 //! Those who read.
 
-ghost use Rattle.std.specs.Prelude.{◌≡◌, ◌⊎◌, ◌<◌, ◌≤◌, Err, IfOk, OnErr, OnOk, IfSome};
+ghost use Rattle.std.specs.Prelude.{◌≡◌, ◌⊎◌, ◌<◌, Err, IfOk, OnErr, OnOk, IfSome};
 ghost use mathlib.Core.List.{IsPrefix};
 ghost use Rattle.kap_base.specs.Words.{HasRisen};
 ghost use Rattle.topic_core.specs.Topics.{topics_after, topic_level};

@@ -1,6 +1,6 @@
 //! The one who posts.
 
-ghost use Rattle.std.specs.Prelude.{◌≡◌, ◌<◌, ◌≤◌, ◌^◌, [], ◌∷◌, ◌++◌, ◌+◌, None, Some, length, IfOk, IfSome, MatchBool, MatchResult, OnOk, OnErr};
+ghost use Rattle.std.specs.Prelude.{◌≡◌, ◌<◌, ◌^◌, [], ◌∷◌, ◌++◌, ◌+◌, None, Some, length, IfOk, IfSome, MatchBool, MatchResult, OnOk, OnErr};
 ghost use Rattle.left_right.specs.Handles.{published, pending};
 ghost use Rattle.topic_board.specs.Ops.{last_of};
 ghost use Rattle.topic_board.specs.Values.{IsNew};

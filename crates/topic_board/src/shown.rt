@@ -1,7 +1,6 @@
 //! What readers take, the topics with the history that made them, and what is handed to them.
 
-ghost use Rattle.std.specs.Prelude.{◌≡◌, ◌∷◌, [], refl, IfOk, MatchResult};
-ghost use mathlib.Core.List.{IsPrefix};
+ghost use Rattle.std.specs.Prelude.{◌≡◌, [], refl, IfOk, MatchResult};
 ghost use Rattle.topic_core.specs.Topics.{topics_after, topic_level};
 ghost use Rattle.topic_board.specs.Transitions.{EndsWith};
 

@@ -1,6 +1,6 @@
 //! Points and transitions read back, a piece at a time.
 
-ghost use Rattle.std.specs.Prelude.{◌≡◌, ◌-◌, ◌≤◌, ◌++◌, ℕ, List, IfOk, OnOk, drop, false, length, map, min, take, IsTrue};
+ghost use Rattle.std.specs.Prelude.{◌≡◌, ◌-◌, ◌≤◌, ◌++◌, List, IfOk, OnOk, drop, false, length, map, min, take, IsTrue};
 ghost use Rattle.std.specs.List.{flat_map};
 ghost use Rattle.kap_io.specs.Moments.{Quiet};
 ghost use Rattle.gate_log.specs.Logs.{Rests};

@@ -1,6 +1,6 @@
 //! Making a store.
 
-ghost use Rattle.std.specs.Prelude.{◌≡◌, IfOk, IsTrue, OnOk};
+ghost use Rattle.std.specs.Prelude.{IfOk, IsTrue, OnOk};
 ghost use Rattle.kap_io.specs.Moments.{Moments};
 ghost use Rattle.topic_store.specs.Making.{AreEmptyLogs, HeadComesLast, IsMade, MakeCause, SameHead};
 

@@ -1,8 +1,8 @@
 //! Windows by the number of points.
 
-ghost use Rattle.std.specs.Prelude.{◌≡◌, ◌+◌, ◌-◌, ◌++◌, ◌∷◌, [], ◌<◌, ◌^◌, ℕ, List, IfOk};
+ghost use Rattle.std.specs.Prelude.{◌≡◌, ◌+◌, ◌-◌, ◌++◌, ◌∷◌, [], ◌<◌, IfOk};
 ghost use Rattle.window_node.specs.Batches.{batch_at, last};
-ghost use Rattle.window_node.specs.Counted.{counted, counted_kept, counted_says, counted_step, is_due, kept_count, to_come};
+ghost use Rattle.window_node.specs.Counted.{counted_kept, counted_says, counted_step, is_due, kept_count, to_come};
 ghost use Rattle.window_node.specs.CountedLaws.{counted_goes_on};
 ghost use Rattle.window_node.specs.States.{FitsCounted, counted_spelled, read_counted, spell_counted};
 

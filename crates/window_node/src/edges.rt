@@ -1,6 +1,6 @@
 //! Windows by time with edges.
 
-ghost use Rattle.std.specs.Prelude.{◌≡◌, ◌&&◌, ◌++◌, ◌∷◌, [], ℕ, List, Option, OnOk, IfOk, IsTrue, filter, int_le, int_lt, if◌then◌else◌, ◌+ℤ◌, ◌-ℤ◌, ◌<ℤ◌, ◌≤ℤ◌, pos};
+ghost use Rattle.std.specs.Prelude.{◌≡◌, ◌&&◌, ◌++◌, ◌∷◌, [], Option, OnOk, IfOk, IsTrue, filter, int_le, int_lt, if◌then◌else◌, ◌+ℤ◌, ◌-ℤ◌, ◌<ℤ◌, ◌≤ℤ◌, pos};
 ghost use Rattle.kap_base.specs.Points.{is_time};
 ghost use Rattle.kap_base.specs.Times.{IsInReach};
 ghost use Rattle.state_code.specs.Laws.{option_spelled};

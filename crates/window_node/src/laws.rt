@@ -1,6 +1,6 @@
 //! What windows give: laws, and no code.
 
-ghost use Rattle.std.specs.Prelude.{◌≡◌, ◌<◌, ◌<ℤ◌, ◌∷◌, ℕ, All, List};
+ghost use Rattle.std.specs.Prelude.{◌<◌, ◌<ℤ◌, ◌∷◌, All, List};
 ghost use Rattle.kap_base.specs.Points.{PointValue};
 ghost use Rattle.window_node.specs.Batches.{times};
 ghost use Rattle.window_node.specs.declared.edges.EdgeWindow.{EdgeWindow};

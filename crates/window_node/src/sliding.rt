@@ -1,6 +1,6 @@
 //! Windows by time that slide.
 
-ghost use Rattle.std.specs.Prelude.{◌≡◌, ◌||◌, not, ◌++◌, ◌∷◌, [], ℕ, List, Option, OnOk, IfOk, IsTrue, filter, int_le, int_lt, ◌+ℤ◌, ◌-ℤ◌, pos};
+ghost use Rattle.std.specs.Prelude.{◌≡◌, ◌++◌, ◌∷◌, [], Option, OnOk, IfOk, IsTrue, filter, int_le, int_lt, ◌+ℤ◌, ◌-ℤ◌, pos};
 ghost use Rattle.std.specs.Int.{int_max};
 ghost use Rattle.kap_base.specs.Points.{is_time};
 ghost use Rattle.state_code.specs.Laws.{option_spelled};

@@ -26,3 +26,8 @@ pub returns-clause-few : goal.returns-clause-few
 returns-clause-few g c =
     let adds = rw (c.into_iter.ensures.rest, c.into_items-specs.ensures, c.into_specs.ensures.same, c.new-draft.ensures, ← c.draft.view_is) at c.in_ok-add_nodes.ensures in
     rw c.from_items-2.ensures (subst (Each (λ (ps : List ℕ). length ps ≤ PARENT_LIMIT)) (sym adds.parents_are) (few_parents c.args.graph c.into_specs.ensures.graph))
+
+pub returns-clause-plan : goal.returns-clause-plan
+returns-clause-plan g c =
+    let adds = rw (c.into_iter.ensures.rest, c.into_items-specs.ensures, c.into_specs.ensures.same, c.new-draft.ensures, ← c.draft.view_is) at c.in_ok-add_nodes.ensures in
+    rw (c.from_items.ensures, c.from_items-2.ensures) (whole_plan _ _ _ _ _ c.args.life c.args.graph _ adds _ _ _ g.met.N.ScriptNode.sits c.into_specs.ensures.graph)
