@@ -1,7 +1,6 @@
 //! What is planned of a stored life.
 
 ghost use Rattle.std.specs.Prelude.{◌≡◌, ◌+◌, ◌≤◌, IfErr, IfOk, IfSome, OnOk, length};
-ghost use Rattle.std.specs.List.{AllByRecursion as Each};
 ghost use Rattle.kap_base.specs.declared.limits.TheConstants.{SCRIPT_LIMIT};
 ghost use Rattle.task_run.specs.Plans.{IsPlan};
 ghost use Rattle.engine_runs.specs.Faults.{IsWhy};
@@ -11,7 +10,6 @@ use crate::fault::{RunFault, fault_at};
 use effect_text::TaskNames;
 use kap_base::Duplicate;
 use lambda_types::Patterns;
-use node_core::Node;
 use node_set::{ScriptNode, TaskPlan, plan_task};
 use std::alloc::Global;
 use store_records::Life;
@@ -28,6 +26,7 @@ pub(crate) fn plan_life<P: Patterns, N: ScriptNode>(
 ) -> Result<(TaskNames, LifePlan<N>), RunFault>
     requires { length life.now.script ≤ SCRIPT_LIMIT }
     ensures planned { IfOk result (IsPlanned N.planned N.spec N.state N.first number life.now) }
+    ensures plan { IfOk result (λ made. IsPlan N.spec N.ports N.life N.number made.1) }
     ensures why { IfErr result
         (IsWhy (P.refusals pats.old) (P.refusals pats.new) (P.refused pats.new) life.now) }
     ensures kept { OnOk result (P.refusals pats.new ≡ P.refusals pats.old) }
@@ -37,26 +36,8 @@ pub(crate) fn plan_life<P: Patterns, N: ScriptNode>(
         Err(fault) => return Err(fault_at(life.define_at, &fault)),
     };
     let TaskPlan { plan, names } = plan_task(alloc, &life.task, number, task.graph)?;
-    keep_plan(&plan);
     let id = life.task.copy(alloc)?;
     Ok((TaskNames { id, nodes: names }, plan))
-}
-
-/// What a plan keeps: each node is made for its place.
-pub(crate) fn keep_plan<N: Node>(plan: &LifePlan<N>)
-    ensures { IsPlan N.spec N.ports N.life N.number plan.now }
-{
-    let _ = &plan.life;
-}
-
-/// What plans keep.
-pub(crate) fn keep_plans<N: Node>(plans: &[LifePlan<N>])
-    ensures { Each (IsPlan N.spec N.ports N.life N.number) plans.now }
-{
-    if let Some((first, others)) = plans.split_first() {
-        keep_plan(first);
-        keep_plans(others);
-    }
 }
 
 /// The number of the life behind so many others.

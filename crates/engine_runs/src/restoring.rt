@@ -9,6 +9,7 @@ ghost use Rattle.edge_queue.specs.declared.TheConstants.{CAPACITY_LIMIT};
 ghost use Rattle.flow_core.specs.Making.{HasFewParents};
 ghost use Rattle.store_records.specs.Orders.{AreValidLives};
 ghost use Rattle.store_records.specs.declared.task.Life.{Life};
+ghost use Rattle.task_run.specs.Plans.{IsPlan};
 ghost use Rattle.engine_runs.specs.Faults.{IsWhy, IsWhyOne};
 ghost use Rattle.engine_runs.specs.Restoring.{HasPlanned};
 ghost use Rattle.engine_runs.specs.Scripts.{PutsPlan};
@@ -53,6 +54,8 @@ fn put_plan<P: Patterns, N: ScriptNode>(
     requires { length life.now.script ≤ SCRIPT_LIMIT }
     ensures ok { OnOk result (PutsPlan N.planned N.spec N.state N.first number life.now
         names.old.items names.new.items plans.old.items plans.new.items) }
+    ensures plans { OnOk result (Each (IsPlan N.spec N.ports N.life N.number) plans.old.items
+        → Each (IsPlan N.spec N.ports N.life N.number) plans.new.items) }
     ensures why { IfErr result
         (IsWhy (P.refusals pats.old) (P.refusals pats.new) (P.refused pats.new) life.now) }
     ensures kept { OnOk result (P.refusals pats.new ≡ P.refusals pats.old) }
@@ -85,6 +88,8 @@ fn plan_next<P: Patterns, N: ScriptNode>(
         names.new.items plans.new.items) }
     ensures few { OnOk result (Each HasFewParents plans.old.items
         → Each HasFewParents plans.new.items) }
+    ensures plans { OnOk result (Each (IsPlan N.spec N.ports N.life N.number) plans.old.items
+        → Each (IsPlan N.spec N.ports N.life N.number) plans.new.items) }
     ensures why { IfErr result
         (IsWhy (P.refusals pats.old) (P.refusals pats.new) (P.refused pats.new) life.now) }
     ensures kept { OnOk result (P.refusals pats.new ≡ P.refusals pats.old) }
@@ -116,6 +121,8 @@ pub(crate) fn plan_open<P: Patterns, N: ScriptNode>(
         → HasPlanned N.spec N.planned lives.now runs [] names.new.items plans.new.items) }
     ensures few { OnOk result (Each HasFewParents plans.old.items
         → Each HasFewParents plans.new.items) }
+    ensures plans { OnOk result (Each (IsPlan N.spec N.ports N.life N.number) plans.old.items
+        → Each (IsPlan N.spec N.ports N.life N.number) plans.new.items) }
     ensures why { IfErr result (IsWhyOne (P.refusals pats.old) (P.refusals pats.new)
         (P.refused pats.new) lives.now) }
     ensures kept { OnOk result (P.refusals pats.new ≡ P.refusals pats.old) }

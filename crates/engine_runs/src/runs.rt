@@ -2,7 +2,6 @@
 
 use crate::fault::RunFault;
 use crate::gathering::{accept_effects, are_timely};
-use crate::planning::keep_plans;
 use crate::restoring::{plan_open, restore_net};
 use crate::spans::points_before;
 use crate::turning::{begin_lives, end_lives};
@@ -278,7 +277,6 @@ impl<N: ScriptNode + NumberingNode + Send> EngineRun<N> {
         if let Err(fault) = plan_open(alloc, lives, numbers, &mut names, &mut plans, pats) {
             return Err(fault);
         }
-        keep_plans(&plans);
         let net = match restore_net(alloc, plans, capacity, states, Stamp(points)) {
             Ok(net) => net,
             Err(fault) => return Err(fault),

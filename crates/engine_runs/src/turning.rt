@@ -18,7 +18,7 @@ ghost use Rattle.engine_runs.specs.Scripts.{AreTasksOf, IsTaskOf, life_names, li
 ghost use Rattle.engine_runs.specs.Spans.{FirstsRise, IsAway};
 
 use crate::fault::RunFault;
-use crate::planning::{keep_plan, next_number, plan_life};
+use crate::planning::{next_number, plan_life};
 use crate::spans::{ended_among, has_ended_by};
 use edge_queue::CAPACITY_LIMIT;
 use effect_text::TaskNames;
@@ -98,7 +98,6 @@ fn begin_life<P: Patterns, N: ScriptNode>(
         Ok(made) => made,
         Err(fault) => return Err(fault),
     };
-    keep_plan(&plan);
     net.begin(alloc, plan, capacity)?;
     names.push(named)?;
     Ok(())

@@ -17,3 +17,6 @@ returns-clause-planned g c = λ lives runs others at h.
 
 pub returns-in-Ok-clause-few : goal.returns-in-Ok-clause-few
 returns-in-Ok-clause-few g c = λ few. puts_few g.N.ScriptNode.planned g.N.Node.spec g.N.Node.state g.N.Node.first c.args.number c.args.life.now _ _ _ _ c.in-Ok.ensures.ok few
+
+pub returns-in-Ok-clause-plans : goal.returns-in-Ok-clause-plans
+returns-in-Ok-clause-plans g c = λ plans. c.in-Ok.ensures.plans plans

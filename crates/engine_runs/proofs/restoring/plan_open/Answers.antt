@@ -14,6 +14,7 @@ returns-in_default-get-clause-planned g c = λ runs e h.
 pub planning-preserved : goal.planning-preserved
 planning-preserved g c = record {
   kept = c.in-Ok.ensures.kept ∙ c.planning.invariant.kept;
+  plans = λ plans. c.in-Ok.ensures.plans (c.planning.invariant.plans plans);
   few = λ few. c.in-Ok.ensures.few (c.planning.invariant.few few);
   planned = λ runs e h.
       let lives = c.args.lives.now in

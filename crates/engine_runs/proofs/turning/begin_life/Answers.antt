@@ -23,7 +23,7 @@ returns-clause-stands g c = λ k courses task accepted s below.
     let number = p.number_is ∙ same in
     subst (λ ns. StandsAt g.N.Node k (courses ++ begun k ns ∷ []) c.begin.new.self)
     (p.nodes ∙ ap (λ (n : ℕ). life_nodes g.N.ScriptNode.planned n life p.task) same ∙ ap (λ (t : Task). life_nodes g.N.ScriptNode.planned (length c.args.names.now.items + 1) life t) (c.scripts_have_one_answer.ensures.task None life.script p.task task p.accepted accepted))
-    (net_begun g.N.Node k c.in-Ok.made.1 courses c.args.net.now c.begin.new.self s c.in_ok-begin.ensures.begins p.begins c.keep_plan.ensures (numbers_under c.in-Ok.made.1.life (length c.args.names.now.items) (numbers_of c.args.net.now.lives) number below) c.in_ok-begin.ensures.rest c.in_ok-begin.ensures.gathered c.in_ok-begin.ensures.last c.in_ok-begin.ensures.spent)
+    (net_begun g.N.Node k c.in-Ok.made.1 courses c.args.net.now c.begin.new.self s c.in_ok-begin.ensures.begins p.begins c.in-Ok.ensures.plan (numbers_under c.in-Ok.made.1.life (length c.args.names.now.items) (numbers_of c.args.net.now.lives) number below) c.in_ok-begin.ensures.rest c.in_ok-begin.ensures.gathered c.in_ok-begin.ensures.last c.in_ok-begin.ensures.spent)
 
 pub returns-clause-names : goal.returns-clause-names
 returns-clause-names g c = λ task accepted.

@@ -40,7 +40,7 @@ returns-clause-fits g c = λ tasks there are same.
     subst (λ ns. HasPlanned node.spec planned lives there c.args.numbers.now ns c.new-plans.result.items) (sym c.new-names.ensures.items)
     (subst (λ ps. HasPlanned node.spec planned lives there c.args.numbers.now [] ps) (sym c.new-plans.ensures.items) (planned_none node.spec planned lives there c.args.numbers.now same)) in
     let h = c.in_default.ensures.planned there same start in
-    let kept = subst (Each (IsPlan node.spec node.ports node.life node.number)) c.deref.ensures.value c.keep_plans.ensures in
+    let kept = c.in_default.ensures.plans (subst (Each (IsPlan node.spec node.ports node.life node.number)) (sym c.new-plans.ensures.items) tt) in
     let specs = specs_planned node planned lives tasks there _ _ are h kept in
     let holds = in_lives node.state c.in-Ok.ensures.restores.loaded in
     (holds, subst (λ ps. IsCapture node.fits node.spell ps holds c.args.states.now) (sym specs) c.in-Ok.ensures.restores.are.states)
@@ -54,7 +54,7 @@ returns-in-Err-restore_net-clause-states g c = λ e tasks there holds are same c
     subst (λ ns. HasPlanned node.spec planned lives there c.args.numbers.now ns c.new-plans.result.items) (sym c.new-names.ensures.items)
     (subst (λ ps. HasPlanned node.spec planned lives there c.args.numbers.now [] ps) (sym c.new-plans.ensures.items) (planned_none node.spec planned lives there c.args.numbers.now same)) in
     let h = c.in_default.ensures.planned there same start in
-    let kept = subst (Each (IsPlan node.spec node.ports node.life node.number)) c.deref.ensures.value c.keep_plans.ensures in
+    let kept = c.in_default.ensures.plans (subst (Each (IsPlan node.spec node.ports node.life node.number)) (sym c.new-plans.ensures.items) tt) in
     let specs = specs_planned node planned lives tasks there _ _ are h kept in
     let is : c.in-Err-restore_net.fault ≡ States = fault_of c.in-Err-restore_net.fault States e in
     c.in-Err-restore_net.ensures.states holds (ap (λ f. Err f) is) (subst (λ ps. IsCapture node.fits node.spell ps holds c.args.states.now) specs capture)
