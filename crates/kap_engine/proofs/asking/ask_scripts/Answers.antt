@@ -1,4 +1,4 @@
-use Rattle.std.proofs.Common.{◌≡◌, ◌≤◌, ℕ, length, sym, subst, ◌∙◌}
+use Rattle.std.proofs.Common.{◌≤◌, ℕ, length, subst, ◌∙◌}
 use Rattle.kap_base.specs.declared.limits.TheConstants.{SCRIPT_LIMIT}
 use Rattle.store_records.specs.Orders.{IsValid}
 use Rattle.store_records.specs.declared.task.Life.{Life}
