@@ -21,6 +21,8 @@ module _ {N P : Type 0} (spec : N → P) (planned : Planned P) (lives : List Lif
     pub rest_is : rest ≡ picked left (numbers_from (1 + length passed) (drop (length passed) lives))
     pub numbers : map (λ plan. plan.life) plans ≡ picked passed (numbers_from 1 lives)
     pub few : Each HasFewParents plans
-    pub graphs : (tasks : List Task) → AreTasksOf lives tasks → map (graph_of spec) plans ≡ picked passed (graphs_from planned 1 lives tasks)
+    pub graphs : (tasks : List Task) → AreTasksOf lives tasks
+        → map (graph_of spec) plans ≡ picked passed (graphs_from planned 1 lives tasks)
     pub named : (tasks : List Task) → AreTasksOf lives tasks
-        → Each (λ number. task_of names number ≡ task_of (names_from lives tasks) number) (picked passed (numbers_from 1 lives))
+        → Each (λ number. task_of names number ≡ task_of (names_from lives tasks) number)
+            (picked passed (numbers_from 1 lives))

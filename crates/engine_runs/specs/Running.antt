@@ -67,7 +67,8 @@ module _ {N P S : Type 0} (g : Ghosts N P S) (planned : Planned P) (lives : List
 
   -- Behind points the lives ran on more: the text of what they do with these was appended, by the names of all lives,
   -- and the transitions that these points make were put behind others.
-  pub record Tells (points new : List PointValue) (text text_after : List ℕ) (told told_after : List Transition) : Type 0 where
+  pub record Tells (points new : List PointValue) (text text_after : List ℕ)
+      (told told_after : List Transition) : Type 0 where
     pub effects : List Effect
     pub more : stored_effects g.answer lives (graphs_from planned 1 lives tasks) (points ++ new)
         ≡ stored_effects g.answer lives (graphs_from planned 1 lives tasks) points ++ effects

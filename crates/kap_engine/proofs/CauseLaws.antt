@@ -1,6 +1,6 @@
 -- What the faults of a store and of its lives are for an engine.
 use Rattle.std.proofs.Common.{◌≡◌, ◌⊎◌, inl, inr, ℕ, ◌+◌, ◌-◌, ◌^◌, ◌≤◌, Err, Ok, List, min, refl, sym, ap, subst, ◌∙◌, arith}
-use Rattle.std.specs.Prelude.{IsErrOf, Option, Result}
+use Rattle.std.specs.Prelude.{◌≢◌, IsErrOf, Result}
 use Rattle.kap_base.specs.Words.{HasRisen}
 use Rattle.kap_io.specs.declared.disk.Part.{Part}
 use Rattle.node_core.specs.declared.node.Node.{Ghosts}
@@ -14,7 +14,7 @@ use Rattle.engine_runs.specs.Faults.{IsWhyOne}
 use Rattle.engine_runs.specs.declared.fault.RunFault.{RunFault}
 use Rattle.engine_runs.specs.declared.fault.RunFault.TheVariants as runs
 use Rattle.kap_engine.specs.Asking.{AreScripts, IsFirstRefused, IsWhyFirst}
-use Rattle.kap_engine.specs.Faults.{EngineCause, IsWhyNone, run_fault, store_fault}
+use Rattle.kap_engine.specs.Faults.{EngineCause, HasOtherStates, IsWhyNone, run_fault, store_fault}
 use Rattle.kap_engine.specs.declared.fault.EngineFault.{EngineFault}
 use Rattle.kap_engine.specs.declared.fault.EngineFault.TheVariants.{DiskFault, NoMemory, NotStore}
 use Rattle.kap_engine.proofs.WhyLaws.{first_of_one}
@@ -29,14 +29,21 @@ pub cause_later : {T : Type 0} (old mid new : ℕ) (result : Result T EngineFaul
 cause_later old mid new result le c = let more : mid ≤ new = c.later in record { later = omega (arith, le, more); failed = λ e. risen_later old mid new le (c.failed e) }
 
 -- a fault of the store
-pub cause_store : {T U : Type 0} (old new : ℕ) (e : StoreFault) (f : EngineFault) → f ≡ store_fault e → StoreCause {T = T} old new (Err e) → EngineCause {T = U} old new (Err f)
-cause_store {T = T} {U = U} old new e f is c = subst (λ (x : EngineFault). EngineCause {T = U} old new (Err x)) (sym is) (by e c)
+pub cause_of : {U : Type 0} (old new : ℕ) (e : StoreFault) (f : EngineFault) → f ≡ store_fault e → old ≤ new → (e ≡ stores.DiskFault → HasRisen old new) → EngineCause {T = U} old new (Err f)
+cause_of {U = U} old new e f is le rose = subst (λ (x : EngineFault). EngineCause {T = U} old new (Err x)) (sym is) (by e rose)
   where
-    by : (e : StoreFault) → StoreCause {T = T} old new (Err e) → EngineCause {T = U} old new (Err (store_fault e))
-    by (stores.NotStore part offset) c = record { later = c.later; failed = λ e. absurd cc }
-    by stores.DiskFault c = record { later = c.later; failed = λ e. c.failed refl }
-    by stores.Long c = record { later = c.later; failed = λ e. absurd cc }
-    by stores.NoMemory c = record { later = c.later; failed = λ e. absurd cc }
+    by : (e : StoreFault) → (e ≡ stores.DiskFault → HasRisen old new) → EngineCause {T = U} old new (Err (store_fault e))
+    by (stores.NotStore part offset) rose = record { later = le; failed = λ e. absurd cc }
+    by stores.DiskFault rose = record { later = le; failed = λ e. rose refl }
+    by stores.Long rose = record { later = le; failed = λ e. absurd cc }
+    by stores.NoMemory rose = record { later = le; failed = λ e. absurd cc }
+
+pub cause_store : {T U : Type 0} (old new : ℕ) (e : StoreFault) (f : EngineFault) → f ≡ store_fault e → StoreCause {T = T} old new (Err e) → EngineCause {T = U} old new (Err f)
+cause_store old new e f is c = cause_of old new e f is c.later (λ same. c.failed (ap (λ (x : StoreFault). Err x) same))
+
+-- none at all
+pub cause_none : {T : Type 0} (old new : ℕ) (x : T) → old ≤ new → EngineCause old new (Ok x)
+cause_none old new x le = record { later = le; failed = λ e. absurd cc }
 
 -- a fault that isn't the disk's
 pub cause_other : {T : Type 0} (old new : ℕ) (f : EngineFault) → old ≤ new → (f ≡ DiskFault → ⊥) → EngineCause {T = T} old new (Err f)
@@ -60,6 +67,11 @@ no_place stores.DiskFault f is none part offset e = absurd (cc (is, e))
 no_place stores.Long f is none part offset e = absurd (cc (is, e))
 no_place stores.NoMemory f is none part offset e = absurd (cc (is, e))
 
+-- nor is one of which such a place is ruled out
+pub no_place_by : {T : Type 0} (Or : StoreFault → Type 0) → ((part : Part) (offset : ℕ) → Or (stores.NotStore part offset) → ⊥) → (e : StoreFault) (f : EngineFault) → f ≡ store_fault e → Or e
+    → (part : Part) (offset : ℕ) → IsErrOf {T = T} (Err f) (NotStore part offset) → ⊥
+no_place_by Or bad e f is or = no_place e f is (λ part offset same. bad part offset (subst Or same or))
+
 module _ {N P S : Type 0} (g : Ghosts N P S) (planned : Planned P) (before after : ℕ) (refused : List ℕ) (rs : List Rec) where
   -- where asking tells one
   pub why_asked : {T : Type 0} (there : Part) (snap : ℕ) (fault : RunFault) (f : EngineFault) → f ≡ run_fault there snap fault → IsWhyFirst before after refused (held rs).tasks (held rs).lives fault
@@ -80,3 +92,15 @@ module _ {N P S : Type 0} (g : Ghosts N P S) (planned : Planned P) (before after
       (part_is, inl (subst (IsFirstRefused before after refused (held rs).tasks (held rs).lives) offset_is (first_of_one before after refused (held rs).tasks (held rs).lives at all why)))
   why_run there snap runs.States f is all why part offset e = absurd why
   why_run there snap runs.NoMemory f is all why part offset e = absurd (cc (is, e))
+
+  -- where restoring does
+  pub why_restored : {T : Type 0} (there : Part) (snap : ℕ) (fault : RunFault) (f : EngineFault) → f ≡ run_fault there snap fault → AreScripts (held rs).tasks (held rs).lives
+      → (fault ≡ runs.States → HasOtherStates g planned rs snap) → (fault ≢ runs.States → IsWhyOne before after refused (held rs).lives fault)
+      → (part : Part) (offset : ℕ) → IsErrOf {T = T} (Err f) (NotStore part offset) → (part ≡ there) × IsWhyNone g planned before after refused rs offset
+  why_restored there snap (runs.Script at) f is all others why part offset e =
+      why_run there snap (runs.Script at) f is all (why (λ same. absurd cc)) part offset e
+  why_restored there snap runs.States f is all others why part offset e =
+      let part_is : part ≡ there = cc in
+      let offset_is : snap ≡ offset = cc in
+      (part_is, inr (subst (HasOtherStates g planned rs) offset_is (others refl)))
+  why_restored there snap runs.NoMemory f is all others why part offset e = absurd (cc (is, e))

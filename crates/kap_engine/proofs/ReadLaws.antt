@@ -21,6 +21,11 @@ none-left : (ps : List PointValue) → take 4096 ps ≡ [] → ps ≡ []
 none-left [] e = refl
 none-left (p ∷ ps) e = absurd cc
 
+-- a reader stands before some points
+pub record StandsBefore (rs : List Rec) (reader : PointsState) : Type 0 where
+  pub points : List PointValue
+  pub before : IsBefore rs points reader
+
 module _ {N P S : Type 0} (g : Ghosts N P S) (planned : Planned P) (rs : List Rec) (tasks : List Task) where
   -- The lives have run on the first points, a reader stands before the others, and these transitions are missing.
   pub record IsReading (reader : PointsState) (r : RunValue N) (due : List Transition) : Type 0 where
