@@ -1,16 +1,18 @@
 -- What the faults of a store and of its lives are for an engine.
 use Rattle.std.proofs.Common.{◌≡◌, ◌⊎◌, inl, inr, ℕ, ◌+◌, ◌-◌, ◌^◌, ◌≤◌, Err, Ok, List, min, refl, sym, ap, subst, ◌∙◌, arith}
-use Rattle.std.specs.Prelude.{◌≢◌, IsErrOf, Result}
+use Rattle.std.specs.Prelude.{IsErrOf, Result}
 use Rattle.kap_base.specs.Words.{HasRisen}
 use Rattle.kap_io.specs.declared.disk.Part.{Part}
 use Rattle.node_core.specs.declared.node.Node.{Ghosts}
 use Rattle.node_set.specs.Tasks.{Planned}
 use Rattle.store_records.specs.Histories.{held}
 use Rattle.store_records.specs.declared.rec.Rec.{Rec}
+use Rattle.store_records.specs.declared.task.Life.{Life}
+use Rattle.store_records.specs.declared.task.StoredTask.{StoredTask}
 use Rattle.topic_store.specs.Opening.{StoreCause}
 use Rattle.topic_store.specs.declared.fault.StoreFault.{StoreFault}
 use Rattle.topic_store.specs.declared.fault.StoreFault.TheVariants as stores
-use Rattle.engine_runs.specs.Faults.{IsWhyOne}
+use Rattle.engine_runs.specs.Faults.{IsRefusedOne, IsWhyOne}
 use Rattle.engine_runs.specs.declared.fault.RunFault.{RunFault}
 use Rattle.engine_runs.specs.declared.fault.RunFault.TheVariants as runs
 use Rattle.kap_engine.specs.Asking.{AreScripts, IsFirstRefused, IsWhyFirst}
@@ -74,33 +76,44 @@ no_place_by Or bad e f is or = no_place e f is (λ part offset same. bad part of
 
 module _ {N P S : Type 0} (g : Ghosts N P S) (planned : Planned P) (before after : ℕ) (refused : List ℕ) (rs : List Rec) where
   -- where asking tells one
-  pub why_asked : {T : Type 0} (there : Part) (snap : ℕ) (fault : RunFault) (f : EngineFault) → f ≡ run_fault there snap fault → IsWhyFirst before after refused (held rs).tasks (held rs).lives fault
+  pub why_asked : {T : Type 0} (there : Part) (snap : ℕ) (fault : RunFault) (f : EngineFault) (tasks : List StoredTask) (lives : List Life) → f ≡ run_fault there snap fault
+      → tasks ≡ (held rs).tasks → lives ≡ (held rs).lives → IsWhyFirst before after refused tasks lives fault
       → (part : Part) (offset : ℕ) → IsErrOf {T = T} (Err f) (NotStore part offset) → (part ≡ there) × IsWhyNone g planned before after refused rs offset
-  why_asked there snap (runs.Script at) f is why part offset e =
+  why_asked there snap (runs.Script at) f tasks lives is a b why part offset e =
       let part_is : part ≡ there = cc in
       let offset_is : at ≡ offset = cc in
-      (part_is, inl (subst (IsFirstRefused before after refused (held rs).tasks (held rs).lives) offset_is why))
-  why_asked there snap runs.States f is why part offset e = absurd why
-  why_asked there snap runs.NoMemory f is why part offset e = absurd (cc (is, e))
+      let first = subst (λ (ts : List StoredTask). IsFirstRefused before after refused ts (held rs).lives at) a
+      (subst (λ (ls : List Life). IsFirstRefused before after refused tasks ls at) b why) in
+      (part_is, inl (subst (IsFirstRefused before after refused (held rs).tasks (held rs).lives) offset_is first))
+  why_asked there snap runs.States f tasks lives is a b why part offset e = absurd why
+  why_asked there snap runs.NoMemory f tasks lives is a b why part offset e = absurd (cc (is, e))
 
   -- where running does, once all scripts were asked
-  pub why_run : {T : Type 0} (there : Part) (snap : ℕ) (fault : RunFault) (f : EngineFault) → f ≡ run_fault there snap fault → AreScripts (held rs).tasks (held rs).lives → IsWhyOne before after refused (held rs).lives fault
+  pub why_run : {T : Type 0} (there : Part) (snap : ℕ) (fault : RunFault) (f : EngineFault) (mid : ℕ) (lives : List Life) → f ≡ run_fault there snap fault
+      → AreScripts (held rs).tasks (held rs).lives → mid ≡ before → lives ≡ (held rs).lives → IsWhyOne mid after refused lives fault
       → (part : Part) (offset : ℕ) → IsErrOf {T = T} (Err f) (NotStore part offset) → (part ≡ there) × IsWhyNone g planned before after refused rs offset
-  why_run there snap (runs.Script at) f is all why part offset e =
+  why_run there snap (runs.Script at) f mid lives is all kept same why part offset e =
       let part_is : part ≡ there = cc in
       let offset_is : at ≡ offset = cc in
-      (part_is, inl (subst (IsFirstRefused before after refused (held rs).tasks (held rs).lives) offset_is (first_of_one before after refused (held rs).tasks (held rs).lives at all why)))
-  why_run there snap runs.States f is all why part offset e = absurd why
-  why_run there snap runs.NoMemory f is all why part offset e = absurd (cc (is, e))
+      let one = subst (λ (n : ℕ). IsRefusedOne n after refused (held rs).lives at) kept
+      (subst (λ (ls : List Life). IsRefusedOne mid after refused ls at) same why) in
+      (part_is, inl (subst (IsFirstRefused before after refused (held rs).tasks (held rs).lives) offset_is (first_of_one before after refused (held rs).tasks (held rs).lives at all one)))
+  why_run there snap runs.States f mid lives is all kept same why part offset e = absurd why
+  why_run there snap runs.NoMemory f mid lives is all kept same why part offset e = absurd (cc (is, e))
 
   -- where restoring does
-  pub why_restored : {T : Type 0} (there : Part) (snap : ℕ) (fault : RunFault) (f : EngineFault) → f ≡ run_fault there snap fault → AreScripts (held rs).tasks (held rs).lives
-      → (fault ≡ runs.States → HasOtherStates g planned rs snap) → (fault ≢ runs.States → IsWhyOne before after refused (held rs).lives fault)
+  pub why_restored : {T : Type 0} (there : Part) (snap : ℕ) (fault : RunFault) (f : EngineFault) (lives : List Life) → f ≡ run_fault there snap fault
+      → AreScripts (held rs).tasks (held rs).lives → lives ≡ (held rs).lives → (fault ≡ runs.States → HasOtherStates g planned rs snap)
+      → ((fault ≡ runs.States → ⊥) → IsWhyOne before after refused lives fault)
       → (part : Part) (offset : ℕ) → IsErrOf {T = T} (Err f) (NotStore part offset) → (part ≡ there) × IsWhyNone g planned before after refused rs offset
-  why_restored there snap (runs.Script at) f is all others why part offset e =
-      why_run there snap (runs.Script at) f is all (why (λ same. absurd cc)) part offset e
-  why_restored there snap runs.States f is all others why part offset e =
+  why_restored there snap (runs.Script at) f lives is all same others why part offset e =
+      why_run there snap (runs.Script at) f before lives is all refl same (why (λ other. absurd cc)) part offset e
+  why_restored there snap runs.States f lives is all same others why part offset e =
       let part_is : part ≡ there = cc in
       let offset_is : snap ≡ offset = cc in
       (part_is, inr (subst (HasOtherStates g planned rs) offset_is (others refl)))
-  why_restored there snap runs.NoMemory f is all others why part offset e = absurd (cc (is, e))
+  why_restored there snap runs.NoMemory f lives is all same others why part offset e = absurd (cc (is, e))
+
+  -- a later count began as this one
+  pub why_later : (there part : Part) (mid offset : ℕ) → mid ≡ before → (part ≡ there) × IsWhyNone g planned mid after refused rs offset → (part ≡ there) × IsWhyNone g planned before after refused rs offset
+  why_later there part mid offset kept why = (why.0, subst (λ (n : ℕ). IsWhyNone g planned n after refused rs offset) kept why.1)

@@ -1,15 +1,14 @@
-use Rattle.std.proofs.Common.{◌≡◌, ◌≤◌, ℕ, Bool, List, Err, Ok, sym, subst, ◌∙◌, arith}
+use Rattle.std.proofs.Common.{◌≡◌, ◌≤◌, ℕ, Bool, List, Err, Ok, sym, ap, subst, ◌∙◌, arith}
 use Rattle.std.specs.Prelude.{Option}
 use Rattle.std.proofs.lemmas.Result.{err_from_is_err_and}
 use Rattle.kap_io.specs.Moments.{quiet_then}
 use Rattle.store_records.specs.Histories.{held}
 use Rattle.store_records.specs.declared.rec.Rec.{Rec}
-use Rattle.store_records.specs.declared.task.Life.{Life}
 use Rattle.topic_store.specs.Behind.{TopicsOrNot}
 use Rattle.topic_store.specs.Snapshots.{SnapOrNot}
 use Rattle.topic_store.proofs.Quietly.{on_quietly}
 use Rattle.topic_store.proofs.Rereading.{none_of}
-use Rattle.engine_runs.specs.Faults.{IsWhyOne}
+use Rattle.engine_runs.specs.declared.fault.RunFault.{RunFault}
 use Rattle.kap_engine.proofs.CauseLaws.{cause_later, cause_none, cause_other, cause_store, no_place_by, run_no_disk, why_restored}
 use Rattle.kap_engine.proofs.OpenLaws.{begun_new, firsts, restored}
 use Rattle.kap_engine.proofs.SnapLaws.{numbers_there}
@@ -87,10 +86,11 @@ pub returns-in-Err-clause-why : goal.returns-in-Err-clause-why
 returns-in-Err-clause-why g c = λ tells rs on all part offset e.
     let found = subst (λ (o : Option (ℕ × List ℕ × List ℕ)). SnapOrNot rs (Ok o)) c.in-Some.is (c.in_ok-gate.ensures.snap tells rs on) in
     let same : c.lives.result.now ≡ (held rs).lives = c.lives.ensures ∙ on.kept.keeps.lives in
-    let why = why_restored g.N.Node g.N.ScriptNode.planned _ _ _ rs c.part.result c.in-Some.gate c.in-Err.fault c.run_fault.result c.run_fault.ensures all
+    let why = why_restored g.N.Node g.N.ScriptNode.planned (g.P.Patterns.refusals c.args.pats.now) (g.P.Patterns.refusals c.restore-restored.new.pats) (g.P.Patterns.refused c.restore-restored.new.pats) rs
+    c.part.result c.in-Some.gate c.in-Err.fault c.run_fault.result c.lives.result.now c.run_fault.ensures all same
     (λ states. others_of g.N.Node g.N.ScriptNode.planned rs found.snap c.lives.result.now c.as_slice.result.now c.as_slice-2.result.now c.in-Some.gate
-    same (c.as_slice.ensures ∙ found.lives) (c.as_slice-2.ensures ∙ found.states) found.gate all (c.in-Err.ensures.states (ap (λ f. Err f) states)))
-    (λ other. subst (λ (ls : List Life). IsWhyOne _ _ _ ls c.in-Err.fault) same (c.in-Err.ensures.why other)) part offset e in
+    same (c.as_slice.ensures ∙ found.lives) (c.as_slice-2.ensures ∙ found.states) found.gate all (c.in-Err.ensures.states (ap (λ (f : RunFault). Err f) states)))
+    c.in-Err.ensures.why part offset e in
     (why.0 ∙ c.part.ensures, why.1)
 
 pub returns-in-Err-clause-quiet : goal.returns-in-Err-clause-quiet

@@ -2,10 +2,8 @@ use Rattle.std.proofs.Common.{◌≡◌, ◌≤◌, ℕ, List, Err, refl, sym, s
 use Rattle.std.proofs.lemmas.Result.{err_from_is_err_and}
 use Rattle.kap_io.specs.Moments.{quiet_start, quiet_then}
 use Rattle.store_records.specs.Histories.{held}
-use Rattle.store_records.specs.declared.task.Life.{Life}
 use Rattle.topic_store.specs.Points.{GivesOrNot}
 use Rattle.topic_store.proofs.Quietly.{on_quietly}
-use Rattle.engine_runs.specs.Faults.{IsWhyOne}
 use Rattle.kap_engine.proofs.CauseLaws.{cause_later, cause_none, cause_other, cause_store, no_place_by, run_no_disk, why_run}
 use Rattle.kap_engine.proofs.PassLaws.{nil_of}
 use Rattle.kap_engine.proofs.ReadLaws.{reading_done, reading_on, reading_start}
@@ -62,10 +60,9 @@ returns-then-piece-is_empty-clause-cause g c = cause_none _ _ _ (omega (arith, c
 
 pub returns-in-Err-clause-why : goal.returns-in-Err-clause-why
 returns-in-Err-clause-why g c = λ tells rs on all part offset e.
-    let same : c.lives.result.now ≡ (held rs).lives = c.lives.ensures ∙ on.kept.keeps.lives in
-    let one = subst (λ (ls : List Life). IsWhyOne _ _ _ ls c.in-Err.fault) same c.in-Err.ensures.why in
-    let why = why_run g.N.Node g.N.ScriptNode.planned _ _ _ rs c.part.result 0 c.in-Err.fault c.run_fault.result c.run_fault.ensures all
-    (subst (λ (n : ℕ). IsWhyOne n _ _ (held rs).lives c.in-Err.fault) c.reading.invariant.kept one) part offset e in
+    let why = why_run g.N.Node g.N.ScriptNode.planned (g.P.Patterns.refusals c.args.pats.now) (g.P.Patterns.refusals c.run-ran.new.pats) (g.P.Patterns.refused c.run-ran.new.pats) rs
+    c.part.result 0 c.in-Err.fault c.run_fault.result (g.P.Patterns.refusals c.reading.pats) c.lives.result.now c.run_fault.ensures all c.reading.invariant.kept
+    (c.lives.ensures ∙ on.kept.keeps.lives) c.in-Err.ensures.why part offset e in
     (why.0 ∙ c.part.ensures, why.1)
 
 pub returns-in-Err-clause-quiet : goal.returns-in-Err-clause-quiet

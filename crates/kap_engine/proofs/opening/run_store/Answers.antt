@@ -1,14 +1,10 @@
-use Rattle.std.proofs.Common.{◌≡◌, ◌≤◌, ℕ, List, Err, refl, sym, ap, subst, ◌∙◌, arith}
+use Rattle.std.proofs.Common.{ℕ, Err, sym, ap, ◌∙◌, arith}
 use Rattle.std.proofs.lemmas.Result.{err_from_is_err_and}
 use Rattle.kap_io.specs.Moments.{quiet_then}
 use Rattle.store_records.specs.Histories.{held}
-use Rattle.store_records.specs.declared.task.Life.{Life}
-use Rattle.store_records.specs.declared.task.StoredTask.{StoredTask}
 use Rattle.topic_store.proofs.Quietly.{on_quietly}
-use Rattle.engine_runs.specs.Faults.{IsWhyOne}
-use Rattle.kap_engine.specs.Asking.{IsWhyFirst}
-use Rattle.kap_engine.specs.Faults.{IsWhyNone}
-use Rattle.kap_engine.proofs.CauseLaws.{cause_later, cause_none, cause_other, run_no_disk, why_asked, why_run}
+use Rattle.kap_engine.specs.declared.fault.EngineFault.{EngineFault}
+use Rattle.kap_engine.proofs.CauseLaws.{cause_later, cause_none, cause_other, run_no_disk, why_asked, why_later, why_run}
 use Rattle.kap_engine.proofs.ReadLaws.{turned}
 use Rattle.kap_engine.proofs.WhyLaws.{scripts_held}
 use Rattle.kap_engine.proofs.opening.run_store.Goals as goal
@@ -17,11 +13,9 @@ use Rattle.kap_engine.proofs.opening.run_store.Goals as goal
 
 pub returns-in-Err-clause-why : goal.returns-in-Err-clause-why
 returns-in-Err-clause-why g c = λ tells rs on part offset e.
-    let lives : c.lives.result.now ≡ (held rs).lives = c.lives.ensures ∙ on.kept.keeps.lives in
-    let tasks : c.tasks.result.now ≡ (held rs).tasks = c.tasks.ensures ∙ on.kept.keeps.tasks in
-    let first = subst (λ (ts : List StoredTask). IsWhyFirst _ _ _ ts (held rs).lives c.in-Err.fault) tasks
-    (subst (λ (ls : List Life). IsWhyFirst _ _ _ c.tasks.result.now ls c.in-Err.fault) lives c.in-Err.ensures.why) in
-    let why = why_asked g.N.Node g.N.ScriptNode.planned _ _ _ rs c.part.result 0 c.in-Err.fault c.run_fault.result c.run_fault.ensures first part offset e in
+    let why = why_asked g.N.Node g.N.ScriptNode.planned (g.P.Patterns.refusals c.args.pats.now) (g.P.Patterns.refusals c.ask_scripts.new.pats) (g.P.Patterns.refused c.ask_scripts.new.pats) rs
+    c.part.result 0 c.in-Err.fault c.run_fault.result c.tasks.result.now c.lives.result.now c.run_fault.ensures (c.tasks.ensures ∙ on.kept.keeps.tasks) (c.lives.ensures ∙ on.kept.keeps.lives)
+    c.in-Err.ensures.why part offset e in
     (why.0 ∙ c.part.ensures, why.1)
 
 pub returns-in-Err-clause-cause : goal.returns-in-Err-clause-cause
@@ -34,8 +28,9 @@ pub returns-in_err-run-clause-why : goal.returns-in_err-run-clause-why
 returns-in_err-run-clause-why g c = λ tells rs on part offset e.
     let p = err_from_is_err_and c.from_residual.result c.from_residual.ensures.1 in
     let all = scripts_held c.tasks.result.now (held rs).tasks c.lives.result.now (held rs).lives (c.tasks.ensures ∙ on.kept.keeps.tasks) (c.lives.ensures ∙ on.kept.keeps.lives) c.in_default.ensures.ok in
-    let why = c.in_err-run.ensures.why tells rs on all part offset (ap (λ f. Err f) (sym p.2) ∙ sym p.1 ∙ e) in
-    (why.0, subst (λ (n : ℕ). IsWhyNone g.N.Node g.N.ScriptNode.planned n _ _ rs offset) c.in_default.ensures.kept why.1)
+    why_later g.N.Node g.N.ScriptNode.planned (g.P.Patterns.refusals c.args.pats.now) (g.P.Patterns.refusals c.begin_run.new.pats) (g.P.Patterns.refused c.begin_run.new.pats) rs
+    c.args.store.now.log.part part (g.P.Patterns.refusals c.ask_scripts.new.pats) offset c.in_default.ensures.kept
+    (c.in_err-run.ensures.why tells rs on all part offset (ap (λ (f : EngineFault). Err f) (sym p.2) ∙ sym p.1 ∙ e))
 
 pub returns-in_err-run-clause-cause : goal.returns-in_err-run-clause-cause
 returns-in_err-run-clause-cause g c =
@@ -49,8 +44,9 @@ returns-in_err-due-clause-why g c = λ tells rs on part offset e.
     let p = err_from_is_err_and c.from_residual-in_err-due.result c.from_residual-in_err-due.ensures.1 in
     let all = scripts_held c.tasks.result.now (held rs).tasks c.lives.result.now (held rs).lives (c.tasks.ensures ∙ on.kept.keeps.tasks) (c.lives.ensures ∙ on.kept.keeps.lives) c.in_default.ensures.ok in
     let there = on_quietly g.D.Disk.seen g.D.Disk.moment g.D.Disk.may_leave g.D.Disk.left_since _ _ rs c.args.store.now (c.begin_run.ensures.quiet tells) on in
-    let why = c.in_err-due.ensures.why tells rs there all part offset (ap (λ f. Err f) (sym p.2) ∙ sym p.1 ∙ e) in
-    (why.0, subst (λ (n : ℕ). IsWhyNone g.N.Node g.N.ScriptNode.planned n _ _ rs offset) (c.in_ok-run.ensures.kept ∙ c.in_default.ensures.kept) why.1)
+    why_later g.N.Node g.N.ScriptNode.planned (g.P.Patterns.refusals c.args.pats.now) (g.P.Patterns.refusals c.run_rest.new.pats) (g.P.Patterns.refused c.run_rest.new.pats) rs
+    c.args.store.now.log.part part (g.P.Patterns.refusals c.begin_run.new.pats) offset (c.in_ok-run.ensures.kept ∙ c.in_default.ensures.kept)
+    (c.in_err-due.ensures.why tells rs there all part offset (ap (λ (f : EngineFault). Err f) (sym p.2) ∙ sym p.1 ∙ e))
 
 pub returns-in_err-due-clause-quiet : goal.returns-in_err-due-clause-quiet
 returns-in_err-due-clause-quiet g c = λ tells.
@@ -66,9 +62,9 @@ returns-in_err-due-clause-cause g c =
 pub returns-in-Err-turn-clause-why : goal.returns-in-Err-turn-clause-why
 returns-in-Err-turn-clause-why g c = λ tells rs on part offset e.
     let all = scripts_held c.tasks.result.now (held rs).tasks c.lives.result.now (held rs).lives (c.tasks.ensures ∙ on.kept.keeps.tasks) (c.lives.ensures ∙ on.kept.keeps.lives) c.in_default.ensures.ok in
-    let one = subst (λ (ls : List Life). IsWhyOne _ _ _ ls c.in-Err-turn.fault) (c.lives-2.ensures ∙ on.kept.keeps.lives) c.in-Err-turn.ensures.why in
-    let why = why_run g.N.Node g.N.ScriptNode.planned _ _ _ rs c.part-2.result 0 c.in-Err-turn.fault c.run_fault-2.result c.run_fault-2.ensures all
-    (subst (λ (n : ℕ). IsWhyOne n _ _ (held rs).lives c.in-Err-turn.fault) (c.in_ok-due.ensures.kept ∙ c.in_ok-run.ensures.kept ∙ c.in_default.ensures.kept) one) part offset e in
+    let why = why_run g.N.Node g.N.ScriptNode.planned (g.P.Patterns.refusals c.args.pats.now) (g.P.Patterns.refusals c.turn.new.pats) (g.P.Patterns.refused c.turn.new.pats) rs
+    c.part-2.result 0 c.in-Err-turn.fault c.run_fault-2.result (g.P.Patterns.refusals c.run_rest.new.pats) c.lives-2.result.now c.run_fault-2.ensures all
+    (c.in_ok-due.ensures.kept ∙ c.in_ok-run.ensures.kept ∙ c.in_default.ensures.kept) (c.lives-2.ensures ∙ on.kept.keeps.lives) c.in-Err-turn.ensures.why part offset e in
     (why.0 ∙ c.part-2.ensures, why.1)
 
 pub returns-in-Err-turn-clause-quiet : goal.returns-in-Err-turn-clause-quiet

@@ -10,6 +10,7 @@ use Rattle.topic_store.proofs.Found.{seen_stands}
 use Rattle.topic_store.proofs.Quietly.{on_quietly}
 use Rattle.kap_engine.specs.Engines.{IsEngineBehind}
 use Rattle.kap_engine.specs.Faults.{no_lives, no_store}
+use Rattle.kap_engine.specs.declared.fault.EngineFault.{EngineFault}
 use Rattle.kap_engine.proofs.CauseLaws.{cause_later, cause_none, cause_of, cause_store, no_place}
 use Rattle.kap_engine.proofs.MakeLaws.{found_fault, good_moments, made_behind, may_store, named_by, none_missing, on_seen, opened_fault, quiet_good, quiet_still}
 use Rattle.kap_engine.proofs.WhyLaws.{good_rose}
@@ -58,7 +59,7 @@ returns-in_err-run-clause-refused g c = λ tells part offset e.
     let left = g.D.Disk.may_leave c.open_store.new.disk in
     let found = c.in_ok-store.ensures.found tells in
     let on = on_seen seen (g.D.Disk.seen c.open_store.new.disk) left found.0 c.in_ok-store.store (c.open_store.ensures.quiet tells).reads found.1 in
-    let why = c.in_err-run.ensures.why tells found.0 on part offset (ap (λ f. Err f) (sym p.2) ∙ sym p.1 ∙ e) in
+    let why = c.in_err-run.ensures.why tells found.0 on part offset (ap (λ (f : EngineFault). Err f) (sym p.2) ∙ sym p.1 ∙ e) in
     no_lives found.0 (seen_stands seen left found.0 c.in_ok-store.store found.1) (named_by seen left found.0 c.in_ok-store.store part found.1 why.0) why.1
 
 pub returns-in_err-run-clause-rose : goal.returns-in_err-run-clause-rose
@@ -66,8 +67,8 @@ returns-in_err-run-clause-rose g c = λ tells rs stands good part offset e.
     let p = err_from_is_err_and c.from_residual-in_err-run.result c.from_residual-in_err-run.ensures.1 in
     let on = on_seen (g.D.Disk.seen c.args.disk.now) (g.D.Disk.seen c.open_store.new.disk) (g.D.Disk.may_leave c.open_store.new.disk) rs c.in_ok-store.store
     (c.open_store.ensures.quiet tells).reads (c.in_ok-store.ensures.opened tells rs stands) in
-    let why = c.in_err-run.ensures.why tells rs on part offset (ap (λ f. Err f) (sym p.2) ∙ sym p.1 ∙ e) in
-    good_rose g.N.Node g.N.ScriptNode.planned _ _ _ rs offset c.scripts_have_one_answer.ensures.apart good why.1
+    let why = c.in_err-run.ensures.why tells rs on part offset (ap (λ (f : EngineFault). Err f) (sym p.2) ∙ sym p.1 ∙ e) in
+    good_rose g.N.Node g.N.ScriptNode.planned (g.P.Patterns.refusals c.args.pats.now) (g.P.Patterns.refusals c.run_store.new.pats) (g.P.Patterns.refused c.run_store.new.pats) rs offset c.scripts_have_one_answer.ensures.apart good why.1
 
 pub returns-in_err-run-clause-cause : goal.returns-in_err-run-clause-cause
 returns-in_err-run-clause-cause g c =
