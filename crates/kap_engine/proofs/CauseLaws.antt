@@ -43,6 +43,16 @@ cause_of {U = U} old new e f is le rose = subst (λ (x : EngineFault). EngineCau
 pub cause_store : {T U : Type 0} (old new : ℕ) (e : StoreFault) (f : EngineFault) → f ≡ store_fault e → StoreCause {T = T} old new (Err e) → EngineCause {T = U} old new (Err f)
 cause_store old new e f is c = cause_of old new e f is c.later (λ same. c.failed (ap (λ (x : StoreFault). Err x) same))
 
+-- the same fault is a fault of another result
+pub same_fault : {T : Type 0} (r : Result T EngineFault) (a b : EngineFault) → r ≡ Err a → r ≡ Err b → a ≡ b
+same_fault r a b x y = cc
+
+pub cause_same : {T U : Type 0} (old new : ℕ) (r : Result U EngineFault) (e f : EngineFault) → r ≡ Err f → f ≡ e → EngineCause {T = T} old new (Err e) → EngineCause old new r
+cause_same {T = T} old new r e f is same c = record {
+  later = c.later;
+  failed = λ told. c.failed (ap (λ (x : EngineFault). Err x) (sym same ∙ same_fault r f DiskFault is told));
+}
+
 -- none at all
 pub cause_none : {T : Type 0} (old new : ℕ) (x : T) → old ≤ new → EngineCause old new (Ok x)
 cause_none old new x le = record { later = le; failed = λ e. absurd cc }

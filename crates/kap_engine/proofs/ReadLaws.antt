@@ -17,9 +17,12 @@ use Rattle.engine_runs.specs.Spans.{FirstsRise}
 use Rattle.engine_runs.proofs.HeldLaws.{held_rise}
 use Rattle.kap_engine.specs.Opening.{HasBegun, HasRunAll, HasRunOn, missing}
 
+none-first : (n : ℕ) (ps : List PointValue) → take (suc n) ps ≡ [] → ps ≡ []
+none-first n [] e = refl
+none-first n (p ∷ ps) e = absurd cc
+
 none-left : (ps : List PointValue) → take 4096 ps ≡ [] → ps ≡ []
-none-left [] e = refl
-none-left (p ∷ ps) e = absurd cc
+none-left ps e = none-first 4095 ps e
 
 -- a reader stands before some points
 pub record StandsBefore (rs : List Rec) (reader : PointsState) : Type 0 where

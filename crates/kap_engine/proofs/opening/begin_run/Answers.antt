@@ -44,7 +44,7 @@ pub returns-in_err-topics-clause-why : goal.returns-in_err-topics-clause-why
 returns-in_err-topics-clause-why g c = λ tells rs on all part offset e.
     let p = err_from_is_err_and c.from_residual-in_err-topics.result c.from_residual-in_err-topics.ensures.1 in
     let there = on_quietly g.D.Disk.seen g.D.Disk.moment g.D.Disk.may_leave g.D.Disk.left_since _ _ rs c.args.store.now (c.snap.ensures.quiet tells) on in
-    absurd (no_place_by (λ f. TopicsOrNot (held rs).transitions _ (Err f)) (λ there at none. none) c.in_err-topics.field-0.0 p.0 p.2 (c.in_err-topics.ensures.topics tells rs there) part offset (sym p.1 ∙ e))
+    absurd (no_place_by (λ f. TopicsOrNot (held rs).transitions c.unwrap_or-points.result.1 (Err f)) (λ there at none. none) c.in_err-topics.field-0.0 p.0 p.2 (c.in_err-topics.ensures.topics tells rs there) part offset (sym p.1 ∙ e))
 
 pub returns-in_err-topics-clause-quiet : goal.returns-in_err-topics-clause-quiet
 returns-in_err-topics-clause-quiet g c = λ tells.
@@ -67,9 +67,9 @@ pub returns-in-Ok-clause-begun : goal.returns-in-Ok-clause-begun
 returns-in-Ok-clause-begun g c = λ tells rs tasks on are consistent.
     let found = subst (λ (o : Option (ℕ × List ℕ × List ℕ)). SnapOrNot rs (Ok o)) c.in-Some.is (c.in_ok-gate.ensures.snap tells rs on) in
     let there = on_quietly g.D.Disk.seen g.D.Disk.moment g.D.Disk.may_leave g.D.Disk.left_since _ _ rs c.args.store.now (c.snap.ensures.quiet tells) on in
-    let numbers = numbers_there rs found.snap c.args.store.now.kept.snap c.last_snap.result c.unwrap_or.result on.kept.keeps.snap c.last_snap.ensures c.unwrap_or.ensures in
+    let numbers = numbers_there rs found.snap c.args.store.now.kept.snap c.last_snap.result c.unwrap_or-points.result on.kept.keeps.snap c.last_snap.ensures c.unwrap_or-points.ensures in
     restored g.N.Node g.N.ScriptNode.planned rs tasks (g.met.N.Node g.world.𝓛 g.world.𝓜 g.world.𝓡 (λ s x. x, λ x. x, λ x. x, λ x. x)).stamped c.transition_laws.ensures.stood
-    found.snap on.stored.follow consistent c.lives.result.now c.as_slice.result.now c.as_slice-2.result.now _ _ c.in_ok-topics.topics c.in-Ok.run
+    found.snap on.stored.follow consistent c.lives.result.now c.as_slice.result.now c.as_slice-2.result.now _ _ c.in_ok-topics.topics _
     (c.lives.ensures ∙ on.kept.keeps.lives) are (c.as_slice.ensures ∙ found.lives) (c.as_slice-2.ensures ∙ found.states) numbers.0 numbers.1
     (c.in_ok-topics.ensures.topics tells rs there) c.in-Ok.ensures.runs
 
@@ -82,8 +82,8 @@ returns-in-Ok-clause-cause g c = cause_none _ _ _ (omega (arith, c.snap.ensures.
 
 -- ---- they aren't
 
-pub returns-in-Err-clause-why : goal.returns-in-Err-clause-why
-returns-in-Err-clause-why g c = λ tells rs on all part offset e.
+pub returns-clause-why : goal.returns-clause-why
+returns-clause-why g c = λ tells rs on all part offset e.
     let found = subst (λ (o : Option (ℕ × List ℕ × List ℕ)). SnapOrNot rs (Ok o)) c.in-Some.is (c.in_ok-gate.ensures.snap tells rs on) in
     let same : c.lives.result.now ≡ (held rs).lives = c.lives.ensures ∙ on.kept.keeps.lives in
     let why = why_restored g.N.Node g.N.ScriptNode.planned (g.P.Patterns.refusals c.args.pats.now) (g.P.Patterns.refusals c.restore-restored.new.pats) (g.P.Patterns.refused c.restore-restored.new.pats) rs
@@ -93,11 +93,11 @@ returns-in-Err-clause-why g c = λ tells rs on all part offset e.
     c.in-Err.ensures.why part offset e in
     (why.0 ∙ c.part.ensures, why.1)
 
-pub returns-in-Err-clause-quiet : goal.returns-in-Err-clause-quiet
-returns-in-Err-clause-quiet g c = λ tells.
+pub returns-clause-quiet : goal.returns-clause-quiet
+returns-clause-quiet g c = λ tells.
     quiet_then g.D.Disk.seen g.D.Disk.moment g.D.Disk.may_leave g.D.Disk.left_since _ _ _ (c.snap.ensures.quiet tells) (c.topics_behind.ensures.quiet tells)
 
-pub returns-in-Err-clause-cause : goal.returns-in-Err-clause-cause
-returns-in-Err-clause-cause g c =
+pub returns-clause-cause : goal.returns-clause-cause
+returns-clause-cause g c =
     cause_other _ _ c.run_fault.result (omega (arith, c.snap.ensures.cause.later, c.topics_behind.ensures.cause.later))
     (λ disk. run_no_disk c.part.result c.in-Some.gate c.in-Err.fault (sym c.run_fault.ensures ∙ disk))

@@ -1,9 +1,12 @@
-use Rattle.std.proofs.Common.{◌≡◌, ◌≤◌, ℕ, List, Err, refl, sym, subst, ◌∙◌, arith}
+use Rattle.std.proofs.Common.{◌≡◌, ℕ, false, length, Err, Ok, refl, sym, ◌∙◌, arith}
+use Rattle.std.specs.Prelude.{Result, is_err}
+use Rattle.std.proofs.lemmas.Bool.Decides.{nat_tests}
 use Rattle.std.proofs.lemmas.Result.{err_from_is_err_and}
 use Rattle.kap_io.specs.Moments.{quiet_start, quiet_then}
 use Rattle.store_records.specs.Histories.{held}
 use Rattle.topic_store.specs.Points.{GivesOrNot}
 use Rattle.topic_store.proofs.Quietly.{on_quietly}
+use Rattle.engine_runs.specs.declared.fault.RunFault.{RunFault}
 use Rattle.kap_engine.proofs.CauseLaws.{cause_later, cause_none, cause_other, cause_store, no_place_by, run_no_disk, why_run}
 use Rattle.kap_engine.proofs.PassLaws.{nil_of}
 use Rattle.kap_engine.proofs.ReadLaws.{reading_done, reading_on, reading_start}
@@ -42,19 +45,20 @@ returns-in_err-piece-clause-cause g c =
 
 -- ---- no point is left
 
-pub returns-then-piece-is_empty-clause-runs : goal.returns-then-piece-is_empty-clause-runs
-returns-then-piece-is_empty-clause-runs g c = λ tells rs tasks on are h.
+pub returns-then-is_empty-clause-runs : goal.returns-then-is_empty-clause-runs
+returns-then-is_empty-clause-runs g c = λ tells rs tasks on are h.
     let there = on_quietly g.D.Disk.seen g.D.Disk.moment g.D.Disk.may_leave g.D.Disk.left_since _ _ rs c.args.store.now (c.reading.invariant.quiet tells) on in
     let s = c.reading.invariant.reads tells rs tasks on are h in
     let gives = c.in_ok-piece.ensures.points tells rs s.others there s.before in
-    reading_done g.N.Node g.N.ScriptNode.planned rs tasks c.reading.reader c.reading.run c.reading.due.items c.in_ok-piece.piece.items s gives.0 (nil_of _ ?)
+    reading_done g.N.Node g.N.ScriptNode.planned rs tasks c.reading.reader c.reading.run c.reading.due.items c.in_ok-piece.piece.items s gives.0
+    (let none : length c.in_ok-piece.piece.items ≡ 0 = grind (arith, nat_tests) in nil_of c.in_ok-piece.piece.items none)
 
-pub returns-then-piece-is_empty-clause-quiet : goal.returns-then-piece-is_empty-clause-quiet
-returns-then-piece-is_empty-clause-quiet g c = λ tells.
+pub returns-then-is_empty-clause-quiet : goal.returns-then-is_empty-clause-quiet
+returns-then-is_empty-clause-quiet g c = λ tells.
     quiet_then g.D.Disk.seen g.D.Disk.moment g.D.Disk.may_leave g.D.Disk.left_since _ _ _ (c.reading.invariant.quiet tells) (c.next.ensures.quiet tells)
 
-pub returns-then-piece-is_empty-clause-cause : goal.returns-then-piece-is_empty-clause-cause
-returns-then-piece-is_empty-clause-cause g c = cause_none _ _ _ (omega (arith, c.reading.invariant.later, c.next.ensures.cause.later))
+pub returns-then-is_empty-clause-cause : goal.returns-then-is_empty-clause-cause
+returns-then-is_empty-clause-cause g c = cause_none _ _ _ (omega (arith, c.reading.invariant.later, c.next.ensures.cause.later))
 
 -- ---- a life can't be run
 
@@ -76,9 +80,13 @@ returns-in-Err-clause-cause g c =
 
 -- ---- a piece was run
 
+no_fault : {T : Type 0} (r : Result T RunFault) → ((f : RunFault) → r ≡ Err f → ⊥) → is_err r ≡ false
+no_fault (Ok x) not_err = refl
+no_fault (Err f) not_err = absurd (not_err f refl)
+
 pub reading-preserved : goal.reading-preserved
 reading-preserved g c = record {
-  unspent = ?;
+  unspent = c.run-ran.ensures.spent ∙ no_fault _ c.in_default.not-Err;
   kept = c.in_default.ensures.kept ∙ c.reading.invariant.kept;
   quiet = λ tells. quiet_then g.D.Disk.seen g.D.Disk.moment g.D.Disk.may_leave g.D.Disk.left_since _ _ _ (c.reading.invariant.quiet tells) (c.next.ensures.quiet tells);
   later = omega (arith, c.reading.invariant.later, c.next.ensures.cause.later);

@@ -4,7 +4,8 @@ use Rattle.kap_io.specs.Moments.{quiet_then}
 use Rattle.store_records.specs.Histories.{held}
 use Rattle.topic_store.proofs.Quietly.{on_quietly}
 use Rattle.kap_engine.specs.declared.fault.EngineFault.{EngineFault}
-use Rattle.kap_engine.proofs.CauseLaws.{cause_later, cause_none, cause_other, run_no_disk, why_asked, why_later, why_run}
+use Rattle.kap_engine.specs.declared.fault.EngineFault.TheVariants.{NotStore}
+use Rattle.kap_engine.proofs.CauseLaws.{cause_later, cause_none, cause_other, cause_same, run_no_disk, same_fault, why_asked, why_later, why_run}
 use Rattle.kap_engine.proofs.ReadLaws.{turned}
 use Rattle.kap_engine.proofs.WhyLaws.{scripts_held}
 use Rattle.kap_engine.proofs.opening.run_store.Goals as goal
@@ -30,12 +31,12 @@ returns-in_err-run-clause-why g c = λ tells rs on part offset e.
     let all = scripts_held c.tasks.result.now (held rs).tasks c.lives.result.now (held rs).lives (c.tasks.ensures ∙ on.kept.keeps.tasks) (c.lives.ensures ∙ on.kept.keeps.lives) c.in_default.ensures.ok in
     why_later g.N.Node g.N.ScriptNode.planned (g.P.Patterns.refusals c.args.pats.now) (g.P.Patterns.refusals c.begin_run.new.pats) (g.P.Patterns.refused c.begin_run.new.pats) rs
     c.args.store.now.log.part part (g.P.Patterns.refusals c.ask_scripts.new.pats) offset c.in_default.ensures.kept
-    (c.in_err-run.ensures.why tells rs on all part offset (ap (λ (f : EngineFault). Err f) (sym p.2) ∙ sym p.1 ∙ e))
+    (c.in_err-run.ensures.why tells rs on all part offset (ap (λ (f : EngineFault). Err f) (sym p.2 ∙ same_fault _ p.0 (NotStore part offset) p.1 e)))
 
 pub returns-in_err-run-clause-cause : goal.returns-in_err-run-clause-cause
 returns-in_err-run-clause-cause g c =
     let p = err_from_is_err_and c.from_residual.result c.from_residual.ensures.1 in
-    rw (p.1, p.2) c.in_err-run.ensures.cause
+    cause_same _ _ _ c.in_err-run.field-0.0 p.0 p.1 p.2 c.in_err-run.ensures.cause
 
 -- ---- they don't run
 
@@ -46,7 +47,7 @@ returns-in_err-due-clause-why g c = λ tells rs on part offset e.
     let there = on_quietly g.D.Disk.seen g.D.Disk.moment g.D.Disk.may_leave g.D.Disk.left_since _ _ rs c.args.store.now (c.begin_run.ensures.quiet tells) on in
     why_later g.N.Node g.N.ScriptNode.planned (g.P.Patterns.refusals c.args.pats.now) (g.P.Patterns.refusals c.run_rest.new.pats) (g.P.Patterns.refused c.run_rest.new.pats) rs
     c.args.store.now.log.part part (g.P.Patterns.refusals c.begin_run.new.pats) offset (c.in_ok-run.ensures.kept ∙ c.in_default.ensures.kept)
-    (c.in_err-due.ensures.why tells rs there all part offset (ap (λ (f : EngineFault). Err f) (sym p.2) ∙ sym p.1 ∙ e))
+    (c.in_err-due.ensures.why tells rs there all part offset (ap (λ (f : EngineFault). Err f) (sym p.2 ∙ same_fault _ p.0 (NotStore part offset) p.1 e)))
 
 pub returns-in_err-due-clause-quiet : goal.returns-in_err-due-clause-quiet
 returns-in_err-due-clause-quiet g c = λ tells.
@@ -55,7 +56,7 @@ returns-in_err-due-clause-quiet g c = λ tells.
 pub returns-in_err-due-clause-cause : goal.returns-in_err-due-clause-cause
 returns-in_err-due-clause-cause g c =
     let p = err_from_is_err_and c.from_residual-in_err-due.result c.from_residual-in_err-due.ensures.1 in
-    rw (p.1, p.2) (cause_later _ _ _ _ c.begin_run.ensures.cause.later c.in_err-due.ensures.cause)
+    cause_same _ _ _ c.in_err-due.field-0.0 p.0 p.1 p.2 (cause_later _ _ _ _ c.begin_run.ensures.cause.later c.in_err-due.ensures.cause)
 
 -- ---- one that begins behind all points can't
 
@@ -63,9 +64,9 @@ pub returns-in-Err-turn-clause-why : goal.returns-in-Err-turn-clause-why
 returns-in-Err-turn-clause-why g c = λ tells rs on part offset e.
     let all = scripts_held c.tasks.result.now (held rs).tasks c.lives.result.now (held rs).lives (c.tasks.ensures ∙ on.kept.keeps.tasks) (c.lives.ensures ∙ on.kept.keeps.lives) c.in_default.ensures.ok in
     let why = why_run g.N.Node g.N.ScriptNode.planned (g.P.Patterns.refusals c.args.pats.now) (g.P.Patterns.refusals c.turn.new.pats) (g.P.Patterns.refused c.turn.new.pats) rs
-    c.part-2.result 0 c.in-Err-turn.fault c.run_fault-2.result (g.P.Patterns.refusals c.run_rest.new.pats) c.lives-2.result.now c.run_fault-2.ensures all
+    c.part-in-Err-turn.result 0 c.in-Err-turn.fault c.run_fault-in-Err-turn.result (g.P.Patterns.refusals c.run_rest.new.pats) c.lives-2.result.now c.run_fault-in-Err-turn.ensures all
     (c.in_ok-due.ensures.kept ∙ c.in_ok-run.ensures.kept ∙ c.in_default.ensures.kept) (c.lives-2.ensures ∙ on.kept.keeps.lives) c.in-Err-turn.ensures.why part offset e in
-    (why.0 ∙ c.part-2.ensures, why.1)
+    (why.0 ∙ c.part-in-Err-turn.ensures, why.1)
 
 pub returns-in-Err-turn-clause-quiet : goal.returns-in-Err-turn-clause-quiet
 returns-in-Err-turn-clause-quiet g c = λ tells.
@@ -73,17 +74,17 @@ returns-in-Err-turn-clause-quiet g c = λ tells.
 
 pub returns-in-Err-turn-clause-cause : goal.returns-in-Err-turn-clause-cause
 returns-in-Err-turn-clause-cause g c =
-    cause_other _ _ c.run_fault-2.result (omega (arith, c.begin_run.ensures.cause.later, c.run_rest.ensures.cause.later))
-    (λ disk. run_no_disk c.part-2.result 0 c.in-Err-turn.fault (sym c.run_fault-2.ensures ∙ disk))
+    cause_other _ _ c.run_fault-in-Err-turn.result (omega (arith, c.begin_run.ensures.cause.later, c.run_rest.ensures.cause.later))
+    (λ disk. run_no_disk c.part-in-Err-turn.result 0 c.in-Err-turn.fault (sym c.run_fault-in-Err-turn.ensures ∙ disk))
 
 -- ---- there are too many transitions
 
-pub returns-then-none-clause-quiet : goal.returns-then-none-clause-quiet
-returns-then-none-clause-quiet g c = λ tells.
+pub returns-then-is_none-clause-quiet : goal.returns-then-is_none-clause-quiet
+returns-then-is_none-clause-quiet g c = λ tells.
     quiet_then g.D.Disk.seen g.D.Disk.moment g.D.Disk.may_leave g.D.Disk.left_since _ _ _ (c.begin_run.ensures.quiet tells) (c.run_rest.ensures.quiet tells)
 
-pub returns-then-none-clause-cause : goal.returns-then-none-clause-cause
-returns-then-none-clause-cause g c = cause_other _ _ _ (omega (arith, c.begin_run.ensures.cause.later, c.run_rest.ensures.cause.later)) (λ e. absurd cc)
+pub returns-then-is_none-clause-cause : goal.returns-then-is_none-clause-cause
+returns-then-is_none-clause-cause g c = cause_other _ _ _ (omega (arith, c.begin_run.ensures.cause.later, c.run_rest.ensures.cause.later)) (λ e. absurd cc)
 
 -- ---- all have run
 
