@@ -39,9 +39,9 @@ module _ {N P S : Type 0} (g : Ghosts N P S) (planned : Planned P) (rs : List Re
       due_next g planned rs good.tasks good.consistent 1 r due h again (omega (arith, count, few))
 
   -- and where they are, an engine is made
-  pub made_behind : (seen : Image) (images : Image → Type 0) (store : StoreState) → IsOnBehind rs due seen images store
-      → IsEngineBehind g planned rs seen images (record { store = store; run = r; stored = [] })
-  made_behind seen images store b = record {
+  pub made_behind : (seen : Image) (images : Image → Type 0) (store : StoreState) (stored : List Transition) → IsOnBehind rs due seen images store
+      → IsEngineBehind g planned rs seen images (record { store = store; run = r; stored = stored })
+  made_behind seen images store stored b = record {
     records = b.records;
     more = due;
     added = b.added;
