@@ -1,5 +1,5 @@
 -- What the faults of a store and of its lives are for an engine.
-use Rattle.std.proofs.Common.{◌≡◌, ◌⊎◌, inl, inr, ℕ, ◌+◌, ◌-◌, ◌^◌, ◌≤◌, Err, Ok, List, min, refl, sym, ap, subst, ◌∙◌, arith}
+use Rattle.std.proofs.Common.{◌≡◌, inl, inr, ℕ, ◌+◌, ◌-◌, ◌^◌, ◌≤◌, Err, Ok, List, min, refl, sym, ap, subst, ◌∙◌, arith}
 use Rattle.std.specs.Prelude.{IsErrOf, Result}
 use Rattle.kap_base.specs.Words.{HasRisen}
 use Rattle.kap_io.specs.declared.disk.Part.{Part}

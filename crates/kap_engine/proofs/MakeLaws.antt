@@ -1,5 +1,5 @@
 -- What is made of a right store.
-use Rattle.std.proofs.Common.{◌≡◌, ℕ, ◌+◌, ◌<◌, ◌^◌, inl, inr, List, [], ◌∷◌, ◌++◌, length, map, refl, sym, ap, subst, ◌∙◌, append-nil, length-append, arith}
+use Rattle.std.proofs.Common.{◌≡◌, ℕ, ◌+◌, ◌<◌, ◌^◌, inl, inr, List, [], ◌∷◌, ◌++◌, length, map, refl, sym, ap, subst, ◌∙◌, length-append, arith}
 use Rattle.std.specs.Prelude.{Err, IsErrOf, IsTrue}
 use Rattle.kap_io.specs.Disk.{Image}
 use Rattle.kap_io.specs.Moments.{Moments, Quiet, then_run, weaker}
@@ -18,7 +18,7 @@ use Rattle.topic_store.specs.declared.fault.StoreFault.{StoreFault}
 use Rattle.topic_store.specs.declared.fault.StoreFault.TheVariants as stores
 use Rattle.engine_runs.specs.Running.{RunValue}
 use Rattle.kap_engine.specs.Adding.{IsOnBehind, stands_with_some}
-use Rattle.kap_engine.specs.Engines.{EngineValue, IsEngineBehind}
+use Rattle.kap_engine.specs.Engines.{IsEngineBehind}
 use Rattle.kap_engine.specs.Faults.{store_fault}
 use Rattle.kap_engine.specs.Good.{IsFull, IsGood, stays_or_good}
 use Rattle.kap_engine.specs.Opening.{HasRunAll}

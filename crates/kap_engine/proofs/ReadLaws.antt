@@ -1,5 +1,5 @@
 -- The lives of a store run on its points, piece by piece.
-use Rattle.std.proofs.Common.{◌≡◌, ℕ, zero, suc, List, [], ◌∷◌, ◌++◌, length, drop, refl, sym, ap, subst, ◌∙◌, append-nil, append_assoc}
+use Rattle.std.proofs.Common.{◌≡◌, ℕ, suc, List, [], ◌∷◌, ◌++◌, length, drop, refl, sym, ap, subst, ◌∙◌, append-nil, append_assoc}
 use Rattle.std.specs.Prelude.{take}
 use Rattle.std.proofs.lemmas.List.{drop_at, take-append-drop}
 use Rattle.kap_base.specs.Points.{PointValue}

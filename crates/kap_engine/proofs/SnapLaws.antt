@@ -1,6 +1,6 @@
 -- The last snapshot of a store: what is kept of it, and that it stays the last one where transitions are added.
-use Rattle.std.proofs.Common.{◌≡◌, ℕ, ◌+◌, Bool, true, false, ◌||◌, List, [], ◌∷◌, ◌++◌, length, map, refl, sym, ap, subst, ◌∙◌, append-nil, append_assoc, true≢false}
-use Rattle.std.specs.Prelude.{None, Option, Some, option_map, unwrap_or}
+use Rattle.std.proofs.Common.{◌≡◌, ℕ, ◌+◌, Bool, true, false, ◌||◌, List, [], ◌∷◌, ◌++◌, map, refl, sym, ap, subst, ◌∙◌, append-nil, append_assoc, true≢false}
+use Rattle.std.specs.Prelude.{Option, Some, option_map, unwrap_or}
 use Rattle.std.specs.List.{list_any}
 use Rattle.store_records.specs.Held.{Held, MayFollow, after, nothing, open_from, transitions_in}
 use Rattle.store_records.specs.Histories.{FollowFrom, Follow, end_from, end_of, first_gate, held, held_from, next_gate}

@@ -1,7 +1,6 @@
 -- Why the lives of a store don't run.
-use Rattle.std.proofs.Common.{◌≡◌, ◌⊎◌, inl, inr, ℕ, ◌<◌, Bool, true, false, ◌-◌, if◌then◌else◌, List, [], ◌∷◌, ◌++◌, map, None, Option, refl, sym, ap, subst, ◌∙◌, arith}
-use Rattle.std.specs.Prelude.{Contains}
-use Rattle.std.specs.List.{AllByRecursion as Each, AllZip, list_any}
+use Rattle.std.proofs.Common.{◌≡◌, inl, inr, ℕ, ◌<◌, Bool, true, false, ◌-◌, if◌then◌else◌, List, [], ◌∷◌, ◌++◌, map, None, Option, refl, sym, ap, subst, ◌∙◌, arith}
+use Rattle.std.specs.List.{AllZip, list_any}
 use Rattle.kap_base.specs.Points.{PointValue}
 use Rattle.kap_base.specs.Words.{HasRisen}
 use Rattle.barrier_snapshot.specs.Captures.{IsCapture}
@@ -25,7 +24,7 @@ use Rattle.tick_compile.specs.declared.script_fault.ScriptFault.{ScriptFault}
 use Rattle.tick_compile.specs.declared.script_fault.ScriptFault.TheVariants as scripts
 use Rattle.tick_compile.specs.declared.tasks.Task.{Task}
 use Rattle.topic_store.specs.Snapshots.{LastSnap, is_snap}
-use Rattle.engine_runs.specs.Faults.{IsRefused, IsRefusedOne, IsWhyOne}
+use Rattle.engine_runs.specs.Faults.{IsRefused, IsRefusedOne}
 use Rattle.engine_runs.specs.Scripts.{AreTasksOf, graphs_from, node_specs}
 use Rattle.engine_runs.specs.Spans.{numbers_from, picked}
 use Rattle.kap_engine.specs.Asking.{AreScripts, IsDefinedAt, IsFirstRefused, IsScript}
@@ -112,15 +111,17 @@ module _ {N P S : Type 0} (g : Ghosts N P S) where
         → ((tasks : List Task) (open_there : List Bool) → AreTasksOf lives tasks → numbers ≡ picked open_there (numbers_from 1 lives)
         → (holds : List S) × IsCapture g.fits g.spell (node_specs (picked open_there (graphs_from planned 1 lives tasks))) holds states)
         → HasStates g planned rs
-    fits_of rs s lives numbers states same numbers_are states_are fits = inr (s, λ tasks are.
-        let open_there = map is_open (held s.before).lives in
-        let there : numbers ≡ picked open_there (numbers_from 1 lives) = numbers_are ∙ sym (open_numbers rs s) ∙ ap (λ (ls : List Life). picked open_there (numbers_from 1 ls)) (sym same) in
-        let got = fits tasks open_there (subst (λ (ls : List Life). AreTasksOf ls tasks) (sym same) are) there in
-        (
-          got.0,
-          subst (λ (b : List ℕ). IsCapture g.fits g.spell (node_specs (picked open_there (graphs_from planned 1 (held rs).lives tasks))) got.0 b) states_are
-          (subst (λ (ls : List Life). IsCapture g.fits g.spell (node_specs (picked open_there (graphs_from planned 1 ls tasks))) got.0 states) same got.1),
-        ))
+    fits_of rs s lives numbers states same numbers_are states_are fits = inr (
+      s,
+      λ tasks are.
+          let open_there = map is_open (held s.before).lives in
+          let there : numbers ≡ picked open_there (numbers_from 1 lives) = numbers_are ∙ sym (open_numbers rs s) ∙ ap (λ (ls : List Life). picked open_there (numbers_from 1 ls)) (sym same) in
+          let got = fits tasks open_there (subst (λ (ls : List Life). AreTasksOf ls tasks) (sym same) are) there in (
+            got.0,
+            subst (λ (b : List ℕ). IsCapture g.fits g.spell (node_specs (picked open_there (graphs_from planned 1 (held rs).lives tasks))) got.0 b) states_are
+                (subst (λ (ls : List Life). IsCapture g.fits g.spell (node_specs (picked open_there (graphs_from planned 1 ls tasks))) got.0 states) same got.1),
+          ),
+    )
 
     -- or they are none of these
     pub others_of : (rs : List Rec) (s : LastSnap rs) (lives : List Life) (numbers states : List ℕ) (gate : ℕ) → lives ≡ (held rs).lives → numbers ≡ open_from 1 (held s.before).lives → states ≡ s.states → gate ≡ end_of s.before

@@ -1,9 +1,8 @@
-use Rattle.std.proofs.Common.{◌≡◌, ◌≤◌, ℕ, Bool, List, Err, Ok, sym, ap, subst, ◌∙◌, arith}
+use Rattle.std.proofs.Common.{◌≡◌, ℕ, List, Err, Ok, sym, ap, subst, ◌∙◌, arith}
 use Rattle.std.specs.Prelude.{Option}
 use Rattle.std.proofs.lemmas.Result.{err_from_is_err_and}
 use Rattle.kap_io.specs.Moments.{quiet_then}
 use Rattle.store_records.specs.Histories.{held}
-use Rattle.store_records.specs.declared.rec.Rec.{Rec}
 use Rattle.topic_store.specs.Behind.{TopicsOrNot}
 use Rattle.topic_store.specs.Snapshots.{SnapOrNot}
 use Rattle.topic_store.proofs.Quietly.{on_quietly}

@@ -1,9 +1,8 @@
-use Rattle.std.proofs.Common.{◌≡◌, ℕ, false, length, Err, Ok, refl, sym, ◌∙◌, arith}
+use Rattle.std.proofs.Common.{◌≡◌, false, length, Err, Ok, refl, sym, ◌∙◌, arith}
 use Rattle.std.specs.Prelude.{Result, is_err}
 use Rattle.std.proofs.lemmas.Bool.Decides.{nat_tests}
 use Rattle.std.proofs.lemmas.Result.{err_from_is_err_and}
 use Rattle.kap_io.specs.Moments.{quiet_start, quiet_then}
-use Rattle.store_records.specs.Histories.{held}
 use Rattle.topic_store.specs.Points.{GivesOrNot}
 use Rattle.topic_store.proofs.Quietly.{on_quietly}
 use Rattle.engine_runs.specs.declared.fault.RunFault.{RunFault}

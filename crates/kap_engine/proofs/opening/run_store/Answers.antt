@@ -1,4 +1,4 @@
-use Rattle.std.proofs.Common.{ℕ, Err, sym, ap, ◌∙◌, arith}
+use Rattle.std.proofs.Common.{Err, sym, ap, ◌∙◌, arith}
 use Rattle.std.proofs.lemmas.Result.{err_from_is_err_and}
 use Rattle.kap_io.specs.Moments.{quiet_then}
 use Rattle.store_records.specs.Histories.{held}

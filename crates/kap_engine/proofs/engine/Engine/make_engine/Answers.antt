@@ -1,14 +1,11 @@
-use Rattle.std.proofs.Common.{◌≡◌, ◌≤◌, ◌++◌, ℕ, [], List, Err, Ok, refl, sym, ap, subst, ◌∙◌, arith}
+use Rattle.std.proofs.Common.{List, Err, sym, ap, ◌∙◌, arith}
 use Rattle.std.proofs.lemmas.Result.{err_from_is_err_and}
-use Rattle.kap_io.specs.Disk.{Image}
 use Rattle.kap_io.specs.Moments.{quiet_then}
 use Rattle.store_records.specs.declared.rec.Rec.{Rec}
-use Rattle.topic_core.specs.declared.transition.Transition.{Transition}
 use Rattle.topic_store.specs.Stores.{IsOn, StoreState}
 use Rattle.topic_store.specs.declared.fault.StoreFault.{StoreFault}
 use Rattle.topic_store.proofs.Found.{seen_stands}
 use Rattle.topic_store.proofs.Quietly.{on_quietly}
-use Rattle.kap_engine.specs.Engines.{IsEngineBehind}
 use Rattle.kap_engine.specs.Faults.{no_lives, no_store}
 use Rattle.kap_engine.specs.declared.fault.EngineFault.{EngineFault}
 use Rattle.kap_engine.specs.declared.fault.EngineFault.TheVariants.{NotStore}
