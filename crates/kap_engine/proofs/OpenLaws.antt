@@ -36,7 +36,7 @@ use Rattle.engine_runs.specs.Whole.{IsConsistent, due_of, events_on}
 use Rattle.engine_runs.proofs.HeldLaws.{held_later, held_points}
 use Rattle.engine_runs.proofs.OpenLaws.{courses_later, effects_later, effects_on, numbers_later, spans_later}
 use Rattle.kap_engine.specs.Good.{graphs_in}
-use Rattle.kap_engine.specs.Opening.{HasBegun, HasRunAll, missing}
+use Rattle.kap_engine.specs.Opening.{HasBegun, HasRunAll}
 use Rattle.kap_engine.proofs.PassLaws.{each_to}
 use Rattle.kap_engine.proofs.SnapLaws.{held_trans, may_at}
 use Rattle.kap_engine.proofs.StoredLaws.{times_first, times_stored}
