@@ -1,6 +1,5 @@
 -- Transitions that are added to a store.
-use Rattle.std.specs.Prelude.{◌≡◌, ℕ, ◌-◌, ◌≤◌, List, [], ◌∷◌, ◌++◌, length, map, take}
-use Rattle.std.specs.List.{AllByRecursion as Each}
+use Rattle.std.specs.Prelude.{◌≡◌, ◌⊎◌, ⊤, ℕ, ◌-◌, ◌<◌, ◌≤◌, List, [], ◌∷◌, ◌++◌, length, map, take}
 use Rattle.kap_io.specs.Disk.{Image}
 use Rattle.store_records.specs.Histories.{held}
 use Rattle.store_records.specs.Records.{spell_record}
@@ -14,9 +13,25 @@ use Rattle.kap_engine.specs.declared.TheConstants.{PIECE_LIMIT}
 abbrev pub body_len : List Transition → ℕ
 body_len ts = length (spell_record (kinds.Trans ts))
 
--- Without the last of them it doesn't pass the limit, so the record is closed as soon as it does.
+-- with these it passes the limit
+abbrev pub IsOver : List Transition → Type 0
+IsOver piece = PIECE_LIMIT < body_len piece
+
+-- without the last of these it doesn't
 abbrev pub IsClosed : List Transition → Type 0
 IsClosed piece = body_len (take (length piece - 1) piece) ≤ PIECE_LIMIT
+
+-- The record of the first of these has some, and is closed as soon as it passes the limit: it does, unless it is the
+-- last record.
+pub record IsPiece (piece : List Transition) (behind : List (List Transition)) : Type 0 where
+  pub some : 0 < length piece
+  pub closed : IsClosed piece
+  pub over : IsOver piece ⊎ (behind ≡ [])
+
+-- and so of each
+abbrev pub ArePieces : List (List Transition) → Type 0
+ArePieces [] = ⊤
+ArePieces (piece ∷ behind) = IsPiece piece behind × ArePieces behind
 
 -- the transitions of records, one behind the other
 abbrev pub joined : List (List Transition) → List Transition
@@ -28,7 +43,7 @@ pub record HasAdded (rs : List Rec) (ts : List Transition) (rs' : List Rec) : Ty
   pub pieces : List (List Transition)
   pub records : rs' ≡ rs ++ map kinds.Trans pieces
   pub all : ts ≡ joined pieces
-  pub closed : Each IsClosed pieces
+  pub cut : ArePieces pieces
   pub tasks : (held rs').tasks ≡ (held rs).tasks
   pub lives : (held rs').lives ≡ (held rs).lives
   pub points : (held rs').points ≡ (held rs).points

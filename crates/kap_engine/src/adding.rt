@@ -1,6 +1,6 @@
 //! Adding transitions to a store.
 
-ghost use Rattle.std.specs.Prelude.{◌≡◌, ◌<◌, ◌≤◌, ℕ, [], false, length, take, List, IsErrOf, IsTrue, OnOk};
+ghost use Rattle.std.specs.Prelude.{◌≡◌, ◌<◌, ◌≤◌, ◌∷◌, ◌++◌, ℕ, [], false, length, take, List, IsErrOf, IsTrue, OnOk};
 ghost use Rattle.kap_base.specs.Words.{HasRisen};
 ghost use Rattle.kap_io.specs.Moments.{Moments};
 ghost use Rattle.kap_io.specs.declared.disk.Part.{Part};
@@ -10,8 +10,7 @@ ghost use Rattle.store_records.specs.Histories.{held};
 ghost use Rattle.store_records.specs.declared.rec.Rec.{Rec};
 ghost use Rattle.topic_store.specs.Stores.{IsOn};
 ghost use Rattle.topic_store.specs.declared.fault.StoreFault.TheVariants.{DiskFault, NotStore};
-ghost use Rattle.kap_engine.specs.Adding.{IsClosed, IsOnBehind, body_len, stands_with_some};
-ghost use Rattle.kap_engine.specs.declared.TheConstants.{PIECE_LIMIT};
+ghost use Rattle.kap_engine.specs.Adding.{IsClosed, IsOnBehind, IsOver, stands_with_some};
 
 use crate::PIECE_LIMIT;
 use kap_io::Disk;
@@ -25,8 +24,7 @@ fn piece_len(transitions: &[Transition]) -> usize
     ensures some { 0 < length transitions.now → 0 < result }
     ensures within { result ≤ length transitions.now }
     ensures closed { IsClosed (take result transitions.now) }
-    ensures full { result < length transitions.now
-        → PIECE_LIMIT < body_len (take result transitions.now) }
+    ensures over { result < length transitions.now → IsOver (take result transitions.now) }
 {
     let mut size = 5_u64;
     let mut count = 0_usize;
@@ -49,11 +47,12 @@ fn add_piece<D: Disk>(
     requires usable { store.old.log.spent ≡ false }
     ensures added { IsTrue D.tells → (rs : List Rec)
         → IsOn rs (D.seen disk.old) (D.may_leave disk.old) store.old
-        → IsTrue (are_next (held rs).transitions piece) → IsClosed piece
-        → OnOk result (IsOnBehind rs piece (D.seen disk.new) (D.may_leave disk.new) store.new) }
+        → IsTrue (are_next (held rs).transitions piece)
+        → OnOk result (IsOn (rs ++ Rec.Trans piece ∷ [])
+        (D.seen disk.new) (D.may_leave disk.new) store.new) }
     ensures any_moment { IsTrue D.tells → (rs : List Rec)
         → IsOn rs (D.seen disk.old) (D.may_leave disk.old) store.old
-        → IsTrue (are_next (held rs).transitions piece) → IsClosed piece
+        → IsTrue (are_next (held rs).transitions piece) → 0 < length piece → IsClosed piece
         → Moments D.moment D.may_leave D.left_since disk.old disk.new
         (stands_with_some rs piece) }
     ensures usable { OnOk result (store.new.log.spent ≡ false) }

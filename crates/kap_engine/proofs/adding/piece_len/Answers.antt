@@ -27,8 +27,8 @@ counting-preserved c =
       low = low;
     }
 
-pub returns-then-size-gt-PIECE_LIMIT-clause-full : goal.returns-then-size-gt-PIECE_LIMIT-clause-full
-returns-then-size-gt-PIECE_LIMIT-clause-full c = λ more.
+pub returns-then-size-gt-PIECE_LIMIT-clause-over : goal.returns-then-size-gt-PIECE_LIMIT-clause-over
+returns-then-size-gt-PIECE_LIMIT-clause-over c = λ more.
     let ts = c.args.transitions.now in
     let n = c.counting.count in
     let t = c.in-Some.transition.now in
