@@ -1,5 +1,5 @@
 -- The last snapshot of a store: what is kept of it, and that it stays the last one where transitions are added.
-use Rattle.std.proofs.Common.{◌≡◌, ℕ, ◌+◌, Bool, true, false, ◌||◌, List, [], ◌∷◌, ◌++◌, map, refl, sym, ap, subst, ◌∙◌, append-nil, append_assoc, true≢false}
+use Rattle.std.proofs.Common.{◌≡◌, ℕ, Bool, true, false, ◌||◌, List, [], ◌∷◌, ◌++◌, map, refl, sym, ap, subst, ◌∙◌, append-nil, append_assoc, true≢false}
 use Rattle.std.specs.Prelude.{Option, Some, option_map, unwrap_or}
 use Rattle.std.specs.List.{list_any}
 use Rattle.store_records.specs.Held.{Held, MayFollow, after, nothing, open_from, transitions_in}
