@@ -94,9 +94,6 @@ first-same x y xs ys e = cc
 rest-same : (x y : Rec) (xs ys : List Rec) → x ∷ xs ≡ y ∷ ys → xs ≡ ys
 rest-same x y xs ys e = cc
 
-none-such : (x : Rec) (xs : List Rec) → x ∷ xs ≡ [] → ⊥
-none-such x xs e = absurd cc
-
 is-behind : (rs more before : List Rec) (points trans : ℕ) (states : List ℕ) (behind : List Rec) → list_any is_snap more ≡ false → rs ++ more ≡ before ++ kinds.Snap points trans states ∷ behind → list_any is_snap behind ≡ false
     → IsBehind rs before points trans states
 is-behind [] more before points trans states behind none split none_behind =
