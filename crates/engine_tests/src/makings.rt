@@ -11,7 +11,11 @@ fn missing_transitions_are_stored_once(rt: HostRuntime) -> Result<(), Fail> {
     let alloc = rt.alloc();
     let mut disk = empty_store(&rt)?;
     add(&rt, &mut disk, task(alloc, "a", ALERT))?;
-    add(&rt, &mut disk, batch(alloc, &["m x=1i 1", "m x=6i 2", "m x=9i 3", "m x=1i 4"]))?;
+    add(
+        &rt,
+        &mut disk,
+        batch(alloc, &["m x=1i 1", "m x=6i 2", "m x=9i 3", "m x=1i 4"]),
+    )?;
     let due: Result<Opened, EngineFault> = Ok(Opened {
         points: 4,
         transitions: 3,

@@ -1,14 +1,9 @@
 //! Stores over which no engine is made.
 
-ghost use Rattle.std.specs.Prelude.{IfOk};
-ghost use Rattle.store_records.specs.States.{AreStates};
-
 use crate::disks::{ALERT, add, add_snap, batch, empty_store, idle_task, task};
-use crate::openings::{Opened, open};
-use kap_base::{Bytes, NoMemory};
+use crate::openings::{Opened, captured, open};
 use kap_engine::EngineFault;
 use kap_io::Part;
-use std::alloc::Global;
 use std::test::Fail;
 
 /// The gate of the record behind the one that defines a task with an id of one byte and `ALERT`. It is behind
@@ -36,22 +31,21 @@ fn the_first_bad_script_is_told(rt: HostRuntime) -> Result<(), Fail> {
     Ok(())
 }
 
-/// The states of no cells: their number in 4 bytes.
-fn no_states(alloc: Global) -> Result<Bytes, NoMemory>
-    ensures { IfOk result AreStates }
-{
-    let mut states = Bytes::new(alloc);
-    states.append(&[0, 0, 0, 0])?;
-    Ok(states)
-}
-
+/// The states of no lives, in a store of one.
 #[test]
 fn states_of_other_lives_are_refused(rt: HostRuntime) -> Result<(), Fail> {
     let alloc = rt.alloc();
     let mut disk = empty_store(&rt)?;
     add(&rt, &mut disk, task(alloc, "a", ALERT))?;
-    add(&rt, &mut disk, batch(alloc, &["m x=1i 1", "m x=1i 2", "m x=1i 3"]))?;
-    add_snap(&rt, &mut disk, 3, 0, no_states(alloc)?)?;
+    add(
+        &rt,
+        &mut disk,
+        batch(alloc, &["m x=1i 1", "m x=1i 2", "m x=1i 3"]),
+    )?;
+    match captured(&rt, alloc, &mut empty_store(&rt)?, 0) {
+        Ok(Some(states)) => add_snap(&rt, &mut disk, 3, 0, states)?,
+        _ => assert!(rt; false),
+    }
     let due: Result<Opened, EngineFault> = Err(EngineFault::NotStore {
         part: Part::Left,
         offset: THIRD,

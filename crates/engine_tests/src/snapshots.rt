@@ -32,7 +32,11 @@ fn lives_go_on_from_their_states(rt: HostRuntime) -> Result<(), Fail> {
     let alloc = rt.alloc();
     let mut disk = empty_store(&rt)?;
     add(&rt, &mut disk, task(alloc, "a", ALERT))?;
-    add(&rt, &mut disk, batch(alloc, &["m x=1i 1", "m x=6i 2", "m x=9i 3"]))?;
+    add(
+        &rt,
+        &mut disk,
+        batch(alloc, &["m x=1i 1", "m x=6i 2", "m x=9i 3"]),
+    )?;
     add_captured(&rt, &mut disk, 3, 2)?;
     add(&rt, &mut disk, batch(alloc, &["m x=1i 4"]))?;
     let due: Result<Opened, EngineFault> = Ok(Opened {
