@@ -1,5 +1,5 @@
-//! Tests of engines that are made: what an opening stores and leaves, why it refuses, and that it goes on from
-//! a snapshot.
+//! Tests of engines that are made: what an opening stores and leaves, why it refuses, and that it goes on
+//! from a snapshot.
 #![tactic(auto)]
 
 #[cfg(test)]
