@@ -1,70 +1,132 @@
--- What stands after `tasks`.
-use Rattle.std.proofs.Common.{◌≡◌, ℕ, List, Option, inl, inr, refl, ◌∙◌, ap, subst, Err}
-use Rattle.std.specs.Io.KnownBytes.{Appends}
+-- What stands after a list of what a store holds.
+use Rattle.std.proofs.Common.{◌≡◌, ℕ, List, [], ◌∷◌, ◌++◌, Option, None, Ok, Err, inl, inr, refl, sym, ap, subst, ◌∙◌, arith}
+use Rattle.std.specs.Prelude.{IsErrOf, Result}
+use Rattle.std.specs.Io.KnownBytes.{Appends, Keeps}
+use Rattle.std.proofs.KnownBytes.{Appends-nil}
+use Rattle.kap_base.specs.Points.{PointValue}
+use Rattle.kap_base.specs.declared.items.Event.{Event}
 use Rattle.kap_io.specs.Disk.{Image}
 use Rattle.kap_io.specs.Pieces.{AppendsPrefix}
 use Rattle.kap_io.specs.declared.disk.Part.{Part}
+use Rattle.node_core.specs.declared.node.Node.{Ghosts}
+use Rattle.node_set.specs.Tasks.{Planned}
+use Rattle.store_records.specs.Held.{Held}
+use Rattle.store_records.specs.Histories.{held}
 use Rattle.store_records.specs.declared.rec.Rec.{Rec}
-use Rattle.topic_store.specs.Opening.{Finds}
+use Rattle.store_records.specs.declared.task.Life.{Life}
+use Rattle.store_records.specs.declared.task.StoredTask.{StoredTask}
+use Rattle.tick_compile.specs.Scripts.{Accepts}
+use Rattle.tick_compile.specs.declared.tasks.Task.{Task}
+use Rattle.topic_core.specs.Topics.{topics_after}
+use Rattle.topic_core.specs.declared.transition.Transition.{Transition}
 use Rattle.topic_store.specs.Stores.{IsNoStore, Stands}
-use Rattle.topic_store.specs.declared.fault.StoreFault.{StoreFault}
-use Rattle.topic_store.specs.declared.fault.StoreFault.TheVariants as stores
-use Rattle.topic_store.proofs.Apart.{no_store_apart, no_store_unique, stands_unique}
+use Rattle.topic_store.proofs.Adding.{image_stands}
+use Rattle.topic_store.proofs.Apart.{no_store_apart, no_store_unique}
+use Rattle.topic_store.proofs.Found.{seen_stands}
+use Rattle.engine_runs.specs.Scripts.{AreTasksOf, IsTaskOf}
+use Rattle.engine_runs.specs.Whole.{due_of}
+use Rattle.kap_engine.specs.Adding.{HasAdded}
+use Rattle.kap_engine.specs.Engines.{EngineValue, IsEngineBehind}
+use Rattle.kap_engine.specs.Faults.{IsAsked, IsNoGood}
+use Rattle.kap_engine.specs.Good.{IsGood, graphs_in}
+use Rattle.kap_engine.specs.declared.fault.EngineFault.{EngineFault}
+use Rattle.kap_engine.specs.declared.fault.EngineFault.TheVariants as engines
+use Rattle.store_lists.specs.Lists.{points_text, tasks_text, topics_text, transitions_text}
+use Rattle.store_lists.specs.Writing.{Lists}
+use Rattle.store_lists.specs.declared.fault.ListFault.{ListFault}
+use Rattle.store_lists.specs.declared.fault.ListFault.TheVariants as lists
 use Rattle.kap_server.specs.declared.status.Status.{Status}
 use Rattle.kap_server.specs.declared.status.Status.TheVariants as statuses
+use Rattle.kap_server.specs.declared.words.Listing.{Listing}
+use Rattle.kap_server.specs.declared.words.Listing.TheVariants.{Tasks, Topics, Alerts, Export}
 use Rattle.kap_server.specs.Command.{IsUnlessDiskFailed}
-use Rattle.kap_server.specs.Listing.{IsTextOf, Listed, ListsTasks, tasks_text}
-use Rattle.kap_server.specs.Statuses.{status_of_store}
+use Rattle.kap_server.specs.Listing.{LeavesFull, Shows, all_transitions, held_whole, list_text}
+use Rattle.kap_server.specs.Statuses.{status_of_engine, status_of_list}
 use Rattle.kap_server.proofs.RunLaws.{keeps_same}
 
--- ---- the opening
+none-written : (w : Option (List ℕ)) (text : List ℕ) → AppendsPrefix w w text
+none-written w text = (0, omega arith, Appends-nil w)
 
--- the status of a fault of the opening
-pub listed_fault : (told : Type 0) (files : Image) (fault : StoreFault) (w : Option (List ℕ)) → (told → Finds (IsTextOf files) files (Err fault))
-    → (fault ≡ stores.Long → ⊥) → Listed told (status_of_store fault) files w w
-listed_fault told files (stores.NotStore part offset) w found short = (found, keeps_same w)
-listed_fault told files stores.DiskFault w found short = keeps_same w
-listed_fault told files stores.Long w found short = absurd (short refl)
-listed_fault told files stores.NoMemory w found short = keeps_same w
+-- ---- what is listed
 
--- ---- what is answered
+-- lives have the tasks of their scripts, and no others
+tasks-same : (one : (refused : Option Refusal) (text : List ℕ) (a b : Task) → Accepts refused text a → Accepts refused text b → a ≡ b) (lives : List Life) (as bs : List Task) → AreTasksOf lives as → AreTasksOf lives bs → as ≡ bs
+tasks-same one [] [] [] a b = refl
+tasks-same one [] [] (t ∷ bs) a b = absurd b
+tasks-same one [] (t ∷ as) bs a b = absurd a
+tasks-same one (l ∷ lives) [] bs a b = absurd a
+tasks-same one (l ∷ lives) (t ∷ as) [] a b = absurd b
+tasks-same one (l ∷ lives) (t ∷ as) (u ∷ bs) a b =
+    ap (λ (x : Task). x ∷ as) (one None l.script t u a.0 b.0) ∙ ap (λ (l : List Task). u ∷ l) (tasks-same one lives as bs a.1 b.1)
 
-module _ (told : Type 0) (files : Image) (w v : Option (List ℕ)) where
-  -- the tasks of a store are those of its records
-  pub lists_tasks : (rs : List Rec) (result : Status) → told → Stands rs files → Listed told result files w v → ListsTasks rs result w v
-  lists_tasks rs statuses.Ok tells stands listed =
-      let found = listed tells in
-      subst (λ (l : List Rec). Appends w v (tasks_text l)) (stands_unique files found.0 rs found.1 stands) found.2
-  lists_tasks rs statuses.Usage tells stands listed = listed
-  lists_tasks rs (statuses.Script fault) tells stands listed = listed
-  lists_tasks rs (statuses.Line n fault) tells stands listed = listed
-  lists_tasks rs (statuses.Truncated n) tells stands listed = listed
-  lists_tasks rs (statuses.NotStore part offset) tells stands listed = no_store_apart files part offset rs (listed.0 tells) stands
-  lists_tasks rs statuses.Exists tells stands listed = listed
-  lists_tasks rs statuses.TooManyTasks tells stands listed = listed
-  lists_tasks rs statuses.TooLong tells stands listed = listed
-  lists_tasks rs statuses.NoMemory tells stands listed = listed
-  lists_tasks rs statuses.ReadFault tells stands listed = listed
-  lists_tasks rs statuses.WriteFault tells stands listed =
-      let found = listed tells in
-      subst (λ (l : List Rec). AppendsPrefix w v (tasks_text l)) (stands_unique files found.0 rs found.1 stands) found.2
-  lists_tasks rs statuses.DiskFault tells stands listed = listed
+-- the list is that of a store that holds as much
+list-same : (listing : Listing) (a b : Held) → a.tasks ≡ b.tasks → a.points ≡ b.points → a.transitions ≡ b.transitions → list_text listing a ≡ list_text listing b
+list-same Tasks a b tasks points transitions = ap tasks_text tasks
+list-same Topics a b tasks points transitions = ap (λ (ts : List Transition). topics_text (topics_after ts).levels) transitions
+list-same Alerts a b tasks points transitions = ap transitions_text transitions
+list-same Export a b tasks points transitions = ap points_text points
 
-  -- where the files stand for none, the place is told
-  pub tells_place : (part : Part) (offset : ℕ) (result : Status) → told → IsNoStore files part offset → Listed told result files w v
-      → IsUnlessDiskFailed result (statuses.NotStore part offset)
-  tells_place part offset statuses.Ok tells none listed = absurd (no_store_apart files part offset (listed tells).0 none (listed tells).1)
-  tells_place part offset statuses.Usage tells none listed = absurd listed
-  tells_place part offset (statuses.Script fault) tells none listed = absurd listed
-  tells_place part offset (statuses.Line n fault) tells none listed = absurd listed
-  tells_place part offset (statuses.Truncated n) tells none listed = absurd listed
-  tells_place part offset (statuses.NotStore there place) tells none listed =
-      let same = no_store_unique files there part place offset (listed.0 tells) none in
-      inl (ap (λ (p : Part). statuses.NotStore p place) same.0 ∙ ap (λ (n : ℕ). statuses.NotStore part n) same.1)
-  tells_place part offset statuses.Exists tells none listed = absurd listed
-  tells_place part offset statuses.TooManyTasks tells none listed = absurd listed
-  tells_place part offset statuses.TooLong tells none listed = absurd listed
-  tells_place part offset statuses.NoMemory tells none listed = inr (inl refl)
-  tells_place part offset statuses.ReadFault tells none listed = absurd listed
-  tells_place part offset statuses.WriteFault tells none listed = absurd (no_store_apart files part offset (listed tells).0 none (listed tells).1)
-  tells_place part offset statuses.DiskFault tells none listed = inr (inr refl)
+module _ {N P S : Type 0} (g : Ghosts N P S) (planned : Planned P) (one : (refused : Option Refusal) (text : List ℕ) (a b : Task) → Accepts refused text a → Accepts refused text b → a ≡ b)
+    (rs : List Rec) (good : IsGood g planned rs) (seen : Image) (images : Image → Type 0) (engine : EngineValue N) (made : IsEngineBehind g planned rs seen images engine) where
+  -- the engine's store holds all transitions that are due
+  all-there : all_transitions g planned rs good ≡ (held made.records).transitions
+  all-there =
+      let new = made.engine.full.good in
+      let same : good.tasks ≡ new.tasks = tasks-same one (held rs).lives good.tasks new.tasks good.are (subst (λ (ls : List Life). AreTasksOf ls new.tasks) made.added.lives new.are) in
+      ap (λ (ts : List Task). due_of g.answer (graphs_in g planned rs ts) (held rs)) same
+      ∙ sym (due-same new.tasks)
+      ∙ made.engine.full.all
+    where
+      due-same : (tasks : List Task) → due_of g.answer (graphs_in g planned made.records tasks) (held made.records) ≡ due_of g.answer (graphs_in g planned rs tasks) (held rs)
+      due-same tasks =
+          ap (λ (ls : List Life). due_by ls (held made.records).points) made.added.lives
+          ∙ ap (λ (ps : List PointValue). due_by (held rs).lives ps) made.added.points
+        where
+          due_by : List Life → List PointValue → List Transition
+          due_by ls ps = Trans (life_events g planned ls tasks ps)
+
+  -- so its list is that of the right store, with all of them
+  pub list_whole : (listing : Listing) → list_text listing (held_whole g planned rs good) ≡ list_text listing (held made.records)
+  list_whole listing = list-same listing (held_whole g planned rs good) (held made.records) (sym made.added.tasks) (sym made.added.points) all-there
+
+  -- and it is left on the disk, and in each image
+  pub leaves_full : LeavesFull g planned rs seen images
+  leaves_full = record {
+    records = made.records;
+    more = made.more;
+    added = made.added;
+    full = made.engine.full;
+    reads = seen_stands seen images made.records engine.store made.engine.on;
+    leaves = image_stands made.records seen images engine.store made.engine.on;
+  }
+
+-- ---- by the status
+
+-- the list was written, or what its fault is
+pub shows_done : {T : Type 0} (done : T) (text : List ℕ) (w v : Option (List ℕ)) → Lists (Ok done) text w v → Shows text statuses.Ok w v
+shows_done done text w v h = h
+
+pub shows_fault : {T : Type 0} (fault : ListFault) (text : List ℕ) (w v : Option (List ℕ)) → Lists {T = T} (Err fault) text w v → Shows text (status_of_list fault) w v
+shows_fault (lists.NotStore part offset) text w v h = absurd h
+shows_fault lists.DiskFault text w v h = h
+shows_fault lists.WriteFault text w v h = h
+shows_fault lists.NoMemory text w v h = h
+
+-- the store wasn't opened
+pub shows_none : (fault : EngineFault) (text : List ℕ) (w : Option (List ℕ)) → Shows text (status_of_engine fault) w w
+shows_none (engines.NotStore part offset) text w = keeps_same w
+shows_none engines.DiskFault text w = none-written w text
+shows_none engines.NoMemory text w = none-written w text
+
+-- the place that a status tells is that of the opening's fault
+pub place_of_opening : {T : Type 0} (fault : EngineFault) (part : Part) (offset : ℕ) → status_of_engine fault ≡ statuses.NotStore part offset → IsErrOf {T = T} (Err fault) (engines.NotStore part offset)
+place_of_opening (engines.NotStore there at) part offset e = search cc
+place_of_opening engines.DiskFault part offset e = absurd cc
+place_of_opening engines.NoMemory part offset e = absurd cc
+
+-- a list that was written tells no place
+pub no_place : {T : Type 0} (fault : ListFault) (part : Part) (offset : ℕ) (text : List ℕ) (w v : Option (List ℕ)) → Lists {T = T} (Err fault) text w v → status_of_list fault ≡ statuses.NotStore part offset → ⊥
+no_place (lists.NotStore there at) part offset text w v h e = h
+no_place lists.DiskFault part offset text w v h e = absurd cc
+no_place lists.WriteFault part offset text w v h e = absurd cc
+no_place lists.NoMemory part offset text w v h e = absurd cc

@@ -1,4 +1,4 @@
-use Rattle.std.proofs.Common.{ap, subst, sym, ◌∙◌}
+use Rattle.std.proofs.Common.{subst, sym}
 use Rattle.std.specs.List.{AllByRecursion as Each}
 use Rattle.task_run.specs.Plans.{IsPlan}
 use Rattle.engine_runs.proofs.PlaceLaws.{each_more}
