@@ -7,10 +7,6 @@ use Rattle.std.proofs.lemmas.List.{take-append-le}
 use Rattle.std.proofs.Math.Seq.{take-append-add}
 use Rattle.kap_base.specs.Words.{HasRisen}
 use Rattle.kap_io.specs.Pieces.{AppendsPrefix}
-use Rattle.topic_store.specs.Pieces.{PieceOrNot}
-use Rattle.topic_store.specs.declared.fault.StoreFault.{StoreFault}
-use Rattle.topic_store.specs.declared.fault.StoreFault.TheVariants as stores
-use Rattle.store_lists.specs.Faults.{list_fault}
 use Rattle.store_lists.specs.Writing.{HasWritten, Lists, PutsLines}
 use Rattle.store_lists.specs.declared.fault.ListFault.{ListFault}
 use Rattle.store_lists.specs.declared.fault.ListFault.TheVariants.{NotStore, DiskFault, WriteFault, NoMemory}
@@ -41,37 +37,57 @@ written_cut text due lines more w v x a p =
     subst (AppendsPrefix w x) (ap (λ (l : List ℕ). a.front ++ l) (append_assoc due lines more) ∙ sym (append_assoc a.front due (lines ++ more)) ∙ ap (λ (l : List ℕ). l ++ (lines ++ more)) (sym a.split))
     (prefix-of w v x a.front (due ++ lines) more a.written p)
 
+-- a prefix of the rest that is due
+pub written_rest : (text due : List ℕ) (w v x : Option (List ℕ)) → HasWritten text due w v → AppendsPrefix v x due → AppendsPrefix w x text
+written_rest text due w v x a p =
+    subst (AppendsPrefix w x) (ap (λ (l : List ℕ). a.front ++ l) (append-nil due) ∙ sym a.split)
+    (prefix-of w v x a.front due [] a.written p)
+
 -- so far a prefix of it all
 pub written_prefix : (text due more : List ℕ) (w v : Option (List ℕ)) → HasWritten text due w v → AppendsPrefix w v (text ++ more)
-written_prefix text due more w v a =
-    written_cut text due [] more w v v a (0, omega arith, Appends-nil v)
+written_prefix text due more w v a = written_cut text due [] more w v v a (0, omega arith, Appends-nil v)
 
 -- the rest, to the end
 pub written_all : (text due : List ℕ) (w v x : Option (List ℕ)) → HasWritten text due w v → Appends v x due → Appends w x text
 written_all text due w v x a p = subst (Appends w x) (sym a.split) (Appends-trans w v x a.front due a.written p)
 
-written_rest : (text due : List ℕ) (w v x : Option (List ℕ)) → HasWritten text due w v → AppendsPrefix v x due → AppendsPrefix w x text
-written_rest text due w v x a p =
-    subst (AppendsPrefix w x) (ap (λ (l : List ℕ). a.front ++ l) (append-nil due) ∙ sym a.split)
-    (prefix-of w v x a.front due [] a.written p)
+-- ---- lines that are put behind a text, one by one
 
--- ---- by what is answered
+-- Of lines behind an old text those so far were put, and the rest are still to be put.
+pub record IsPutting (old all rest due : List ℕ) (w v : Option (List ℕ)) : Type 0 where
+  pub so_far : List ℕ
+  pub split : old ++ all ≡ so_far ++ rest
+  pub written : HasWritten so_far due w v
 
--- what is told of some lines behind those so far is told of them all
-pub puts_cut : {T U : Type 0} (fault : ListFault) (text due lines more old all due' due'' : List ℕ) (w v x : Option (List ℕ)) → HasWritten text due w v → PutsLines {T = T} (Err fault) lines due due' v x
-    → old ++ all ≡ text ++ (lines ++ more) → PutsLines {T = U} (Err fault) all old due'' w x
-puts_cut (NotStore part offset) text due lines more old all due' due'' w v x a p is = absurd p
-puts_cut DiskFault text due lines more old all due' due'' w v x a p is = absurd p
-puts_cut WriteFault text due lines more old all due' due'' w v x a p is = subst (AppendsPrefix w x) (sym is) (written_cut text due lines more w v x a p)
-puts_cut NoMemory text due lines more old all due' due'' w v x a p is = subst (AppendsPrefix w x) (sym is) (written_cut text due lines more w v x a p)
+pub putting_none : (old all : List ℕ) (w : Option (List ℕ)) → IsPutting old all all old w w
+putting_none old all w = record { so_far = old; split = refl; written = written_none old w }
 
--- and so of a whole list
-pub lists_cut : {T U : Type 0} (fault : ListFault) (text due lines more all due' : List ℕ) (w v x : Option (List ℕ)) → HasWritten text due w v → PutsLines {T = T} (Err fault) lines due due' v x
-    → all ≡ text ++ (lines ++ more) → Lists {T = U} (Err fault) all w x
-lists_cut (NotStore part offset) text due lines more all due' w v x a p is = absurd p
-lists_cut DiskFault text due lines more all due' w v x a p is = absurd p
-lists_cut WriteFault text due lines more all due' w v x a p is = subst (AppendsPrefix w x) (sym is) (written_cut text due lines more w v x a p)
-lists_cut NoMemory text due lines more all due' w v x a p is = subst (AppendsPrefix w x) (sym is) (written_cut text due lines more w v x a p)
+pub putting_more : (old all lines rest due due' : List ℕ) (w v x : Option (List ℕ)) → IsPutting old all (lines ++ rest) due w v → HasWritten (due ++ lines) due' v x → IsPutting old all rest due' w x
+putting_more old all lines rest due due' w v x p h = record {
+  so_far = p.so_far ++ lines;
+  split = p.split ∙ sym (append_assoc p.so_far lines rest);
+  written = written_then p.so_far due lines due' w v x p.written h;
+}
+
+pub putting_done : (old all due : List ℕ) (w v : Option (List ℕ)) → IsPutting old all [] due w v → HasWritten (old ++ all) due w v
+putting_done old all due w v p = subst (λ (l : List ℕ). HasWritten l due w v) (sym (p.split ∙ append-nil p.so_far)) p.written
+
+-- what is told of some lines is told of them all
+pub putting_cut : {T U : Type 0} (fault : ListFault) (old all lines rest due due' due'' : List ℕ) (w v x : Option (List ℕ)) → IsPutting old all (lines ++ rest) due w v → PutsLines {T = T} (Err fault) lines due due' v x
+    → PutsLines {T = U} (Err fault) all old due'' w x
+putting_cut (NotStore part offset) old all lines rest due due' due'' w v x p h = absurd h
+putting_cut DiskFault old all lines rest due due' due'' w v x p h = absurd h
+putting_cut WriteFault old all lines rest due due' due'' w v x p h = subst (AppendsPrefix w x) (sym p.split) (written_cut p.so_far due lines rest w v x p.written h)
+putting_cut NoMemory old all lines rest due due' due'' w v x p h = subst (AppendsPrefix w x) (sym p.split) (written_cut p.so_far due lines rest w v x p.written h)
+
+-- ---- a whole list
+
+-- a fault at lines that come behind none before is that of the list
+pub lists_cut : {T U : Type 0} (fault : ListFault) (all due' : List ℕ) (w v : Option (List ℕ)) → PutsLines {T = T} (Err fault) all [] due' w v → Lists {T = U} (Err fault) all w v
+lists_cut (NotStore part offset) all due' w v h = absurd h
+lists_cut DiskFault all due' w v h = absurd h
+lists_cut WriteFault all due' w v h = h
+lists_cut NoMemory all due' w v h = h
 
 -- the rest of a list, to its end
 pub lists_rest : {T : Type 0} (result : Result T ListFault) (text due : List ℕ) (w v x : Option (List ℕ)) → HasWritten text due w v → Lists result due v x → Lists result text w x
@@ -80,16 +96,6 @@ lists_rest (Err (NotStore part offset)) text due w v x a p = p
 lists_rest (Err DiskFault) text due w v x a p = written_rest text due w v x a p
 lists_rest (Err WriteFault) text due w v x a p = written_rest text due w v x a p
 lists_rest (Err NoMemory) text due w v x a p = written_rest text due w v x a p
-
--- where memory ran out or the disk failed in between
-pub lists_out : {T : Type 0} (text due more all : List ℕ) (w v : Option (List ℕ)) → HasWritten text due w v → all ≡ text ++ more → Lists {T = T} (Err NoMemory) all w v
-lists_out text due more all w v a is = subst (AppendsPrefix w v) (sym is) (written_prefix text due more w v a)
-
-pub lists_failed : {T U : Type 0} (piece : List U) (fault : StoreFault) (text due more all : List ℕ) (w v : Option (List ℕ)) → PieceOrNot piece (Err fault) → HasWritten text due w v → all ≡ text ++ more → Lists {T = T} (Err (list_fault fault)) all w v
-lists_failed piece (stores.NotStore part offset) text due more all w v none a is = absurd none
-lists_failed piece stores.DiskFault text due more all w v none a is = subst (AppendsPrefix w v) (sym is) (written_prefix text due more w v a)
-lists_failed piece stores.Long text due more all w v none a is = absurd none
-lists_failed piece stores.NoMemory text due more all w v none a is = subst (AppendsPrefix w v) (sym is) (written_prefix text due more w v a)
 
 -- ---- causes
 
