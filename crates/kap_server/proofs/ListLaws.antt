@@ -1,10 +1,7 @@
 -- What stands after a list of what a store holds.
-use Rattle.std.proofs.Common.{◌≡◌, ℕ, List, [], ◌∷◌, ◌++◌, Option, None, Ok, Err, inl, inr, refl, sym, ap, subst, ◌∙◌, arith}
-use Rattle.std.specs.Prelude.{IsErrOf, Result}
-use Rattle.std.specs.Io.KnownBytes.{Appends, Keeps}
+use Rattle.std.proofs.Common.{◌≡◌, ℕ, List, [], ◌∷◌, Option, None, Ok, Err, inl, inr, refl, sym, ap, subst, ◌∙◌, arith}
+use Rattle.std.specs.Prelude.{IsErrOf}
 use Rattle.std.proofs.KnownBytes.{Appends-nil}
-use Rattle.kap_base.specs.Points.{PointValue}
-use Rattle.kap_base.specs.declared.items.Event.{Event}
 use Rattle.kap_io.specs.Disk.{Image}
 use Rattle.kap_io.specs.Pieces.{AppendsPrefix}
 use Rattle.kap_io.specs.declared.disk.Part.{Part}
@@ -14,21 +11,20 @@ use Rattle.store_records.specs.Held.{Held}
 use Rattle.store_records.specs.Histories.{held}
 use Rattle.store_records.specs.declared.rec.Rec.{Rec}
 use Rattle.store_records.specs.declared.task.Life.{Life}
-use Rattle.store_records.specs.declared.task.StoredTask.{StoredTask}
 use Rattle.tick_compile.specs.Scripts.{Accepts}
 use Rattle.tick_compile.specs.declared.tasks.Task.{Task}
 use Rattle.topic_core.specs.Topics.{topics_after}
 use Rattle.topic_core.specs.declared.transition.Transition.{Transition}
-use Rattle.topic_store.specs.Stores.{IsNoStore, Stands}
+use Rattle.topic_store.specs.Stores.{IsNoStore}
 use Rattle.topic_store.proofs.Adding.{image_stands}
 use Rattle.topic_store.proofs.Apart.{no_store_apart, no_store_unique}
 use Rattle.topic_store.proofs.Found.{seen_stands}
-use Rattle.engine_runs.specs.Scripts.{AreTasksOf, IsTaskOf}
+use Rattle.engine_runs.specs.Scripts.{AreTasksOf}
 use Rattle.engine_runs.specs.Whole.{due_of}
-use Rattle.kap_engine.specs.Adding.{HasAdded}
 use Rattle.kap_engine.specs.Engines.{EngineValue, IsEngineBehind}
-use Rattle.kap_engine.specs.Faults.{IsAsked, IsNoGood}
+use Rattle.kap_engine.specs.Faults.{IsNoGood, no_lives, no_store}
 use Rattle.kap_engine.specs.Good.{IsGood, graphs_in}
+use Rattle.kap_engine.proofs.GoodLaws.{due_same}
 use Rattle.kap_engine.specs.declared.fault.EngineFault.{EngineFault}
 use Rattle.kap_engine.specs.declared.fault.EngineFault.TheVariants as engines
 use Rattle.store_lists.specs.Lists.{points_text, tasks_text, topics_text, transitions_text}
@@ -40,7 +36,7 @@ use Rattle.kap_server.specs.declared.status.Status.TheVariants as statuses
 use Rattle.kap_server.specs.declared.words.Listing.{Listing}
 use Rattle.kap_server.specs.declared.words.Listing.TheVariants.{Tasks, Topics, Alerts, Export}
 use Rattle.kap_server.specs.Command.{IsUnlessDiskFailed}
-use Rattle.kap_server.specs.Listing.{LeavesFull, Shows, all_transitions, held_whole, list_text}
+use Rattle.kap_server.specs.Listing.{LeavesFull, Opens, Shows, all_transitions, held_whole, list_text}
 use Rattle.kap_server.specs.Statuses.{status_of_engine, status_of_list}
 use Rattle.kap_server.proofs.RunLaws.{keeps_same}
 
@@ -74,16 +70,8 @@ module _ {N P S : Type 0} (g : Ghosts N P S) (planned : Planned P) (one : (refus
       let new = made.engine.full.good in
       let same : good.tasks ≡ new.tasks = tasks-same one (held rs).lives good.tasks new.tasks good.are (subst (λ (ls : List Life). AreTasksOf ls new.tasks) made.added.lives new.are) in
       ap (λ (ts : List Task). due_of g.answer (graphs_in g planned rs ts) (held rs)) same
-      ∙ sym (due-same new.tasks)
+      ∙ sym (due_same g planned rs made.records made.more new.tasks made.added)
       ∙ made.engine.full.all
-    where
-      due-same : (tasks : List Task) → due_of g.answer (graphs_in g planned made.records tasks) (held made.records) ≡ due_of g.answer (graphs_in g planned rs tasks) (held rs)
-      due-same tasks =
-          ap (λ (ls : List Life). due_by ls (held made.records).points) made.added.lives
-          ∙ ap (λ (ps : List PointValue). due_by (held rs).lives ps) made.added.points
-        where
-          due_by : List Life → List PointValue → List Transition
-          due_by ls ps = Trans (life_events g planned ls tasks ps)
 
   -- so its list is that of the right store, with all of them
   pub list_whole : (listing : Listing) → list_text listing (held_whole g planned rs good) ≡ list_text listing (held made.records)
@@ -130,3 +118,26 @@ no_place (lists.NotStore there at) part offset text w v h e = h
 no_place lists.DiskFault part offset text w v h e = absurd cc
 no_place lists.WriteFault part offset text w v h e = absurd cc
 no_place lists.NoMemory part offset text w v h e = absurd cc
+
+-- where the files stand for no store, the place is told
+pub tells_place : {N P S : Type 0} (g : Ghosts N P S) (planned : Planned P) (before after : ℕ) (refused : List ℕ) (files : Image) (part : Part) (offset : ℕ) (result : Status)
+    → IsNoStore files part offset → Opens g planned before after refused files result → IsUnlessDiskFailed result (statuses.NotStore part offset)
+tells_place g planned before after refused files part offset statuses.Ok none h = absurd (no_store_apart files part offset h.records none h.stands)
+tells_place g planned before after refused files part offset statuses.Usage none h = absurd h
+tells_place g planned before after refused files part offset (statuses.Script fault) none h = absurd h
+tells_place g planned before after refused files part offset (statuses.Line n fault) none h = absurd h
+tells_place g planned before after refused files part offset (statuses.Truncated n) none h = absurd h
+tells_place g planned before after refused files part offset (statuses.NotStore there place) none h = by h
+  where
+    by : IsNoGood g planned before after refused files there place → IsUnlessDiskFailed (statuses.NotStore there place) (statuses.NotStore part offset)
+    by (no_store one) =
+        let same = no_store_unique files there part place offset one none in
+        inl (ap (λ (p : Part). statuses.NotStore p place) same.0 ∙ ap (λ (n : ℕ). statuses.NotStore part n) same.1)
+    by (no_lives rs stands named why) = absurd (no_store_apart files part offset rs none stands)
+tells_place g planned before after refused files part offset statuses.Exists none h = absurd h
+tells_place g planned before after refused files part offset statuses.TooManyTasks none h = absurd h
+tells_place g planned before after refused files part offset statuses.TooLong none h = absurd h
+tells_place g planned before after refused files part offset statuses.NoMemory none h = inr (inl refl)
+tells_place g planned before after refused files part offset statuses.ReadFault none h = absurd h
+tells_place g planned before after refused files part offset statuses.WriteFault none h = absurd (no_store_apart files part offset h.records none h.stands)
+tells_place g planned before after refused files part offset statuses.DiskFault none h = inr (inr refl)

@@ -1,5 +1,5 @@
 -- What stands after a list of what a store holds.
-use Rattle.std.specs.Prelude.{◌≡◌, ℕ, List, Option}
+use Rattle.std.specs.Prelude.{ℕ, List, Option, ⊤}
 use Rattle.std.specs.Io.KnownBytes.{Appends, Keeps}
 use Rattle.kap_io.specs.Disk.{Image}
 use Rattle.kap_io.specs.Pieces.{AppendsPrefix}
@@ -13,6 +13,7 @@ use Rattle.topic_core.specs.declared.transition.Transition.{Transition}
 use Rattle.topic_store.specs.Stores.{Stands}
 use Rattle.engine_runs.specs.Whole.{due_of}
 use Rattle.kap_engine.specs.Adding.{HasAdded}
+use Rattle.kap_engine.specs.Faults.{IsAsked, IsNoGood}
 use Rattle.kap_engine.specs.Good.{IsFull, IsGood, graphs_in}
 use Rattle.store_lists.specs.Lists.{points_text, tasks_text, topics_text, transitions_text}
 use Rattle.kap_server.specs.declared.status.Status.{Status}
@@ -45,6 +46,23 @@ Shows text WriteFault w v = AppendsPrefix w v text
 Shows text DiskFault w v = AppendsPrefix w v text
 
 module _ {N P S : Type 0} (g : Ghosts N P S) (planned : Planned P) where
+  -- the files stand for a store whose scripts are those of tasks, and whose last snapshot is one of their nodes
+  pub record AreAsked (files : Image) : Type 0 where
+    pub records : List Rec
+    pub stands : Stands records files
+    pub asked : IsAsked g planned records
+
+  -- By the status, of the files that were opened: they are those of a store that may be opened; or none, at the place
+  -- that is told; or it isn't known, since memory ran out or the disk failed. The numbers are how often a pattern was
+  -- refused before and after, and `refused` is the last one.
+  abbrev pub Opens : ℕ → ℕ → List ℕ → Image → Status → Type 0
+  Opens before after refused files Ok = AreAsked files
+  Opens before after refused files WriteFault = AreAsked files
+  Opens before after refused files (NotStore part offset) = IsNoGood g planned before after refused files part offset
+  Opens before after refused files NoMemory = ⊤
+  Opens before after refused files DiskFault = ⊤
+  Opens before after refused files other = ⊥
+
   -- the transitions that a right store is to hold: those that its lives make of its points
   abbrev pub all_transitions : (rs : List Rec) → IsGood g planned rs → List Transition
   all_transitions rs good = due_of g.answer (graphs_in g planned rs good.tasks) (held rs)

@@ -11,13 +11,12 @@ ghost use Rattle.recording_file.specs.Reading.{HasEnded};
 ghost use Rattle.recording_file.specs.Recording.{reading_of};
 ghost use Rattle.sample_points.specs.Samples.{sample_text};
 ghost use Rattle.tick_compile.specs.declared.tasks.Task.{Task};
-ghost use Rattle.kap_engine.specs.Faults.{IsAsked, IsNoGood};
 ghost use Rattle.kap_engine.specs.Good.{IsFull, IsGood, stays_or_good};
 ghost use Rattle.kap_server.specs.Checking.{Checked, ChecksTo};
 ghost use Rattle.kap_server.specs.Command.{AsksForTooMany, AsksToCheck, AsksToGenerate, AsksToInit, AsksToReplay, AsksToShow, AsksToSummarize};
 ghost use Rattle.kap_server.specs.Command.{ExactlyWhere, IsUnlessDiskFailed, IsUnlessFailed};
 ghost use Rattle.kap_server.specs.Generating.{Summed, WritesText};
-ghost use Rattle.kap_server.specs.Listing.{LeavesFull, Shows, held_whole, list_text};
+ghost use Rattle.kap_server.specs.Listing.{LeavesFull, Opens, Shows, held_whole, list_text};
 ghost use Rattle.kap_server.specs.Making.{HasHead, Made};
 ghost use Rattle.kap_server.specs.Nets.{HoldsNetOfSamples, HoldsNetOfTasks};
 ghost use Rattle.kap_server.specs.Options.{AreWithinLimits};
@@ -243,18 +242,17 @@ pub fn command<
         → Stands rs (D.seen disk.old) → IsGood N.Node N.planned rs
         → result ≡ Status.NotStore part offset
         → HasRisen (P.refusals pats.old) (P.refusals pats.new) }
-    // At Ok the files stood for a store whose scripts are those of tasks, and whose last snapshot is of them.
+    // At Ok the files stood for a store whose scripts are those of tasks, and whose last snapshot is one of
+    // their nodes; where a place is told, they are no such store there.
     ensures opened { (listing : Listing) → AsksToShow (map string_bytes words.now) listing
-        → IsTrue D.tells → result ≡ Status.Ok → (rs : List Rec)
-        × Stands rs (D.seen disk.old) × IsAsked N.Node N.planned rs }
-    // Where a place is told, the files are no right store at it, nothing was written, and nothing changed.
-    ensures no_good { (listing : Listing) (part : Part) (offset : ℕ)
+        → IsTrue D.tells → Opens N.Node N.planned (P.refusals pats.old) (P.refusals pats.new)
+        (P.refused pats.new) (D.seen disk.old) result }
+    // Then nothing was written, and nothing changed on the disk.
+    ensures left { (listing : Listing) (part : Part) (offset : ℕ)
         → AsksToShow (map string_bytes words.now) listing → IsTrue D.tells
-        → result ≡ Status.NotStore part offset → IsNoGood N.Node N.planned
-        (P.refusals pats.old) (P.refusals pats.new) (P.refused pats.new)
-        (D.seen disk.old) part offset × Keeps (K.written out.old) (K.written out.new)
+        → result ≡ Status.NotStore part offset → Keeps (K.written out.old) (K.written out.new)
         × Quiet D.seen D.moment D.may_leave D.left_since disk.old disk.new }
-    // Where they stand for no store, the place is told, unless memory ran out or the disk failed.
+    // Where the files stand for no store, the place is told, unless memory ran out or the disk failed.
     ensures no_store { (listing : Listing) (part : Part) (offset : ℕ)
         → AsksToShow (map string_bytes words.now) listing → IsTrue D.tells
         → IsNoStore (D.seen disk.old) part offset

@@ -1,6 +1,7 @@
 //! The commands that list what a store holds.
 
 ghost use Rattle.std.specs.Prelude.{◌≡◌, ℕ, false, map, IsTrue, List};
+ghost use Rattle.std.specs.Io.KnownBytes.{Keeps};
 ghost use Rattle.kap_base.specs.Words.{HasRisen};
 ghost use Rattle.kap_io.specs.Moments.{Moments, Quiet};
 ghost use Rattle.kap_io.specs.declared.disk.Part.{Part};
@@ -9,9 +10,8 @@ ghost use Rattle.store_records.specs.declared.rec.Rec.{Rec};
 ghost use Rattle.topic_core.specs.Topics.{StandsFor, event_of};
 ghost use Rattle.topic_store.specs.Stores.{IsOn, Stands};
 ghost use Rattle.store_lists.specs.Writing.{ListCause, Lists};
-ghost use Rattle.kap_engine.specs.Faults.{IsAsked, IsNoGood};
 ghost use Rattle.kap_engine.specs.Good.{IsFull, IsGood, stays_or_good};
-ghost use Rattle.kap_server.specs.Listing.{LeavesFull, Shows, held_whole, list_text};
+ghost use Rattle.kap_server.specs.Listing.{LeavesFull, Opens, Shows, held_whole, list_text};
 
 use crate::options::{capacity_of, no_options, workers_of};
 use crate::status::Status;
@@ -80,15 +80,11 @@ pub(crate) fn list<
         → Stands rs (D.seen disk.old) → (part : Part) (offset : ℕ)
         → result ≡ Status.NotStore part offset
         → HasRisen (P.refusals pats.old) (P.refusals pats.new) }
-    ensures opened { IsTrue D.tells → result ≡ Status.Ok → (rs : List Rec)
-        × Stands rs (D.seen disk.old) × IsAsked N.Node N.planned rs }
-    ensures refused { IsTrue D.tells → (part : Part) (offset : ℕ)
-        → result ≡ Status.NotStore part offset → IsNoGood N.Node N.planned
-        (P.refusals pats.old) (P.refusals pats.new) (P.refused pats.new)
-        (D.seen disk.old) part offset }
-    ensures still { IsTrue D.tells → (part : Part) (offset : ℕ)
-        → result ≡ Status.NotStore part offset
-        → Quiet D.seen D.moment D.may_leave D.left_since disk.old disk.new }
+    ensures opened { IsTrue D.tells → Opens N.Node N.planned (P.refusals pats.old)
+        (P.refusals pats.new) (P.refused pats.new) (D.seen disk.old) result }
+    ensures left { IsTrue D.tells → (part : Part) (offset : ℕ)
+        → result ≡ Status.NotStore part offset → Keeps (K.written out.old) (K.written out.new)
+        × Quiet D.seen D.moment D.may_leave D.left_since disk.old disk.new }
     ensures any_moment { IsTrue D.tells → (rs : List Rec) → IsGood N.Node N.planned rs
         → Stands rs (D.seen disk.old) → Moments D.moment D.may_leave D.left_since disk.old disk.new
         (stays_or_good N.Node N.planned rs) }
