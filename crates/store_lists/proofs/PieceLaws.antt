@@ -1,8 +1,8 @@
 -- A list is written piece by piece.
-use Rattle.std.proofs.Common.{◌≡◌, ℕ, List, [], ◌∷◌, ◌++◌, length, drop, take, Option, Err, refl, sym, ap, subst, ◌∙◌, append-nil, append_assoc}
+use Rattle.std.proofs.Common.{◌≡◌, ℕ, List, [], ◌∷◌, ◌++◌, length, drop, take, Option, Err, refl, sym, ap, subst, ◌∙◌, append-nil, append_assoc, arith}
 use Rattle.std.specs.Prelude.{Result}
 use Rattle.std.specs.List.{flat_map}
-use Rattle.std.proofs.lemmas.List.{drop_at, take-append-drop}
+use Rattle.std.proofs.lemmas.List.{drop_at, length-take, take-append-drop}
 use Rattle.std.proofs.lemmas.List.Concat.{flat_map-append}
 use Rattle.kap_base.specs.Points.{PointValue}
 use Rattle.kap_io.specs.Pieces.{AppendsPrefix}
@@ -17,9 +17,12 @@ use Rattle.store_lists.specs.declared.fault.ListFault.{ListFault}
 use Rattle.store_lists.specs.declared.fault.ListFault.TheVariants.{NotStore, DiskFault, WriteFault, NoMemory}
 use Rattle.store_lists.proofs.WriteLaws.{lists_rest, written_cut, written_none, written_prefix, written_then}
 
+nil-of : {A : Type 0} (xs : List A) → length xs ≡ 0 → xs ≡ []
+nil-of [] e = refl
+nil-of (x ∷ xs) e = absurd (omega (arith, e))
+
 none-left : {A : Type 0} (xs : List A) → take 4096 xs ≡ [] → xs ≡ []
-none-left [] e = refl
-none-left (x ∷ xs) e = absurd cc
+none-left xs e = let none : length (take 4096 xs) ≡ 0 = ap length e in let len = length-take 4096 xs in nil-of xs (omega (arith, none, len))
 
 module _ {A : Type 0} (f : A → List ℕ) (all : List A) where
   -- Of a list's items the first were passed, and of their lines a front was written, and the rest is due.
@@ -48,8 +51,8 @@ module _ {A : Type 0} (f : A → List ℕ) (all : List A) where
       (ap (flat_map f) (sym (take-append-drop 4096 s.others) ∙ ap (λ (l : List A). l ++ drop 4096 s.others) (sym is)) ∙ flat_map-append f piece (drop 4096 s.others))
 
   -- it fails in the middle of it
-  pub listing_cut : {T U : Type 0} (fault : ListFault) (due due' : List ℕ) (w v x : Option (List ℕ)) (piece : List A) (s : IsListing due w v) → piece ≡ take 4096 s.others → PutsLines {T = T} (Err fault) (flat_map f piece) due due' v x
-      → Lists {T = U} (Err fault) (flat_map f all) w x
+  pub listing_cut : (fault : ListFault) (due due' : List ℕ) (w v x : Option (List ℕ)) (piece : List A) (s : IsListing due w v) → piece ≡ take 4096 s.others → PutsLines {T = Unit {0}} (Err fault) (flat_map f piece) due due' v x
+      → Lists {T = Unit {0}} (Err fault) (flat_map f all) w x
   listing_cut (NotStore part offset) due due' w v x piece s is h = absurd h
   listing_cut DiskFault due due' w v x piece s is h = absurd h
   listing_cut WriteFault due due' w v x piece s is h =
@@ -63,17 +66,17 @@ module _ {A : Type 0} (f : A → List ℕ) (all : List A) where
       (written_prefix (flat_map f s.passed) due (flat_map f s.others) w v s.written)
 
   -- memory runs out between two pieces
-  pub listing_out : {T : Type 0} (due : List ℕ) (w v : Option (List ℕ)) → IsListing due w v → Lists {T = T} (Err NoMemory) (flat_map f all) w v
+  pub listing_out : (due : List ℕ) (w v : Option (List ℕ)) → IsListing due w v → Lists {T = Unit {0}} (Err NoMemory) (flat_map f all) w v
   listing_out due w v s = so-far due w v s
 
   -- the next piece isn't read
-  pub piece_failed : {T : Type 0} (fault : StoreFault) (due : List ℕ) (w v : Option (List ℕ)) (piece : List A) → IsListing due w v → PieceOrNot piece (Err fault) → Lists {T = T} (Err (list_fault fault)) (flat_map f all) w v
+  pub piece_failed : (fault : StoreFault) (due : List ℕ) (w v : Option (List ℕ)) (piece : List A) → IsListing due w v → PieceOrNot piece (Err fault) → Lists {T = Unit {0}} (Err (list_fault fault)) (flat_map f all) w v
   piece_failed (stores.NotStore part offset) due w v piece s none = absurd none
   piece_failed stores.DiskFault due w v piece s none = so-far due w v s
   piece_failed stores.Long due w v piece s none = absurd none
   piece_failed stores.NoMemory due w v piece s none = so-far due w v s
 
-  pub points_failed : {T : Type 0} (fault : StoreFault) (due : List ℕ) (w v : Option (List ℕ)) (rs : List Rec) (points : List PointValue) → IsListing due w v → GivesOrNot rs points (Err fault) → Lists {T = T} (Err (list_fault fault)) (flat_map f all) w v
+  pub points_failed : (fault : StoreFault) (due : List ℕ) (w v : Option (List ℕ)) (rs : List Rec) (points : List PointValue) → IsListing due w v → GivesOrNot rs points (Err fault) → Lists {T = Unit {0}} (Err (list_fault fault)) (flat_map f all) w v
   points_failed (stores.NotStore part offset) due w v rs points s none = absurd none
   points_failed stores.DiskFault due w v rs points s none = so-far due w v s
   points_failed stores.Long due w v rs points s none = absurd none

@@ -1,6 +1,7 @@
 -- Lines that are written in pieces, one behind the other.
-use Rattle.std.proofs.Common.{◌≡◌, ℕ, ◌+◌, ◌-◌, ◌^◌, ◌≤◌, List, [], ◌++◌, length, min, take, Option, Ok, Err, refl, sym, ap, subst, ◌∙◌, append-nil, append_assoc, length-append, arith}
+use Rattle.std.proofs.Common.{◌≡◌, ℕ, zero, suc, ◌+◌, ◌-◌, ◌^◌, ◌<◌, ◌≤◌, List, [], ◌∷◌, ◌++◌, drop, get_or, length, min, take, Option, Ok, Err, refl, sym, ap, subst, ◌∙◌, append-nil, append_assoc, length-append, arith}
 use Rattle.std.specs.Prelude.{Result}
+use Rattle.std.specs.List.{flat_map}
 use Rattle.std.specs.Io.KnownBytes.{Appends}
 use Rattle.std.proofs.KnownBytes.{Appends-nil, Appends-trans}
 use Rattle.std.proofs.lemmas.List.{take-append-le}
@@ -73,17 +74,29 @@ pub putting_done : (old all due : List ℕ) (w v : Option (List ℕ)) → IsPutt
 putting_done old all due w v p = subst (λ (l : List ℕ). HasWritten l due w v) (sym (p.split ∙ append-nil p.so_far)) p.written
 
 -- what is told of some lines is told of them all
-pub putting_cut : {T U : Type 0} (fault : ListFault) (old all lines rest due due' due'' : List ℕ) (w v x : Option (List ℕ)) → IsPutting old all (lines ++ rest) due w v → PutsLines {T = T} (Err fault) lines due due' v x
-    → PutsLines {T = U} (Err fault) all old due'' w x
+pub putting_cut : (fault : ListFault) (old all lines rest due due' due'' : List ℕ) (w v x : Option (List ℕ)) → IsPutting old all (lines ++ rest) due w v → PutsLines {T = Unit {0}} (Err fault) lines due due' v x
+    → PutsLines {T = Unit {0}} (Err fault) all old due'' w x
 putting_cut (NotStore part offset) old all lines rest due due' due'' w v x p h = absurd h
 putting_cut DiskFault old all lines rest due due' due'' w v x p h = absurd h
 putting_cut WriteFault old all lines rest due due' due'' w v x p h = subst (AppendsPrefix w x) (sym p.split) (written_cut p.so_far due lines rest w v x p.written h)
 putting_cut NoMemory old all lines rest due due' due'' w v x p h = subst (AppendsPrefix w x) (sym p.split) (written_cut p.so_far due lines rest w v x p.written h)
 
+behind : (old lines rest due : List ℕ) (w v x : Option (List ℕ)) → HasWritten (old ++ lines) due w v → AppendsPrefix v x (due ++ rest) → AppendsPrefix w x (old ++ (lines ++ rest))
+behind old lines rest due w v x a p =
+    subst (AppendsPrefix w x) (append_assoc old lines (rest ++ []) ∙ ap (λ (l : List ℕ). old ++ (lines ++ l)) (append-nil rest)) (written_cut (old ++ lines) due rest [] w v x a p)
+
+-- some lines, and then what is told of more
+pub puts_then : {T : Type 0} (result : Result T ListFault) (old lines rest due due' : List ℕ) (w v x : Option (List ℕ)) → HasWritten (old ++ lines) due w v → PutsLines result rest due due' v x → PutsLines result (lines ++ rest) old due' w x
+puts_then (Ok done) old lines rest due due' w v x a p = subst (λ (l : List ℕ). HasWritten l due' w x) (append_assoc old lines rest) (written_then (old ++ lines) due rest due' w v x a p)
+puts_then (Err (NotStore part offset)) old lines rest due due' w v x a p = p
+puts_then (Err DiskFault) old lines rest due due' w v x a p = p
+puts_then (Err WriteFault) old lines rest due due' w v x a p = behind old lines rest due w v x a p
+puts_then (Err NoMemory) old lines rest due due' w v x a p = behind old lines rest due w v x a p
+
 -- ---- a whole list
 
 -- a fault at lines that come behind none before is that of the list
-pub lists_cut : {T U : Type 0} (fault : ListFault) (all due' : List ℕ) (w v : Option (List ℕ)) → PutsLines {T = T} (Err fault) all [] due' w v → Lists {T = U} (Err fault) all w v
+pub lists_cut : (fault : ListFault) (all due' : List ℕ) (w v : Option (List ℕ)) → PutsLines {T = Unit {0}} (Err fault) all [] due' w v → Lists {T = Unit {0}} (Err fault) all w v
 lists_cut (NotStore part offset) all due' w v h = absurd h
 lists_cut DiskFault all due' w v h = absurd h
 lists_cut WriteFault all due' w v h = h
@@ -101,3 +114,14 @@ lists_rest (Err NoMemory) text due w v x a p = written_rest text due w v x a p
 
 pub risen_later : (old mid new : ℕ) → old ≤ mid → HasRisen mid new → HasRisen old new
 risen_later old mid new le rose = let r : min (mid + 1) (2 ^ 64 - 1) ≤ new = rose in omega (arith, le, r)
+
+-- ---- items
+
+lines-suc : {A : Type 0} (f : A → List ℕ) (xs : List A) (i : ℕ) (x : A) → i < length xs → x ≡ get_or xs i x → flat_map f (drop i xs) ≡ f x ++ flat_map f (drop (suc i) xs)
+lines-suc f [] i x lt is = absurd (omega (arith, lt))
+lines-suc f (y ∷ xs) zero x lt is = ap (λ z. f z ++ flat_map f xs) (sym is)
+lines-suc f (y ∷ xs) (suc i) x lt is = lines-suc f xs i x (omega (arith, lt)) is
+
+-- the lines of the next item, and of those behind it
+pub lines_next : {A : Type 0} (f : A → List ℕ) (xs : List A) (i : ℕ) (x : A) → i < length xs → x ≡ get_or xs i x → flat_map f (drop i xs) ≡ f x ++ flat_map f (drop (i + 1) xs)
+lines_next f xs i x lt is = let one : suc i ≡ i + 1 = omega arith in lines-suc f xs i x lt is ∙ ap (λ (n : ℕ). f x ++ flat_map f (drop n xs)) one
