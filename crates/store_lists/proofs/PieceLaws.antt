@@ -17,12 +17,12 @@ use Rattle.store_lists.specs.declared.fault.ListFault.{ListFault}
 use Rattle.store_lists.specs.declared.fault.ListFault.TheVariants.{NotStore, DiskFault, WriteFault, NoMemory}
 use Rattle.store_lists.proofs.WriteLaws.{lists_rest, written_cut, written_none, written_prefix, written_then}
 
-nil-of : {A : Type 0} (xs : List A) → length xs ≡ 0 → xs ≡ []
-nil-of [] e = refl
-nil-of (x ∷ xs) e = absurd (omega (arith, e))
+pub nil_of : {A : Type 0} (xs : List A) → length xs ≡ 0 → xs ≡ []
+nil_of [] e = refl
+nil_of (x ∷ xs) e = absurd (omega (arith, e))
 
 none-left : {A : Type 0} (xs : List A) → take 4096 xs ≡ [] → xs ≡ []
-none-left xs e = let none : length (take 4096 xs) ≡ 0 = ap length e in let len = length-take 4096 xs in nil-of xs (omega (arith, none, len))
+none-left xs e = let none : length (take 4096 xs) ≡ 0 = ap length e in let len = length-take 4096 xs in nil_of xs (omega (arith, none, len))
 
 module _ {A : Type 0} (f : A → List ℕ) (all : List A) where
   -- Of a list's items the first were passed, and of their lines a front was written, and the rest is due.

@@ -52,11 +52,7 @@ fn put_line<K: Sink>(
 }
 
 /// Adds the lines of the ids of a topic.
-fn put_ids<K: Sink>(
-    ids: &TextTree<Level>,
-    text: &mut Bytes,
-    out: &mut K,
-) -> Result<(), ListFault>
+fn put_ids<K: Sink>(ids: &TextTree<Level>, text: &mut Bytes, out: &mut K) -> Result<(), ListFault>
     ensures puts { PutsLines result (flat_map id_line (map.entries ids.now)) text.old text.new
         (K.written out.old) (K.written out.new) }
     ensures cause { WriteCause (K.faults out.old) (K.faults out.new) result }
@@ -91,11 +87,7 @@ fn put_topic<K: Sink>(
 /// it those of its ids, in byte order too. After an `Err` a prefix of them is written. `WriteFault` comes
 /// only where the output counted a fault in this call, and `NoMemory` where memory ran out; no other fault
 /// comes.
-pub fn write_topics<K: Sink>(
-    alloc: Global,
-    levels: &Levels,
-    out: &mut K,
-) -> Result<(), ListFault>
+pub fn write_topics<K: Sink>(alloc: Global, levels: &Levels, out: &mut K) -> Result<(), ListFault>
     ensures lists { Lists result (topics_text levels.now) (K.written out.old) (K.written out.new) }
     ensures cause { WriteCause (K.faults out.old) (K.faults out.new) result }
 {

@@ -1,10 +1,10 @@
-use Rattle.std.proofs.Common.{Err, List, ℕ, ◌++◌, subst}
+use Rattle.std.proofs.Common.{Err, ◌++◌, subst}
 use Rattle.std.specs.Prelude.{codes}
 use Rattle.std.specs.FinMap.{entries}
 use Rattle.std.specs.List.{flat_map}
 use Rattle.kap_base.specs.declared.items.Level.{Level}
 use Rattle.store_lists.specs.Lists.{id_line, level_in, level_line}
-use Rattle.store_lists.specs.Writing.{HasWritten, PutsLines}
+use Rattle.store_lists.specs.Writing.{PutsLines}
 use Rattle.store_lists.proofs.WriteLaws.{putting_cut, putting_none, puts_then}
 use Rattle.store_lists.proofs.topics.put_topic.Goals as goal
 

@@ -1,4 +1,4 @@
-use Rattle.std.proofs.Common.{◌≡◌, List, [], ℕ, ◌≤◌, rules, subst, sym, arith}
+use Rattle.std.proofs.Common.{List, [], ℕ, ◌≤◌, subst, arith}
 use Rattle.std.specs.FinMap.{entries}
 use Rattle.std.specs.List.{flat_map}
 use Rattle.kap_base.specs.Maps.{KeyMap}
