@@ -17,7 +17,7 @@ use Rattle.kap_engine.specs.Adding.{ArePieces, HasAdded, IsClosed, IsOnBehind, I
 use Rattle.kap_engine.proofs.PassLaws.{each_append}
 
 -- none were added
-pub added_none : (rs : List Rec) → HasAdded rs [] rs
+abbrev pub added_none : (rs : List Rec) → HasAdded rs [] rs
 added_none rs = record {
   pieces = [];
   records = sym (append-nil rs);
@@ -31,13 +31,13 @@ added_none rs = record {
   changes = refl;
 }
 
-joined-append : (ps qs : List (List Transition)) → joined (ps ++ qs) ≡ joined ps ++ joined qs
-joined-append [] qs = refl
-joined-append (p ∷ ps) qs = ap (λ (l : List Transition). p ++ l) (joined-append ps qs) ∙ sym (append_assoc p (joined ps) (joined qs))
+pub joined_append : (ps qs : List (List Transition)) → joined (ps ++ qs) ≡ joined ps ++ joined qs
+joined_append [] qs = refl
+joined_append (p ∷ ps) qs = ap (λ (l : List Transition). p ++ l) (joined_append ps qs) ∙ sym (append_assoc p (joined ps) (joined qs))
 
-pieces-append : (ps qs : List (List Transition)) → ArePieces ps → Each IsOver ps → ArePieces qs → ArePieces (ps ++ qs)
-pieces-append [] qs a over b = b
-pieces-append (p ∷ ps) qs a over b = (record { some = a.0.some; closed = a.0.closed; over = inl over.0 }, pieces-append ps qs a.1 over.1 b)
+pub pieces_append : (ps qs : List (List Transition)) → ArePieces ps → Each IsOver ps → ArePieces qs → ArePieces (ps ++ qs)
+pieces_append [] qs a over b = b
+pieces_append (p ∷ ps) qs a over b = (record { some = a.0.some; closed = a.0.closed; over = inl over.0 }, pieces_append ps qs a.1 over.1 b)
 
 -- some, whose records pass the limit, and then more
 abbrev pub added_then : (rs mid new : List Rec) (ts us : List Transition) → (a : HasAdded rs ts mid) → Each IsOver a.pieces → HasAdded mid us new → HasAdded rs (ts ++ us) new
@@ -48,8 +48,8 @@ added_then rs mid new ts us a over b = record {
       ∙ ap (λ (l : List Rec). l ++ map kinds.Trans b.pieces) a.records
       ∙ append_assoc rs (map kinds.Trans a.pieces) (map kinds.Trans b.pieces)
       ∙ ap (λ (l : List Rec). rs ++ l) (sym (map-append kinds.Trans a.pieces b.pieces));
-  all = ap (λ (l : List Transition). l ++ us) a.all ∙ ap (λ (l : List Transition). joined a.pieces ++ l) b.all ∙ sym (joined-append a.pieces b.pieces);
-  cut = pieces-append a.pieces b.pieces a.cut over b.cut;
+  all = ap (λ (l : List Transition). l ++ us) a.all ∙ ap (λ (l : List Transition). joined a.pieces ++ l) b.all ∙ sym (joined_append a.pieces b.pieces);
+  cut = pieces_append a.pieces b.pieces a.cut over b.cut;
   tasks = b.tasks ∙ a.tasks;
   lives = b.lives ∙ a.lives;
   points = b.points ∙ a.points;

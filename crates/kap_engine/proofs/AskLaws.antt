@@ -1,15 +1,11 @@
 -- Why scripts aren't those of tasks.
-use Rattle.std.proofs.Common.{◌≡◌, ◌⊎◌, inl, inr, ℕ, ◌+◌, ◌<◌, ◌≤◌, true, false, List, [], ◌∷◌, length, Option, None, Some, refl, sym, ap, subst, ◌∙◌, arith}
-use Rattle.std.specs.Prelude.{◌≢◌, Contains, nat_le, nat_lt}
+use Rattle.std.proofs.Common.{◌≡◌, inl, inr, ℕ, ◌+◌, ◌<◌, ◌≤◌, true, false, List, [], Option, None, refl, sym, subst, arith}
+use Rattle.std.specs.Prelude.{Contains, nat_le, nat_lt}
 use Rattle.std.proofs.lemmas.Bool.Decides.{nat_tests}
 use Rattle.std.specs.List.{AllByRecursion as Each}
-use Rattle.kap_base.specs.Words.{HasRisen}
 use Rattle.store_records.specs.declared.task.Life.{Life}
 use Rattle.store_records.specs.declared.task.StoredTask.{StoredTask}
-use Rattle.tick_compile.specs.Scripts.{Refuses}
-use Rattle.tick_compile.specs.Tasks.{is_refusal, refusal_in}
-use Rattle.tick_compile.specs.declared.script_fault.ScriptFault.{ScriptFault}
-use Rattle.engine_runs.specs.Faults.{IsRefused, IsWhy, fault_at}
+use Rattle.engine_runs.specs.Faults.{IsWhy}
 use Rattle.engine_runs.specs.declared.fault.RunFault.{RunFault}
 use Rattle.engine_runs.specs.declared.fault.RunFault.TheVariants as runs
 use Rattle.kap_engine.specs.Asking.{AreScripts, IsFirstRefused, IsNotAbove, IsScript, IsWhyAmong, IsWhyAt, IsWhyFirst}

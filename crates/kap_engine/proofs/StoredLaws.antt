@@ -1,6 +1,6 @@
 -- The times of stored transitions lie in the range of times.
-use Rattle.std.proofs.Common.{◌≡◌, ℕ, zero, suc, ◌+◌, Bool, true, false, not, ◌&&◌, ◌==◌, List, [], ◌∷◌, ◌++◌, length, map, refl, sym, ap, ◌∙◌, append-nil}
-use Rattle.std.specs.Prelude.{take, IsTrue}
+use Rattle.std.proofs.Common.{◌≡◌, ℕ, zero, suc, ◌+◌, Bool, true, false, not, ◌&&◌, ◌==◌, List, [], ◌∷◌, ◌++◌, length, map, refl, ap, ◌∙◌, append-nil}
+use Rattle.std.specs.Prelude.{take}
 use Rattle.std.proofs.lemmas.List.{map-append}
 use Rattle.kap_base.proofs.TestLaws.{first_of, second_of}
 use Rattle.kap_base.specs.Levels.{same_level}

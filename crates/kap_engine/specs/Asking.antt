@@ -1,5 +1,5 @@
 -- The scripts of a store, asked in the order of the records that brought them.
-use Rattle.std.specs.Prelude.{◌≡◌, ◌⊎◌, ℕ, ◌≤◌, ◌<◌, ⊤, Contains, List, None, Option, Some, IfSome}
+use Rattle.std.specs.Prelude.{◌≡◌, ◌⊎◌, ℕ, ◌≤◌, ◌<◌, ⊤, Contains, List, None, Option, Some}
 use Rattle.std.specs.List.{AllByRecursion as Each}
 use Rattle.store_records.specs.declared.task.Life.{Life}
 use Rattle.store_records.specs.declared.task.StoredTask.{StoredTask}

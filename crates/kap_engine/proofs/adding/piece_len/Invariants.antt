@@ -1,6 +1,6 @@
-use Rattle.std.proofs.Common.{◌≡◌, ◌+◌, ◌-◌, ◌≤◌, length}
+use Rattle.std.proofs.Common.{◌≡◌, ◌-◌, ◌≤◌, length}
 use Rattle.std.specs.Prelude.{take}
-use Rattle.kap_engine.specs.Adding.{IsClosed, body_len}
+use Rattle.kap_engine.specs.Adding.{body_len}
 use Rattle.kap_engine.specs.declared.TheConstants.{PIECE_LIMIT}
 use Rattle.kap_engine.proofs.adding.piece_len.Given as goal
 

@@ -1,4 +1,4 @@
-use Rattle.std.proofs.Common.{◌≡◌, ◌≤◌, ℕ, length, sym, subst, ◌∙◌}
+use Rattle.std.proofs.Common.{◌≤◌, ℕ, length, subst, ◌∙◌}
 use Rattle.kap_base.specs.declared.limits.TheConstants.{SCRIPT_LIMIT}
 use Rattle.store_records.specs.Orders.{IsValid}
 use Rattle.store_records.specs.declared.task.Life.{Life}
@@ -28,7 +28,7 @@ pub asking-preserved : goal.asking-preserved
 asking-preserved g c =
     let b = before_least c.args.tasks.now c.args.lives.now c.asking.from c.in-Some.place c.least_from.result c.asking.invariant.all c.least_from.ensures.items c.in-Some.ensures.other c.in-Some.ensures.items in
     record {
-      all = before_next c.args.tasks.now c.args.lives.now c.in-Some.place c.in-Some-checked_add.next c.in-Some-checked_add.ensures b c.in_default-ask_at.ensures.ok c.in_default-ask_at-2.ensures.ok;
+      all = before_next c.args.tasks.now c.args.lives.now c.in-Some.place c.in-Some-checked_add.next c.in-Some-checked_add.ensures.1 b c.in_default-ask_at.ensures.ok c.in_default-ask_at-2.ensures.ok;
       kept = c.in_default-ask_at-2.ensures.kept ∙ c.in_default-ask_at.ensures.kept ∙ c.asking.invariant.kept;
     }
 

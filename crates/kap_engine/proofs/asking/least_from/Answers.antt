@@ -15,16 +15,16 @@ looking-preserved g c =
     let place = g.T.Defined.place in
     let from = c.args.from in
     let old = c.looking.least in
-    let new = c.lesser_of.result in
+    let new = c.lesser_of-least.result in
     record {
       items =
           passed_more (λ item. from ≤ place item → IsNotAbove new (place item)) c.args.items.now c.looking.rest.now c.in-Some.others.now c.in-Some.item.now
           (passed_to (λ item. from ≤ place item → IsNotAbove old (place item)) (λ item. from ≤ place item → IsNotAbove new (place item)) c.args.items.now c.looking.rest.now
-          (λ x h le. c.lesser_of.ensures.other (place x) (h le)) c.looking.invariant.items)
+          (λ x h le. c.lesser_of-least.ensures.other (place x) (h le)) c.looking.invariant.items)
           c.in-Some.ensures.cases.0
-          (subst (λ (p : ℕ). from ≤ p → IsNotAbove new p) c.place.ensures c.lesser_of.ensures.place);
-      other = λ o h. c.lesser_of.ensures.other o (c.looking.invariant.other o h);
-      low = λ h. c.lesser_of.ensures.low (c.looking.invariant.low h);
+          (subst (λ (p : ℕ). from ≤ p → IsNotAbove new p) c.place.ensures c.lesser_of-least.ensures.place);
+      other = λ o h. c.lesser_of-least.ensures.other o (c.looking.invariant.other o h);
+      low = λ h. c.lesser_of-least.ensures.low (c.looking.invariant.low h);
     }
 
 pub returns-clause-items : goal.returns-clause-items

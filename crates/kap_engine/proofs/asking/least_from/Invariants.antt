@@ -1,4 +1,4 @@
-use Rattle.std.proofs.Common.{◌≡◌, ◌≤◌, ℕ, length}
+use Rattle.std.proofs.Common.{◌≤◌, ℕ, length}
 use Rattle.std.specs.Prelude.{IfSome}
 use Rattle.kap_engine.specs.Asking.{IsNotAbove}
 use Rattle.kap_engine.proofs.PassLaws.{Passed}
