@@ -1,5 +1,6 @@
 use kap_base::NoMemory;
 use kap_io::Failed;
+use line_points::LineFault as PointFault;
 use std::alloc::{AllocError, AllocFailed};
 use std::error::Error;
 use std::fmt;
@@ -57,5 +58,14 @@ impl<T: Drop> From<AllocFailed<T>> for LineFault {
 impl From<Failed> for LineFault {
     fn from(_: Failed) -> Self {
         LineFault::WriteFault
+    }
+}
+
+impl From<PointFault> for LineFault {
+    fn from(fault: PointFault) -> Self {
+        match fault {
+            PointFault::NoMemory => LineFault::NoMemory,
+            _ => LineFault::NoForm,
+        }
     }
 }

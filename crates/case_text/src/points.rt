@@ -17,5 +17,5 @@ pub fn point_of(alloc: Global, line: &[u8], db: &Text, rp: &Text) -> Result<Poin
     if has_feed(line) || has_feed(db.bytes()) || has_feed(rp.bytes()) {
         return Err(LineFault::NoForm);
     }
-    read_stored(alloc, line, db, rp).map_err(|_| LineFault::NoForm)
+    Ok(read_stored(alloc, line, db, rp)?)
 }

@@ -25,4 +25,4 @@ module _ {N P : Type 0} (spec : N → P) (planned : Planned P) (lives : List Lif
         → map (graph_of spec) plans ≡ picked passed (graphs_from planned 1 lives tasks)
     pub named : (tasks : List Task) → AreTasksOf lives tasks
         → Each (λ number. task_of names number ≡ task_of (names_from lives tasks) number)
-            (picked passed (numbers_from 1 lives))
+        (picked passed (numbers_from 1 lives))

@@ -1,7 +1,7 @@
 //! Points that are written as lines.
 
 use crate::fault::CaseFault;
-use case_text::point_of;
+use case_text::{LineFault, point_of};
 use kap_base::{Body, Item, ItemList, Point, Shared, Stamp, Text};
 use node_core::Items;
 use std::alloc::Global;
@@ -9,7 +9,10 @@ use std::alloc::Global;
 /// The point of a line, of database and policy `d`.
 fn point(alloc: Global, line: &str) -> Result<Point, CaseFault> {
     let name = Text::from_str(alloc, "d")?;
-    point_of(alloc, line.as_bytes(), &name, &name).map_err(|_| CaseFault::NoNodes)
+    point_of(alloc, line.as_bytes(), &name, &name).map_err(|fault| match fault {
+        LineFault::NoMemory => CaseFault::NoMemory,
+        _ => CaseFault::NoNodes,
+    })
 }
 
 /// The point of a line, with a stamp.

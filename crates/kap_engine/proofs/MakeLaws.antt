@@ -1,8 +1,9 @@
 -- What is made of a right store.
-use Rattle.std.proofs.Common.{◌≡◌, ℕ, ◌+◌, ◌<◌, ◌^◌, inl, inr, List, [], ◌∷◌, ◌++◌, length, map, refl, sym, ap, subst, ◌∙◌, append-nil, length-append, arith}
-use Rattle.std.specs.Prelude.{IsTrue}
+use Rattle.std.proofs.Common.{◌≡◌, ℕ, ◌+◌, ◌<◌, ◌^◌, inl, inr, List, [], ◌∷◌, ◌++◌, length, map, refl, sym, ap, subst, ◌∙◌, length-append, arith}
+use Rattle.std.specs.Prelude.{Err, IsErrOf, IsTrue}
 use Rattle.kap_io.specs.Disk.{Image}
 use Rattle.kap_io.specs.Moments.{Moments, Quiet, then_run, weaker}
+use Rattle.kap_io.specs.declared.disk.Part.{Part}
 use Rattle.node_core.specs.declared.node.Node.{Ghosts}
 use Rattle.node_set.specs.Tasks.{Planned}
 use Rattle.store_records.specs.Held.{are_next}
@@ -11,12 +12,18 @@ use Rattle.store_records.specs.declared.rec.Rec.{Rec}
 use Rattle.kap_base.specs.declared.items.Event.{Event}
 use Rattle.topic_core.specs.Topics.{Trans, event_of}
 use Rattle.topic_core.specs.declared.transition.Transition.{Transition}
-use Rattle.topic_store.specs.Stores.{IsOn, StoreState}
+use Rattle.topic_store.specs.Opening.{Finds, Opens}
+use Rattle.topic_store.specs.Stores.{IsNamed, IsNoStore, IsOn, StoreState}
+use Rattle.topic_store.specs.declared.fault.StoreFault.{StoreFault}
+use Rattle.topic_store.specs.declared.fault.StoreFault.TheVariants as stores
 use Rattle.engine_runs.specs.Running.{RunValue}
 use Rattle.kap_engine.specs.Adding.{IsOnBehind, stands_with_some}
-use Rattle.kap_engine.specs.Engines.{EngineValue, IsEngineBehind}
+use Rattle.kap_engine.specs.Engines.{IsEngineBehind}
+use Rattle.kap_engine.specs.Faults.{store_fault}
 use Rattle.kap_engine.specs.Good.{IsFull, IsGood, stays_or_good}
 use Rattle.kap_engine.specs.Opening.{HasRunAll}
+use Rattle.kap_engine.specs.declared.fault.EngineFault.{EngineFault}
+use Rattle.kap_engine.specs.declared.fault.EngineFault.TheVariants.{NotStore}
 use Rattle.kap_engine.proofs.GoodLaws.{full_added, runs_added, some_good}
 use Rattle.kap_engine.proofs.OpenLaws.{due_are, due_next}
 
@@ -32,9 +39,9 @@ module _ {N P S : Type 0} (g : Ghosts N P S) (planned : Planned P) (rs : List Re
       due_next g planned rs good.tasks good.consistent 1 r due h again (omega (arith, count, few))
 
   -- and where they are, an engine is made
-  pub made_behind : (seen : Image) (images : Image → Type 0) (store : StoreState) → IsOnBehind rs due seen images store
-      → IsEngineBehind g planned rs seen images (record { store = store; run = r; stored = [] })
-  made_behind seen images store b = record {
+  pub made_behind : (seen : Image) (images : Image → Type 0) (store : StoreState) (stored : List Transition) → IsOnBehind rs due seen images store
+      → IsEngineBehind g planned rs seen images (record { store = store; run = r; stored = stored })
+  made_behind seen images store stored b = record {
     records = b.records;
     more = due;
     added = b.added;
@@ -68,3 +75,32 @@ quiet_good g planned rs seen moment may_leave left_since old new quiet =
 pub quiet_still : {D : Type 0} (seen : D → Image) (moment : D → ℕ) (may_leave : D → Image → Type 0) (left_since : D → ℕ → Image → Type 0) (old mid new : D)
     → Quiet seen moment may_leave left_since old mid → new ≡ mid → Quiet seen moment may_leave left_since old new
 quiet_still seen moment may_leave left_since old mid new quiet same = subst (λ d. Quiet seen moment may_leave left_since old d) (sym same) quiet
+
+-- the log of a store is the one that the head names
+pub named_by : (seen : Image) (images : Image → Type 0) (rs : List Rec) (store : StoreState) (part : Part) → IsOn rs seen images store → part ≡ store.log.part → IsNamed seen part
+named_by seen images rs store part on is = record { run = on.run; head = on.head; is = is ∙ on.part }
+
+-- a store is on its disk where what is read is as before
+pub on_seen : (seen now : Image) (images : Image → Type 0) (rs : List Rec) (store : StoreState) → now ≡ seen → IsOn rs seen images store → IsOn rs now images store
+on_seen seen now images rs store reads on = subst (λ (i : Image). IsOn rs i images store) (sym reads) on
+
+-- ---- where the files are none of a store
+
+-- they are none at the place that is told
+pub found_fault : {T U : Type 0} (IsOf : List Rec → T → Type 0) (files : Image) (e : StoreFault) (f : EngineFault) (part : Part) (offset : ℕ) → f ≡ store_fault e → IsErrOf {T = U} (Err f) (NotStore part offset)
+    → Finds IsOf files (Err e) → IsNoStore files part offset
+found_fault IsOf files (stores.NotStore there at) f part offset is told found =
+    let part_is : there ≡ part = cc in
+    let offset_is : at ≡ offset = cc in
+    subst (λ (p : Part). IsNoStore files p offset) part_is (subst (IsNoStore files there) offset_is found)
+found_fault IsOf files stores.DiskFault f part offset is told found = absurd (cc (is, told))
+found_fault IsOf files stores.Long f part offset is told found = absurd found
+found_fault IsOf files stores.NoMemory f part offset is told found = absurd (cc (is, told))
+
+-- and none is told where they stand for one
+pub opened_fault : {T U : Type 0} (IsOf : T → Type 0) (e : StoreFault) (f : EngineFault) (part : Part) (offset : ℕ) → f ≡ store_fault e → IsErrOf {T = U} (Err f) (NotStore part offset)
+    → Opens IsOf (Err e) → ⊥
+opened_fault IsOf (stores.NotStore there at) f part offset is told opens = opens
+opened_fault IsOf stores.DiskFault f part offset is told opens = absurd (cc (is, told))
+opened_fault IsOf stores.Long f part offset is told opens = opens
+opened_fault IsOf stores.NoMemory f part offset is told opens = absurd (cc (is, told))

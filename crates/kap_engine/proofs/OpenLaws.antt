@@ -1,6 +1,6 @@
 -- The lives of a store as an engine is made: from its last snapshot on, or from the first point.
-use Rattle.std.proofs.Common.{◌≡◌, ℕ, ◌+◌, ◌-◌, ◌≤◌, ◌<◌, ◌^◌, Bool, true, List, [], ◌∷◌, ◌++◌, length, map, drop, refl, sym, ap, subst, ◌∙◌, append-nil, append_assoc, length-append, arith}
-use Rattle.std.specs.Prelude.{IsTrue, flat_map, take}
+use Rattle.std.proofs.Common.{◌≡◌, ℕ, ◌+◌, ◌-◌, ◌≤◌, ◌<◌, ◌^◌, Bool, true, List, [], ◌∷◌, ◌++◌, length, map, drop, refl, sym, ap, subst, ◌∙◌, length-append, arith}
+use Rattle.std.specs.Prelude.{IsTrue, take}
 use Rattle.std.specs.List.{AllByRecursion as Each}
 use Rattle.std.proofs.lemmas.List.{drop_all, drop_at, take-append-le, take_at}
 use Rattle.std.proofs.lemmas.List.Concat.{flat_map-append}
@@ -11,7 +11,7 @@ use Rattle.barrier_snapshot.specs.Snapshots.{IsSnapshot}
 use Rattle.effect_text.specs.Lines.{event_in, events_of}
 use Rattle.life_effects.proofs.FitLaws.{held_fits}
 use Rattle.life_effects.proofs.TransLaws.{trans_next, trans_rest}
-use Rattle.life_effects.specs.Effects.{LifeFits, courses_of, open_courses, stored_effects}
+use Rattle.life_effects.specs.Effects.{LifeFits, stored_effects}
 use Rattle.life_effects.specs.Times.{times_fit}
 use Rattle.node_core.specs.Cut.{IsStamped}
 use Rattle.node_core.specs.Meaning.{Input}
@@ -23,7 +23,6 @@ use Rattle.store_records.specs.declared.rec.Rec.{Rec}
 use Rattle.store_records.specs.declared.rec.Rec.TheVariants as kinds
 use Rattle.store_records.specs.declared.task.Life.{Life}
 use Rattle.task_run.specs.Courses.{Course}
-use Rattle.task_run.specs.Graphs.{Placed}
 use Rattle.tick_compile.specs.declared.tasks.Task.{Task}
 use Rattle.topic_core.specs.Topics.{StandsFor, TopicsValue, Trans, changes, event_of, numbered}
 use Rattle.topic_core.specs.declared.transition.Transition.{Transition}

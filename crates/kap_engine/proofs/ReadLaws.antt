@@ -1,5 +1,5 @@
 -- The lives of a store run on its points, piece by piece.
-use Rattle.std.proofs.Common.{◌≡◌, ℕ, zero, suc, List, [], ◌∷◌, ◌++◌, length, drop, refl, sym, ap, subst, ◌∙◌, append-nil, append_assoc}
+use Rattle.std.proofs.Common.{◌≡◌, ℕ, suc, List, [], ◌∷◌, ◌++◌, length, drop, refl, sym, ap, subst, ◌∙◌, append-nil, append_assoc}
 use Rattle.std.specs.Prelude.{take}
 use Rattle.std.proofs.lemmas.List.{drop_at, take-append-drop}
 use Rattle.kap_base.specs.Points.{PointValue}
@@ -17,9 +17,17 @@ use Rattle.engine_runs.specs.Spans.{FirstsRise}
 use Rattle.engine_runs.proofs.HeldLaws.{held_rise}
 use Rattle.kap_engine.specs.Opening.{HasBegun, HasRunAll, HasRunOn, missing}
 
+none-first : (n : ℕ) (ps : List PointValue) → take (suc n) ps ≡ [] → ps ≡ []
+none-first n [] e = refl
+none-first n (p ∷ ps) e = absurd cc
+
 none-left : (ps : List PointValue) → take 4096 ps ≡ [] → ps ≡ []
-none-left [] e = refl
-none-left (p ∷ ps) e = absurd cc
+none-left ps e = none-first 4095 ps e
+
+-- a reader stands before some points
+pub record StandsBefore (rs : List Rec) (reader : PointsState) : Type 0 where
+  pub points : List PointValue
+  pub before : IsBefore rs points reader
 
 module _ {N P S : Type 0} (g : Ghosts N P S) (planned : Planned P) (rs : List Rec) (tasks : List Task) where
   -- The lives have run on the first points, a reader stands before the others, and these transitions are missing.

@@ -1,6 +1,6 @@
 -- The last snapshot of a store: what is kept of it, and that it stays the last one where transitions are added.
-use Rattle.std.proofs.Common.{◌≡◌, ℕ, ◌+◌, Bool, true, false, ◌||◌, List, [], ◌∷◌, ◌++◌, length, map, refl, sym, ap, subst, ◌∙◌, append-nil, append_assoc, true≢false}
-use Rattle.std.specs.Prelude.{None, Option, Some}
+use Rattle.std.proofs.Common.{◌≡◌, ℕ, ◌+◌, Bool, true, false, ◌||◌, List, [], ◌∷◌, ◌++◌, map, refl, sym, ap, subst, ◌∙◌, append-nil, append_assoc, true≢false}
+use Rattle.std.specs.Prelude.{Option, Some, option_map, unwrap_or}
 use Rattle.std.specs.List.{list_any}
 use Rattle.store_records.specs.Held.{Held, MayFollow, after, nothing, open_from, transitions_in}
 use Rattle.store_records.specs.Histories.{FollowFrom, Follow, end_from, end_of, first_gate, held, held_from, next_gate}
@@ -9,6 +9,7 @@ use Rattle.store_records.specs.declared.rec.Rec.TheVariants as kinds
 use Rattle.store_records.specs.declared.task.Snapshot.{Snapshot}
 use Rattle.topic_core.specs.declared.transition.Transition.{Transition}
 use Rattle.topic_store.specs.Snapshots.{LastSnap, is_snap}
+use Rattle.topic_store.specs.Stores.{numbers_of}
 
 -- ---- records one behind the other
 
@@ -55,6 +56,13 @@ snap_kept rs s =
     ap (λ (l : List Rec). (held l).snap) s.split
     ∙ ap (λ (h : Held). h.snap) (held-both nothing first_gate s.before (r ∷ s.behind))
     ∙ no-snap (after (held s.before) (end_of s.before) r) (next_gate (end_of s.before) r) s.behind s.none_behind
+
+-- how many points and transitions there were
+pub numbers_there : (rs : List Rec) (s : LastSnap rs) (kept : Option Snapshot) (found : Option (ℕ × ℕ)) (pair : ℕ × ℕ) → kept ≡ (held rs).snap → found ≡ option_map numbers_of kept → pair ≡ unwrap_or found (0, 0)
+    → (pair.0 ≡ s.points) × (pair.1 ≡ s.trans)
+numbers_there rs s kept found pair k f u =
+    let all : pair ≡ (s.points, s.trans) = u ∙ ap (λ (o : Option (ℕ × ℕ)). unwrap_or o (0, 0)) (f ∙ ap (option_map numbers_of) (k ∙ snap_kept rs s)) in
+    (ap (λ (p : ℕ × ℕ). p.0) all, ap (λ (p : ℕ × ℕ). p.1) all)
 
 -- ---- it stays the last one
 

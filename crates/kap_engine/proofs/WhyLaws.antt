@@ -1,7 +1,6 @@
 -- Why the lives of a store don't run.
-use Rattle.std.proofs.Common.{◌≡◌, ◌⊎◌, inl, inr, ℕ, ◌<◌, Bool, true, false, ◌-◌, if◌then◌else◌, List, [], ◌∷◌, ◌++◌, map, None, Option, refl, sym, ap, subst, ◌∙◌, arith}
-use Rattle.std.specs.Prelude.{Contains}
-use Rattle.std.specs.List.{AllByRecursion as Each, AllZip}
+use Rattle.std.proofs.Common.{◌≡◌, inl, inr, ℕ, ◌<◌, Bool, true, false, ◌-◌, if◌then◌else◌, List, [], ◌∷◌, ◌++◌, map, None, Option, refl, sym, ap, subst, ◌∙◌, arith}
+use Rattle.std.specs.List.{AllZip, list_any}
 use Rattle.kap_base.specs.Points.{PointValue}
 use Rattle.kap_base.specs.Words.{HasRisen}
 use Rattle.barrier_snapshot.specs.Captures.{IsCapture}
@@ -24,8 +23,8 @@ use Rattle.tick_compile.specs.Tasks.{is_refusal, refusal_in}
 use Rattle.tick_compile.specs.declared.script_fault.ScriptFault.{ScriptFault}
 use Rattle.tick_compile.specs.declared.script_fault.ScriptFault.TheVariants as scripts
 use Rattle.tick_compile.specs.declared.tasks.Task.{Task}
-use Rattle.topic_store.specs.Snapshots.{LastSnap}
-use Rattle.engine_runs.specs.Faults.{IsRefused, IsRefusedOne, IsWhyOne}
+use Rattle.topic_store.specs.Snapshots.{LastSnap, is_snap}
+use Rattle.engine_runs.specs.Faults.{IsRefused, IsRefusedOne}
 use Rattle.engine_runs.specs.Scripts.{AreTasksOf, graphs_from, node_specs}
 use Rattle.engine_runs.specs.Spans.{numbers_from, picked}
 use Rattle.kap_engine.specs.Asking.{AreScripts, IsDefinedAt, IsFirstRefused, IsScript}
@@ -66,6 +65,10 @@ defined-script : (tasks : List StoredTask) (lives : List Life) (at : ℕ) (text 
 defined-script tasks lives at text all (inl t) = subst IsScript t.3 (each_contains (λ (t : StoredTask). IsScript t.script) tasks t.0 t.1 all.of_tasks)
 defined-script tasks lives at text all (inr l) = subst IsScript l.3 (each_contains (λ (l : Life). IsScript l.script) lives l.0 l.1 all.of_lives)
 
+-- scripts that were asked are those of what the store holds
+pub scripts_held : (tasks others : List StoredTask) (lives more : List Life) → tasks ≡ others → lives ≡ more → AreScripts tasks lives → AreScripts others more
+scripts_held tasks others lives more a b all = subst (λ (ts : List StoredTask). AreScripts ts more) a (subst (λ (ls : List Life). AreScripts tasks ls) b all)
+
 -- ---- states
 
 module _ {P S : Type 0} where
@@ -98,36 +101,29 @@ module _ {N P S : Type 0} (g : Ghosts N P S) where
   snapshot-fits : (courses : List (Course P)) (bytes : List ℕ) (s : IsSnapshot g courses bytes) → IsCapture g.fits g.spell (node_specs (map (λ (c : Course P). c.nodes) courses)) (states_all s.acts) bytes
   snapshot-fits courses bytes s = subst (λ (ps : List P). IsCapture g.fits g.spell ps (states_all s.acts) bytes) (specs-at courses s.acts s.are) s.capture
 
-  module _ (planned : Planned P) (before after : ℕ) (refused : List ℕ) where
-    -- the lives of a right store don't run only for a pattern that was refused
-    pub good_rose : (rs : List Rec) (offset : ℕ) (apart : (refused : Option Refusal) (text : List ℕ) (task : Task) (fault : ScriptFault) → Accepts refused text task → Refuses refused text fault → ⊥)
-        → IsGood g planned rs → IsWhyNone g planned before after refused rs offset → HasRisen before after
-    good_rose rs offset apart good (inl w) =
-        refused_rose before after refused w.text apart (defined-script (held rs).tasks (held rs).lives offset w.text good.scripts w.there) w.why
-    good_rose rs offset apart good (inr o) =
-        let s = (good.consistent.snap o.snap).states_are in
-        let graphs = graphs_in g planned rs good.tasks in
-        let courses = open_courses (held o.snap.before).lives graphs (held o.snap.before).points in
-        absurd (o.none good.tasks (states_all s.acts) good.are
-        (subst (λ (ns : List (List (Placed P))). IsCapture g.fits g.spell (node_specs ns) (states_all s.acts) o.snap.states) (nodes-open (held o.snap.before).lives graphs (held o.snap.before).points)
-        (snapshot-fits courses o.snap.states s)))
+  module _ (planned : Planned P) where
+    -- there is no snapshot
+    pub none_there : (rs : List Rec) → list_any is_snap rs ≡ false → HasStates g planned rs
+    none_there rs none = inl none
 
-    -- ---- the states of the last snapshot
-
+    -- the states of the last snapshot are those of the lives that were open there
     pub fits_of : (rs : List Rec) (s : LastSnap rs) (lives : List Life) (numbers states : List ℕ) → lives ≡ (held rs).lives → numbers ≡ open_from 1 (held s.before).lives → states ≡ s.states
         → ((tasks : List Task) (open_there : List Bool) → AreTasksOf lives tasks → numbers ≡ picked open_there (numbers_from 1 lives)
         → (holds : List S) × IsCapture g.fits g.spell (node_specs (picked open_there (graphs_from planned 1 lives tasks))) holds states)
         → HasStates g planned rs
-    fits_of rs s lives numbers states same numbers_are states_are fits = inr (s, λ tasks are.
-        let open_there = map is_open (held s.before).lives in
-        let there : numbers ≡ picked open_there (numbers_from 1 lives) = numbers_are ∙ sym (open_numbers rs s) ∙ ap (λ (ls : List Life). picked open_there (numbers_from 1 ls)) (sym same) in
-        let got = fits tasks open_there (subst (λ (ls : List Life). AreTasksOf ls tasks) (sym same) are) there in
-        (
-          got.0,
-          subst (λ (b : List ℕ). IsCapture g.fits g.spell (node_specs (picked open_there (graphs_from planned 1 (held rs).lives tasks))) got.0 b) states_are
-          (subst (λ (ls : List Life). IsCapture g.fits g.spell (node_specs (picked open_there (graphs_from planned 1 ls tasks))) got.0 states) same got.1),
-        ))
+    fits_of rs s lives numbers states same numbers_are states_are fits = inr (
+      s,
+      λ tasks are.
+          let open_there = map is_open (held s.before).lives in
+          let there : numbers ≡ picked open_there (numbers_from 1 lives) = numbers_are ∙ sym (open_numbers rs s) ∙ ap (λ (ls : List Life). picked open_there (numbers_from 1 ls)) (sym same) in
+          let got = fits tasks open_there (subst (λ (ls : List Life). AreTasksOf ls tasks) (sym same) are) there in (
+            got.0,
+            subst (λ (b : List ℕ). IsCapture g.fits g.spell (node_specs (picked open_there (graphs_from planned 1 (held rs).lives tasks))) got.0 b) states_are
+                (subst (λ (ls : List Life). IsCapture g.fits g.spell (node_specs (picked open_there (graphs_from planned 1 ls tasks))) got.0 states) same got.1),
+          ),
+    )
 
+    -- or they are none of these
     pub others_of : (rs : List Rec) (s : LastSnap rs) (lives : List Life) (numbers states : List ℕ) (gate : ℕ) → lives ≡ (held rs).lives → numbers ≡ open_from 1 (held s.before).lives → states ≡ s.states → gate ≡ end_of s.before
         → AreScripts (held rs).tasks (held rs).lives
         → ((tasks : List Task) (open_there : List Bool) (holds : List S) → AreTasksOf lives tasks → numbers ≡ picked open_there (numbers_from 1 lives)
@@ -144,3 +140,17 @@ module _ {N P S : Type 0} (g : Ghosts N P S) where
           (subst (λ (ls : List Life). IsCapture g.fits g.spell (node_specs (picked open_there (graphs_from planned 1 ls tasks))) holds states) (sym same)
           (subst (λ (b : List ℕ). IsCapture g.fits g.spell (node_specs (picked open_there (graphs_from planned 1 (held rs).lives tasks))) holds b) (sym states_are) capture));
     }
+
+    module _ (before after : ℕ) (refused : List ℕ) where
+      -- the lives of a right store don't run only for a pattern that was refused
+      pub good_rose : (rs : List Rec) (offset : ℕ) (apart : (refused : Option Refusal) (text : List ℕ) (task : Task) (fault : ScriptFault) → Accepts refused text task → Refuses refused text fault → ⊥)
+          → IsGood g planned rs → IsWhyNone g planned before after refused rs offset → HasRisen before after
+      good_rose rs offset apart good (inl w) =
+          refused_rose before after refused w.text apart (defined-script (held rs).tasks (held rs).lives offset w.text good.scripts w.there) w.why
+      good_rose rs offset apart good (inr o) =
+          let s = (good.consistent.snap o.snap).states_are in
+          let graphs = graphs_in g planned rs good.tasks in
+          let courses = open_courses (held o.snap.before).lives graphs (held o.snap.before).points in
+          absurd (o.none good.tasks (states_all s.acts) good.are
+          (subst (λ (ns : List (List (Placed P))). IsCapture g.fits g.spell (node_specs ns) (states_all s.acts) o.snap.states) (nodes-open (held o.snap.before).lives graphs (held o.snap.before).points)
+          (snapshot-fits courses o.snap.states s)))

@@ -1,6 +1,5 @@
 -- An engine on its disk.
-use Rattle.std.specs.Prelude.{◌≡◌, ℕ, List, ◌++◌, []}
-use Rattle.kap_base.specs.Points.{PointValue}
+use Rattle.std.specs.Prelude.{List}
 use Rattle.kap_io.specs.Disk.{Image}
 use Rattle.node_core.specs.declared.node.Node.{Ghosts}
 use Rattle.node_set.specs.Tasks.{Planned}

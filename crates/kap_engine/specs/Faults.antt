@@ -47,7 +47,7 @@ module _ {N P S : Type 0} (g : Ghosts N P S) (planned : Planned P) where
   abbrev pub HoldsStates : (rs : List Rec) → LastSnap rs → List Task → List S → Type 0
   HoldsStates rs snap tasks states =
       IsCapture g.fits g.spell
-          (node_specs (picked (map is_open (held snap.before).lives) (graphs_in g planned rs tasks)))
+      (node_specs (picked (map is_open (held snap.before).lives) (graphs_in g planned rs tasks)))
       states snap.states
 
   -- The states of the last snapshot, where there is one, are states of the nodes of the lives that were open there.
@@ -55,8 +55,8 @@ module _ {N P S : Type 0} (g : Ghosts N P S) (planned : Planned P) where
   HasStates rs =
       (list_any is_snap rs ≡ false)
       ⊎ ((snap : LastSnap rs)
-          × ((tasks : List Task) → AreTasksOf (held rs).lives tasks → (states : List S)
-          × HoldsStates rs snap tasks states))
+      × ((tasks : List Task) → AreTasksOf (held rs).lives tasks → (states : List S)
+      × HoldsStates rs snap tasks states))
 
   -- What is asked of a store: its scripts are those of tasks, and the states of its last snapshot are those of lives.
   pub record IsAsked (rs : List Rec) : Type 0 where

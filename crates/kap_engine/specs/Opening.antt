@@ -1,7 +1,6 @@
 -- The lives of a store, run on its points while an engine is made.
 use Rattle.std.specs.Prelude.{◌≡◌, ℕ, List, [], ◌++◌, length}
 use Rattle.kap_base.specs.Points.{PointValue}
-use Rattle.kap_io.specs.Disk.{Image}
 use Rattle.node_core.specs.declared.node.Node.{Ghosts}
 use Rattle.node_set.specs.Tasks.{Planned}
 use Rattle.store_records.specs.Histories.{held}

@@ -39,11 +39,7 @@ fn piece_len(transitions: &[Transition]) -> usize
 }
 
 /// Adds a record of transitions.
-fn add_piece<D: Disk>(
-    store: &mut Store,
-    disk: &mut D,
-    piece: Transitions,
-) -> Result<(), StoreFault>
+fn add_piece<D: Disk>(store: &mut Store, disk: &mut D, piece: Transitions) -> Result<(), StoreFault>
     requires usable { store.old.log.spent ≡ false }
     ensures added { IsTrue D.tells → (rs : List Rec)
         → IsOn rs (D.seen disk.old) (D.may_leave disk.old) store.old

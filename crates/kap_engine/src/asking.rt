@@ -100,12 +100,7 @@ fn is_last(asked: Option<&[u8]>, text: &[u8]) -> bool
 }
 
 /// Whether a script, which the record at this place defined, is that of a task.
-fn ask<P: Patterns>(
-    alloc: Global,
-    place: u64,
-    text: &[u8],
-    pats: &mut P,
-) -> Result<(), RunFault>
+fn ask<P: Patterns>(alloc: Global, place: u64, text: &[u8], pats: &mut P) -> Result<(), RunFault>
     requires { length text.now ≤ SCRIPT_LIMIT }
     ensures ok { OnOk result (IsScript text.now) }
     ensures why { IfErr result

@@ -1,12 +1,13 @@
 -- Words are pairs, and options before them.
 use Rattle.std.proofs.Common.{◌≡◌, ℕ, ◌<◌, ◌≤◌, ◌+◌, Bool, true, false, List, [], ◌∷◌, ◌-◌, drop, get_or, length, map, take, refl, sym, ap, ◌∙◌, arith}
-use Rattle.std.specs.Prelude.{codes, nat_le, nat_lt}
+use Rattle.std.specs.Prelude.{Some, codes, nat_le, nat_lt}
 use Rattle.std.specs.Str.{bytes_eq}
 use Rattle.std.proofs.Math.Seq.{take-length}
 use Rattle.std.proofs.lemmas.List.{length-drop}
 use Rattle.std.proofs.lemmas.Bool.Decides.{nat_tests}
 use Rattle.kap_server.specs.declared.options.ReplayOptions.{ReplayOptions}
-use Rattle.kap_server.specs.Words.{are_pairs, is_option, pairs_of}
+use Rattle.kap_server.specs.Options.{with_counts, with_value}
+use Rattle.kap_server.specs.Words.{are_pairs, is_option, pairs_of, replay_request}
 
 -- ---- how many pairs words are
 

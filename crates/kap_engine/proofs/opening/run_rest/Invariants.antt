@@ -7,7 +7,7 @@ use Rattle.tick_compile.specs.declared.tasks.Task.{Task}
 use Rattle.topic_store.specs.Stores.{IsOn}
 use Rattle.engine_runs.specs.Scripts.{AreTasksOf}
 use Rattle.kap_engine.specs.Opening.{HasBegun}
-use Rattle.kap_engine.proofs.ReadLaws.{IsReading}
+use Rattle.kap_engine.proofs.ReadLaws.{IsReading, StandsBefore}
 use Rattle.kap_engine.proofs.opening.run_rest.Given as goal
 
 -- some of the points were read, and have run
@@ -17,6 +17,7 @@ invariant-reading g l = record {
   kept : g.P.Patterns.refusals l.pats ≡ g.P.Patterns.refusals l.fn.pats;
   quiet : IsTrue g.D.Disk.tells → Quiet g.D.Disk.seen g.D.Disk.moment g.D.Disk.may_leave g.D.Disk.left_since l.fn.disk l.disk;
   later : g.D.Disk.faults l.fn.disk ≤ g.D.Disk.faults l.disk;
+  stands : IsTrue g.D.Disk.tells → (rs : List Rec) → IsOn rs (g.D.Disk.seen l.fn.disk) (g.D.Disk.may_leave l.fn.disk) l.store → StandsBefore rs l.reader;
   reads : IsTrue g.D.Disk.tells → (rs : List Rec) (tasks : List Task) → IsOn rs (g.D.Disk.seen l.fn.disk) (g.D.Disk.may_leave l.fn.disk) l.store
       → AreTasksOf (held rs).lives tasks → HasBegun g.N.Node g.N.ScriptNode.planned rs tasks l.fn.run
       → IsReading g.N.Node g.N.ScriptNode.planned rs tasks l.reader l.run l.due.items;
