@@ -25,8 +25,8 @@ PutsLines (Err fault) lines due due_after w v = ⊥
 
 -- ---- a whole list
 
--- By the answer, where w and v are what was written before and after: at Ok the text was appended; where a device failed
--- or memory ran out, a prefix of it.
+-- By the answer, where w and v are what was written before and after: at Ok the text was appended; where a device
+-- failed or memory ran out, a prefix of it.
 abbrev pub Lists : {T : Type 0} → Result T ListFault → List ℕ → Option (List ℕ) → Option (List ℕ) → Type 0
 Lists (Ok done) text w v = Appends w v text
 Lists (Err (NotStore part offset)) text w v = ⊥
