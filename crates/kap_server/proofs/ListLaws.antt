@@ -1,8 +1,10 @@
 -- What stands after a list of what a store holds.
-use Rattle.std.proofs.Common.{◌≡◌, ℕ, List, [], ◌∷◌, Option, None, Ok, Err, inl, inr, refl, sym, ap, subst, ◌∙◌, arith}
+use Rattle.std.proofs.Common.{◌≡◌, ◌⊎◌, ℕ, List, [], ◌∷◌, Option, None, Ok, Err, inl, inr, refl, sym, ap, subst, ◌∙◌, arith}
 use Rattle.std.specs.Prelude.{IsErrOf}
 use Rattle.std.proofs.KnownBytes.{Appends-nil}
+use Rattle.kap_base.specs.declared.items.Event.{Event}
 use Rattle.kap_io.specs.Disk.{Image}
+use Rattle.kap_io.specs.Moments.{Moments, Quiet, then_run}
 use Rattle.kap_io.specs.Pieces.{AppendsPrefix}
 use Rattle.kap_io.specs.declared.disk.Part.{Part}
 use Rattle.node_core.specs.declared.node.Node.{Ghosts}
@@ -13,17 +15,19 @@ use Rattle.store_records.specs.declared.rec.Rec.{Rec}
 use Rattle.store_records.specs.declared.task.Life.{Life}
 use Rattle.tick_compile.specs.Scripts.{Accepts}
 use Rattle.tick_compile.specs.declared.tasks.Task.{Task}
-use Rattle.topic_core.specs.Topics.{topics_after}
+use Rattle.topic_core.specs.Topics.{StandsFor, TopicsValue, Trans, topics_after}
 use Rattle.topic_core.specs.declared.transition.Transition.{Transition}
 use Rattle.topic_store.specs.Stores.{IsNoStore}
 use Rattle.topic_store.proofs.Adding.{image_stands}
 use Rattle.topic_store.proofs.Apart.{no_store_apart, no_store_unique}
 use Rattle.topic_store.proofs.Found.{seen_stands}
+use Rattle.topic_store.proofs.Quietly.{on_quietly}
+use Rattle.engine_runs.specs.Running.{life_events}
 use Rattle.engine_runs.specs.Scripts.{AreTasksOf}
 use Rattle.engine_runs.specs.Whole.{due_of}
 use Rattle.kap_engine.specs.Engines.{EngineValue, IsEngineBehind}
 use Rattle.kap_engine.specs.Faults.{IsNoGood, no_lives, no_store}
-use Rattle.kap_engine.specs.Good.{IsGood, graphs_in}
+use Rattle.kap_engine.specs.Good.{IsGood, graphs_in, stays_or_good}
 use Rattle.kap_engine.proofs.GoodLaws.{due_same}
 use Rattle.kap_engine.specs.declared.fault.EngineFault.{EngineFault}
 use Rattle.kap_engine.specs.declared.fault.EngineFault.TheVariants as engines
@@ -36,7 +40,7 @@ use Rattle.kap_server.specs.declared.status.Status.TheVariants as statuses
 use Rattle.kap_server.specs.declared.words.Listing.{Listing}
 use Rattle.kap_server.specs.declared.words.Listing.TheVariants.{Tasks, Topics, Alerts, Export}
 use Rattle.kap_server.specs.Command.{IsUnlessDiskFailed}
-use Rattle.kap_server.specs.Listing.{LeavesFull, Opens, Shows, all_transitions, held_whole, list_text}
+use Rattle.kap_server.specs.Listing.{AreAsked, AreOthers, LeavesFull, Opens, Shows, all_transitions, held_whole, list_text}
 use Rattle.kap_server.specs.Statuses.{status_of_engine, status_of_list}
 use Rattle.kap_server.proofs.RunLaws.{keeps_same}
 
@@ -77,6 +81,12 @@ module _ {N P S : Type 0} (g : Ghosts N P S) (planned : Planned P) (one : (refus
   pub list_whole : (listing : Listing) → list_text listing (held_whole g planned rs good) ≡ list_text listing (held made.records)
   list_whole listing = list-same listing (held_whole g planned rs good) (held made.records) (sym made.added.tasks) (sym made.added.points) all-there
 
+  -- the topics are those of its transitions
+  pub topics_whole : (kept : (events : List Event) (topics : TopicsValue) → StandsFor events topics → topics ≡ topics_after (Trans events)) → engine.run.topics ≡ topics_after (held made.records).transitions
+  topics_whole kept =
+      kept (life_events g planned (held made.records).lives made.engine.full.good.tasks (held made.records).points) engine.run.topics made.engine.runs.topics
+      ∙ ap topics_after made.engine.full.all
+
   -- and it is left on the disk, and in each image
   pub leaves_full : LeavesFull g planned rs seen images
   leaves_full = record {
@@ -88,13 +98,32 @@ module _ {N P S : Type 0} (g : Ghosts N P S) (planned : Planned P) (one : (refus
     leaves = image_stands made.records seen images engine.store made.engine.on;
   }
 
+-- the same behind calls that change nothing
+pub behind_quietly : {N P S D : Type 0} (g : Ghosts N P S) (planned : Planned P) (rs : List Rec) (engine : EngineValue N) (seen : D → Image) (moment : D → ℕ) (may_leave : D → Image → Type 0) (left_since : D → ℕ → Image → Type 0) (old new : D)
+    → Quiet seen moment may_leave left_since old new → IsEngineBehind g planned rs (seen old) (may_leave old) engine → IsEngineBehind g planned rs (seen new) (may_leave new) engine
+behind_quietly g planned rs engine seen moment may_leave left_since old new quiet made = record {
+  records = made.records;
+  more = made.more;
+  added = made.added;
+  engine = record {
+    on = on_quietly seen moment may_leave left_since old new made.records engine.store quiet made.engine.on;
+    full = made.engine.full;
+    runs = made.engine.runs;
+  };
+}
+
+-- images of before, or of right stores, stay so
+pub good_then_quiet : {N P S D : Type 0} (g : Ghosts N P S) (planned : Planned P) (rs : List Rec) (seen : D → Image) (moment : D → ℕ) (may_leave : D → Image → Type 0) (left_since : D → ℕ → Image → Type 0) (old mid new : D)
+    → Moments moment may_leave left_since old mid (stays_or_good g planned rs) → Quiet seen moment may_leave left_since mid new → Moments moment may_leave left_since old new (stays_or_good g planned rs)
+good_then_quiet g planned rs seen moment may_leave left_since old mid new good quiet =
+    then_run moment may_leave left_since old mid new _ _ _ good quiet.moments
+    (λ a b was how. how)
+    (λ a b c was how left same. subst (stays_or_good g planned rs a) (sym same) how)
+
 -- ---- by the status
 
--- the list was written, or what its fault is
-pub shows_done : {T : Type 0} (done : T) (text : List ℕ) (w v : Option (List ℕ)) → Lists (Ok done) text w v → Shows text statuses.Ok w v
-shows_done done text w v h = h
-
-pub shows_fault : {T : Type 0} (fault : ListFault) (text : List ℕ) (w v : Option (List ℕ)) → Lists {T = T} (Err fault) text w v → Shows text (status_of_list fault) w v
+-- the list has a fault
+pub shows_fault : (fault : ListFault) (text : List ℕ) (w v : Option (List ℕ)) → Lists {T = Unit {0}} (Err fault) text w v → Shows text (status_of_list fault) w v
 shows_fault (lists.NotStore part offset) text w v h = absurd h
 shows_fault lists.DiskFault text w v h = h
 shows_fault lists.WriteFault text w v h = h
@@ -106,18 +135,38 @@ shows_none (engines.NotStore part offset) text w = keeps_same w
 shows_none engines.DiskFault text w = none-written w text
 shows_none engines.NoMemory text w = none-written w text
 
--- the place that a status tells is that of the opening's fault
-pub place_of_opening : {T : Type 0} (fault : EngineFault) (part : Part) (offset : ℕ) → status_of_engine fault ≡ statuses.NotStore part offset → IsErrOf {T = T} (Err fault) (engines.NotStore part offset)
-place_of_opening (engines.NotStore there at) part offset e = search cc
-place_of_opening engines.DiskFault part offset e = absurd cc
-place_of_opening engines.NoMemory part offset e = absurd cc
-
 -- a list that was written tells no place
-pub no_place : {T : Type 0} (fault : ListFault) (part : Part) (offset : ℕ) (text : List ℕ) (w v : Option (List ℕ)) → Lists {T = T} (Err fault) text w v → status_of_list fault ≡ statuses.NotStore part offset → ⊥
+pub no_place : (fault : ListFault) (part : Part) (offset : ℕ) (text : List ℕ) (w v : Option (List ℕ)) → Lists {T = Unit {0}} (Err fault) text w v → status_of_list fault ≡ statuses.NotStore part offset → ⊥
 no_place (lists.NotStore there at) part offset text w v h e = h
 no_place lists.DiskFault part offset text w v h e = absurd cc
 no_place lists.WriteFault part offset text w v h e = absurd cc
 no_place lists.NoMemory part offset text w v h e = absurd cc
+
+-- why it wasn't
+pub opens_none : {N P S T : Type 0} (g : Ghosts N P S) (planned : Planned P) (before after : ℕ) (refused : List ℕ) (files : Image) (fault : EngineFault)
+    → ((part : Part) (offset : ℕ) → IsErrOf {T = T} (Err fault) (engines.NotStore part offset) → IsNoGood g planned before after refused files part offset) → Opens g planned before after refused files (status_of_engine fault)
+opens_none g planned before after refused files (engines.NotStore part offset) why = inl (why part offset refl)
+opens_none g planned before after refused files engines.DiskFault why = tt
+opens_none g planned before after refused files engines.NoMemory why = tt
+
+-- it was, and the list has a fault
+pub opens_asked : {N P S : Type 0} (g : Ghosts N P S) (planned : Planned P) (before after : ℕ) (refused : List ℕ) (files : Image) (fault : ListFault) (asked : AreAsked g planned files)
+    → (IsGood g planned asked.records → (text : List ℕ) × (w : Option (List ℕ)) × (v : Option (List ℕ)) × Lists {T = Unit {0}} (Err fault) text w v) → Opens g planned before after refused files (status_of_list fault)
+opens_asked g planned before after refused files (lists.NotStore part offset) asked listed = inr (record { asked = asked; wrong = λ good. (listed good).3 })
+opens_asked g planned before after refused files lists.DiskFault asked listed = tt
+opens_asked g planned before after refused files lists.WriteFault asked listed = asked
+opens_asked g planned before after refused files lists.NoMemory asked listed = tt
+
+-- where its status tells a place, it isn't right
+pub others_listed : {N P S : Type 0} (g : Ghosts N P S) (planned : Planned P) (files : Image) (fault : ListFault) (asked : AreAsked g planned files) (part : Part) (offset : ℕ)
+    → (IsGood g planned asked.records → (text : List ℕ) × (w : Option (List ℕ)) × (v : Option (List ℕ)) × Lists {T = Unit {0}} (Err fault) text w v) → status_of_list fault ≡ statuses.NotStore part offset → AreOthers g planned files
+others_listed g planned files fault asked part offset listed e = record { asked = asked; wrong = λ good. let l = listed good in no_place fault part offset l.0 l.1 l.2 l.3 e }
+
+-- the place that a status tells is that of the opening's fault
+pub place_of_opening : {T : Type 0} (fault : EngineFault) (part : Part) (offset : ℕ) → status_of_engine fault ≡ statuses.NotStore part offset → IsErrOf {T = T} (Err fault) (engines.NotStore part offset)
+place_of_opening (engines.NotStore there at) part offset e = cc
+place_of_opening engines.DiskFault part offset e = absurd cc
+place_of_opening engines.NoMemory part offset e = absurd cc
 
 -- where the files stand for no store, the place is told
 pub tells_place : {N P S : Type 0} (g : Ghosts N P S) (planned : Planned P) (before after : ℕ) (refused : List ℕ) (files : Image) (part : Part) (offset : ℕ) (result : Status)
@@ -129,11 +178,12 @@ tells_place g planned before after refused files part offset (statuses.Line n fa
 tells_place g planned before after refused files part offset (statuses.Truncated n) none h = absurd h
 tells_place g planned before after refused files part offset (statuses.NotStore there place) none h = by h
   where
-    by : IsNoGood g planned before after refused files there place → IsUnlessDiskFailed (statuses.NotStore there place) (statuses.NotStore part offset)
-    by (no_store one) =
+    by : IsNoGood g planned before after refused files there place ⊎ AreOthers g planned files → IsUnlessDiskFailed (statuses.NotStore there place) (statuses.NotStore part offset)
+    by (inl (no_store one)) =
         let same = no_store_unique files there part place offset one none in
         inl (ap (λ (p : Part). statuses.NotStore p place) same.0 ∙ ap (λ (n : ℕ). statuses.NotStore part n) same.1)
-    by (no_lives rs stands named why) = absurd (no_store_apart files part offset rs none stands)
+    by (inl (no_lives rs stands named why)) = absurd (no_store_apart files part offset rs none stands)
+    by (inr others) = absurd (no_store_apart files part offset others.asked.records none others.asked.stands)
 tells_place g planned before after refused files part offset statuses.Exists none h = absurd h
 tells_place g planned before after refused files part offset statuses.TooManyTasks none h = absurd h
 tells_place g planned before after refused files part offset statuses.TooLong none h = absurd h

@@ -1,5 +1,5 @@
 -- What stands after a list of what a store holds.
-use Rattle.std.specs.Prelude.{ℕ, List, Option, ⊤}
+use Rattle.std.specs.Prelude.{◌⊎◌, ℕ, List, Option, ⊤}
 use Rattle.std.specs.Io.KnownBytes.{Appends, Keeps}
 use Rattle.kap_io.specs.Disk.{Image}
 use Rattle.kap_io.specs.Pieces.{AppendsPrefix}
@@ -52,13 +52,20 @@ module _ {N P S : Type 0} (g : Ghosts N P S) (planned : Planned P) where
     pub stands : Stands records files
     pub asked : IsAsked g planned records
 
+  -- They stand for such a store, and it isn't right: somebody else wrote it. What its transitions are isn't known, nor
+  -- what is made of it.
+  pub record AreOthers (files : Image) : Type 0 where
+    pub asked : AreAsked files
+    pub wrong : IsGood g planned asked.records → ⊥
+
   -- By the status, of the files that were opened: they are those of a store that may be opened; or none, at the place
-  -- that is told; or it isn't known, since memory ran out or the disk failed. The numbers are how often a pattern was
+  -- that is told, or no right one; or it isn't known, since memory ran out or the disk failed. The numbers are how often a pattern was
   -- refused before and after, and `refused` is the last one.
   abbrev pub Opens : ℕ → ℕ → List ℕ → Image → Status → Type 0
   Opens before after refused files Ok = AreAsked files
   Opens before after refused files WriteFault = AreAsked files
-  Opens before after refused files (NotStore part offset) = IsNoGood g planned before after refused files part offset
+  Opens before after refused files (NotStore part offset) =
+      IsNoGood g planned before after refused files part offset ⊎ AreOthers files
   Opens before after refused files NoMemory = ⊤
   Opens before after refused files DiskFault = ⊤
   Opens before after refused files other = ⊥

@@ -16,7 +16,7 @@ ghost use Rattle.kap_server.specs.Checking.{Checked, ChecksTo};
 ghost use Rattle.kap_server.specs.Command.{AsksForTooMany, AsksToCheck, AsksToGenerate, AsksToInit, AsksToReplay, AsksToShow, AsksToSummarize};
 ghost use Rattle.kap_server.specs.Command.{ExactlyWhere, IsUnlessDiskFailed, IsUnlessFailed};
 ghost use Rattle.kap_server.specs.Generating.{Summed, WritesText};
-ghost use Rattle.kap_server.specs.Listing.{LeavesFull, Opens, Shows, held_whole, list_text};
+ghost use Rattle.kap_server.specs.Listing.{AreOthers, LeavesFull, Opens, Shows, held_whole, list_text};
 ghost use Rattle.kap_server.specs.Making.{HasHead, Made};
 ghost use Rattle.kap_server.specs.Nets.{HoldsNetOfSamples, HoldsNetOfTasks};
 ghost use Rattle.kap_server.specs.Options.{AreWithinLimits};
@@ -243,15 +243,16 @@ pub fn command<
         → result ≡ Status.NotStore part offset
         → HasRisen (P.refusals pats.old) (P.refusals pats.new) }
     // At Ok the files stood for a store whose scripts are those of tasks, and whose last snapshot is one of
-    // their nodes; where a place is told, they are no such store there.
+    // their nodes; where a place is told, they are no such store there, or one that isn't right.
     ensures opened { (listing : Listing) → AsksToShow (map string_bytes words.now) listing
         → IsTrue D.tells → Opens N.Node N.planned (P.refusals pats.old) (P.refusals pats.new)
         (P.refused pats.new) (D.seen disk.old) result }
-    // Then nothing was written, and nothing changed on the disk.
+    // But for the last case nothing was written then, and nothing changed on the disk.
     ensures left { (listing : Listing) (part : Part) (offset : ℕ)
         → AsksToShow (map string_bytes words.now) listing → IsTrue D.tells
-        → result ≡ Status.NotStore part offset → Keeps (K.written out.old) (K.written out.new)
-        × Quiet D.seen D.moment D.may_leave D.left_since disk.old disk.new }
+        → result ≡ Status.NotStore part offset → (Keeps (K.written out.old) (K.written out.new)
+        × Quiet D.seen D.moment D.may_leave D.left_since disk.old disk.new)
+        ⊎ AreOthers N.Node N.planned (D.seen disk.old) }
     // Where the files stand for no store, the place is told, unless memory ran out or the disk failed.
     ensures no_store { (listing : Listing) (part : Part) (offset : ℕ)
         → AsksToShow (map string_bytes words.now) listing → IsTrue D.tells

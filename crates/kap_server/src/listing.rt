@@ -1,17 +1,17 @@
 //! The commands that list what a store holds.
 
-ghost use Rattle.std.specs.Prelude.{◌≡◌, ℕ, false, map, IsTrue, List};
+ghost use Rattle.std.specs.Prelude.{◌≡◌, ◌⊎◌, ℕ, false, IsTrue, List};
 ghost use Rattle.std.specs.Io.KnownBytes.{Keeps};
 ghost use Rattle.kap_base.specs.Words.{HasRisen};
 ghost use Rattle.kap_io.specs.Moments.{Moments, Quiet};
 ghost use Rattle.kap_io.specs.declared.disk.Part.{Part};
 ghost use Rattle.store_records.specs.Histories.{held};
 ghost use Rattle.store_records.specs.declared.rec.Rec.{Rec};
-ghost use Rattle.topic_core.specs.Topics.{StandsFor, event_of};
+ghost use Rattle.topic_core.specs.Topics.{topics_after};
 ghost use Rattle.topic_store.specs.Stores.{IsOn, Stands};
 ghost use Rattle.store_lists.specs.Writing.{ListCause, Lists};
 ghost use Rattle.kap_engine.specs.Good.{IsFull, IsGood, stays_or_good};
-ghost use Rattle.kap_server.specs.Listing.{LeavesFull, Opens, Shows, held_whole, list_text};
+ghost use Rattle.kap_server.specs.Listing.{AreOthers, LeavesFull, Opens, Shows, held_whole, list_text};
 
 use crate::options::{capacity_of, no_options, workers_of};
 use crate::status::Status;
@@ -25,6 +25,7 @@ use node_set::ScriptNode;
 use std::alloc::Global;
 use std::thread::Threads;
 use store_lists::{ListFault, write_points, write_tasks, write_topics, write_transitions};
+use tick_compile::scripts_have_one_answer;
 use topic_core::kept_laws;
 
 /// Writes a list of what the store of an engine holds.
@@ -38,14 +39,13 @@ fn write_list<K: Sink, D: Disk, N: ScriptNode + NumberingNode + Send>(
     requires usable { engine.now.store.log.spent ≡ false }
     ensures lists { IsTrue D.tells → (rs : List Rec)
         → IsOn rs (D.seen disk.old) (D.may_leave disk.old) engine.now.store
-        → StandsFor (map event_of (held rs).transitions) engine.now.run.topics
+        → engine.now.run.topics ≡ topics_after (held rs).transitions
         → Lists result (list_text listing (held rs)) (K.written out.old) (K.written out.new) }
     ensures quiet { IsTrue D.tells
         → Quiet D.seen D.moment D.may_leave D.left_since disk.old disk.new }
     ensures cause { ListCause (K.faults out.old) (K.faults out.new)
         (D.faults disk.old) (D.faults disk.new) result }
 {
-    kept_laws();
     match listing {
         Listing::Tasks => write_tasks(alloc, engine.store().tasks(), out),
         Listing::Topics => write_topics(alloc, engine.topics().levels(), out),
@@ -83,8 +83,9 @@ pub(crate) fn list<
     ensures opened { IsTrue D.tells → Opens N.Node N.planned (P.refusals pats.old)
         (P.refusals pats.new) (P.refused pats.new) (D.seen disk.old) result }
     ensures left { IsTrue D.tells → (part : Part) (offset : ℕ)
-        → result ≡ Status.NotStore part offset → Keeps (K.written out.old) (K.written out.new)
-        × Quiet D.seen D.moment D.may_leave D.left_since disk.old disk.new }
+        → result ≡ Status.NotStore part offset → (Keeps (K.written out.old) (K.written out.new)
+        × Quiet D.seen D.moment D.may_leave D.left_since disk.old disk.new)
+        ⊎ AreOthers N.Node N.planned (D.seen disk.old) }
     ensures any_moment { IsTrue D.tells → (rs : List Rec) → IsGood N.Node N.planned rs
         → Stands rs (D.seen disk.old) → Moments D.moment D.may_leave D.left_since disk.old disk.new
         (stays_or_good N.Node N.planned rs) }
@@ -99,6 +100,8 @@ pub(crate) fn list<
     ensures disk_fault { result ≡ Status.DiskFault
         → HasRisen (D.faults disk.old) (D.faults disk.new) }
 {
+    kept_laws();
+    scripts_have_one_answer();
     let options = no_options();
     let workers = workers_of(options, TASK_LIMIT);
     let capacity = capacity_of(options);
