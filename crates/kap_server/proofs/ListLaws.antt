@@ -1,5 +1,5 @@
 -- What stands after a list of what a store holds.
-use Rattle.std.proofs.Common.{◌≡◌, ◌⊎◌, ℕ, List, [], ◌∷◌, Option, None, Ok, Err, inl, inr, refl, sym, ap, subst, ◌∙◌, arith}
+use Rattle.std.proofs.Common.{◌≡◌, ◌⊎◌, ℕ, List, [], ◌∷◌, Option, None, Some, Ok, Err, inl, inr, refl, sym, ap, subst, ◌∙◌, arith}
 use Rattle.std.specs.Prelude.{IsErrOf}
 use Rattle.std.proofs.KnownBytes.{Appends-nil}
 use Rattle.kap_base.specs.declared.items.Event.{Event}
@@ -7,6 +7,7 @@ use Rattle.kap_io.specs.Disk.{Image}
 use Rattle.kap_io.specs.Moments.{Moments, Quiet, then_run}
 use Rattle.kap_io.specs.Pieces.{AppendsPrefix}
 use Rattle.kap_io.specs.declared.disk.Part.{Part}
+use Rattle.lambda_types.specs.Faults.{Refusal}
 use Rattle.node_core.specs.declared.node.Node.{Ghosts}
 use Rattle.node_set.specs.Tasks.{Planned}
 use Rattle.store_records.specs.Held.{Held}
@@ -42,6 +43,7 @@ use Rattle.kap_server.specs.declared.words.Listing.TheVariants.{Tasks, Topics, A
 use Rattle.kap_server.specs.Command.{IsUnlessDiskFailed}
 use Rattle.kap_server.specs.Listing.{AreAsked, AreOthers, LeavesFull, Opens, Shows, all_transitions, held_whole, list_text}
 use Rattle.kap_server.specs.Statuses.{status_of_engine, status_of_list}
+use Rattle.kap_server.specs.Words.{Show}
 use Rattle.kap_server.proofs.RunLaws.{keeps_same}
 
 none-written : (w : Option (List ℕ)) (text : List ℕ) → AppendsPrefix w w text
@@ -50,14 +52,14 @@ none-written w text = (0, omega arith, Appends-nil w)
 -- ---- what is listed
 
 -- lives have the tasks of their scripts, and no others
-tasks-same : (one : (refused : Option Refusal) (text : List ℕ) (a b : Task) → Accepts refused text a → Accepts refused text b → a ≡ b) (lives : List Life) (as bs : List Task) → AreTasksOf lives as → AreTasksOf lives bs → as ≡ bs
+tasks-same : (one : (refused : Option Refusal) (text : List ℕ) (a b : Task) → Accepts refused text a → Accepts refused text b → a ≡ b) (lives : List Life) (xs bs : List Task) → AreTasksOf lives xs → AreTasksOf lives bs → xs ≡ bs
 tasks-same one [] [] [] a b = refl
 tasks-same one [] [] (t ∷ bs) a b = absurd b
-tasks-same one [] (t ∷ as) bs a b = absurd a
+tasks-same one [] (t ∷ xs) bs a b = absurd a
 tasks-same one (l ∷ lives) [] bs a b = absurd a
-tasks-same one (l ∷ lives) (t ∷ as) [] a b = absurd b
-tasks-same one (l ∷ lives) (t ∷ as) (u ∷ bs) a b =
-    ap (λ (x : Task). x ∷ as) (one None l.script t u a.0 b.0) ∙ ap (λ (l : List Task). u ∷ l) (tasks-same one lives as bs a.1 b.1)
+tasks-same one (l ∷ lives) (t ∷ xs) [] a b = absurd b
+tasks-same one (l ∷ lives) (t ∷ xs) (u ∷ bs) a b =
+    ap (λ (x : Task). x ∷ xs) (one None l.script t u a.0 b.0) ∙ ap (λ (l : List Task). u ∷ l) (tasks-same one lives xs bs a.1 b.1)
 
 -- the list is that of a store that holds as much
 list-same : (listing : Listing) (a b : Held) → a.tasks ≡ b.tasks → a.points ≡ b.points → a.transitions ≡ b.transitions → list_text listing a ≡ list_text listing b
@@ -191,3 +193,11 @@ tells_place g planned before after refused files part offset statuses.NoMemory n
 tells_place g planned before after refused files part offset statuses.ReadFault none h = absurd h
 tells_place g planned before after refused files part offset statuses.WriteFault none h = absurd (no_store_apart files part offset h.records none h.stands)
 tells_place g planned before after refused files part offset statuses.DiskFault none h = inr (inr refl)
+
+same-listing : (a b : Listing) → Some (Show a) ≡ Some (Show b) → a ≡ b
+same-listing a b e = cc
+
+-- the list is the one that is asked for
+pub shows_asked : {N P S : Type 0} (g : Ghosts N P S) (planned : Planned P) (rs : List Rec) (good : IsGood g planned rs) (a b : Listing) (result : Status) (w v : Option (List ℕ)) → Some (Show a) ≡ Some (Show b)
+    → Shows (list_text a (held_whole g planned rs good)) result w v → Shows (list_text b (held_whole g planned rs good)) result w v
+shows_asked g planned rs good a b result w v same h = subst (λ (l : Listing). Shows (list_text l (held_whole g planned rs good)) result w v) (same-listing a b same) h

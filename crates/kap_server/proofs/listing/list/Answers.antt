@@ -1,11 +1,10 @@
-use Rattle.std.proofs.Common.{◌≡◌, inl, inr, Err, Ok, List, Option, ℕ, refl, sym, subst, ◌∙◌}
+use Rattle.std.proofs.Common.{inr, Err, Ok, List, ℕ, sym, subst, ◌∙◌}
 use Rattle.kap_io.specs.Moments.{quiet_then}
 use Rattle.store_records.specs.Histories.{held}
-use Rattle.store_records.specs.declared.rec.Rec.{Rec}
 use Rattle.store_lists.specs.Writing.{Lists}
-use Rattle.kap_engine.specs.Good.{IsGood}
 use Rattle.kap_server.specs.Listing.{AreAsked, Opens, Shows, held_whole, list_text}
 use Rattle.kap_server.specs.declared.status.Status.{Status}
+use Rattle.kap_server.specs.declared.status.Status.TheVariants as statuses
 use Rattle.kap_server.proofs.ListLaws.{behind_quietly, good_then_quiet, leaves_full, list_whole, no_place, opens_asked, opens_none, others_listed, place_of_opening, shows_fault, topics_whole}
 use Rattle.kap_server.proofs.listing.list.Goals as goal
 
@@ -37,7 +36,7 @@ returns-in-Ok-write_list-clause-shown g c = λ tells rs good stands.
     let one = c.scripts_have_one_answer.ensures.task in
     let w = g.K.Sink.written c.args.out.now in
     let v = g.K.Sink.written c.write_list.new.out in
-    subst (λ (text : List ℕ). Shows text Ok w v) (sym (list_whole g.N.Node g.N.ScriptNode.planned one rs good seen images c.in-Ok.engine made c.args.listing))
+    subst (λ (text : List ℕ). Shows text statuses.Ok w v) (sym (list_whole g.N.Node g.N.ScriptNode.planned one rs good seen images c.in-Ok.engine made c.args.listing))
     (c.in-Ok-write_list.ensures.lists tells made.records made.engine.on (topics_whole g.N.Node g.N.ScriptNode.planned one rs good seen images c.in-Ok.engine made c.kept_laws.ensures.one))
 
 pub returns-in-Ok-write_list-clause-any_moment : goal.returns-in-Ok-write_list-clause-any_moment
@@ -95,7 +94,7 @@ returns-clause-opened g c = λ tells.
     let images = g.D.Disk.may_leave c.make_engine.new.disk in
     let one = c.scripts_have_one_answer.ensures.task in
     let files = g.D.Disk.seen c.args.disk.now in
-    let asked = record { records = opened.0; stands = opened.1; asked = opened.2 } in
+    let asked : AreAsked g.N.Node g.N.ScriptNode.planned files = record { records = opened.0; stands = opened.1; asked = opened.2 } in
     subst (λ (s : Status). Opens g.N.Node g.N.ScriptNode.planned (g.P.Patterns.refusals c.args.pats.now) (g.P.Patterns.refusals c.make_engine.new.pats) (g.P.Patterns.refused c.make_engine.new.pats) files s) (sym c.from-in-Err-write_list.ensures)
     (opens_asked g.N.Node g.N.ScriptNode.planned (g.P.Patterns.refusals c.args.pats.now) (g.P.Patterns.refusals c.make_engine.new.pats) (g.P.Patterns.refused c.make_engine.new.pats) files c.in-Err-write_list.fault asked
     (λ good. let made = c.in-Ok.ensures.made tells opened.0 opened.1 good in
