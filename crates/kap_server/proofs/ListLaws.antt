@@ -1,5 +1,5 @@
 -- What stands after a list of what a store holds.
-use Rattle.std.proofs.Common.{◌≡◌, ◌⊎◌, ℕ, List, [], ◌∷◌, Option, None, Some, Ok, Err, inl, inr, refl, sym, ap, subst, ◌∙◌, arith}
+use Rattle.std.proofs.Common.{◌≡◌, ◌⊎◌, ℕ, true, List, [], ◌∷◌, Option, None, Some, Ok, Err, inl, inr, refl, sym, ap, subst, ◌∙◌, arith}
 use Rattle.std.specs.Prelude.{IsErrOf}
 use Rattle.std.proofs.KnownBytes.{Appends-nil}
 use Rattle.kap_base.specs.declared.items.Event.{Event}
@@ -40,10 +40,11 @@ use Rattle.kap_server.specs.declared.status.Status.{Status}
 use Rattle.kap_server.specs.declared.status.Status.TheVariants as statuses
 use Rattle.kap_server.specs.declared.words.Listing.{Listing}
 use Rattle.kap_server.specs.declared.words.Listing.TheVariants.{Tasks, Topics, Alerts, Export}
-use Rattle.kap_server.specs.Command.{IsUnlessDiskFailed}
-use Rattle.kap_server.specs.Listing.{AreAsked, AreOthers, LeavesFull, Opens, Shows, all_transitions, held_whole, list_text}
+use Rattle.kap_server.specs.Command.{AsksForTooMany, IsUnlessDiskFailed}
+use Rattle.kap_server.specs.Listing.{AreAsked, AreOthers, IsOfList, LeavesFull, Opens, Shows, all_transitions, held_whole, list_text}
 use Rattle.kap_server.specs.Statuses.{status_of_engine, status_of_list}
-use Rattle.kap_server.specs.Words.{Show}
+use Rattle.kap_server.specs.Readying.{is_pattern_refused}
+use Rattle.kap_server.specs.Words.{Request, Show, request_in}
 use Rattle.kap_server.proofs.RunLaws.{keeps_same}
 
 none-written : (w : Option (List ℕ)) (text : List ℕ) → AppendsPrefix w w text
@@ -201,3 +202,41 @@ same-listing a b e = cc
 pub shows_asked : {N P S : Type 0} (g : Ghosts N P S) (planned : Planned P) (rs : List Rec) (good : IsGood g planned rs) (a b : Listing) (result : Status) (w v : Option (List ℕ)) → Some (Show a) ≡ Some (Show b)
     → Shows (list_text a (held_whole g planned rs good)) result w v → Shows (list_text b (held_whole g planned rs good)) result w v
 shows_asked g planned rs good a b result w v same h = subst (λ (l : Listing). Shows (list_text l (held_whole g planned rs good)) result w v) (same-listing a b same) h
+
+-- ---- how it ends, on any disk
+
+pub engine_ends : (fault : EngineFault) → IsOfList (status_of_engine fault)
+engine_ends (engines.NotStore part offset) = tt
+engine_ends engines.DiskFault = tt
+engine_ends engines.NoMemory = tt
+
+pub list_ends : (fault : ListFault) → IsOfList (status_of_list fault)
+list_ends (lists.NotStore part offset) = tt
+list_ends lists.DiskFault = tt
+list_ends lists.WriteFault = tt
+list_ends lists.NoMemory = tt
+
+pub never : (s status : Status) → IsOfList s → (IsOfList status → ⊥) → s ≡ status → ⊥
+never s status ends not e = not (subst IsOfList e ends)
+
+pub no_pattern : (s : Status) → IsOfList s → is_pattern_refused s ≡ true → ⊥
+no_pattern statuses.Ok ends e = absurd cc
+no_pattern statuses.Usage ends e = ends
+no_pattern (statuses.Script fault) ends e = ends
+no_pattern (statuses.Line n fault) ends e = ends
+no_pattern (statuses.Truncated n) ends e = ends
+no_pattern (statuses.NotStore part offset) ends e = absurd cc
+no_pattern statuses.Exists ends e = ends
+no_pattern statuses.TooManyTasks ends e = ends
+no_pattern statuses.TooLong ends e = ends
+no_pattern statuses.NoMemory ends e = absurd cc
+no_pattern statuses.ReadFault ends e = ends
+no_pattern statuses.WriteFault ends e = absurd cc
+no_pattern statuses.DiskFault ends e = absurd cc
+
+pub show_not_none : (listing : Listing) → ◌≡◌ {A = Option Request} (Some (Show listing)) None → ⊥
+show_not_none listing e = absurd cc
+
+pub show_not_many : (listing : Listing) (words : List (List ℕ)) → Some (Show listing) ≡ request_in words → AsksForTooMany words → ⊥
+show_not_many listing words is (inl asks) = let e = is ∙ asks.asks in absurd cc
+show_not_many listing words is (inr asks) = let e = is ∙ asks.asks in absurd cc

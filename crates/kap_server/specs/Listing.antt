@@ -45,6 +45,15 @@ Shows text ReadFault w v = ⊥
 Shows text WriteFault w v = AppendsPrefix w v text
 Shows text DiskFault w v = AppendsPrefix w v text
 
+-- it is a status in which a list ends, on any disk
+abbrev pub IsOfList : Status → Type 0
+IsOfList Ok = ⊤
+IsOfList (NotStore part offset) = ⊤
+IsOfList NoMemory = ⊤
+IsOfList WriteFault = ⊤
+IsOfList DiskFault = ⊤
+IsOfList other = ⊥
+
 module _ {N P S : Type 0} (g : Ghosts N P S) (planned : Planned P) where
   -- the files stand for a store whose scripts are those of tasks, and whose last snapshot is one of their nodes
   pub record AreAsked (files : Image) : Type 0 where

@@ -11,7 +11,7 @@ ghost use Rattle.topic_core.specs.Topics.{topics_after};
 ghost use Rattle.topic_store.specs.Stores.{IsOn, Stands};
 ghost use Rattle.store_lists.specs.Writing.{ListCause, Lists};
 ghost use Rattle.kap_engine.specs.Good.{IsFull, IsGood, stays_or_good};
-ghost use Rattle.kap_server.specs.Listing.{AreOthers, LeavesFull, Opens, Shows, held_whole, list_text};
+ghost use Rattle.kap_server.specs.Listing.{AreOthers, IsOfList, LeavesFull, Opens, Shows, held_whole, list_text};
 
 use crate::options::{capacity_of, no_options, workers_of};
 use crate::status::Status;
@@ -95,6 +95,7 @@ pub(crate) fn list<
     ensures again { IsTrue D.tells → (rs : List Rec) → IsFull N.Node N.planned rs
         → Stands rs (D.seen disk.old)
         → Quiet D.seen D.moment D.may_leave D.left_since disk.old disk.new }
+    ensures ends { IsOfList result }
     ensures write_fault { result ≡ Status.WriteFault
         → HasRisen (K.faults out.old) (K.faults out.new) }
     ensures disk_fault { result ≡ Status.DiskFault

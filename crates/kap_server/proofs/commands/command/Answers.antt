@@ -1,10 +1,10 @@
-use Rattle.std.proofs.Common.{sym, ◌∙◌}
-use Rattle.std.specs.Prelude.{IsTrue}
+use Rattle.std.proofs.Common.{sym, ◌∙◌, ⊎_elim}
 use Rattle.kap_server.proofs.CheckLaws.{check_answers}
 use Rattle.kap_server.proofs.GenLaws.{few_to_replay, few_to_summarize, summary_not_none, summed_as_asked, summed_not, summed_tells}
-use Rattle.kap_server.proofs.ListLaws.{shows_asked, tells_place}
+use Rattle.kap_server.proofs.ListLaws.{never, no_pattern, show_not_many, show_not_none, shows_asked, tells_place}
 use Rattle.kap_server.proofs.NetLaws.{net_as_asked, samples_as_asked}
 use Rattle.kap_server.proofs.RunLaws.{not_none, ran_as_asked, ran_not_disk, ran_not_many, ran_not_usage, ran_refused, ran_status}
+use Rattle.kap_server.specs.declared.status.Status.TheVariants as statuses
 use Rattle.kap_server.proofs.commands.command.Goals as goal
 
 pub returns-in-Some-Check-clause-check_status : goal.returns-in-Some-Check-clause-check_status
@@ -79,7 +79,7 @@ returns-else-are_too_many-2-clause-disk_fault g c = λ e. absurd ((summed_not _ 
 
 pub returns-in-Some-Show-clause-shown : goal.returns-in-Some-Show-clause-shown
 returns-in-Some-Show-clause-shown g c = λ listing rs good asks tells stands.
-    let asked = rw c.in-Some-Show.is at c.request_in.ensures.request in
+    let asked = rw (c.in-Some-Show.is, c.in-Some-Show.field-0-is) at c.request_in.ensures.request in
     shows_asked g.N.Node g.N.ScriptNode.planned rs good c.in-Some-Show.listing listing c.list.result (g.K.Sink.written c.args.out.now) (g.K.Sink.written c.list.new.out) (asked ∙ asks) (c.list.ensures.shown tells rs good stands)
 
 pub returns-in-Some-Show-clause-unrefused : goal.returns-in-Some-Show-clause-unrefused
@@ -114,3 +114,30 @@ pub returns-else-are_too_many-2-clause-sample_net : goal.returns-else-are_too_ma
 returns-else-are_too_many-2-clause-sample_net g c =
     let asked = rw (c.in-Some-Summarize.is, c.in-Some-Summarize.field-0-is) at c.request_in.ensures.request in
     λ n pairs asks ok. samples_as_asked _ _ _ _ _ n _ pairs c.from-in-Some-Summarize.ensures (asked ∙ asks.asks) (c.write_summary.ensures.net ok)
+
+pub returns-in-Some-Show-clause-usage : goal.returns-in-Some-Show-clause-usage
+returns-in-Some-Show-clause-usage g c =
+    let asked = rw (c.in-Some-Show.is, c.in-Some-Show.field-0-is) at c.request_in.ensures.request in
+    record {
+      only = λ e. absurd (never c.list.result statuses.Usage c.list.ensures.ends (λ x. x) e);
+      always = λ none. absurd (show_not_none c.in-Some-Show.listing (asked ∙ none));
+    }
+
+pub returns-in-Some-Show-clause-too_many : goal.returns-in-Some-Show-clause-too_many
+returns-in-Some-Show-clause-too_many g c =
+    let asked = rw (c.in-Some-Show.is, c.in-Some-Show.field-0-is) at c.request_in.ensures.request in
+    record {
+      only = λ e. absurd (never c.list.result statuses.TooManyTasks c.list.ensures.ends (λ x. x) e);
+      always = λ many. absurd (show_not_many c.in-Some-Show.listing _ asked many);
+    }
+
+pub returns-in-Some-Show-clause-nothing : goal.returns-in-Some-Show-clause-nothing
+returns-in-Some-Show-clause-nothing g c = ⊎_elim
+    (λ e. absurd (never c.list.result statuses.Usage c.list.ensures.ends (λ x. x) e))
+    (λ e. absurd (never c.list.result statuses.TooManyTasks c.list.ensures.ends (λ x. x) e))
+
+pub returns-in-Some-Show-clause-read_fault : goal.returns-in-Some-Show-clause-read_fault
+returns-in-Some-Show-clause-read_fault g c = λ e. absurd (never c.list.result statuses.ReadFault c.list.ensures.ends (λ x. x) e)
+
+pub returns-in-Some-Show-clause-pattern : goal.returns-in-Some-Show-clause-pattern
+returns-in-Some-Show-clause-pattern g c = λ e. absurd (no_pattern c.list.result c.list.ensures.ends e)

@@ -2,10 +2,10 @@ use Rattle.std.proofs.Common.{inr, Err, Ok, List, ℕ, sym, subst, ◌∙◌}
 use Rattle.kap_io.specs.Moments.{quiet_then}
 use Rattle.store_records.specs.Histories.{held}
 use Rattle.store_lists.specs.Writing.{Lists}
-use Rattle.kap_server.specs.Listing.{AreAsked, Opens, Shows, held_whole, list_text}
+use Rattle.kap_server.specs.Listing.{AreAsked, IsOfList, Opens, Shows, held_whole, list_text}
 use Rattle.kap_server.specs.declared.status.Status.{Status}
 use Rattle.kap_server.specs.declared.status.Status.TheVariants as statuses
-use Rattle.kap_server.proofs.ListLaws.{behind_quietly, good_then_quiet, leaves_full, list_whole, no_place, opens_asked, opens_none, others_listed, place_of_opening, shows_fault, topics_whole}
+use Rattle.kap_server.proofs.ListLaws.{behind_quietly, engine_ends, good_then_quiet, leaves_full, list_ends, list_whole, no_place, opens_asked, opens_none, others_listed, place_of_opening, shows_fault, topics_whole}
 use Rattle.kap_server.proofs.listing.list.Goals as goal
 
 pub returns-in-Err-clause-rose : goal.returns-in-Err-clause-rose
@@ -112,3 +112,9 @@ returns-clause-left g c = λ tells part offset e.
     (list_text c.args.listing (held made.records), g.K.Sink.written c.args.out.now, g.K.Sink.written c.write_list.new.out,
     c.in-Err-write_list.ensures.lists tells made.records made.engine.on (topics_whole g.N.Node g.N.ScriptNode.planned one opened.0 good seen images c.in-Ok.engine made c.kept_laws.ensures.one)))
     (sym c.from-in-Err-write_list.ensures ∙ e))
+
+pub returns-in-Err-clause-ends : goal.returns-in-Err-clause-ends
+returns-in-Err-clause-ends g c = subst IsOfList (sym c.from.ensures) (engine_ends c.in-Err.fault)
+
+pub returns-clause-ends : goal.returns-clause-ends
+returns-clause-ends g c = subst IsOfList (sym c.from-in-Err-write_list.ensures) (list_ends c.in-Err-write_list.fault)
