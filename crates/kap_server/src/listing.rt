@@ -106,7 +106,9 @@ pub(crate) fn list<
     let options = no_options();
     let workers = workers_of(options, TASK_LIMIT);
     let capacity = capacity_of(options);
-    let engine: Engine<N> = match Engine::make_engine(rt, alloc, disk, workers, capacity, gate, pats) {
+    let engine: Engine<N> = match Engine::make_engine(
+        rt, alloc, disk, workers, capacity, gate, pats,
+    ) {
         Ok(engine) => engine,
         Err(fault) => return Status::from(fault),
     };

@@ -97,9 +97,12 @@ returns-clause-opened g c = λ tells.
     let asked : AreAsked g.N.Node g.N.ScriptNode.planned files = record { records = opened.0; stands = opened.1; asked = opened.2 } in
     subst (λ (s : Status). Opens g.N.Node g.N.ScriptNode.planned (g.P.Patterns.refusals c.args.pats.now) (g.P.Patterns.refusals c.make_engine.new.pats) (g.P.Patterns.refused c.make_engine.new.pats) files s) (sym c.from-in-Err-write_list.ensures)
     (opens_asked g.N.Node g.N.ScriptNode.planned (g.P.Patterns.refusals c.args.pats.now) (g.P.Patterns.refusals c.make_engine.new.pats) (g.P.Patterns.refused c.make_engine.new.pats) files c.in-Err-write_list.fault asked
-    (λ good. let made = c.in-Ok.ensures.made tells opened.0 opened.1 good in
-    (list_text c.args.listing (held made.records), g.K.Sink.written c.args.out.now, g.K.Sink.written c.write_list.new.out,
-    c.in-Err-write_list.ensures.lists tells made.records made.engine.on (topics_whole g.N.Node g.N.ScriptNode.planned one opened.0 good seen images c.in-Ok.engine made c.kept_laws.ensures.one))))
+    (λ good. let made = c.in-Ok.ensures.made tells opened.0 opened.1 good in (
+      list_text c.args.listing (held made.records),
+      g.K.Sink.written c.args.out.now,
+      g.K.Sink.written c.write_list.new.out,
+      c.in-Err-write_list.ensures.lists tells made.records made.engine.on (topics_whole g.N.Node g.N.ScriptNode.planned one opened.0 good seen images c.in-Ok.engine made c.kept_laws.ensures.one),
+    )))
 
 pub returns-clause-left : goal.returns-clause-left
 returns-clause-left g c = λ tells part offset e.
@@ -108,9 +111,12 @@ returns-clause-left g c = λ tells part offset e.
     let images = g.D.Disk.may_leave c.make_engine.new.disk in
     let one = c.scripts_have_one_answer.ensures.task in
     inr (others_listed g.N.Node g.N.ScriptNode.planned (g.D.Disk.seen c.args.disk.now) c.in-Err-write_list.fault (record { records = opened.0; stands = opened.1; asked = opened.2 }) part offset
-    (λ good. let made = c.in-Ok.ensures.made tells opened.0 opened.1 good in
-    (list_text c.args.listing (held made.records), g.K.Sink.written c.args.out.now, g.K.Sink.written c.write_list.new.out,
-    c.in-Err-write_list.ensures.lists tells made.records made.engine.on (topics_whole g.N.Node g.N.ScriptNode.planned one opened.0 good seen images c.in-Ok.engine made c.kept_laws.ensures.one)))
+    (λ good. let made = c.in-Ok.ensures.made tells opened.0 opened.1 good in (
+      list_text c.args.listing (held made.records),
+      g.K.Sink.written c.args.out.now,
+      g.K.Sink.written c.write_list.new.out,
+      c.in-Err-write_list.ensures.lists tells made.records made.engine.on (topics_whole g.N.Node g.N.ScriptNode.planned one opened.0 good seen images c.in-Ok.engine made c.kept_laws.ensures.one),
+    ))
     (sym c.from-in-Err-write_list.ensures ∙ e))
 
 pub returns-in-Err-clause-ends : goal.returns-in-Err-clause-ends
