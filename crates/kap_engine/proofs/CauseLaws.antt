@@ -18,7 +18,7 @@ use Rattle.engine_runs.specs.declared.fault.RunFault.TheVariants as runs
 use Rattle.kap_engine.specs.Asking.{AreScripts, IsFirstRefused, IsWhyFirst}
 use Rattle.kap_engine.specs.Faults.{EngineCause, HasOtherStates, IsWhyNone, run_fault, store_fault}
 use Rattle.kap_engine.specs.declared.fault.EngineFault.{EngineFault}
-use Rattle.kap_engine.specs.declared.fault.EngineFault.TheVariants.{DiskFault, NoMemory, NotStore}
+use Rattle.kap_engine.specs.declared.fault.EngineFault.TheVariants.{DiskFault, NotStore}
 use Rattle.kap_engine.proofs.WhyLaws.{first_of_one}
 
 -- ---- causes

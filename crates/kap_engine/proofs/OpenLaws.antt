@@ -1,5 +1,5 @@
 -- The lives of a store as an engine is made: from its last snapshot on, or from the first point.
-use Rattle.std.proofs.Common.{◌≡◌, ℕ, ◌+◌, ◌-◌, ◌≤◌, ◌<◌, ◌^◌, Bool, true, List, [], ◌∷◌, ◌++◌, length, map, drop, refl, sym, ap, subst, ◌∙◌, length-append, arith}
+use Rattle.std.proofs.Common.{◌≡◌, ℕ, ◌+◌, ◌≤◌, ◌<◌, ◌^◌, Bool, true, List, [], ◌∷◌, ◌++◌, length, map, drop, refl, sym, ap, subst, ◌∙◌, length-append, arith}
 use Rattle.std.specs.Prelude.{IsTrue, take}
 use Rattle.std.specs.List.{AllByRecursion as Each}
 use Rattle.std.proofs.lemmas.List.{drop_all, drop_at, take-append-le, take_at}
@@ -36,7 +36,7 @@ use Rattle.engine_runs.specs.Whole.{IsConsistent, due_of, events_on}
 use Rattle.engine_runs.proofs.HeldLaws.{held_later, held_points}
 use Rattle.engine_runs.proofs.OpenLaws.{courses_later, effects_later, effects_on, numbers_later, spans_later}
 use Rattle.kap_engine.specs.Good.{graphs_in}
-use Rattle.kap_engine.specs.Opening.{HasBegun, HasRunAll, missing}
+use Rattle.kap_engine.specs.Opening.{HasBegun, HasRunAll}
 use Rattle.kap_engine.proofs.PassLaws.{each_to}
 use Rattle.kap_engine.proofs.SnapLaws.{held_trans, may_at}
 use Rattle.kap_engine.proofs.StoredLaws.{times_first, times_stored}

@@ -1,5 +1,5 @@
 -- The last snapshot of a store: what is kept of it, and that it stays the last one where transitions are added.
-use Rattle.std.proofs.Common.{◌≡◌, ℕ, ◌+◌, Bool, true, false, ◌||◌, List, [], ◌∷◌, ◌++◌, map, refl, sym, ap, subst, ◌∙◌, append-nil, append_assoc, true≢false}
+use Rattle.std.proofs.Common.{◌≡◌, ℕ, Bool, true, false, ◌||◌, List, [], ◌∷◌, ◌++◌, map, refl, sym, ap, subst, ◌∙◌, append-nil, append_assoc, true≢false}
 use Rattle.std.specs.Prelude.{Option, Some, option_map, unwrap_or}
 use Rattle.std.specs.List.{list_any}
 use Rattle.store_records.specs.Held.{Held, MayFollow, after, nothing, open_from, transitions_in}
@@ -93,9 +93,6 @@ first-same x y xs ys e = cc
 
 rest-same : (x y : Rec) (xs ys : List Rec) → x ∷ xs ≡ y ∷ ys → xs ≡ ys
 rest-same x y xs ys e = cc
-
-none-such : (x : Rec) (xs : List Rec) → x ∷ xs ≡ [] → ⊥
-none-such x xs e = absurd cc
 
 is-behind : (rs more before : List Rec) (points trans : ℕ) (states : List ℕ) (behind : List Rec) → list_any is_snap more ≡ false → rs ++ more ≡ before ++ kinds.Snap points trans states ∷ behind → list_any is_snap behind ≡ false
     → IsBehind rs before points trans states

@@ -6,7 +6,6 @@ use Rattle.kap_base.specs.Words.{HasRisen}
 use Rattle.barrier_snapshot.specs.Captures.{IsCapture}
 use Rattle.barrier_snapshot.specs.Snapshots.{IsSnapshot, specs_all, states_all}
 use Rattle.lambda_types.specs.Faults.{Refusal}
-use Rattle.lambda_types.specs.declared.fault.TypeFault.{TypeFault}
 use Rattle.life_effects.specs.Effects.{open_courses, seen_by}
 use Rattle.node_core.specs.declared.node.Node.{Ghosts}
 use Rattle.node_set.specs.Tasks.{Planned}
@@ -21,7 +20,6 @@ use Rattle.task_run.specs.Graphs.{Placed}
 use Rattle.tick_compile.specs.Scripts.{Accepts, Refuses}
 use Rattle.tick_compile.specs.Tasks.{is_refusal, refusal_in}
 use Rattle.tick_compile.specs.declared.script_fault.ScriptFault.{ScriptFault}
-use Rattle.tick_compile.specs.declared.script_fault.ScriptFault.TheVariants as scripts
 use Rattle.tick_compile.specs.declared.tasks.Task.{Task}
 use Rattle.topic_store.specs.Snapshots.{LastSnap, is_snap}
 use Rattle.engine_runs.specs.Faults.{IsRefused, IsRefusedOne}
@@ -34,9 +32,6 @@ use Rattle.kap_engine.proofs.OpenLaws.{open_numbers}
 use Rattle.kap_engine.proofs.PassLaws.{each_contains, each_to}
 
 -- ---- scripts
-
-plain-lambda : (fault : TypeFault) (text : List ℕ) → is_refusal (scripts.Lambda fault) ≡ false → refusal_in (scripts.Lambda fault) text ≡ None
-plain-lambda fault text e = grind arith
 
 plain : (fault : ScriptFault) (text : List ℕ) → is_refusal fault ≡ false → refusal_in fault text ≡ None
 plain fault text e = grind arith

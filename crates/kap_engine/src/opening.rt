@@ -1,6 +1,6 @@
 //! The lives of a store run on its points, from its last snapshot on or from the first point.
 
-ghost use Rattle.std.specs.Prelude.{◌≡◌, ◌<◌, ◌≤◌, ◌+◌, ◌^◌, ℕ, false, length, IfErr, IfOk, IsErrOf, IsTrue, List, OnOk};
+ghost use Rattle.std.specs.Prelude.{◌≡◌, ◌<◌, ◌≤◌, ◌+◌, ◌^◌, ℕ, false, length, IfOk, IsErrOf, IsTrue, List, OnOk};
 ghost use Rattle.kap_io.specs.Moments.{Quiet};
 ghost use Rattle.kap_io.specs.declared.disk.Part.{Part};
 ghost use Rattle.edge_queue.specs.declared.TheConstants.{CAPACITY_LIMIT};
