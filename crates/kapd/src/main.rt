@@ -49,8 +49,8 @@ end. `check`, `replay` and `gen` don't look at it. Commands:
   alerts       writes the lines of all changes of level
   export       writes a recording of all points
 
-These four open the store in the folder, and store the changes of level that
-are missing behind a run that was cut off.
+These four open the store in the folder, and first store the changes of level
+that a stop left out.
 
 Options of replay, in any order before the first ID, each at most once:
 
@@ -109,10 +109,11 @@ BYTE is a byte of the script, counted from 0; of a Graph fault it is the node's
 number. Exists: an id was given to two tasks, or init found a store's head in
 the folder. Not a store: the folder has no head of a store (head at 0: no init
 was done there, or the head was damaged, and init would then empty the logs), or
-a log is none at this offset, or a task's script is none that was defined there,
-or the last snapshot there isn't of these tasks. Disk fault: PLACE isn't there, is no folder, or
-its files can't be read or written; or another process uses the store, which a
-second line says then: `kapd: another process uses the store`.
+a log is none at this offset, or the record there defines a task by a script
+that is none, or it is the last snapshot, and has states of other nodes. Disk
+fault: PLACE isn't there, is no folder, or its files can't be read or written;
+or another process uses the store, which a second line says then: `kapd: another
+process uses the store`.
 
   kapd --help        prints this
   kapd --version     prints the version
