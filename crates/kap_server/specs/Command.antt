@@ -4,7 +4,8 @@ use Rattle.kap_base.specs.declared.limits.TheConstants.{TASK_LIMIT}
 use Rattle.kap_server.specs.declared.options.ReplayOptions.{ReplayOptions}
 use Rattle.kap_server.specs.declared.status.Status.{Status}
 use Rattle.kap_server.specs.declared.status.Status.TheVariants.{NoMemory, ReadFault, WriteFault, DiskFault}
-use Rattle.kap_server.specs.Words.{Check, Generate, Init, Pair, Replay, Summarize, Tasks, request_in}
+use Rattle.kap_server.specs.declared.words.Listing.{Listing}
+use Rattle.kap_server.specs.Words.{Check, Generate, Init, Pair, Replay, Show, Summarize, request_in}
 
 -- this status comes exactly where the fact holds, but for want of memory
 pub record ExactlyWhere (result status : Status) (fact : Type 0) : Type 0 where
@@ -51,9 +52,9 @@ pub record AsksToSummarize (words : List (List ℕ)) (n : ℕ) (pairs : List Pai
 abbrev pub AsksToInit : List (List ℕ) → Type 0
 AsksToInit words = request_in words ≡ Some Init
 
--- the words ask for the tasks of a store
-abbrev pub AsksForTasks : List (List ℕ) → Type 0
-AsksForTasks words = request_in words ≡ Some Tasks
+-- the words ask for this list of what a store holds
+abbrev pub AsksToShow : List (List ℕ) → Listing → Type 0
+AsksToShow words listing = request_in words ≡ Some (Show listing)
 
 -- the answer is this status, unless memory ran out or a device failed
 abbrev pub IsUnlessFailed : Status → Status → Type 0

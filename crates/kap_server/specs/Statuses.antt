@@ -14,6 +14,10 @@ use Rattle.kap_io.specs.declared.disk.Part.{Part}
 use Rattle.kap_io.specs.declared.disk.Part.TheVariants.{Head, Left, Right}
 use Rattle.topic_store.specs.declared.fault.StoreFault.{StoreFault}
 use Rattle.topic_store.specs.declared.fault.StoreFault.TheVariants as stores
+use Rattle.kap_engine.specs.declared.fault.EngineFault.{EngineFault}
+use Rattle.kap_engine.specs.declared.fault.EngineFault.TheVariants as engines
+use Rattle.store_lists.specs.declared.fault.ListFault.{ListFault}
+use Rattle.store_lists.specs.declared.fault.ListFault.TheVariants as lists
 
 -- the number with which the process ends
 abbrev pub number_of : Status → ℕ
@@ -50,6 +54,19 @@ status_of_store (stores.NotStore part offset) = NotStore part offset
 status_of_store stores.DiskFault = DiskFault
 status_of_store stores.Long = TooLong
 status_of_store stores.NoMemory = NoMemory
+
+-- the status of an engine's fault
+abbrev pub status_of_engine : EngineFault → Status
+status_of_engine (engines.NotStore part offset) = NotStore part offset
+status_of_engine engines.DiskFault = DiskFault
+status_of_engine engines.NoMemory = NoMemory
+
+-- the status of a list's fault
+abbrev pub status_of_list : ListFault → Status
+status_of_list (lists.NotStore part offset) = NotStore part offset
+status_of_list lists.DiskFault = DiskFault
+status_of_list lists.WriteFault = WriteFault
+status_of_list lists.NoMemory = NoMemory
 
 -- the name of a file of a store
 abbrev pub part_name : Part → List ℕ

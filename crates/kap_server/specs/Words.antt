@@ -5,6 +5,8 @@ use Rattle.std.specs.Str.{bytes_eq}
 use Rattle.kap_base.specs.Texts.{hyphen, is_task_id}
 use Rattle.sample_points.specs.declared.samples.TheConstants.{SAMPLE_LIMIT}
 use Rattle.kap_server.specs.declared.options.ReplayOptions.{ReplayOptions}
+use Rattle.kap_server.specs.declared.words.Listing.{Listing}
+use Rattle.kap_server.specs.declared.words.Listing.TheVariants.{Tasks, Topics, Alerts, Export}
 use Rattle.kap_server.specs.declared.words.Request.{Request as LentRequest}
 use Rattle.kap_server.specs.declared.words.Request.TheVariants as lent
 use Rattle.kap_server.specs.Options.{AreWithinLimits, no_options, number_within, with_counts, with_value}
@@ -16,14 +18,14 @@ pub record Pair : Type 0 where
 
 -- what the words of a command line ask for: to check a script; to replay a recording for these tasks, so as options
 -- say; to write the sample recording of so many points, or the summary of its replay for these tasks; to make a store;
--- or to list the tasks of one
+-- or to list what one holds
 pub data Request : Type 0 where
   Check : Request
   Replay : (options : ReplayOptions) (pairs : List Pair) → Request
   Generate : (count : ℕ) → Request
   Summarize : (count : ℕ) (pairs : List Pair) → Request
   Init : Request
-  Tasks : Request
+  Show : (listing : Listing) → Request
 
 -- words two by two
 abbrev pub pairs_of : List (List ℕ) → List Pair
@@ -38,7 +40,7 @@ request_of (lent.Replay options words) = Replay options (pairs_of (map string_by
 request_of (lent.Generate count) = Generate count
 request_of (lent.Summarize count words) = Summarize count (pairs_of (map string_bytes words.now))
 request_of lent.Init = Init
-request_of lent.Tasks = Tasks
+request_of (lent.Show listing) = Show listing
 
 -- the word begins with `--`, as options do
 abbrev pub is_option : List ℕ → Bool
@@ -89,7 +91,10 @@ request_in (command ∷ words) =
     if bytes_eq command (codes "replay") then replay_request no_options words else
     if bytes_eq command (codes "gen") then gen_request words else
     if bytes_eq command (codes "init") then request_alone Init words else
-    if bytes_eq command (codes "tasks") then request_alone Tasks words else None
+    if bytes_eq command (codes "tasks") then request_alone (Show Tasks) words else
+    if bytes_eq command (codes "topics") then request_alone (Show Topics) words else
+    if bytes_eq command (codes "alerts") then request_alone (Show Alerts) words else
+    if bytes_eq command (codes "export") then request_alone (Show Export) words else None
 
 -- a command that reads the input
 abbrev pub reads_input : Option Request → Bool
@@ -99,7 +104,7 @@ reads_input (Some (Replay options pairs)) = true
 reads_input (Some (Generate n)) = false
 reads_input (Some (Summarize n pairs)) = false
 reads_input (Some Init) = false
-reads_input (Some Tasks) = false
+reads_input (Some (Show listing)) = false
 
 -- a command that writes to the output
 abbrev pub writes_output : Option Request → Bool
@@ -109,7 +114,7 @@ writes_output (Some (Replay options pairs)) = true
 writes_output (Some (Generate n)) = true
 writes_output (Some (Summarize n pairs)) = true
 writes_output (Some Init) = false
-writes_output (Some Tasks) = true
+writes_output (Some (Show listing)) = true
 
 -- a command that uses the disk
 abbrev pub uses_disk : Option Request → Bool
@@ -119,7 +124,7 @@ uses_disk (Some (Replay options pairs)) = false
 uses_disk (Some (Generate n)) = false
 uses_disk (Some (Summarize n pairs)) = false
 uses_disk (Some Init) = true
-uses_disk (Some Tasks) = true
+uses_disk (Some (Show listing)) = true
 
 -- a command that has points go through a net
 abbrev pub runs_net : Option Request → Bool
@@ -129,7 +134,7 @@ runs_net (Some (Replay options pairs)) = true
 runs_net (Some (Generate n)) = false
 runs_net (Some (Summarize n pairs)) = true
 runs_net (Some Init) = false
-runs_net (Some Tasks) = false
+runs_net (Some (Show listing)) = false
 
 -- the options that a request gives are within their limits, and a number of points is one that a sample recording can
 -- have
@@ -139,4 +144,4 @@ IsWithinLimits (lent.Replay options words) = AreWithinLimits options
 IsWithinLimits (lent.Generate count) = count ≤ SAMPLE_LIMIT
 IsWithinLimits (lent.Summarize count words) = count ≤ SAMPLE_LIMIT
 IsWithinLimits lent.Init = ⊤
-IsWithinLimits lent.Tasks = ⊤
+IsWithinLimits (lent.Show listing) = ⊤

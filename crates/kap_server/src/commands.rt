@@ -5,17 +5,18 @@ ghost use Rattle.std.specs.Io.KnownBytes.{Keeps};
 ghost use Rattle.kap_base.specs.Points.{is_time};
 ghost use Rattle.kap_base.specs.Words.{HasRisen};
 ghost use Rattle.gate_log.specs.Head.{HasNoHead};
-ghost use Rattle.kap_io.specs.Moments.{Quiet};
+ghost use Rattle.kap_io.specs.Moments.{Moments, Quiet};
 ghost use Rattle.kap_io.specs.declared.disk.Part.{Part};
 ghost use Rattle.recording_file.specs.Reading.{HasEnded};
 ghost use Rattle.recording_file.specs.Recording.{reading_of};
 ghost use Rattle.sample_points.specs.Samples.{sample_text};
 ghost use Rattle.tick_compile.specs.declared.tasks.Task.{Task};
+ghost use Rattle.kap_engine.specs.Good.{IsFull, IsGood, stays_or_good};
 ghost use Rattle.kap_server.specs.Checking.{Checked, ChecksTo};
-ghost use Rattle.kap_server.specs.Command.{AsksForTasks, AsksForTooMany, AsksToCheck, AsksToGenerate, AsksToInit, AsksToReplay, AsksToSummarize};
+ghost use Rattle.kap_server.specs.Command.{AsksForTooMany, AsksToCheck, AsksToGenerate, AsksToInit, AsksToReplay, AsksToShow, AsksToSummarize};
 ghost use Rattle.kap_server.specs.Command.{ExactlyWhere, IsUnlessDiskFailed, IsUnlessFailed};
 ghost use Rattle.kap_server.specs.Generating.{Summed, WritesText};
-ghost use Rattle.kap_server.specs.Listing.{Listed, ListsTasks};
+ghost use Rattle.kap_server.specs.Listing.{AreOthers, LeavesFull, Opens, Shows, held_whole, list_text};
 ghost use Rattle.kap_server.specs.Making.{HasHead, Made};
 ghost use Rattle.kap_server.specs.Nets.{HoldsNetOfSamples, HoldsNetOfTasks};
 ghost use Rattle.kap_server.specs.Options.{AreWithinLimits};
@@ -26,12 +27,13 @@ ghost use Rattle.kap_server.specs.Statuses.{status_at};
 ghost use Rattle.kap_server.specs.Words.{Pair, pairs_of, reads_input, request_in, runs_net, uses_disk, writes_output};
 ghost use Rattle.kap_server.specs.declared.options.ReplayOptions.{ReplayOptions};
 ghost use Rattle.kap_server.specs.declared.status.Status.{Status};
+ghost use Rattle.kap_server.specs.declared.words.Listing.{Listing};
 ghost use Rattle.store_records.specs.declared.rec.Rec.{Rec};
 ghost use Rattle.topic_store.specs.Stores.{IsNoStore, Stands};
 
 use crate::checking::check;
 use crate::generating::{write_recording, write_summary};
-use crate::listing::list_tasks;
+use crate::listing::list;
 use crate::making::init;
 use crate::options::ReplayOptions;
 use crate::readying::{Ready, add_tasks, are_too_many};
@@ -125,8 +127,12 @@ fn replay_pairs<
 ///   Workers move the net, one a task and at most 4.
 /// - `init`: it makes an empty store on the disk, where no head of one stands there. After DiskFault and
 ///   NoMemory nothing is known of the files, unless a head stood there: then they are as they were.
-/// - `tasks`: it writes a line `ID enabled` or `ID disabled` for each task of the store on the disk, in byte
-///   order of their ids, and changes nothing.
+/// - `tasks`, `topics`, `alerts`, `export`: it opens the store on the disk, restores the lives of its tasks,
+///   stores the transitions of its points that are missing, and then writes: a line `ID enabled` or `ID
+///   disabled` for each task, in byte order of their ids; a line `topic LEVEL TOPIC` for each topic, with the
+///   greatest level of its ids, and behind it a line `id LEVEL ID` for each of these, in byte order; the lines
+///   of all transitions; or the recording of all points. At most 4 workers move the net. A disk that holds
+///   no right store is left as it is, and the place is told.
 ///
 /// `now` is the time of now, in nanoseconds from 1970-01-01T00:00:00Z on; no command uses it yet. `rt` makes
 /// the threads of workers, and each of them passes `gate` before each of its turns. `ran` is None; at Ok of a
@@ -223,21 +229,50 @@ pub fn command<
     ensures kept { AsksToInit (map string_bytes words.now) → IsTrue D.tells
         → HasHead (D.seen disk.old Part.Head)
         → Quiet D.seen D.moment D.may_leave D.left_since disk.old disk.new }
-    // Of `tasks` the lines of the tasks are written, or the place is told at which the files stand for no
-    // store.
-    ensures listed { AsksForTasks (map string_bytes words.now)
-        → Listed (IsTrue D.tells) result (D.seen disk.old)
+    // Of a list of what a right store holds its lines are written, as the status says, once the store was
+    // opened: its tasks, and its points; its topics and transitions, with those that the opening stored.
+    ensures shown { (listing : Listing) (rs : List Rec) (good : IsGood N.Node N.planned rs)
+        → AsksToShow (map string_bytes words.now) listing → IsTrue D.tells
+        → Stands rs (D.seen disk.old)
+        → Shows (list_text listing (held_whole N.Node N.planned rs good)) result
         (K.written out.old) (K.written out.new) }
-    // Of a store they are those of its tasks, unless memory ran out or a device failed.
-    ensures tasks { (rs : List Rec) → AsksForTasks (map string_bytes words.now)
-        → IsTrue D.tells → Stands rs (D.seen disk.old)
-        → ListsTasks rs result (K.written out.old) (K.written out.new) }
-    // Where the files stand for none, the place is told, unless memory ran out or the disk failed.
-    ensures no_store { (part : Part) (offset : ℕ) → AsksForTasks (map string_bytes words.now)
-        → IsTrue D.tells → IsNoStore (D.seen disk.old) part offset
+    // It tells no place there, unless a pattern was refused.
+    ensures unrefused { (listing : Listing) (rs : List Rec) (part : Part) (offset : ℕ)
+        → AsksToShow (map string_bytes words.now) listing → IsTrue D.tells
+        → Stands rs (D.seen disk.old) → IsGood N.Node N.planned rs
+        → result ≡ Status.NotStore part offset
+        → HasRisen (P.refusals pats.old) (P.refusals pats.new) }
+    // At Ok the files stood for a store whose scripts are those of tasks, and whose last snapshot is one of
+    // their nodes; where a place is told, they are no such store there, or one that isn't right.
+    ensures opened { (listing : Listing) → AsksToShow (map string_bytes words.now) listing
+        → IsTrue D.tells → Opens N.Node N.planned (P.refusals pats.old) (P.refusals pats.new)
+        (P.refused pats.new) (D.seen disk.old) result }
+    // But for the last case nothing was written then, and nothing changed on the disk.
+    ensures left { (listing : Listing) (part : Part) (offset : ℕ)
+        → AsksToShow (map string_bytes words.now) listing → IsTrue D.tells
+        → result ≡ Status.NotStore part offset → (Keeps (K.written out.old) (K.written out.new)
+        × Quiet D.seen D.moment D.may_leave D.left_since disk.old disk.new)
+        ⊎ AreOthers N.Node N.planned (D.seen disk.old) }
+    // Where the files stand for no store, the place is told, unless memory ran out or the disk failed.
+    ensures no_store { (listing : Listing) (part : Part) (offset : ℕ)
+        → AsksToShow (map string_bytes words.now) listing → IsTrue D.tells
+        → IsNoStore (D.seen disk.old) part offset
         → IsUnlessDiskFailed result (Status.NotStore part offset) }
-    // It changes nothing on the disk.
-    ensures quiet { AsksForTasks (map string_bytes words.now) → IsTrue D.tells
+    // At each moment each image that a crash may leave is as it was, or stands for the store with a few of
+    // the transitions that are due more; at Ok each has all.
+    ensures images { (listing : Listing) (rs : List Rec)
+        → AsksToShow (map string_bytes words.now) listing → IsTrue D.tells
+        → Stands rs (D.seen disk.old) → IsGood N.Node N.planned rs
+        → Moments D.moment D.may_leave D.left_since disk.old disk.new
+        (stays_or_good N.Node N.planned rs) }
+    ensures full { (listing : Listing) (rs : List Rec)
+        → AsksToShow (map string_bytes words.now) listing → IsTrue D.tells
+        → Stands rs (D.seen disk.old) → IsGood N.Node N.planned rs → result ≡ Status.Ok
+        → LeavesFull N.Node N.planned rs (D.seen disk.new) (D.may_leave disk.new) }
+    // Where the store had all transitions, nothing changes on the disk.
+    ensures again { (listing : Listing) (rs : List Rec)
+        → AsksToShow (map string_bytes words.now) listing → IsTrue D.tells
+        → Stands rs (D.seen disk.old) → IsFull N.Node N.planned rs
         → Quiet D.seen D.moment D.may_leave D.left_since disk.old disk.new }
     // Commands that don't use the input, the output or the disk leave it alone.
     ensures unread { reads_input (request_in (map string_bytes words.now)) ≡ false
@@ -277,6 +312,8 @@ pub fn command<
             write_summary(rt, alloc, u64::from(count), words, out, pats, gate, ran)
         }
         Some(Request::Init) => init(alloc, disk),
-        Some(Request::Tasks) => list_tasks(alloc, out, disk),
+        Some(Request::Show(listing)) => list::<K, D, P, N, G, R>(
+            rt, alloc, listing, out, disk, pats, gate,
+        ),
     }
 }

@@ -1,12 +1,14 @@
 //! How a command ended.
 
 ghost use Rattle.std.specs.Prelude.{◌≡◌};
-ghost use Rattle.kap_server.specs.Statuses.{status_of, status_of_script, status_of_store};
+ghost use Rattle.kap_server.specs.Statuses.{status_of, status_of_engine, status_of_list, status_of_script, status_of_store};
 
 use kap_base::NoMemory;
+use kap_engine::EngineFault;
 use kap_io::Part;
 use line_points::LineFault;
 use recording_file::RecFault;
+use store_lists::ListFault;
 use tick_compile::ScriptFault;
 use topic_store::StoreFault;
 
@@ -26,7 +28,8 @@ pub enum Status {
     Truncated { line: u64 },
     /// The disk holds no store: this file isn't one of a store at this offset, which is 0 where the file
     /// doesn't begin as it should, else that of the gate of the first record that isn't one, or may not stand
-    /// there.
+    /// there; else that of the first record whose script is none of a task, or of the last snapshot, whose
+    /// states aren't those of tasks.
     NotStore { part: Part, offset: u64 },
     /// A task's id was given before; or a store is to be made, and one is there.
     Exists,
@@ -103,6 +106,31 @@ impl From<StoreFault> for Status {
             StoreFault::DiskFault => Status::DiskFault,
             StoreFault::Long => Status::TooLong,
             StoreFault::NoMemory => Status::NoMemory,
+        }
+    }
+}
+
+impl From<EngineFault> for Status {
+    ghost from_gives = { λ f s. s ≡ status_of_engine f };
+
+    fn from(fault: EngineFault) -> Self {
+        match fault {
+            EngineFault::NotStore { part, offset } => Status::NotStore { part, offset },
+            EngineFault::DiskFault => Status::DiskFault,
+            EngineFault::NoMemory => Status::NoMemory,
+        }
+    }
+}
+
+impl From<ListFault> for Status {
+    ghost from_gives = { λ f s. s ≡ status_of_list f };
+
+    fn from(fault: ListFault) -> Self {
+        match fault {
+            ListFault::NotStore { part, offset } => Status::NotStore { part, offset },
+            ListFault::DiskFault => Status::DiskFault,
+            ListFault::WriteFault => Status::WriteFault,
+            ListFault::NoMemory => Status::NoMemory,
         }
     }
 }

@@ -9,6 +9,19 @@ use crate::options::{ReplayOptions, no_options, number_within, with_counts, with
 use kap_base::is_task_id;
 use sample_points::SAMPLE_LIMIT;
 
+/// A list of what a store holds.
+#[derive(Clone, Copy)]
+pub(crate) enum Listing {
+    /// Its tasks.
+    Tasks,
+    /// The topics of its transitions.
+    Topics,
+    /// Its transitions.
+    Alerts,
+    /// Its points.
+    Export,
+}
+
 /// What the words of a command line ask for.
 #[derive(Clone, Copy)]
 pub(crate) enum Request<'a> {
@@ -31,8 +44,8 @@ pub(crate) enum Request<'a> {
     },
     /// To make a store.
     Init,
-    /// To list the tasks of a store.
-    Tasks,
+    /// To list what a store holds.
+    Show(Listing),
 }
 
 fn is_option(word: &[u8]) -> bool
@@ -137,7 +150,13 @@ pub(crate) fn request_in(words: &[String]) -> Option<Request<'_>>
     } else if command.as_str() == "init" {
         request_alone(Request::Init, rest)
     } else if command.as_str() == "tasks" {
-        request_alone(Request::Tasks, rest)
+        request_alone(Request::Show(Listing::Tasks), rest)
+    } else if command.as_str() == "topics" {
+        request_alone(Request::Show(Listing::Topics), rest)
+    } else if command.as_str() == "alerts" {
+        request_alone(Request::Show(Listing::Alerts), rest)
+    } else if command.as_str() == "export" {
+        request_alone(Request::Show(Listing::Export), rest)
     } else {
         None
     }

@@ -1,6 +1,7 @@
 //! `kapd - check` prints the canonical form of the script on standard input, and `kapd - replay ID SCRIPT`
 //! replays the recording there by the task of the script, and writes what it does to standard output. `kapd
-//! PLACE init` makes a store in the folder PLACE, and `kapd PLACE tasks` lists the tasks of the store there.
+//! PLACE init` makes a store in the folder PLACE; `kapd PLACE tasks`, `topics`, `alerts` and `export` list what
+//! the store there holds.
 #![tactic(auto)]
 
 mod places;
@@ -42,6 +43,14 @@ end. `check`, `replay` and `gen` don't look at it. Commands:
                files are head, left and right
   tasks        writes a line `ID enabled` or `ID disabled` for each task of the
                store in the folder
+  topics       writes a line `topic LEVEL TOPIC` for each topic of its alerts,
+               with the greatest level of its ids, and behind it a line `id
+               LEVEL ID` for each of these
+  alerts       writes the lines of all changes of level
+  export       writes a recording of all points
+
+These four open the store in the folder, and first store the changes of level
+that a stop left out.
 
 Options of replay, in any order before the first ID, each at most once:
 
@@ -100,9 +109,11 @@ BYTE is a byte of the script, counted from 0; of a Graph fault it is the node's
 number. Exists: an id was given to two tasks, or init found a store's head in
 the folder. Not a store: the folder has no head of a store (head at 0: no init
 was done there, or the head was damaged, and init would then empty the logs), or
-a log is none at this offset. Disk fault: PLACE isn't there, is no folder, or
-its files can't be read or written; or another process uses the store, which a
-second line says then: `kapd: another process uses the store`.
+a log is none at this offset, or the record there defines a task by a script
+that is none, or it is the last snapshot, and has states of other nodes. Disk
+fault: PLACE isn't there, is no folder, or its files can't be read or written;
+or another process uses the store, which a second line says then: `kapd: another
+process uses the store`.
 
   kapd --help        prints this
   kapd --version     prints the version
