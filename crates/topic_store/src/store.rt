@@ -257,7 +257,15 @@ impl Store {
         ensures cause { AddFault result disk.old disk.new self.old self.new
             (HasRisen (D.faults disk.old) (D.faults disk.new)) }
     {
-        add_points(self.alloc, &mut self.log, &mut self.kept, disk, db, rp, points)
+        add_points(
+            self.alloc,
+            &mut self.log,
+            &mut self.kept,
+            disk,
+            db,
+            rp,
+            points,
+        )
     }
 
     /// The tasks, in byte order of their ids.

@@ -4,7 +4,7 @@ use Rattle.store_records.specs.declared.rec.Rec.{Rec}
 use Rattle.store_records.specs.declared.rec.Rec.TheVariants as kinds
 use Rattle.store_records.specs.Records.{IsBodyOf, spell_record}
 use Rattle.store_kept.specs.Changing.{ArePartsFor}
-use Rattle.store_kept.specs.Keeping.{kept_of}
+use Rattle.store_kept.specs.Keeping.{KeptValue, kept_of}
 use Rattle.store_kept.proofs.Keeping.{valid_put}
 use Rattle.gate_log.specs.declared.log.TheConstants.{BODY_LIMIT}
 use Rattle.topic_store.specs.Stores.{store_of}
@@ -52,3 +52,12 @@ returns-in-Ok-clause-valid g c = λ valid.
     let are = subst (λ (n : ℕ). ArePartsFor n r k parts) c.end.ensures (c.in_ok-parts.ensures.parts c.args.db.now c.args.rp.now) in
     valid_put r c.args.log.now.end k (kept_of c.prepare_batch.new.kept) (kept_of c.commit_batch.new.kept) parts c.in_ok-parts.ensures.same are (λ n. c.commit_batch.ensures n c.args.db.now c.args.rp.now c.args.points.now)
     tt valid
+
+pub returns-in-Ok-clause-count : goal.returns-in-Ok-clause-count
+returns-in-Ok-clause-count g c =
+    let r : Rec = kinds.Batch c.args.db.now c.args.rp.now c.args.points.now in
+    let k = kept_of c.args.kept.now in
+    let parts = c.in_ok-parts.parts in
+    let are = subst (λ (n : ℕ). ArePartsFor n r k parts) c.end.ensures (c.in_ok-parts.ensures.parts c.args.db.now c.args.rp.now) in
+    ap (λ (kept : KeptValue). kept.points)
+    (kept_put r c.args.log.now.end k (kept_of c.prepare_batch.new.kept) (kept_of c.commit_batch.new.kept) parts c.in_ok-parts.ensures.same are (λ n. c.commit_batch.ensures n c.args.db.now c.args.rp.now c.args.points.now))
