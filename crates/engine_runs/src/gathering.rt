@@ -1,6 +1,6 @@
 //! The transitions of effects.
 
-ghost use Rattle.std.specs.Prelude.{◌≡◌, ◌∷◌, ◌++◌, [], drop, length, List, OnOk};
+ghost use Rattle.std.specs.Prelude.{◌≡◌, ◌∷◌, ◌++◌, [], drop, length, true, List, OnOk};
 ghost use Rattle.kap_base.specs.Events.{EventValue};
 ghost use Rattle.effect_text.specs.Lines.{event_in, events_of};
 ghost use Rattle.life_effects.specs.Times.{times_fit};
