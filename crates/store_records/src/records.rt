@@ -109,12 +109,7 @@ pub fn record_body(alloc: Global, rec: &Rec) -> Result<Bytes, NoMemory>
 
 /// The body of a record of points that are lent, as `record_body` has it: they are ungrouped and of the
 /// database and the policy, which hold no line feed.
-pub fn batch_body(
-    alloc: Global,
-    db: &Text,
-    rp: &Text,
-    points: &[Point],
-) -> Result<Bytes, NoMemory>
+pub fn batch_body(alloc: Global, db: &Text, rp: &Text, points: &[Point]) -> Result<Bytes, NoMemory>
     requires lines { IsTrue (are_lines (db.now, rp.now)) }
     requires points { IsTrue (list_all (is_of db.now rp.now) points.now) }
     ensures { IfOk result (IsBodyOf (Rec.Batch db.now rp.now points.now)) }
