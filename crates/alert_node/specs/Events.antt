@@ -1,7 +1,7 @@
 -- Of which points events tell, and what the events are.
 use Rattle.std.specs.Prelude.{ℕ, zero, suc, Bool, true, false, not, ◌&&◌, if◌then◌else◌, List, [], ◌∷◌, ◌++◌, take, codes}
 use Rattle.std.specs.Str.{is_utf8}
-use Rattle.kap_base.specs.declared.items.Event.{Event}
+use Rattle.kap_base.specs.Events.{EventValue}
 use Rattle.kap_base.specs.declared.items.Level.{Level}
 use Rattle.kap_base.specs.declared.items.Level.TheVariants.{Fine, Info, Warning, Critical}
 use Rattle.kap_base.specs.Groups.{group_of}
@@ -90,7 +90,7 @@ abbrev pub message_of : Alert → Level → PointValue → List ℕ
 message_of alert level p = text_of (facts_of alert level p (id_of alert level p)) alert.message
 
 -- the event of a point at a level: its topic, id, level and time, and its message
-abbrev pub event_of : Alert → Level → PointValue → Event
+abbrev pub event_of : Alert → Level → PointValue → EventValue
 event_of alert level p =
     record {
       topic = alert.topic;

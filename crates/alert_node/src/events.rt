@@ -1,6 +1,7 @@
 //! What is said of a point at a level.
 
-ghost use Rattle.std.specs.Prelude.{◌≡◌, [], IfOk};
+ghost use Rattle.std.specs.Prelude.{◌≡◌, [], IfOk, IsTrue};
+ghost use Rattle.kap_base.specs.Points.{is_time};
 ghost use Rattle.alert_node.specs.Alerts.{said_at};
 ghost use Rattle.alert_node.specs.Events.{event_of, facts_of, is_fine, tells, text_of};
 
@@ -38,7 +39,8 @@ fn filled(alloc: Global, template: &Template, facts: &Facts) -> Result<Text, NoM
 
 /// What is known of a point at a level, with an empty id.
 fn facts_of(alloc: Global, alert: &Alert, level: Level, point: Point) -> Result<Facts, NoMemory>
-    ensures { IfOk result (λ facts. facts ≡ facts_of alert.now level point []) }
+    ensures facts { IfOk result (λ facts. facts ≡ facts_of alert.now level point []) }
+    ensures time { IfOk result (λ facts. IsTrue (is_time facts.time)) }
 {
     let group = group_of(alloc, &point)?;
     let id = Text::from_str(alloc, "")?;

@@ -5,7 +5,7 @@ use Rattle.std.specs.Option.{option_map_or}
 use Rattle.std.specs.Fmt.{decimal}
 use Rattle.kap_base.specs.Points.{PointValue}
 use Rattle.kap_base.specs.declared.items.Effect.{Effect}
-use Rattle.kap_base.specs.declared.items.Event.{Event}
+use Rattle.kap_base.specs.Events.{EventValue}
 use Rattle.kap_base.specs.declared.items.What.{What}
 use Rattle.kap_base.specs.declared.items.What.TheVariants as what
 use Rattle.line_points.specs.Print.{Print}
@@ -37,30 +37,30 @@ node_of tasks life node =
     option_map_or (λ task. option_map_or (λ name. name) (slice_get task.nodes node) []) (task_of tasks life) []
 
 -- the transitions that the list of all events has with this one behind the events before it
-abbrev pub new_transitions : List Event → Event → List Transition
+abbrev pub new_transitions : List EventValue → EventValue → List Transition
 new_transitions events e = drop (length (Trans events)) (Trans (events ++ e ∷ []))
 
 -- the lines of an effect that comes behind these events: of a logged point its line, of an event those of its
 -- transition
-abbrev pub what_lines : List ℕ → List ℕ → List Event → What → List ℕ
+abbrev pub what_lines : List ℕ → List ℕ → List EventValue → What → List ℕ
 what_lines id node events (what.Line p) = out_line id node p
 what_lines id node events (what.Event e) = flat_map transition_line (new_transitions events e)
 
 -- the lines of an effect that comes behind these events, with the names of its task and its node
-abbrev pub effect_lines : List TaskNames → List Event → Effect → List ℕ
+abbrev pub effect_lines : List TaskNames → List EventValue → Effect → List ℕ
 effect_lines tasks events e = what_lines (id_of tasks e.life) (node_of tasks e.life e.node) events e.what
 
 -- the event of an effect, if it is one
-abbrev pub event_in : What → List Event
+abbrev pub event_in : What → List EventValue
 event_in (what.Line p) = []
 event_in (what.Event e) = e ∷ []
 
 -- the events of effects
-abbrev pub events_of : List Effect → List Event
+abbrev pub events_of : List Effect → List EventValue
 events_of effects = flat_map (λ e. event_in e.what) effects
 
 -- the text of effects that come behind these events
-unfoldable pub text_behind : List TaskNames → List Event → List Effect → List ℕ
+unfoldable pub text_behind : List TaskNames → List EventValue → List Effect → List ℕ
 text_behind tasks events [] = []
 text_behind tasks events (e ∷ effects) =
     effect_lines tasks events e ++ text_behind tasks (events ++ event_in e.what) effects

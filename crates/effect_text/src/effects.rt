@@ -2,7 +2,7 @@
 
 ghost use Rattle.std.specs.Prelude.{◌≡◌, ◌++◌, ◌∷◌, [], List, OnOk, option_map};
 ghost use Rattle.std.specs.List.{flat_map};
-ghost use Rattle.kap_base.specs.declared.items.Event.{Event};
+ghost use Rattle.kap_base.specs.Events.{EventValue};
 ghost use Rattle.topic_core.specs.Print.{transition_line};
 ghost use Rattle.topic_core.specs.Topics.{StandsFor, Trans};
 ghost use Rattle.topic_core.specs.declared.transition.Transition.{Transition};
@@ -66,11 +66,11 @@ fn tell_event(
     text: &mut Bytes,
     told: &mut Vec<Transition>,
 ) -> Result<(), NoMemory>
-    ensures lines { (events : List Event) → StandsFor events topics.old → OnOk result
+    ensures lines { (events : List EventValue) → StandsFor events topics.old → OnOk result
         (text.new ≡ text.old ++ flat_map transition_line (new_transitions events event.now)) }
-    ensures topics { (events : List Event) → StandsFor events topics.old → OnOk result
+    ensures topics { (events : List EventValue) → StandsFor events topics.old → OnOk result
         (StandsFor (events ++ event.now ∷ []) topics.new) }
-    ensures told { (events : List Event) (before : List Transition) → StandsFor events topics.old
+    ensures told { (events : List EventValue) (before : List Transition) → StandsFor events topics.old
         → Trans events ≡ before ++ told.old.items
         → OnOk result (Trans (events ++ event.now ∷ []) ≡ before ++ told.new.items) }
 {
@@ -94,11 +94,11 @@ fn tell_effect(
     text: &mut Bytes,
     told: &mut Vec<Transition>,
 ) -> Result<(), NoMemory>
-    ensures lines { (events : List Event) → StandsFor events topics.old → OnOk result
+    ensures lines { (events : List EventValue) → StandsFor events topics.old → OnOk result
         (text.new ≡ text.old ++ effect_lines tasks.now events effect.now) }
-    ensures topics { (events : List Event) → StandsFor events topics.old → OnOk result
+    ensures topics { (events : List EventValue) → StandsFor events topics.old → OnOk result
         (StandsFor (events ++ event_in effect.now.what) topics.new) }
-    ensures told { (events : List Event) (before : List Transition) → StandsFor events topics.old
+    ensures told { (events : List EventValue) (before : List Transition) → StandsFor events topics.old
         → Trans events ≡ before ++ told.old.items
         → OnOk result (Trans (events ++ event_in effect.now.what) ≡ before ++ told.new.items) }
 {
@@ -129,11 +129,11 @@ pub fn tell_effects(
     text: &mut Bytes,
     told: &mut Vec<Transition>,
 ) -> Result<(), NoMemory>
-    ensures text { (events : List Event) → StandsFor events topics.old → OnOk result
+    ensures text { (events : List EventValue) → StandsFor events topics.old → OnOk result
         (text.new ≡ text.old ++ text_behind tasks.now events effects.now) }
-    ensures topics { (events : List Event) → StandsFor events topics.old → OnOk result
+    ensures topics { (events : List EventValue) → StandsFor events topics.old → OnOk result
         (StandsFor (events ++ events_of effects.now) topics.new) }
-    ensures told { (events : List Event) (before : List Transition) → StandsFor events topics.old
+    ensures told { (events : List EventValue) (before : List Transition) → StandsFor events topics.old
         → Trans events ≡ before ++ told.old.items
         → OnOk result (Trans (events ++ events_of effects.now) ≡ before ++ told.new.items) }
 {
@@ -151,9 +151,9 @@ pub fn put_effects(
     effects: &[Effect],
     text: &mut Bytes,
 ) -> Result<(), NoMemory>
-    ensures text { (events : List Event) → StandsFor events topics.old → OnOk result
+    ensures text { (events : List EventValue) → StandsFor events topics.old → OnOk result
         (text.new ≡ text.old ++ text_behind tasks.now events effects.now) }
-    ensures topics { (events : List Event) → StandsFor events topics.old → OnOk result
+    ensures topics { (events : List EventValue) → StandsFor events topics.old → OnOk result
         (StandsFor (events ++ events_of effects.now) topics.new) }
 {
     let mut told = Vec::new(alloc);

@@ -6,7 +6,7 @@ use Rattle.std.proofs.lemmas.List.{length-append}
 use Rattle.std.proofs.lemmas.List.Concat.{flat_map-append}
 use Rattle.kap_base.specs.Points.{PointValue}
 use Rattle.kap_base.specs.declared.items.Effect.{Effect}
-use Rattle.kap_base.specs.declared.items.Event.{Event}
+use Rattle.kap_base.specs.Events.{EventValue}
 use Rattle.effect_text.specs.Lines.{event_in, events_of, task_of}
 use Rattle.effect_text.specs.declared.names.TaskNames.{TaskNames}
 use Rattle.flow_core.specs.Nets.{IsResting, NumberedLife, numbers_of}
@@ -103,7 +103,7 @@ module _ {N P S : Type 0} (g : Ghosts N P S) (planned : Planned P) (lives : List
         → es ≡ later_effects g.answer (length points) (length new) (map (grown new) (picked h.lives_run.runs (courses_on g planned lives tasks points)))
         → StandsAt g (length points + length new) (map (grown new) (picked h.lives_run.runs (courses_on g planned lives tasks points))) r'.net
         → numbers_of r'.net.lives ≡ numbers_of r.net.lives → r'.names ≡ r.names → r'.points ≡ r.points + length new
-        → ((events : List Event) → StandsFor events r.topics → StandsFor (events ++ events_of es) r'.topics)
+        → ((events : List EventValue) → StandsFor events r.topics → StandsFor (events ++ events_of es) r'.topics)
         → times_fit (events_of es) ≡ true → Ran (points ++ new) m r'
     ran_on points new m n es r r' h le is stands numbers names counts takes fits =
         let k = length new in
@@ -125,8 +125,8 @@ module _ {N P S : Type 0} (g : Ghosts N P S) (planned : Planned P) (lives : List
             named = named-on r'.names (numbers_of r'.net.lives) names numbers;
           };
           away = subst (λ (i : ℕ). Each (IsAway (length (points ++ new)) m) (drop i lives)) (h.lives_run.long ∙ ap length (sym names)) t.away;
-          topics = subst (λ (l : List Event). StandsFor l r'.topics) (sym more) (takes (life_events g planned lives tasks points) h.topics);
-          times = ap (λ (l : List Event). times_fit (map event_of (Trans l))) more ∙ times_more (life_events g planned lives tasks points) (events_of es) h.times fits;
+          topics = subst (λ (l : List EventValue). StandsFor l r'.topics) (sym more) (takes (life_events g planned lives tasks points) h.topics);
+          times = ap (λ (l : List EventValue). times_fit (map event_of (Trans l))) more ∙ times_more (life_events g planned lives tasks points) (events_of es) h.times fits;
           count = omega (arith, counts, long, count);
         }
       where

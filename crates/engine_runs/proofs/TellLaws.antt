@@ -4,7 +4,7 @@ use Rattle.std.specs.List.{AllByRecursion as Each}
 use Rattle.std.proofs.lemmas.List.Concat.{flat_map-append}
 use Rattle.kap_base.specs.Points.{PointValue}
 use Rattle.kap_base.specs.declared.items.Effect.{Effect}
-use Rattle.kap_base.specs.declared.items.Event.{Event}
+use Rattle.kap_base.specs.Events.{EventValue}
 use Rattle.effect_text.proofs.TextLaws.{text_by_names, text_more}
 use Rattle.effect_text.specs.Lines.{event_in, events_of, task_of, text_behind}
 use Rattle.flow_core.proofs.RisingLaws.{IsFrom, each-map, each_append, nodes-from}
@@ -56,8 +56,8 @@ module _ {N P S : Type 0} (g : Ghosts N P S) (stamped : (p : P) (before : List I
     -- an epoch is told
     pub epoch_told : (points new : List PointValue) (n : ℕ) (es : List Effect) (r : RunValue N) (text text' : List ℕ) (told told' : List Transition) → (h : HasRun g planned lives tasks points n r) → length new ≤ n
         → es ≡ later_effects g.answer (length points) (length new) (map (grown new) (picked h.lives_run.runs (courses_on g planned lives tasks points)))
-        → ((events : List Event) → StandsFor events r.topics → text' ≡ text ++ text_behind r.names events es)
-        → ((events : List Event) (before : List Transition) → StandsFor events r.topics → Trans events ≡ before ++ told → Trans (events ++ events_of es) ≡ before ++ told')
+        → ((events : List EventValue) → StandsFor events r.topics → text' ≡ text ++ text_behind r.names events es)
+        → ((events : List EventValue) (before : List Transition) → StandsFor events r.topics → Trans events ≡ before ++ told → Trans (events ++ events_of es) ≡ before ++ told')
         → Told points new text text' told told'
     epoch_told points new n es r text text' told told' h le is texts tells =
         let Q : ℕ → Type 0 = λ number. task_of r.names number ≡ task_of (names_from lives tasks) number in
@@ -96,6 +96,6 @@ module _ {N P S : Type 0} (g : Ghosts N P S) (stamped : (p : P) (before : List I
           effects = es ++ fs;
           more = ap (stored_effects g.answer lives (graphs_from planned 1 lives tasks)) same ∙ b.more ∙ ap (λ (l : List Effect). l ++ fs) a.more ∙ append_assoc _ es fs;
           text_is = b.text_is ∙ ap (λ (l : List ℕ). l ++ text_behind names (life_events g planned lives tasks (points ++ some)) fs) a.text_is ∙ append_assoc text _ _
-              ∙ ap (λ (l : List ℕ). text ++ l) (ap (λ (evs : List Event). text_behind names (life_events g planned lives tasks points) es ++ text_behind names evs fs) events ∙ sym (text_more names (life_events g planned lives tasks points) es fs));
+              ∙ ap (λ (l : List ℕ). text ++ l) (ap (λ (evs : List EventValue). text_behind names (life_events g planned lives tasks points) es ++ text_behind names evs fs) events ∙ sym (text_more names (life_events g planned lives tasks points) es fs));
           told_is = λ before at. ap (λ (ps : List PointValue). Trans (life_events g planned lives tasks ps)) same ∙ b.told_is before (a.told_is before at);
         }

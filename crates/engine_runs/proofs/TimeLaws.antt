@@ -4,14 +4,14 @@ use Rattle.std.proofs.lemmas.List.{map-append}
 use Rattle.kap_base.proofs.TestLaws.{first_of, second_of}
 use Rattle.kap_base.specs.Levels.{same_level}
 use Rattle.kap_base.specs.Points.{is_time}
-use Rattle.kap_base.specs.declared.items.Event.{Event}
+use Rattle.kap_base.specs.Events.{EventValue}
 use Rattle.kap_base.specs.declared.items.Level.{Level}
 use Rattle.kap_base.specs.declared.items.Level.TheVariants.{Fine}
 use Rattle.life_effects.proofs.TransLaws.{trans_append}
 use Rattle.life_effects.specs.Times.{times_fit}
 use Rattle.topic_core.specs.Topics.{Trans, changes, event_of, last_level, numbered}
 
-both-fit : (xs ys : List Event) → times_fit xs ≡ true → times_fit ys ≡ true → times_fit (xs ++ ys) ≡ true
+both-fit : (xs ys : List EventValue) → times_fit xs ≡ true → times_fit ys ≡ true → times_fit (xs ++ ys) ≡ true
 both-fit [] ys a b = b
 both-fit (x ∷ xs) ys a b = elim (is_time x.time) as (λ t. (t && times_fit xs) ≡ true → (t && times_fit (xs ++ ys)) ≡ true) [
   | true ↦ λ c. both-fit xs ys c b
@@ -27,14 +27,14 @@ both-true : (a b : Bool) → a ≡ true → b ≡ true → (a && b) ≡ true
 both-true true b e f = f
 both-true false b e f = e
 
-with-change : (same : Bool) (n : ℕ) (old : Level) (e : Event) (cs : List (Level × Event)) → is_time e.time ≡ true → ((m : ℕ) → times_fit (map event_of (numbered m cs)) ≡ true)
+with-change : (same : Bool) (n : ℕ) (old : Level) (e : EventValue) (cs : List (Level × EventValue)) → is_time e.time ≡ true → ((m : ℕ) → times_fit (map event_of (numbered m cs)) ≡ true)
     → times_fit (map event_of (numbered n ((if same then [] else (old, e) ∷ []) ++ cs))) ≡ true
 unfolding numbered
 with-change true n old e cs here rest = rest n
 with-change false n old e cs here rest = both-true (is_time e.time) (times_fit (map event_of (numbered (n + 1) cs))) here (rest (n + 1))
 
 -- those of transitions are times of events
-changed-fit : (n : ℕ) (earlier es : List Event) → times_fit es ≡ true → times_fit (map event_of (numbered n (changes earlier es))) ≡ true
+changed-fit : (n : ℕ) (earlier es : List EventValue) → times_fit es ≡ true → times_fit (map event_of (numbered n (changes earlier es))) ≡ true
 unfolding changes numbered
 changed-fit n earlier [] fit = refl
 changed-fit n earlier (e ∷ es) fit =
@@ -43,7 +43,7 @@ changed-fit n earlier (e ∷ es) fit =
     (λ m. changed-fit m (earlier ++ e ∷ []) es (second_of (is_time e.time) (times_fit es) fit))
 
 -- those of the transitions of more events
-pub times_more : (es fs : List Event) → times_fit (map event_of (Trans es)) ≡ true → times_fit fs ≡ true → times_fit (map event_of (Trans (es ++ fs))) ≡ true
+pub times_more : (es fs : List EventValue) → times_fit (map event_of (Trans es)) ≡ true → times_fit fs ≡ true → times_fit (map event_of (Trans (es ++ fs))) ≡ true
 times_more es fs a b =
     let more = numbered (1 + length (changes [] es)) (changes es fs) in
     ap (λ ts. times_fit (map event_of ts)) (trans_append es fs)

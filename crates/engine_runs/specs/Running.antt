@@ -3,7 +3,7 @@ use Rattle.std.specs.Prelude.{◌≡◌, ℕ, ◌<◌, ◌≤◌, true, false, B
 use Rattle.std.specs.List.{AllByRecursion as Each}
 use Rattle.kap_base.specs.Points.{PointValue}
 use Rattle.kap_base.specs.declared.items.Effect.{Effect}
-use Rattle.kap_base.specs.declared.items.Event.{Event}
+use Rattle.kap_base.specs.Events.{EventValue}
 use Rattle.effect_text.specs.Lines.{task_of, text_behind}
 use Rattle.effect_text.specs.declared.names.TaskNames.{TaskNames}
 use Rattle.edge_queue.specs.declared.TheConstants.{CAPACITY_LIMIT}
@@ -38,7 +38,7 @@ module _ {N P S : Type 0} (g : Ghosts N P S) (planned : Planned P) (lives : List
   courses_on points = courses_of lives (graphs_from planned 1 lives tasks) points
 
   -- all their events on points
-  abbrev pub life_events : List PointValue → List Event
+  abbrev pub life_events : List PointValue → List EventValue
   life_events points = events_on g.answer lives (graphs_from planned 1 lives tasks) points
 
   -- of the transitions on points those behind the first so many

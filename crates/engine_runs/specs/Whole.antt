@@ -1,7 +1,7 @@
 -- A store that has the transitions of its points.
 use Rattle.std.specs.Prelude.{◌≡◌, ℕ, List, ◌++◌, length}
 use Rattle.kap_base.specs.Points.{PointValue}
-use Rattle.kap_base.specs.declared.items.Event.{Event}
+use Rattle.kap_base.specs.Events.{EventValue}
 use Rattle.barrier_snapshot.specs.Snapshots.{IsSnapshot}
 use Rattle.effect_text.specs.Lines.{events_of}
 use Rattle.life_effects.specs.Effects.{open_courses, stored_effects}
@@ -18,7 +18,7 @@ use Rattle.topic_store.specs.Snapshots.{LastSnap}
 
 module _ {P : Type 0} (answer : P → Answer) where
   -- the events of lives, which have these nodes, on points
-  abbrev pub events_on : List Life → List (List (Placed P)) → List PointValue → List Event
+  abbrev pub events_on : List Life → List (List (Placed P)) → List PointValue → List EventValue
   events_on lives graphs points = events_of (stored_effects answer lives graphs points)
 
   -- the transitions that a store is to hold, whose lives have these nodes

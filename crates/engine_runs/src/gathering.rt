@@ -1,41 +1,15 @@
 //! The transitions of effects.
 
-ghost use Rattle.std.specs.Prelude.{◌≡◌, ◌∷◌, ◌++◌, [], drop, length, List, OnOk};
-ghost use Rattle.std.specs.List.{list_all};
-ghost use Rattle.kap_base.specs.declared.items.Event.{Event};
+ghost use Rattle.std.specs.Prelude.{◌≡◌, ◌∷◌, ◌++◌, [], drop, length, true, List, OnOk};
+ghost use Rattle.kap_base.specs.Events.{EventValue};
 ghost use Rattle.effect_text.specs.Lines.{event_in, events_of};
 ghost use Rattle.life_effects.specs.Times.{times_fit};
 ghost use Rattle.topic_core.specs.Topics.{StandsFor, Trans};
 ghost use Rattle.topic_core.specs.declared.transition.Transition.{Transition};
 
-use kap_base::{Effect, Event, NoMemory, What, is_time};
+use kap_base::{Effect, Event, NoMemory, What};
 use std::alloc::Global;
 use topic_core::{Topics, Transition};
-
-/// Whether the time of an effect's event, where it is one, lies in the range of times.
-fn is_timely(effect: &Effect) -> bool
-    ensures { result ≡ times_fit (event_in effect.now.what) }
-{
-    match &effect.what {
-        What::Line(_) => true,
-        What::Event(event) => is_time(event.value().time),
-    }
-}
-
-/// Whether each does.
-fn each_is_timely(effects: &[Effect]) -> bool
-    ensures { result ≡ list_all (λ e. times_fit (event_in e.what)) effects.now }
-{
-    effects.iter().all(|effect| is_timely(effect))
-}
-
-/// Whether the times of the events of effects lie in the range of times, so that their transitions may be
-/// stored.
-pub(crate) fn are_timely(effects: &[Effect]) -> bool
-    ensures { result ≡ times_fit (events_of effects.now) }
-{
-    each_is_timely(effects)
-}
 
 /// Puts a transition, the last of so many, behind others, unless its number is one of those that are stored.
 fn put_due(
@@ -54,6 +28,14 @@ fn put_due(
     Ok(())
 }
 
+/// The time of an event lies in the range of times, so that its transition may be stored.
+fn event_is_timely(event: &Event)
+    ensures { times_fit (event.now ∷ []) ≡ true }
+{
+    // Only a field says what holds of each event.
+    let _time = event.time;
+}
+
 /// Has topics take an event, and puts its transition, where it makes one, behind others, unless its number is
 /// one of those that are stored.
 fn accept_event(
@@ -63,12 +45,14 @@ fn accept_event(
     stored: u64,
     due: &mut Vec<Transition>,
 ) -> Result<(), NoMemory>
-    ensures topics { (events : List Event) → StandsFor events topics.old
+    ensures topics { (events : List EventValue) → StandsFor events topics.old
         → OnOk result (StandsFor (events ++ event.now ∷ []) topics.new) }
-    ensures due { (events : List Event) → StandsFor events topics.old
+    ensures due { (events : List EventValue) → StandsFor events topics.old
         → due.old.items ≡ drop stored (Trans events)
         → OnOk result (due.new.items ≡ drop stored (Trans (events ++ event.now ∷ []))) }
+    ensures times { times_fit (event.now ∷ []) ≡ true }
 {
+    event_is_timely(event);
     match topics.accept(alloc, event)? {
         Some(transition) => {
             let count = topics.count();
@@ -89,11 +73,12 @@ fn accept_effect(
     stored: u64,
     due: &mut Vec<Transition>,
 ) -> Result<(), NoMemory>
-    ensures topics { (events : List Event) → StandsFor events topics.old
+    ensures topics { (events : List EventValue) → StandsFor events topics.old
         → OnOk result (StandsFor (events ++ event_in effect.now.what) topics.new) }
-    ensures due { (events : List Event) → StandsFor events topics.old
+    ensures due { (events : List EventValue) → StandsFor events topics.old
         → due.old.items ≡ drop stored (Trans events)
         → OnOk result (due.new.items ≡ drop stored (Trans (events ++ event_in effect.now.what))) }
+    ensures times { times_fit (event_in effect.now.what) ≡ true }
 {
     match &effect.what {
         What::Line(_) => Ok(()),
@@ -111,11 +96,12 @@ pub(crate) fn accept_effects(
     stored: u64,
     due: &mut Vec<Transition>,
 ) -> Result<(), NoMemory>
-    ensures topics { (events : List Event) → StandsFor events topics.old
+    ensures topics { (events : List EventValue) → StandsFor events topics.old
         → OnOk result (StandsFor (events ++ events_of effects.now) topics.new) }
-    ensures due { (events : List Event) → StandsFor events topics.old
+    ensures due { (events : List EventValue) → StandsFor events topics.old
         → due.old.items ≡ drop stored (Trans events)
         → OnOk result (due.new.items ≡ drop stored (Trans (events ++ events_of effects.now))) }
+    ensures times { OnOk result (times_fit (events_of effects.now) ≡ true) }
 {
     'accepting: for effect in effects {
         accept_effect(alloc, topics, effect, stored, due)?;

@@ -1,7 +1,7 @@
 //! The lives of a store run on points.
 
 use crate::fault::RunFault;
-use crate::gathering::{accept_effects, are_timely};
+use crate::gathering::accept_effects;
 use crate::restoring::{plan_open, restore_net};
 use crate::spans::points_before;
 use crate::turning::{begin_lives, end_lives};
@@ -179,9 +179,6 @@ impl<N: ScriptNode + NumberingNode + Send> EngineRun<N> {
             return Err(NoMemory);
         };
         let effects = run_epoch(alloc, &mut self.net, points, Stamp(upto), way)?;
-        if !are_timely(effects.as_slice()) {
-            return Err(NoMemory);
-        }
         accept_effects(alloc, &mut self.topics, effects.as_slice(), stored, due)?;
         self.points = upto;
         self.spent = false;

@@ -8,5 +8,6 @@ pub mod TreeCode
 pub mod Places
 pub mod Groups
 pub mod Levels
+pub mod Events
 pub mod Times
 pub mod Values

@@ -8,6 +8,7 @@ use crate::shared::Shared;
 use crate::text::Text;
 use std::alloc::Global;
 use std::fmt;
+use std::marker::Model;
 
 /// The number of a source point in a run or a store, from 1. What a node gives has the stamp of the point
 /// that caused it.
@@ -127,10 +128,36 @@ pub struct Event {
     pub id: Text,
     /// How bad it is.
     pub level: Level,
-    /// The time of the point, in nanoseconds from 1970-01-01T00:00:00Z on.
+    /// The time of the point, in nanoseconds from 1970-01-01T00:00:00Z on, within `TIME_LIMIT`.
     pub time: i64,
     /// The message for people.
     pub message: Text,
+}
+
+impl Model for Event {
+    ghost use Rattle.std.specs.Prelude.{IsTrue};
+    ghost use Rattle.kap_base.specs.Events.{EventValue};
+    ghost use Rattle.kap_base.specs.Points.{is_time};
+
+    ghost Value = { EventValue };
+
+    ghost view = { λ e. record {
+      topic = e.topic;
+      id = e.id;
+      level = e.level;
+      time = e.time;
+      message = e.message;
+    } };
+
+    ghost inverse = { λ s. record {
+      topic = s.topic;
+      id = s.id;
+      level = s.level;
+      time = s.time;
+      message = s.message;
+    } };
+
+    ghost invariant = { λ e. IsTrue (is_time e.time) };
 }
 
 /// What a node does beside handing items on.

@@ -9,7 +9,7 @@ use Rattle.node_set.specs.Tasks.{Planned}
 use Rattle.store_records.specs.Held.{are_next}
 use Rattle.store_records.specs.Histories.{held}
 use Rattle.store_records.specs.declared.rec.Rec.{Rec}
-use Rattle.kap_base.specs.declared.items.Event.{Event}
+use Rattle.kap_base.specs.Events.{EventValue}
 use Rattle.topic_core.specs.Topics.{Trans, event_of}
 use Rattle.topic_core.specs.declared.transition.Transition.{Transition}
 use Rattle.topic_store.specs.Opening.{Finds, Opens}
@@ -33,7 +33,7 @@ none-more xs (y ∷ ys) e = let long : length xs ≡ length xs + length (y ∷ y
 
 module _ {N P S : Type 0} (g : Ghosts N P S) (planned : Planned P) (rs : List Rec) (good : IsGood g planned rs) (r : RunValue N) (due : List Transition) (h : HasRunAll g planned rs good.tasks 1 r due) where
   -- the missing transitions may be stored
-  pub may_store : (again : (events : List Event) → Trans (map event_of (Trans events)) ≡ Trans events) (seen : Image) (images : Image → Type 0) (store : StoreState) → IsOn rs seen images store → store.kept.transitions + length due < 2 ^ 64 → IsTrue (are_next (held rs).transitions due)
+  pub may_store : (again : (events : List EventValue) → Trans (map event_of (Trans events)) ≡ Trans events) (seen : Image) (images : Image → Type 0) (store : StoreState) → IsOn rs seen images store → store.kept.transitions + length due < 2 ^ 64 → IsTrue (are_next (held rs).transitions due)
   may_store again seen images store on few =
       let count : store.kept.transitions ≡ length (held rs).transitions = on.kept.keeps.transitions in
       due_next g planned rs good.tasks good.consistent 1 r due h again (omega (arith, count, few))

@@ -6,7 +6,7 @@ use Rattle.std.proofs.lemmas.List.{drop_all, drop_at, take-append-le, take_at}
 use Rattle.std.proofs.lemmas.List.Concat.{flat_map-append}
 use Rattle.kap_base.specs.Points.{PointValue}
 use Rattle.kap_base.specs.declared.items.Effect.{Effect}
-use Rattle.kap_base.specs.declared.items.Event.{Event}
+use Rattle.kap_base.specs.Events.{EventValue}
 use Rattle.barrier_snapshot.specs.Snapshots.{IsSnapshot}
 use Rattle.effect_text.specs.Lines.{event_in, events_of}
 use Rattle.life_effects.proofs.FitLaws.{held_fits}
@@ -73,7 +73,7 @@ module _ {N P S : Type 0} (g : Ghosts N P S) (planned : Planned P) (rs : List Re
 
   -- ---- behind a snapshot
 
-  module _ (stamped : (p : P) (before : List Input) (x : Input) → IsStamped (g.life p) (g.number p) x.1.stamp.0 (g.answer p before x)) (stood : (events : List Event) (kept : TopicsValue) → StandsFor (map event_of (Trans events)) kept → StandsFor events kept) (s : LastSnap rs) (follow : Follow rs) (c : IsConsistent g (graphs_in g planned rs tasks) rs) where
+  module _ (stamped : (p : P) (before : List Input) (x : Input) → IsStamped (g.life p) (g.number p) x.1.stamp.0 (g.answer p before x)) (stood : (events : List EventValue) (kept : TopicsValue) → StandsFor (map event_of (Trans events)) kept → StandsFor events kept) (s : LastSnap rs) (follow : Follow rs) (c : IsConsistent g (graphs_in g planned rs tasks) rs) where
     abbrev pub there : List PointValue
     there = (held s.before).points
 
@@ -94,7 +94,7 @@ module _ {N P S : Type 0} (g : Ghosts N P S) (planned : Planned P) (rs : List Re
     events = ap events_of effects
 
     few : length (Trans (life_events g planned (held rs).lives tasks there)) ≡ s.trans
-    few = ap (λ (es : List Event). length (Trans es)) events ∙ sym (c.snap s).trans_are
+    few = ap (λ (es : List EventValue). length (Trans es)) events ∙ sym (c.snap s).trans_are
 
     stored : s.trans ≡ length (held s.before).transitions
     stored = (may_at rs s.before snap s.behind follow s.split).trans_are
@@ -120,7 +120,7 @@ module _ {N P S : Type 0} (g : Ghosts N P S) (planned : Planned P) (rs : List Re
         let all : due_of g.answer graphs (held rs) ≡ Trans old ++ drop (length (Trans old)) (Trans (old ++ events_of new.0)) =
         ap (λ (ps : List PointValue). Trans (events_on g.answer lives graphs ps)) rest.1
         ∙ ap (λ (es : List Effect). Trans (events_of es)) new.1
-        ∙ ap (λ (es : List Event). Trans es) (events-append (stored_effects g.answer lives graphs there) new.0)
+        ∙ ap (λ (es : List EventValue). Trans es) (events-append (stored_effects g.answer lives graphs there) new.0)
         ∙ trans_rest old (events_of new.0) in
         sym (take_at (Trans old) (drop (length (Trans old)) (Trans (old ++ events_of new.0))) s.trans few)
         ∙ ap (take s.trans) (sym all ∙ c.prefix)
@@ -188,7 +188,7 @@ module _ {N P S : Type 0} (g : Ghosts N P S) (planned : Planned P) (rs : List Re
     due_are = c.prefix ∙ ap (λ (l : List Transition). (held rs).transitions ++ l) (sym (h.due_is ∙ ap (drop (length (held rs).transitions)) c.prefix ∙ drop_at (held rs).transitions c.others (length (held rs).transitions) refl))
 
     -- these may be stored
-    pub due_next : (trans_again : (events : List Event) → Trans (map event_of (Trans events)) ≡ Trans events) → length (held rs).transitions + length due < 2 ^ 64 → IsTrue (are_next (held rs).transitions due)
+    pub due_next : (trans_again : (events : List EventValue) → Trans (map event_of (Trans events)) ≡ Trans events) → length (held rs).transitions + length due < 2 ^ 64 → IsTrue (are_next (held rs).transitions due)
     due_next trans_again lt =
         let long : length (Trans (life_events g planned (held rs).lives tasks (held rs).points)) ≡ length (held rs).transitions + length due = ap length due_are ∙ length-append (held rs).transitions due in
         let again = trans_again (life_events g planned (held rs).lives tasks (held rs).points) in

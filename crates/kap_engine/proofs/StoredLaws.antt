@@ -5,7 +5,7 @@ use Rattle.std.proofs.lemmas.List.{map-append}
 use Rattle.kap_base.proofs.TestLaws.{first_of, second_of}
 use Rattle.kap_base.specs.Levels.{same_level}
 use Rattle.kap_base.specs.Points.{is_time}
-use Rattle.kap_base.specs.declared.items.Event.{Event}
+use Rattle.kap_base.specs.Events.{EventValue}
 use Rattle.life_effects.specs.Times.{times_fit}
 use Rattle.store_records.specs.Held.{Held, after, are_next, is_next, level_of, nothing}
 use Rattle.store_records.specs.Histories.{Follow, FollowFrom, first_gate, held, held_from, next_gate}
@@ -18,7 +18,7 @@ both-true : (a b : Bool) → a ≡ true → b ≡ true → (a && b) ≡ true
 both-true true b e f = f
 both-true false b e f = e
 
-both-fit : (xs ys : List Event) → times_fit xs ≡ true → times_fit ys ≡ true → times_fit (xs ++ ys) ≡ true
+both-fit : (xs ys : List EventValue) → times_fit xs ≡ true → times_fit ys ≡ true → times_fit (xs ++ ys) ≡ true
 both-fit [] ys a b = b
 both-fit (x ∷ xs) ys a b = both-true (is_time x.time) (times_fit (xs ++ ys)) (first_of (is_time x.time) (times_fit xs) a) (both-fit xs ys (second_of (is_time x.time) (times_fit xs) a) b)
 

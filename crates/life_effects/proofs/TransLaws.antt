@@ -11,7 +11,7 @@ use Rattle.kap_base.proofs.TestLaws.{first_of, second_of}
 use Rattle.kap_base.specs.Levels.{same_level}
 use Rattle.kap_base.specs.Maps.{byte_order}
 use Rattle.kap_base.specs.Points.{is_time}
-use Rattle.kap_base.specs.declared.items.Event.{Event}
+use Rattle.kap_base.specs.Events.{EventValue}
 use Rattle.kap_base.specs.declared.items.Level.{Level}
 use Rattle.kap_base.specs.declared.items.Level.TheVariants.{Fine, Info, Warning, Critical}
 use Rattle.topic_core.specs.Topics.{Trans, change, changes, event_of, is_of, last_level, numbered, same_text, transition}
@@ -55,20 +55,20 @@ one_text a b e = slice_cmp-IsAntisymmetric nat_cmp-IsAntisymmetric a b (equal_or
 
 -- ---- lists
 
-last_more : (topic id : List ℕ) (level : Level) (es : List Event) (e : Event) → last_level topic id level (es ++ e ∷ []) ≡ cond (is_of topic id e.topic e.id) e.level (last_level topic id level es)
+last_more : (topic id : List ℕ) (level : Level) (es : List EventValue) (e : EventValue) → last_level topic id level (es ++ e ∷ []) ≡ cond (is_of topic id e.topic e.id) e.level (last_level topic id level es)
 unfolding last_level
 last_more topic id level [] e = refl
 last_more topic id level (x ∷ es) e = last_more topic id (cond (is_of topic id x.topic x.id) x.level level) es e
 
-changes_append : (earlier es fs : List Event) → changes earlier (es ++ fs) ≡ changes earlier es ++ changes (earlier ++ es) fs
+changes_append : (earlier es fs : List EventValue) → changes earlier (es ++ fs) ≡ changes earlier es ++ changes (earlier ++ es) fs
 unfolding changes
-changes_append earlier [] fs = ap (λ (l : List Event). changes l fs) (sym (append-nil earlier))
+changes_append earlier [] fs = ap (λ (l : List EventValue). changes l fs) (sym (append-nil earlier))
 changes_append earlier (x ∷ es) fs =
     let here = change (last_level x.topic x.id Fine earlier) x in
-    ap (λ l. here ++ l) (changes_append (earlier ++ x ∷ []) es fs ∙ ap (λ (l : List Event). changes (earlier ++ x ∷ []) es ++ changes l fs) (append_assoc earlier (x ∷ []) es))
+    ap (λ l. here ++ l) (changes_append (earlier ++ x ∷ []) es fs ∙ ap (λ (l : List EventValue). changes (earlier ++ x ∷ []) es ++ changes l fs) (append_assoc earlier (x ∷ []) es))
     ∙ sym (append_assoc here (changes (earlier ++ x ∷ []) es) (changes (earlier ++ x ∷ es) fs))
 
-changes_one : (earlier : List Event) (e : Event) → changes earlier (e ∷ []) ≡ change (last_level e.topic e.id Fine earlier) e
+changes_one : (earlier : List EventValue) (e : EventValue) → changes earlier (e ∷ []) ≡ change (last_level e.topic e.id Fine earlier) e
 unfolding changes
 changes_one earlier e = append-nil _
 
@@ -84,17 +84,17 @@ unfolding numbered
 numbered_length n [] = refl
 numbered_length n (c ∷ cs) = let same = numbered_length (n + 1) cs in omega (arith, same)
 
-numbered_one : (n : ℕ) (old : Level) (e : Event) → numbered n ((old, e) ∷ []) ≡ transition n old e ∷ []
+numbered_one : (n : ℕ) (old : Level) (e : EventValue) → numbered n ((old, e) ∷ []) ≡ transition n old e ∷ []
 unfolding numbered
 numbered_one n old e = refl
 
 -- ---- transitions go on
 
 -- those of more events come behind the others
-pub trans_append : (es fs : List Event) → Trans (es ++ fs) ≡ Trans es ++ numbered (1 + length (changes [] es)) (changes es fs)
+pub trans_append : (es fs : List EventValue) → Trans (es ++ fs) ≡ Trans es ++ numbered (1 + length (changes [] es)) (changes es fs)
 trans_append es fs = ap (numbered 1) (changes_append [] es fs) ∙ numbered_append 1 (changes [] es) (changes es fs)
 
-pub trans_rest : (es fs : List Event) → Trans (es ++ fs) ≡ Trans es ++ drop (length (Trans es)) (Trans (es ++ fs))
+pub trans_rest : (es fs : List EventValue) → Trans (es ++ fs) ≡ Trans es ++ drop (length (Trans es)) (Trans (es ++ fs))
 trans_rest es fs =
     let rest = numbered (1 + length (changes [] es)) (changes es fs) in
     let whole = trans_append es fs in
@@ -112,26 +112,26 @@ next_append before (x ∷ xs) ys =
 
 map_append : (xs : List Transition) (y : Transition) → map event_of (xs ++ y ∷ []) ≡ map event_of xs ++ event_of y ∷ []
 map_append [] y = refl
-map_append (x ∷ xs) y = ap (λ (l : List Event). event_of x ∷ l) (map_append xs y)
+map_append (x ∷ xs) y = ap (λ (l : List EventValue). event_of x ∷ l) (map_append xs y)
 
-times_first : (es : List Event) (e : Event) → times_fit (es ++ e ∷ []) ≡ true → times_fit es ≡ true
+times_first : (es : List EventValue) (e : EventValue) → times_fit (es ++ e ∷ []) ≡ true → times_fit es ≡ true
 times_first [] e h = refl
 times_first (x ∷ es) e h = rw (first_of (is_time x.time) (times_fit (es ++ e ∷ [])) h) (times_first es e (second_of (is_time x.time) (times_fit (es ++ e ∷ [])) h))
 
-times_last : (es : List Event) (e : Event) → times_fit (es ++ e ∷ []) ≡ true → is_time e.time ≡ true
+times_last : (es : List EventValue) (e : EventValue) → times_fit (es ++ e ∷ []) ≡ true → is_time e.time ≡ true
 times_last [] e h = first_of (is_time e.time) true h
 times_last (x ∷ es) e h = times_last es e (second_of (is_time x.time) (times_fit (es ++ e ∷ [])) h)
 
-times_front : (es fs : List Event) → times_fit (es ++ fs) ≡ true → times_fit es ≡ true
+times_front : (es fs : List EventValue) → times_fit (es ++ fs) ≡ true → times_fit es ≡ true
 times_front [] fs h = refl
 times_front (x ∷ es) fs h = rw (first_of (is_time x.time) (times_fit (es ++ fs)) h) (times_front es fs (second_of (is_time x.time) (times_fit (es ++ fs)) h))
 
 -- the transitions of events may be stored, and their levels are those of the events
-record AreGood (es : List Event) : Type 0 where
+record AreGood (es : List EventValue) : Type 0 where
   level : (topic id : List ℕ) → last_level topic id Fine (map event_of (Trans es)) ≡ last_level topic id Fine es
   next : are_next [] (Trans es) ≡ true
 
-good_quiet : (es : List Event) (e : Event) → AreGood es → Trans (es ++ e ∷ []) ≡ Trans es → last_level e.topic e.id Fine es ≡ e.level → AreGood (es ++ e ∷ [])
+good_quiet : (es : List EventValue) (e : EventValue) → AreGood es → Trans (es ++ e ∷ []) ≡ Trans es → last_level e.topic e.id Fine es ≡ e.level → AreGood (es ++ e ∷ [])
 good_quiet es e good same old = record {
   level = λ topic id. ap (λ (l : List Transition). last_level topic id Fine (map event_of l)) same ∙ good.level topic id ∙ sym (last_more topic id Fine es e ∙ by topic id (is_of topic id e.topic e.id) refl);
   next = ap (are_next []) same ∙ good.next;
@@ -144,7 +144,7 @@ good_quiet es e good same old = record {
         ∙ old)
     by topic id false is = refl
 
-good_told : (es : List Event) (e : Event) → AreGood es → length (Trans es) + 1 < 2 ^ 64 → is_time e.time ≡ true → same_level (last_level e.topic e.id Fine es) e.level ≡ false
+good_told : (es : List EventValue) (e : EventValue) → AreGood es → length (Trans es) + 1 < 2 ^ 64 → is_time e.time ≡ true → same_level (last_level e.topic e.id Fine es) e.level ≡ false
     → Trans (es ++ e ∷ []) ≡ Trans es ++ transition (1 + length (Trans es)) (last_level e.topic e.id Fine es) e ∷ [] → AreGood (es ++ e ∷ [])
 good_told es e good bound time differs is =
     let old = last_level e.topic e.id Fine es in
@@ -156,14 +156,14 @@ good_told es e good bound time differs is =
     record {
       level = λ topic id.
           ap (λ (l : List Transition). last_level topic id Fine (map event_of l)) is
-          ∙ ap (λ (l : List Event). last_level topic id Fine l) (map_append (Trans es) t)
+          ∙ ap (λ (l : List EventValue). last_level topic id Fine l) (map_append (Trans es) t)
           ∙ last_more topic id Fine (map event_of (Trans es)) (event_of t)
           ∙ ap (λ (l : Level). cond (is_of topic id e.topic e.id) e.level l) (good.level topic id)
           ∙ sym (last_more topic id Fine es e);
       next = ap (are_next []) is ∙ next_append [] (Trans es) (t ∷ []) ∙ rw (good.next, one) refl;
     }
 
-count_front : (es fs : List Event) → length (Trans es) ≤ length (Trans (es ++ fs))
+count_front : (es fs : List EventValue) → length (Trans es) ≤ length (Trans (es ++ fs))
 count_front es fs =
     let rest = numbered (1 + length (changes [] es)) (changes es fs) in
     let long : length (Trans (es ++ fs)) ≡ length (Trans es) + length rest = ap (λ (l : List Transition). length l) (trans_append es fs) ∙ length-append (Trans es) rest in
@@ -173,7 +173,7 @@ numbered_none : (n : ℕ) (ts : List Transition) → ts ++ numbered n [] ≡ ts
 unfolding numbered
 numbered_none n ts = append-nil ts
 
-good_more : (es : List Event) (e : Event) → AreGood es → length (Trans (es ++ e ∷ [])) < 2 ^ 64 → is_time e.time ≡ true → AreGood (es ++ e ∷ [])
+good_more : (es : List EventValue) (e : EventValue) → AreGood es → length (Trans (es ++ e ∷ [])) < 2 ^ 64 → is_time e.time ≡ true → AreGood (es ++ e ∷ [])
 good_more es e good bound time =
     let old = last_level e.topic e.id Fine es in
     let count : length (Trans es) ≡ length (changes [] es) = numbered_length 1 (changes [] es) in
@@ -192,19 +192,19 @@ good_none : AreGood []
 unfolding changes numbered last_level
 good_none = record { level = λ topic id. refl; next = refl }
 
-good_behind : (es fs : List Event) → AreGood es → length (Trans (es ++ fs)) < 2 ^ 64 → times_fit (es ++ fs) ≡ true → AreGood (es ++ fs)
+good_behind : (es fs : List EventValue) → AreGood es → length (Trans (es ++ fs)) < 2 ^ 64 → times_fit (es ++ fs) ≡ true → AreGood (es ++ fs)
 good_behind es [] good bound times = subst AreGood (sym (append-nil es)) good
 good_behind es (f ∷ fs) good bound times =
     let same : (es ++ f ∷ []) ++ fs ≡ es ++ f ∷ fs = append_assoc es (f ∷ []) fs in
-    let low : length (Trans (es ++ f ∷ [])) ≤ length (Trans (es ++ f ∷ fs)) = subst (λ (l : List Event). length (Trans (es ++ f ∷ [])) ≤ length (Trans l)) same (count_front (es ++ f ∷ []) fs) in
-    let front : times_fit (es ++ f ∷ []) ≡ true = times_front (es ++ f ∷ []) fs (subst (λ (l : List Event). times_fit l ≡ true) (sym same) times) in
+    let low : length (Trans (es ++ f ∷ [])) ≤ length (Trans (es ++ f ∷ fs)) = subst (λ (l : List EventValue). length (Trans (es ++ f ∷ [])) ≤ length (Trans l)) same (count_front (es ++ f ∷ []) fs) in
+    let front : times_fit (es ++ f ∷ []) ≡ true = times_front (es ++ f ∷ []) fs (subst (λ (l : List EventValue). times_fit l ≡ true) (sym same) times) in
     subst AreGood same
     (good_behind (es ++ f ∷ []) fs (good_more es f good (omega (arith, low, bound)) (times_last es f front))
-    (subst (λ (l : List Event). length (Trans l) < 2 ^ 64) (sym same) bound)
-    (subst (λ (l : List Event). times_fit l ≡ true) (sym same) times))
+    (subst (λ (l : List EventValue). length (Trans l) < 2 ^ 64) (sym same) bound)
+    (subst (λ (l : List EventValue). times_fit l ≡ true) (sym same) times))
 
 -- behind the first of them the others may be stored
-pub trans_next : (es : List Event) (p q : List Transition) → Trans es ≡ p ++ q → length (Trans es) < 2 ^ 64 → times_fit es ≡ true → IsTrue (are_next p q)
+pub trans_next : (es : List EventValue) (p q : List Transition) → Trans es ≡ p ++ q → length (Trans es) < 2 ^ 64 → times_fit es ≡ true → IsTrue (are_next p q)
 trans_next es p q is bound times =
     let good = good_behind [] es good_none bound times in
     let both : (are_next [] p && are_next p q) ≡ true = sym (next_append [] p q) ∙ ap (are_next []) (sym is) ∙ good.next in

@@ -4,7 +4,7 @@ ghost use Rattle.std.specs.Prelude.{◌≡◌, ◌+◌, ◌<◌, ◌^◌, ℕ, [
 ghost use Rattle.std.specs.List.{AllByRecursion as Each, remove};
 ghost use Rattle.kap_base.specs.Points.{PointValue};
 ghost use Rattle.kap_base.specs.declared.items.Effect.{Effect};
-ghost use Rattle.kap_base.specs.declared.items.Event.{Event};
+ghost use Rattle.kap_base.specs.Events.{EventValue};
 ghost use Rattle.task_run.specs.Graphs.{Placed};
 ghost use Rattle.topic_core.specs.Topics.{Trans};
 ghost use Rattle.topic_core.specs.declared.transition.Transition.{Transition};
@@ -79,8 +79,8 @@ pub fn open_lives_come_and_go<N: Node>()
 /// The transitions of events go on with more events; and those behind some of them may be stored behind
 /// these, where they are fewer than 2^64 and each time lies within the range of times.
 pub fn transitions_go_on()
-    ensures more { (es fs : List Event) → Trans (es ++ fs)
+    ensures more { (es fs : List EventValue) → Trans (es ++ fs)
         ≡ Trans es ++ drop (length (Trans es)) (Trans (es ++ fs)) }
-    ensures next { (es : List Event) (p q : List Transition) → Trans es ≡ p ++ q
+    ensures next { (es : List EventValue) (p q : List Transition) → Trans es ≡ p ++ q
         → length (Trans es) < 2 ^ 64 → times_fit es ≡ true → IsTrue (are_next p q) }
 {}

@@ -3,6 +3,9 @@
 //! `store points`, `store transitions`, `store calls` (see `pieces.rt`), `store read`, `store behind` (see
 //! `readers.rt`); `store topics TOPIC`: the topic's level; `store crashes`: what a crash may leave.
 
+ghost use Rattle.std.specs.Prelude.{◌≡◌, false};
+ghost use Rattle.store_records.specs.Records.{HasForm};
+
 use crate::disks::PICKS;
 use crate::pieces::put_pieces;
 use crate::readers::{put_read, put_topics};
@@ -36,6 +39,17 @@ fn make(alloc: Global, disk: &mut MemDisk, to: &mut Bytes) -> Result<(), NoMemor
     }
 }
 
+/// Adds a record of its kind's form to a store: a batch by its parts.
+fn add_one(disk: &mut MemDisk, store: &mut Store, rec: &Rec) -> Result<(), StoreFault>
+    requires usable { store.old.log.spent ≡ false }
+    requires form { HasForm rec.now }
+{
+    match rec {
+        Rec::Batch { db, rp, points } => store.add_batch(disk, db, rp, points.as_slice()),
+        _ => store.add(disk, rec),
+    }
+}
+
 /// Adds a record to a store that was opened.
 fn add_to(
     alloc: Global,
@@ -50,7 +64,7 @@ fn add_to(
     if !has_form(rec) {
         return to.append(b"no form");
     }
-    match store.add(disk, rec) {
+    match add_one(disk, store, rec) {
         Ok(()) => to.append(b"added"),
         Err(fault) => put_fault(alloc, fault, to),
     }

@@ -1,10 +1,25 @@
 //! `topic event TOPIC ID LEVEL TIME MESSAGE`: what is told of an event, and `topic level TOPIC`: the worst
 //! level.
 
+ghost use Rattle.std.specs.Prelude.{IfOk, IsTrue};
+ghost use Rattle.kap_base.specs.Points.{is_time};
+
 use case_text::{LineFault, first_of, level, put_shown, signed, text};
-use kap_base::{Bytes, Event, NoMemory, Text};
+use kap_base::{Bytes, Event, NoMemory, Text, is_time};
 use std::alloc::Global;
 use topic_core::{Topics, print_transition};
+
+/// The time that a word is.
+fn time_of(word: &str) -> Result<i64, LineFault>
+    ensures { IfOk result (λ time. IsTrue (is_time time)) }
+{
+    let time = signed(word)?;
+    if is_time(time) {
+        Ok(time)
+    } else {
+        Err(LineFault::NoForm)
+    }
+}
 
 /// The event that a line tells.
 fn event(alloc: Global, line: &str) -> Result<Event, LineFault> {
@@ -16,7 +31,7 @@ fn event(alloc: Global, line: &str) -> Result<Event, LineFault> {
         topic: text(alloc, topic)?,
         id: text(alloc, id)?,
         level: level(word)?,
-        time: signed(time)?,
+        time: time_of(time)?,
         message: text(alloc, message)?,
     })
 }

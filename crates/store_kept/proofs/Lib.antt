@@ -1,3 +1,4 @@
+pub mod Batches
 pub mod Following
 pub mod Keeping
 pub mod Places

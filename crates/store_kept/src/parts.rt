@@ -1,15 +1,17 @@
 //! What a record adds to what is kept: made first, so that putting it in takes no memory.
 
-ghost use Rattle.std.specs.Prelude.{◌≡◌, ℕ, ◌+◌, ◌++◌, ◌<◌, IfOk, IfSome, OnOk, if◌then◌else◌, length, vec_capacity, vec_len};
+ghost use Rattle.std.specs.Prelude.{◌≡◌, ℕ, ◌+◌, ◌++◌, ◌<◌, List, IfOk, IfSome, OnOk, if◌then◌else◌, length, vec_capacity, vec_len};
 ghost use Rattle.std.specs.Option.{option_to_list};
+ghost use Rattle.kap_base.specs.Points.{PointValue};
 ghost use Rattle.store_records.specs.Held.{is_change, later_of, points_in, transitions_in};
+ghost use Rattle.store_records.specs.declared.rec.Rec.{Rec};
 ghost use Rattle.store_kept.specs.Changing.{ArePartsFor, HasRoom, IsMarkAt, kept_with};
 ghost use Rattle.store_kept.specs.Keeping.{kept_of};
 
 use crate::kept::{Kept, Mark};
 use crate::lives::{begun, change_lives, snap_in};
 use crate::tasks::{change_tasks, defined};
-use kap_base::NoMemory;
+use kap_base::{NoMemory, Point};
 use std::alloc::Global;
 use store_records::{Life, Rec, Snapshot, StoredTask};
 
@@ -131,6 +133,34 @@ pub fn prepare(alloc: Global, kept: &mut Kept, at: u64, rec: &Rec) -> Result<Par
     Ok(parts)
 }
 
+/// What a batch of these points adds, whatever its database and policy.
+fn batch_parts(kept: &Kept, at: u64, points: &[Point]) -> Result<Parts, NoMemory>
+    ensures { (db rp : List ℕ)
+        → IfOk result (ArePartsFor at (Rec.Batch db rp points.now) (kept_of kept.now)) }
+{
+    Ok(Parts {
+        task: None,
+        life: None,
+        snap: None,
+        mark: due_mark(kept, at),
+        points: total(kept.points, points.len() as u64)?,
+        transitions: kept.transitions,
+        changes: total(kept.changes, 1)?,
+    })
+}
+
+/// As `prepare`, for a batch of points that are lent, whatever its database and policy.
+pub fn prepare_batch(kept: &mut Kept, at: u64, points: &[Point]) -> Result<Parts, NoMemory>
+    ensures parts { (db rp : List ℕ)
+        → IfOk result (ArePartsFor at (Rec.Batch db rp points.now) (kept_of kept.old)) }
+    ensures room { OnOk result (HasRoom kept.new) }
+    ensures same { kept_of kept.new ≡ kept_of kept.old }
+{
+    reserve(kept)?;
+    let parts = batch_parts(kept, at, points)?;
+    Ok(parts)
+}
+
 fn put_mark(marks: &mut Vec<Mark>, mark: Option<Mark>)
     requires { vec_len marks.old < vec_capacity marks.old }
     ensures { marks.new.items ≡ marks.old.items ++ option_to_list mark }
@@ -167,6 +197,26 @@ pub fn commit(kept: &mut Kept, rec: &Rec, parts: Parts)
     change_tasks(&mut kept.tasks, rec, task);
     put_mark(&mut kept.marks, mark);
     put_snap(&mut kept.snap, snap);
+    kept.points = points;
+    kept.transitions = transitions;
+    kept.changes = changes;
+}
+
+/// Puts in what a batch adds, by the parts that `prepare_batch` made for it. It takes no memory.
+pub fn commit_batch(kept: &mut Kept, parts: Parts)
+    requires { HasRoom kept.old }
+    ensures { (at : ℕ) (db rp : List ℕ) (points : List PointValue)
+        → ArePartsFor at (Rec.Batch db rp points) (kept_of kept.old) parts
+        → kept_of kept.new ≡ kept_with at (Rec.Batch db rp points) parts.mark (kept_of kept.old) }
+{
+    let Parts {
+        mark,
+        points,
+        transitions,
+        changes,
+        ..
+    } = parts;
+    put_mark(&mut kept.marks, mark);
     kept.points = points;
     kept.transitions = transitions;
     kept.changes = changes;

@@ -1,8 +1,13 @@
 -- Transitions that are taken one after the other.
-use Rattle.std.proofs.Common.{◌≡◌, ℕ, ◌+◌, Bool, true, false, ◌&&◌, List, [], ◌∷◌, ◌++◌, length, map, refl, sym, ap, ◌∙◌, subst, append_assoc, arith, length-append}
+use Rattle.std.proofs.Common.{◌≡◌, ℕ, ◌+◌, Bool, true, false, not, ◌&&◌, List, [], ◌∷◌, ◌++◌, length, map, refl, sym, ap, ◌∙◌, subst, append_assoc, arith, length-append}
+use Rattle.std.specs.Prelude.{◌==◌}
+use Rattle.std.proofs.lemmas.Bool.Decides.{nat_tests}
 use Rattle.std.proofs.lemmas.List.{append-nil, map-append}
-use Rattle.kap_base.specs.declared.items.Event.{Event}
+use Rattle.kap_base.specs.Events.{EventValue}
 use Rattle.kap_base.specs.declared.items.Level.{Level}
+use Rattle.kap_base.proofs.TestLaws.{first_of, not_true, second_of}
+use Rattle.kap_base.specs.Levels.{level_rank, same_level}
+use Rattle.kap_base.specs.Points.{is_time}
 use Rattle.topic_core.specs.Topics.{StandsFor, TopicsValue, event_of, level_before}
 use Rattle.topic_core.specs.declared.transition.Transition.{Transition}
 use Rattle.store_records.specs.Held.{are_next, goes_on, is_next, level_of}
@@ -35,15 +40,15 @@ module _ (start : TopicsValue) (base : ℕ) (all : List Transition) (topics : To
   -- one more was taken
   pub one_more : (next : Bool) (later : TopicsValue) (more : ℕ) → more ≡ count + 1
       → ((before : List Transition) → StandsFor (map event_of before) topics → count ≡ length before → next ≡ is_next before t)
-      → ((before : List Transition) → StandsFor (map event_of before) topics → StandsFor (map event_of before ++ event_of t ∷ []) later)
+      → ((before : List Transition) → StandsFor (map event_of before) topics → next ≡ true → StandsFor (map event_of before ++ event_of t ∷ []) later)
       → next ≡ true → Taking start base all later more others
   one_more next later more more_is is kept passed = record {
     taken = so_far.taken ++ t ∷ [];
     count_is = omega (arith, so_far.count_is, more_is, length-append so_far.taken (t ∷ []));
     stands = λ before h.
-        subst (λ (l : List Event). StandsFor l later)
+        subst (λ (l : List EventValue). StandsFor l later)
         (sym (map-append event_of (before ++ so_far.taken) (t ∷ [])) ∙ ap (λ (l : List Transition). map event_of l) (append_assoc before so_far.taken (t ∷ [])))
-        (kept (before ++ so_far.taken) (so_far.stands before h));
+        (kept (before ++ so_far.taken) (so_far.stands before h) passed);
     split = so_far.split ∙ sym (append_assoc so_far.taken (t ∷ []) others);
     same = λ before h long.
         let here : is_next (before ++ so_far.taken) t ≡ true = sym (is (before ++ so_far.taken) (so_far.stands before h) (behind before long)) ∙ passed in
@@ -76,3 +81,16 @@ pub next_is : (topics : TopicsValue) (count : ℕ) (level : Level) (t : Transiti
 next_is topics count level t next is level_is before stands long =
     is ∙ ap (λ (l : Level). goes_on count l t) (level_is ∙ stands.level t.topic t.id)
     ∙ ap (λ (n : ℕ). goes_on n (level_of t.topic t.id before) t) long
+
+same-number : (a b : ℕ) → (a == b) ≡ true → a ≡ b
+same-number a b e = grind (arith, nat_tests)
+
+-- one that goes on has another level than the one before it
+pub changes_level : (count : ℕ) (level : Level) (t : Transition) → goes_on count level t ≡ true → same_level level t.new_level ≡ false
+changes_level count level t e =
+    let levels = second_of (t.number == count + 1) (same_level t.old_level level && (not (same_level t.old_level t.new_level) && is_time t.time)) e in
+    let old : level_rank t.old_level ≡ level_rank level =
+    same-number (level_rank t.old_level) (level_rank level) (first_of (same_level t.old_level level) (not (same_level t.old_level t.new_level) && is_time t.time) levels) in
+    let differs = second_of (same_level t.old_level level) (not (same_level t.old_level t.new_level) && is_time t.time) levels in
+    subst (λ (n : ℕ). (n == level_rank t.new_level) ≡ false) old
+    (not_true (same_level t.old_level t.new_level) (first_of (not (same_level t.old_level t.new_level)) (is_time t.time) differs))

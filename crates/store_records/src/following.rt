@@ -1,6 +1,6 @@
 //! Which record may follow.
 
-ghost use Rattle.std.specs.Prelude.{◌≡◌, ◌==◌, ◌+◌, ◌&&◌, ◌∷◌, ◌++◌, [], IfOk, IsTrue, List, OnOk, length, map, position};
+ghost use Rattle.std.specs.Prelude.{◌≡◌, ◌==◌, ◌+◌, ◌&&◌, ◌∷◌, ◌++◌, [], IfOk, IsTrue, List, length, map, position};
 ghost use Rattle.std.specs.List.{list_all};
 ghost use Rattle.store_records.specs.Held.{are_next, goes_on, has_task, is_called, is_next, may_define};
 ghost use Rattle.store_records.specs.Lines.{are_lines, is_of};
@@ -11,7 +11,7 @@ use crate::lines::are_of;
 use crate::task::StoredTask;
 use kap_base::{Level, NoMemory, Point, SCRIPT_LIMIT, TASK_LIMIT, Text, is_task_id, is_time};
 use std::alloc::Global;
-use topic_core::{Topics, Transition, event_of};
+use topic_core::{Topics, Transition};
 
 fn is_called(task: &StoredTask, id: &Text) -> bool
     ensures { result ≡ is_called id.now task.now }
@@ -96,7 +96,7 @@ fn goes_on(count: u64, level: Level, transition: &Transition) -> bool
     is_time(transition.time)
 }
 
-/// Takes the next transition, behind `count` others, and tells whether it goes on from these.
+/// Takes the next transition, behind `count` others, where it goes on from these, and tells whether it does.
 fn take_transition(
     alloc: Global,
     topics: &mut Topics,
@@ -106,13 +106,15 @@ fn take_transition(
     ensures next { (before : List Transition) → StandsFor (map event_of before) topics.old
         → count ≡ length before → IfOk result (λ next. next ≡ is_next before transition.now) }
     ensures kept { (before : List Transition) → StandsFor (map event_of before) topics.old
-        → OnOk result (StandsFor (map event_of before ++ event_of transition.now ∷ []) topics.new) }
+        → IfOk result (λ next. IsTrue next
+        → StandsFor (map event_of before ++ event_of transition.now ∷ []) topics.new) }
 {
     let level = topics.levels().level(&transition.topic, &transition.id);
-    let next = goes_on(count, level, transition);
-    let event = event_of(alloc, transition)?;
-    topics.accept(alloc, &event)?;
-    Ok(next)
+    if !goes_on(count, level, transition) {
+        return Ok(false);
+    }
+    topics.put(alloc, transition)?;
+    Ok(true)
 }
 
 /// Whether these transitions may follow `count` others, of which `topics` are kept: their numbers go on, the

@@ -13,6 +13,6 @@ mod transitions;
 pub use following::{find_task, has_task, is_batch, may_define, take_transitions};
 pub use laws::{held_laws, record_laws};
 pub use rec::{Rec, Transitions};
-pub use records::{read_record, record_body};
+pub use records::{batch_body, read_record, record_body};
 pub use task::{Life, LifeNumbers, Snapshot, StoredTask};
 pub use transitions::spelled_len;

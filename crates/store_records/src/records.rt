@@ -107,6 +107,18 @@ pub fn record_body(alloc: Global, rec: &Rec) -> Result<Bytes, NoMemory>
     Ok(body)
 }
 
+/// The body of a record of points that are lent, as `record_body` has it: they are ungrouped and of the
+/// database and the policy, which hold no line feed.
+pub fn batch_body(alloc: Global, db: &Text, rp: &Text, points: &[Point]) -> Result<Bytes, NoMemory>
+    requires lines { IsTrue (are_lines (db.now, rp.now)) }
+    requires points { IsTrue (list_all (is_of db.now rp.now) points.now) }
+    ensures { IfOk result (IsBodyOf (Rec.Batch db.now rp.now points.now)) }
+{
+    let mut body = Bytes::new(alloc);
+    put_batch(alloc, db, rp, points, &mut body)?;
+    Ok(body)
+}
+
 fn read_define(alloc: Global, from: &mut Cursor) -> Result<Rec, CodeFault>
     ensures { ReadsOrNot read_define from.old from.new result }
 {

@@ -5,7 +5,7 @@ use Rattle.std.specs.FinMap.{get}
 use Rattle.std.specs.Option.{option_map_or, option_to_list}
 use Rattle.kap_base.specs.Levels.{same_level}
 use Rattle.kap_base.specs.Maps.{KeyMap}
-use Rattle.kap_base.specs.declared.items.Event.{Event}
+use Rattle.kap_base.specs.Events.{EventValue}
 use Rattle.kap_base.specs.declared.items.Level.{Level}
 use Rattle.kap_base.specs.declared.items.Level.TheVariants.{Fine}
 use Rattle.topic_core.specs.Topics.{StandsFor, TopicsValue, Trans, changes, level_at, level_before, no_topics, numbered, put_level, topics_after, transition, with_transition}
@@ -28,7 +28,7 @@ same_ids None (Some y) there is = absurd (true≢false (sym there))
 same_ids (Some x) None there is = absurd (true≢false there)
 same_ids (Some x) (Some y) there is = ap (λ (m : KeyMap Level). Some m) (same x y is)
 
-module _ (events : List Event) (one other : TopicsValue) (s : StandsFor events one) (t : StandsFor events other) where
+module _ (events : List EventValue) (one other : TopicsValue) (s : StandsFor events one) (t : StandsFor events other) where
   same_at : (topic id : List ℕ) → level_at one.levels topic id ≡ level_at other.levels topic id
   same_at topic id = same_found (level_at one.levels topic id) (level_at other.levels topic id) (s.ids topic id ∙ sym (t.ids topic id)) (s.level topic id ∙ sym (t.level topic id))
 
@@ -44,7 +44,7 @@ put_last : (kept : TopicsValue) (ts : List Transition) (t : Transition) → fold
 put_last kept [] t = refl
 put_last kept (x ∷ ts) t = put_last (with_transition kept x) ts t
 
-module _ (events : List Event) (e : Event) (so_far : StandsFor events (topics_after (Trans events))) where
+module _ (events : List EventValue) (e : EventValue) (so_far : StandsFor events (topics_after (Trans events))) where
   abbrev kept : TopicsValue
   kept = topics_after (Trans events)
 
@@ -61,16 +61,16 @@ module _ (events : List Event) (e : Event) (so_far : StandsFor events (topics_af
       let next = accepted events e kept so_far in
       subst (λ k. StandsFor (events ++ e ∷ []) k) (sym (ap topics_after next.trans ∙ by_change (same_level old e.level))) next.stands
 
-all_stand : (earlier later : List Event) → StandsFor earlier (topics_after (Trans earlier)) → StandsFor (earlier ++ later) (topics_after (Trans (earlier ++ later)))
-all_stand earlier [] s = subst (λ (l : List Event). StandsFor l (topics_after (Trans l))) (sym (append_nil earlier)) s
+all_stand : (earlier later : List EventValue) → StandsFor earlier (topics_after (Trans earlier)) → StandsFor (earlier ++ later) (topics_after (Trans (earlier ++ later)))
+all_stand earlier [] s = subst (λ (l : List EventValue). StandsFor l (topics_after (Trans l))) (sym (append_nil earlier)) s
 all_stand earlier (e ∷ later) s =
-    subst (λ (l : List Event). StandsFor l (topics_after (Trans l))) (append_assoc earlier (e ∷ []) later) (all_stand (earlier ++ e ∷ []) later (next_stands earlier e s))
+    subst (λ (l : List EventValue). StandsFor l (topics_after (Trans l))) (append_assoc earlier (e ∷ []) later) (all_stand (earlier ++ e ∷ []) later (next_stands earlier e s))
 
-pub transitions_stand : (events : List Event) → StandsFor events (topics_after (Trans events))
+pub transitions_stand : (events : List EventValue) → StandsFor events (topics_after (Trans events))
 unfolding changes numbered
 transitions_stand events = all_stand [] events at_first
 
-pub one_value : (events : List Event) (kept : TopicsValue) → StandsFor events kept → kept ≡ topics_after (Trans events)
+pub one_value : (events : List EventValue) (kept : TopicsValue) → StandsFor events kept → kept ≡ topics_after (Trans events)
 one_value events kept s = same_kept events kept (topics_after (Trans events)) s (transitions_stand events)
 
 pub none_kept : (kept : TopicsValue) → StandsFor [] kept → kept ≡ no_topics

@@ -1,12 +1,12 @@
 -- Examples: the transitions of events, and the level of a topic.
 use Rattle.std.specs.Prelude.{◌≡◌, ℕ, pos, List, [], ◌∷◌, codes}
-use Rattle.kap_base.specs.declared.items.Event.{Event}
+use Rattle.kap_base.specs.Events.{EventValue}
 use Rattle.kap_base.specs.declared.items.Level.{Level}
 use Rattle.kap_base.specs.declared.items.Level.TheVariants.{Fine, Info, Warning, Critical}
 use Rattle.topic_core.specs.Topics.{Trans, greatest_level, transition}
 
 -- an event of a topic and an id, at this time
-abbrev pub event : List ℕ → List ℕ → Level → ℕ → Event
+abbrev pub event : List ℕ → List ℕ → Level → ℕ → EventValue
 event topic id level time = record { topic = topic; id = id; level = level; time = pos time; message = codes "m" }
 
 -- a first OK makes none

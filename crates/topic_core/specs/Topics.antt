@@ -7,7 +7,7 @@ use Rattle.std.specs.Ordering.{eq_by_cmp}
 use Rattle.kap_base.specs.declared.items.Level.{Level}
 use Rattle.kap_base.specs.declared.items.Level.TheVariants.{Fine}
 use Rattle.kap_base.specs.Levels.{level_rank, same_level}
-use Rattle.kap_base.specs.declared.items.Event.{Event}
+use Rattle.kap_base.specs.Events.{EventValue}
 use Rattle.kap_base.specs.Maps.{KeyMap, byte_order}
 use Rattle.topic_core.specs.declared.transition.Transition.{Transition}
 
@@ -37,22 +37,22 @@ abbrev pub is_of : List ℕ → List ℕ → List ℕ → List ℕ → Bool
 is_of topic id its_topic its_id = same_text topic its_topic && same_text id its_id
 
 -- the level of the last of these events that is of this topic and id, and `level` where there is none
-unfoldable pub last_level : List ℕ → List ℕ → Level → List Event → Level
+unfoldable pub last_level : List ℕ → List ℕ → Level → List EventValue → Level
 last_level topic id level [] = level
 last_level topic id level (e ∷ es) = last_level topic id (if is_of topic id e.topic e.id then e.level else level) es
 
 -- the event with the level before it, where its own level differs
-abbrev pub change : Level → Event → List (Level × Event)
+abbrev pub change : Level → EventValue → List (Level × EventValue)
 change old e = if same_level old e.level then [] else (old, e) ∷ []
 
 -- The later events whose level differs from that of the last event before of the same topic and id, OK at first. Each
 -- stands with that level; `earlier` are the events before the later ones.
-unfoldable pub changes : List Event → List Event → List (Level × Event)
+unfoldable pub changes : List EventValue → List EventValue → List (Level × EventValue)
 changes earlier [] = []
 changes earlier (e ∷ later) = change (last_level e.topic e.id Fine earlier) e ++ changes (earlier ++ e ∷ []) later
 
 -- the transition of this number: the number stands still at the end of its type
-abbrev pub transition : ℕ → Level → Event → Transition
+abbrev pub transition : ℕ → Level → EventValue → Transition
 transition n old e =
     record {
       number = min n (2 ^ 64 - 1);
@@ -65,17 +65,17 @@ transition n old e =
     }
 
 -- the transitions of these changes, numbered from n on
-unfoldable pub numbered : ℕ → List (Level × Event) → List Transition
+unfoldable pub numbered : ℕ → List (Level × EventValue) → List Transition
 numbered n [] = []
 numbered n (c ∷ cs) = transition n c.0 c.1 ∷ numbered (n + 1) cs
 
 -- The transitions of a list of events: those whose level differs from the last earlier event of the same topic and id,
 -- OK at first, numbered from 1.
-abbrev pub Trans : List Event → List Transition
+abbrev pub Trans : List EventValue → List Transition
 Trans events = numbered 1 (changes [] events)
 
 -- the event that a transition was
-abbrev pub event_of : Transition → Event
+abbrev pub event_of : Transition → EventValue
 event_of t = record { topic = t.topic; id = t.id; level = t.new_level; time = t.time; message = t.message }
 
 -- ---- what is kept
@@ -103,7 +103,7 @@ put_level levels topic id level = insert levels topic (insert (unwrap_or (get le
 
 -- What is kept stands for these events: the count is that of their transitions, the level of a topic and id is that of
 -- the last event, and the topics and ids that are kept are those that had a transition.
-pub record StandsFor (events : List Event) (kept : TopicsValue) : Type 0 where
+pub record StandsFor (events : List EventValue) (kept : TopicsValue) : Type 0 where
   pub count : kept.count ≡ min (length (Trans events)) (2 ^ 64 - 1)
   pub level : (topic id : List ℕ) → level_before kept.levels topic id ≡ last_level topic id Fine events
   pub ids : (topic id : List ℕ)
@@ -112,13 +112,13 @@ pub record StandsFor (events : List Event) (kept : TopicsValue) : Type 0 where
       → contains_key kept.levels topic ≡ list_any (λ t. same_text topic t.topic) (Trans events)
 
 -- the answer to the next event
-abbrev pub answer : TopicsValue → Event → Option Transition
+abbrev pub answer : TopicsValue → EventValue → Option Transition
 answer kept e =
     let old = level_before kept.levels e.topic e.id in
     if same_level old e.level then None else Some (transition (kept.count + 1) old e)
 
 -- what is kept after the next event
-abbrev pub kept_after : TopicsValue → Event → TopicsValue
+abbrev pub kept_after : TopicsValue → EventValue → TopicsValue
 kept_after kept e =
     if same_level (level_before kept.levels e.topic e.id) e.level then kept
     else record { count = min (kept.count + 1) (2 ^ 64 - 1); levels = put_level kept.levels e.topic e.id e.level }

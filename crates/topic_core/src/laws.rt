@@ -1,26 +1,26 @@
 //! What transitions keep of their events: laws, and no code.
 
 ghost use Rattle.std.specs.Prelude.{◌≡◌, [], List, map};
-ghost use Rattle.kap_base.specs.declared.items.Event.{Event};
+ghost use Rattle.kap_base.specs.Events.{EventValue};
 ghost use Rattle.topic_core.specs.Rows.{BackToFine, FirstIsFine, GreatestOfIds, GreatestOfNone, RepeatedLevel, SharedId, TwoIds, TwoTopics};
 ghost use Rattle.topic_core.specs.Topics.{StandsFor, TopicsValue, Trans, event_of, no_topics, topics_after};
 
 /// Transitions stand for their events: taken as events again they make the same transitions, and what is kept
 /// of the one is what is kept of the other.
 pub fn transition_laws()
-    ensures again { (events : List Event) → Trans (map event_of (Trans events)) ≡ Trans events }
-    ensures stand { (events : List Event) (kept : TopicsValue) → StandsFor events kept
+    ensures again { (events : List EventValue) → Trans (map event_of (Trans events)) ≡ Trans events }
+    ensures stand { (events : List EventValue) (kept : TopicsValue) → StandsFor events kept
         → StandsFor (map event_of (Trans events)) kept }
-    ensures stood { (events : List Event) (kept : TopicsValue)
+    ensures stood { (events : List EventValue) (kept : TopicsValue)
         → StandsFor (map event_of (Trans events)) kept → StandsFor events kept }
 {}
 
 /// What is kept of a list of events is one value: what `Topics::put` keeps of their transitions, one after
 /// the other. Before any event it is that of no topics.
 pub fn kept_laws()
-    ensures one { (events : List Event) (kept : TopicsValue) → StandsFor events kept
+    ensures one { (events : List EventValue) (kept : TopicsValue) → StandsFor events kept
         → kept ≡ topics_after (Trans events) }
-    ensures stands { (events : List Event) → StandsFor events (topics_after (Trans events)) }
+    ensures stands { (events : List EventValue) → StandsFor events (topics_after (Trans events)) }
     ensures none { (kept : TopicsValue) → StandsFor [] kept → kept ≡ no_topics }
 {}
 

@@ -1,10 +1,12 @@
 //! The transitions of events that come one after the other.
 
-ghost use Rattle.std.specs.Prelude.{◌≡◌, ◌∷◌, ◌++◌, [], List, IfOk, OnErr, OnOk};
+ghost use Rattle.std.specs.Prelude.{◌≡◌, ◌∷◌, ◌++◌, [], false, List, IfOk, OnErr, OnOk};
 ghost use Rattle.std.specs.FinMap as map;
 ghost use Rattle.std.specs.Option.{option_to_list};
-ghost use Rattle.kap_base.specs.declared.items.Event.{Event};
-ghost use Rattle.topic_core.specs.Topics.{StandsFor, Trans, answer, kept_after, topic_level, transition, with_transition};
+ghost use Rattle.kap_base.specs.Events.{EventValue};
+ghost use Rattle.kap_base.specs.Levels.{same_level};
+ghost use Rattle.topic_core.specs.Topics.{StandsFor, Trans, answer, event_of, kept_after, level_before};
+ghost use Rattle.topic_core.specs.Topics.{topic_level, transition, with_transition};
 
 use crate::levels::Levels;
 use crate::transition::Transition;
@@ -72,9 +74,9 @@ impl Topics {
         ensures kept { OnOk result (self.new ≡ kept_after self.old event.now) }
         ensures err { OnErr result (self.new ≡ self.old) }
         // Over any list of events the answers, one after the other, are the transitions of the list.
-        ensures stands { (events : List Event) → StandsFor events self.old →
+        ensures stands { (events : List EventValue) → StandsFor events self.old →
             OnOk result (StandsFor (events ++ event.now ∷ []) self.new) }
-        ensures all { (events : List Event) → StandsFor events self.old → IfOk result (λ t.
+        ensures all { (events : List EventValue) → StandsFor events self.old → IfOk result (λ t.
             Trans (events ++ event.now ∷ []) ≡ Trans events ++ option_to_list t) }
     {
         self.take(alloc, event)
@@ -100,6 +102,18 @@ impl Topics {
     /// Takes a transition that was made before: its new level is the last one of its topic and id from now
     /// on. After `NoMemory` nothing has changed.
     pub fn put(&mut self, alloc: Global, transition: &Transition) -> Result<(), NoMemory>
+        ensures ok { OnOk result (self.new ≡ with_transition self.old transition.now) }
+        ensures err { OnErr result (self.new ≡ self.old) }
+        // One whose level is another than the last one of its topic and id is kept as its event would be.
+        ensures stands { (events : List EventValue) → StandsFor events self.old
+            → same_level (level_before self.old.levels transition.now.topic transition.now.id)
+            transition.now.new_level ≡ false
+            → OnOk result (StandsFor (events ++ event_of transition.now ∷ []) self.new) }
+    {
+        self.keep(alloc, transition)
+    }
+
+    fn keep(&mut self, alloc: Global, transition: &Transition) -> Result<(), NoMemory>
         ensures ok { OnOk result (self.new ≡ with_transition self.old transition.now) }
         ensures err { OnErr result (self.new ≡ self.old) }
     {

@@ -1,10 +1,12 @@
 //! A store, and its opening.
 
 ghost use Rattle.std.specs.Prelude.{◌≡◌, ◌≤◌, ◌+◌, ◌++◌, ◌∷◌, [], ℕ, false, length, List, IfOk, IsTrue, OnOk, drop, option_map};
+ghost use Rattle.std.specs.List.{list_all};
 ghost use Rattle.kap_base.specs.Words.{HasRisen};
 ghost use Rattle.kap_io.specs.Moments.{Moments, Quiet};
 ghost use Rattle.store_records.specs.Held.{MayFollow, points_in};
 ghost use Rattle.store_records.specs.Histories.{held};
+ghost use Rattle.store_records.specs.Lines.{are_lines, is_of};
 ghost use Rattle.store_records.specs.Orders.{DefinesValid};
 ghost use Rattle.store_records.specs.Records.{HasForm};
 ghost use Rattle.store_records.specs.declared.rec.Rec.{Rec};
@@ -24,12 +26,12 @@ use crate::pieces::{piece_from, piece_len, points_start, transitions_start};
 use crate::reader::PointsReader;
 use crate::stored::states_at;
 use gate_log::{BODY_LIMIT, Log};
-use kap_base::{Bytes, Points};
+use kap_base::{Bytes, Point, Points, Text};
 use kap_io::{Disk, Part};
 use std::alloc::Global;
 use std::marker::Model;
-use store_kept::{Kept, commit, prepare};
-use store_records::{Life, LifeNumbers, Rec, StoredTask, Transitions, record_body};
+use store_kept::{Kept, commit, commit_batch, prepare, prepare_batch};
+use store_records::{Life, LifeNumbers, Rec, StoredTask, Transitions, batch_body, record_body};
 use topic_core::Topics;
 
 /// A store on a disk. What its calls promise stands on the disk on which it was opened, where since then only
@@ -84,6 +86,49 @@ fn add_record<D: Disk>(
     match log.append(disk, body.as_slice()) {
         Ok(()) => {
             commit(kept, rec, parts);
+            Ok(())
+        }
+        Err(fault) => Err(fault_in(log.part(), fault)),
+    }
+}
+
+/// Adds a batch of points that are lent to a log, and to what is kept.
+fn add_points<D: Disk>(
+    alloc: Global,
+    log: &mut Log,
+    kept: &mut Kept,
+    disk: &mut D,
+    db: &Text,
+    rp: &Text,
+    points: &[Point],
+) -> Result<(), StoreFault>
+    requires usable { log.old.spent ≡ false }
+    requires lines { IsTrue (are_lines (db.now, rp.now)) }
+    requires points { IsTrue (list_all (is_of db.now rp.now) points.now) }
+    ensures added { IsTrue D.tells → (rs : List Rec)
+        → IsOn rs (D.seen disk.old) (D.may_leave disk.old) (store_of log.old (kept_of kept.old))
+        → OnOk result (IsOn (rs ++ Rec.Batch db.now rp.now points.now ∷ []) (D.seen disk.new)
+        (D.may_leave disk.new) (store_of log.new (kept_of kept.new))) }
+    ensures usable { OnOk result (log.new.spent ≡ false) }
+    ensures any_moment { IsTrue D.tells → (rs : List Rec)
+        → IsOn rs (D.seen disk.old) (D.may_leave disk.old) (store_of log.old (kept_of kept.old))
+        → Moments D.moment D.may_leave D.left_since disk.old disk.new
+        (stands_before_or_after rs (Rec.Batch db.now rp.now points.now)) }
+    ensures long { IsLongOrNot (Rec.Batch db.now rp.now points.now) result }
+    ensures count { OnOk result (kept.new.points ≡ kept.old.points + length points.now) }
+    ensures valid { AreValid (kept_of kept.old) → AreValid (kept_of kept.new) }
+    ensures later { D.faults disk.old ≤ D.faults disk.new }
+    ensures cause { AddFault result disk.old disk.new (store_of log.old (kept_of kept.old))
+        (store_of log.new (kept_of kept.new)) (HasRisen (D.faults disk.old) (D.faults disk.new)) }
+{
+    let body = batch_body(alloc, db, rp, points)?;
+    if body.len() > BODY_LIMIT {
+        return Err(StoreFault::Long);
+    }
+    let parts = prepare_batch(kept, log.end(), points)?;
+    match log.append(disk, body.as_slice()) {
+        Ok(()) => {
+            commit_batch(kept, parts);
             Ok(())
         }
         Err(fault) => Err(fault_in(log.part(), fault)),
@@ -181,6 +226,46 @@ impl Store {
             (HasRisen (D.faults disk.old) (D.faults disk.new)) }
     {
         add_record(self.alloc, &mut self.log, &mut self.kept, disk, rec)
+    }
+
+    /// Adds a batch of points that are lent, as `add` adds a record. They are ungrouped and of the database
+    /// and the policy, which hold no line feed; such a batch may follow any records.
+    pub fn add_batch<D: Disk>(
+        &mut self,
+        disk: &mut D,
+        db: &Text,
+        rp: &Text,
+        points: &[Point],
+    ) -> Result<(), StoreFault>
+        requires usable { self.old.log.spent ≡ false }
+        requires lines { IsTrue (are_lines (db.now, rp.now)) }
+        requires points { IsTrue (list_all (is_of db.now rp.now) points.now) }
+        ensures added { IsTrue D.tells → (rs : List Rec)
+            → IsOn rs (D.seen disk.old) (D.may_leave disk.old) self.old
+            → OnOk result (IsOn (rs ++ Rec.Batch db.now rp.now points.now ∷ [])
+            (D.seen disk.new) (D.may_leave disk.new) self.new) }
+        ensures usable { OnOk result (self.new.log.spent ≡ false) }
+        ensures any_moment { IsTrue D.tells → (rs : List Rec)
+            → IsOn rs (D.seen disk.old) (D.may_leave disk.old) self.old
+            → Moments D.moment D.may_leave D.left_since disk.old disk.new
+            (stands_before_or_after rs (Rec.Batch db.now rp.now points.now)) }
+        ensures long { IsLongOrNot (Rec.Batch db.now rp.now points.now) result }
+        ensures count { OnOk result
+            (self.new.kept.points ≡ self.old.kept.points + length points.now) }
+        ensures valid { AreValid self.old.kept → AreValid self.new.kept }
+        ensures later { D.faults disk.old ≤ D.faults disk.new }
+        ensures cause { AddFault result disk.old disk.new self.old self.new
+            (HasRisen (D.faults disk.old) (D.faults disk.new)) }
+    {
+        add_points(
+            self.alloc,
+            &mut self.log,
+            &mut self.kept,
+            disk,
+            db,
+            rp,
+            points,
+        )
     }
 
     /// The tasks, in byte order of their ids.

@@ -1,9 +1,6 @@
 use Rattle.std.proofs.Common.{◌≡◌, ◌+◌, List, drop, length, refl, sym, ap, subst, ◌∙◌, arith}
-use Rattle.kap_base.specs.declared.items.Effect.{Effect}
-use Rattle.kap_base.specs.declared.items.Event.{Event}
-use Rattle.effect_text.specs.Lines.{events_of}
+use Rattle.kap_base.specs.Events.{EventValue}
 use Rattle.flow_core.specs.Nets.{numbers_of}
-use Rattle.life_effects.specs.Times.{times_fit}
 use Rattle.net_epochs.proofs.StandLaws.{courses_rise}
 use Rattle.topic_core.specs.Topics.{Trans}
 use Rattle.engine_runs.specs.Running.{HasRun, courses_on, life_events}
@@ -22,10 +19,9 @@ returns-clause-runs g c = λ lives tasks before h.
     let last : c.in-Some.upto ≡ length before + length new = omega (arith, long, count) in
     let s = r.lives_run.stands in
     let courses = picked r.lives_run.runs (courses_on node planned lives tasks before) in
-    let es_is = c.as_slice-2.ensures ∙ c.in_ok-effects.ensures.effects (length before) 0 courses last s.ends s.lives (courses_rise node 0 (numbers_of c.self.inside.net.lives) courses s.rise s.numbered) in
-    let same : c.as_slice-2.result.now ≡ c.as_slice.result.now = c.as_slice-2.ensures ∙ sym c.as_slice.ensures in
-    ran_on node planned lives tasks (g.met.N.Node g.world.𝓛 g.world.𝓜 g.world.𝓡 (λ s x. x, λ x. x, λ x. x, λ x. x)).stamped before new 0 (length new) c.as_slice-2.result.now _ _ r (omega arith) es_is (c.in_ok-effects.ensures.stands (length before) courses last s)
-    c.in_ok-effects.ensures.numbers refl long c.in_ok-accept_effects.ensures.topics (ap (λ (es : List Effect). times_fit (events_of es)) same ∙ sym c.if-not-are_timely.ensures)
+    let es_is = c.as_slice.ensures ∙ c.in_ok-effects.ensures.effects (length before) 0 courses last s.ends s.lives (courses_rise node 0 (numbers_of c.self.inside.net.lives) courses s.rise s.numbered) in
+    ran_on node planned lives tasks (g.met.N.Node g.world.𝓛 g.world.𝓜 g.world.𝓡 (λ s x. x, λ x. x, λ x. x, λ x. x)).stamped before new 0 (length new) c.as_slice.result.now _ _ r (omega arith) es_is (c.in_ok-effects.ensures.stands (length before) courses last s)
+    c.in_ok-effects.ensures.numbers refl long c.in_ok-accept_effects.ensures.topics c.in_ok-accept_effects.ensures.times
 
 pub returns-clause-due : goal.returns-clause-due
 returns-clause-due g c = λ lives tasks before h is.
@@ -38,6 +34,6 @@ returns-clause-due g c = λ lives tasks before h is.
     let last : c.in-Some.upto ≡ length before + length new = omega (arith, long, count) in
     let s = r.lives_run.stands in
     let courses = picked r.lives_run.runs (courses_on node planned lives tasks before) in
-    let es_is = c.as_slice-2.ensures ∙ c.in_ok-effects.ensures.effects (length before) 0 courses last s.ends s.lives (courses_rise node 0 (numbers_of c.self.inside.net.lives) courses s.rise s.numbered) in
+    let es_is = c.as_slice.ensures ∙ c.in_ok-effects.ensures.effects (length before) 0 courses last s.ends s.lives (courses_rise node 0 (numbers_of c.self.inside.net.lives) courses s.rise s.numbered) in
     c.in_ok-accept_effects.ensures.due (life_events node planned lives tasks before) r.topics is
-    ∙ ap (λ (evs : List Event). drop c.args.stored (Trans evs)) (sym (events_more node planned lives tasks (g.met.N.Node g.world.𝓛 g.world.𝓜 g.world.𝓡 (λ s x. x, λ x. x, λ x. x, λ x. x)).stamped before new (length new) c.as_slice-2.result.now _ r (omega arith) es_is))
+    ∙ ap (λ (evs : List EventValue). drop c.args.stored (Trans evs)) (sym (events_more node planned lives tasks (g.met.N.Node g.world.𝓛 g.world.𝓜 g.world.𝓡 (λ s x. x, λ x. x, λ x. x, λ x. x)).stamped before new (length new) c.as_slice.result.now _ r (omega arith) es_is))
