@@ -3,24 +3,27 @@
 //! `store points`, `store transitions`, `store calls` (see `pieces.rt`), `store read`, `store behind` (see
 //! `readers.rt`); `store topics TOPIC`: the topic's level; `store crashes`: what a crash may leave.
 
-use crate::disks::PICKS;
+use crate::disks::{PICKS, crashed};
 use crate::pieces::put_pieces;
 use crate::readers::{put_read, put_topics};
-use crate::records::{has_form, record_of};
+use crate::records::record_of;
+use crate::store_calls::{self, Added, add_record, open, snap_of, topics_of};
+use crate::texts::{put_number, put_numbers};
 use crate::topics::put_level;
 use case_text::{LineFault, first_of, name_of, number, numbers, put_shown, text};
 use kap_base::{Bytes, NoMemory, Text};
 use kap_io::MemDisk;
 use std::alloc::Global;
 use store_records::{Life, Rec, StoredTask};
-use topic_store::{Store, StoreFault, make_store, open_store, open_with_topics};
+use topic_store::{Store, StoreFault};
 
 /// Adds a fault.
 fn put_fault(alloc: Global, fault: StoreFault, to: &mut Bytes) -> Result<(), NoMemory> {
     match fault {
         StoreFault::NotStore { part, offset } => {
-            let text = format!(in alloc; "no store: {} at {offset}", name_of(part))?;
-            to.append(text.as_bytes())
+            to.append(b"no store: ")?;
+            to.append(name_of(part).as_bytes())?;
+            put_number(alloc, " at ", offset, to)
         }
         StoreFault::DiskFault => to.append(b"disk fault"),
         StoreFault::Long => to.append(b"long"),
@@ -30,7 +33,7 @@ fn put_fault(alloc: Global, fault: StoreFault, to: &mut Bytes) -> Result<(), NoM
 
 /// Makes a store.
 fn make(alloc: Global, disk: &mut MemDisk, to: &mut Bytes) -> Result<(), NoMemory> {
-    match make_store(alloc, disk) {
+    match store_calls::make(alloc, disk) {
         Ok(()) => to.append(b"made"),
         Err(fault) => put_fault(alloc, fault, to),
     }
@@ -44,21 +47,17 @@ fn add_to(
     rec: &Rec,
     to: &mut Bytes,
 ) -> Result<(), NoMemory> {
-    if store.spent() {
-        return to.append(b"spent");
-    }
-    if !has_form(rec) {
-        return to.append(b"no form");
-    }
-    match store.add(disk, rec) {
-        Ok(()) => to.append(b"added"),
-        Err(fault) => put_fault(alloc, fault, to),
+    match add_record(disk, store, rec) {
+        Added::Done => to.append(b"added"),
+        Added::Spent => to.append(b"spent"),
+        Added::NoForm => to.append(b"no form"),
+        Added::Fault(fault) => put_fault(alloc, fault, to),
     }
 }
 
 /// Adds a record.
 fn add(alloc: Global, disk: &mut MemDisk, rec: &Rec, to: &mut Bytes) -> Result<(), NoMemory> {
-    match open_store(alloc, disk) {
+    match open(alloc, disk) {
         Ok(mut store) => add_to(alloc, disk, &mut store, rec, to),
         Err(fault) => put_fault(alloc, fault, to),
     }
@@ -68,27 +67,35 @@ fn add(alloc: Global, disk: &mut MemDisk, rec: &Rec, to: &mut Bytes) -> Result<(
 fn put_last_snap(alloc: Global, store: &Store, to: &mut Bytes) -> Result<(), NoMemory> {
     match store.last_snap() {
         Some((points, told)) => {
-            to.append(format!(in alloc; ", snapshot behind {points} and {told}")?.as_bytes())
+            put_numbers(
+                alloc,
+                &[(", snapshot behind ", points), (" and ", told)],
+                to,
+            )
         }
         None => Ok(()),
     }
 }
 
 /// Adds what a store holds, in numbers.
-fn put_numbers(alloc: Global, store: &Store, to: &mut Bytes) -> Result<(), NoMemory> {
-    let (tasks, lives) = (store.tasks().len(), store.lives().len());
-    let text = format!(in alloc; "{}: {tasks} tasks, {lives} lives", name_of(store.part()))?;
-    to.append(text.as_bytes())?;
-    let (points, told, changes) = (store.count(), store.trans_count(), store.changes());
-    let text = format!(in alloc; ", {points} points, {told} transitions, {changes} changes")?;
-    to.append(text.as_bytes())?;
+fn put_store(alloc: Global, store: &Store, to: &mut Bytes) -> Result<(), NoMemory> {
+    to.append(name_of(store.part()).as_bytes())?;
+    let numbers = [
+        (": ", store.tasks().len() as u64),
+        (" tasks, ", store.lives().len() as u64),
+        (" lives, ", store.count()),
+        (" points, ", store.trans_count()),
+        (" transitions, ", store.changes()),
+    ];
+    put_numbers(alloc, &numbers, to)?;
+    to.append(b" changes")?;
     put_last_snap(alloc, store, to)
 }
 
 /// Adds what a store holds, where one stands on a disk.
 fn put_opened(alloc: Global, disk: &mut MemDisk, to: &mut Bytes) -> Result<(), NoMemory> {
-    match open_store(alloc, disk) {
-        Ok(store) => put_numbers(alloc, &store, to),
+    match open(alloc, disk) {
+        Ok(store) => put_store(alloc, &store, to),
         Err(fault) => put_fault(alloc, fault, to),
     }
 }
@@ -98,7 +105,7 @@ fn put_crashes(alloc: Global, disk: &MemDisk, to: &mut Bytes) -> Result<(), NoMe
     for (name, pick) in PICKS {
         to.append(name.as_bytes())?;
         to.append(b": ")?;
-        put_opened(alloc, &mut disk.crashed(pick)?, to)?;
+        put_opened(alloc, &mut crashed(disk, pick)?, to)?;
         to.append(b". ")?;
     }
     Ok(())
@@ -123,7 +130,10 @@ fn put_tasks(alloc: Global, tasks: &[StoredTask], to: &mut Bytes) -> Result<(), 
 /// Adds where a life ends.
 fn put_last(alloc: Global, last: Option<u64>, to: &mut Bytes) -> Result<(), NoMemory> {
     match last {
-        Some(last) => to.append(format!(in alloc; " to {last}; ")?.as_bytes()),
+        Some(last) => {
+            put_number(alloc, " to ", last, to)?;
+            to.append(b"; ")
+        }
         None => to.append(b" on; "),
     }
 }
@@ -141,7 +151,7 @@ fn put_lives(alloc: Global, lives: &[Life], to: &mut Bytes) -> Result<(), NoMemo
 /// Adds the numbers of lives.
 fn put_life_numbers(alloc: Global, lives: &[u32], to: &mut Bytes) -> Result<(), NoMemory> {
     for life in lives {
-        to.append(format!(in alloc; " {life}")?.as_bytes())?;
+        put_number(alloc, " ", u64::from(*life), to)?;
     }
     Ok(())
 }
@@ -153,14 +163,12 @@ fn put_snap(
     store: &Store,
     to: &mut Bytes,
 ) -> Result<(), StoreFault> {
-    if store.spent() {
-        return Err(StoreFault::DiskFault);
-    }
-    let Some((at, lives, states)) = store.snap(disk)? else {
+    let Some((at, lives, states)) = snap_of(disk, store)? else {
         to.append(b"none")?;
         return Ok(());
     };
-    to.append(format!(in alloc; "at {at} of lives")?.as_bytes())?;
+    put_number(alloc, "at ", at, to)?;
+    to.append(b" of lives")?;
     put_life_numbers(alloc, lives.as_slice(), to)?;
     to.append(b": ")?;
     put_shown(states.as_slice(), to)?;
@@ -174,7 +182,7 @@ fn put_told(
     topic: &Text,
     to: &mut Bytes,
 ) -> Result<(), StoreFault> {
-    let (_, topics) = open_with_topics(alloc, disk)?;
+    let topics = topics_of(alloc, disk)?;
     put_level(&topics, topic, to)?;
     Ok(())
 }
@@ -186,7 +194,7 @@ fn put_held(
     kind: &str,
     to: &mut Bytes,
 ) -> Result<(), StoreFault> {
-    let store = open_store(alloc, disk)?;
+    let store = open(alloc, disk)?;
     match kind {
         "tasks" => Ok(put_tasks(alloc, store.tasks(), to)?),
         "lives" => Ok(put_lives(alloc, store.lives(), to)?),
@@ -223,7 +231,7 @@ fn fill_opened(
     line: &str,
     to: &mut Bytes,
 ) -> Result<(), LineFault> {
-    match open_store(alloc, disk) {
+    match open(alloc, disk) {
         Ok(mut store) => fill(alloc, disk, &mut store, line, to),
         Err(fault) => Ok(put_fault(alloc, fault, to)?),
     }

@@ -2,13 +2,15 @@
 //! first and the last, and whether they follow one another; `store calls NUMBERS`: the calls of the disk that
 //! these points take.
 
+use crate::store_calls::{open, points_behind, transitions_behind};
+use crate::texts::put_number;
 use case_text::put_shown;
 use kap_base::{Bytes, NoMemory, Point};
-use kap_io::{Disk, DiskCall, DiskWork, MemDisk};
+use kap_io::{Disk, DiskCall, DiskWork, Failed, MemDisk, Part};
 use line_points::print_line;
 use std::alloc::Global;
 use topic_core::{Transition, print_transition};
-use topic_store::{Store, StoreFault, open_store};
+use topic_store::{Store, StoreFault};
 
 /// Whether the times of points follow one another.
 fn times_follow(points: &[Point]) -> bool {
@@ -51,11 +53,8 @@ fn put_points(
     after: u64,
     to: &mut Bytes,
 ) -> Result<(), StoreFault> {
-    if store.spent() {
-        return Err(StoreFault::DiskFault);
-    }
-    let piece = store.points(disk, after)?;
-    to.append(format!(in alloc; "{}", piece.len())?.as_bytes())?;
+    let piece = points_behind(disk, store, after)?;
+    put_number(alloc, "", piece.len() as u64, to)?;
     put_ends(alloc, piece.as_slice(), to)?;
     if !times_follow(piece.as_slice()) {
         to.append(b" not in order")?;
@@ -76,6 +75,11 @@ fn count_before(calls: &[DiskCall], offset: u64) -> usize {
     count
 }
 
+/// The length of a file.
+fn size_of<D: Disk>(disk: &mut D, part: Part) -> Result<u64, Failed> {
+    disk.size(part)
+}
+
 /// Adds how many calls it takes to give the points behind a number, and how many of them read in the first
 /// half of the log.
 fn put_calls(
@@ -85,20 +89,14 @@ fn put_calls(
     after: u64,
     to: &mut Bytes,
 ) -> Result<(), StoreFault> {
-    if store.spent() {
-        return Err(StoreFault::DiskFault);
-    }
-    let middle = disk.size(store.part())? / 2;
+    let middle = size_of(disk, store.part())? / 2;
     let before = disk.calls().len();
-    let _ = store.points(disk, after)?;
+    let _ = points_behind(disk, store, after)?;
     let calls = disk.calls();
     let (_, since) = calls.split_at(before.min(calls.len()));
-    let text = format!(in alloc;
-        "{} calls, {} in the first half",
-        since.len(),
-        count_before(since, middle)
-    )?;
-    to.append(text.as_bytes())?;
+    put_number(alloc, "", since.len() as u64, to)?;
+    put_number(alloc, " calls, ", count_before(since, middle) as u64, to)?;
+    to.append(b" in the first half")?;
     Ok(())
 }
 
@@ -152,11 +150,8 @@ fn put_transitions(
     after: u64,
     to: &mut Bytes,
 ) -> Result<(), StoreFault> {
-    if store.spent() {
-        return Err(StoreFault::DiskFault);
-    }
-    let piece = store.transitions(disk, after)?;
-    to.append(format!(in alloc; "{}", piece.len())?.as_bytes())?;
+    let piece = transitions_behind(disk, store, after)?;
+    put_number(alloc, "", piece.len() as u64, to)?;
     put_told_ends(alloc, piece.as_slice(), to)?;
     if !numbers_follow(piece.as_slice()) {
         to.append(b" not in order")?;
@@ -188,7 +183,7 @@ pub fn put_pieces(
     numbers: &[u64],
     to: &mut Bytes,
 ) -> Result<(), StoreFault> {
-    let store = open_store(alloc, disk)?;
+    let store = open(alloc, disk)?;
     for after in numbers {
         put_piece(alloc, disk, &store, kind, *after, to)?;
         to.append(b"; ")?;

@@ -2,6 +2,7 @@
 
 ghost use Rattle.std.specs.Prelude.{None};
 
+use crate::texts::put_number;
 use case_text::put_shown;
 use http_dialog::LinkEnd;
 use kap_base::{Bytes, NoMemory};
@@ -74,7 +75,8 @@ fn put_written(alloc: Global, written: &[u8], to: &mut Bytes) -> Result<(), NoMe
     if written.len() <= SHOWN {
         return put_shown(written, to);
     }
-    to.append(format!(in alloc; "{} bytes, last ", written.len())?.as_bytes())?;
+    put_number(alloc, "", written.len() as u64, to)?;
+    to.append(b" bytes, last ")?;
     let (_, last) = written.split_at(written.len() - 60);
     put_shown(last, to)
 }
@@ -87,7 +89,8 @@ pub fn put_end(
     written: &[u8],
     to: &mut Bytes,
 ) -> Result<(), NoMemory> {
-    let ended = format!(in alloc; "{}, {} served, ", end_name(end), served)?;
-    to.append(ended.as_bytes())?;
+    to.append(end_name(end).as_bytes())?;
+    put_number(alloc, ", ", u64::from(served), to)?;
+    to.append(b" served, ")?;
     put_written(alloc, written, to)
 }

@@ -3,9 +3,10 @@
 //! `disk changes`: the calls since the mark that change or sync a file.
 
 use crate::stored::Stored;
+use crate::texts::put_number;
 use case_text::{LineFault, bytes, calls, first_of, name_of, number, part, put_shown};
 use kap_base::{Bytes, NoMemory};
-use kap_io::{Disk, DiskCall, DiskWork, MemDisk, Part, Pick};
+use kap_io::{Disk, DiskCall, DiskWork, Failed, MemDisk, Part, Pick};
 use std::alloc::Global;
 
 /// What a crash may leave, by its name.
@@ -16,21 +17,37 @@ pub const PICKS: [(&str, Pick); 4] = [
     ("ones", Pick::Fill(0xa5)),
 ];
 
+/// What a crash leaves of a disk.
+pub fn crashed(disk: &MemDisk, pick: Pick) -> Result<MemDisk, NoMemory> {
+    disk.crashed(pick)
+}
+
 fn ending(done: bool) -> &'static [u8] {
     if done { b"; " } else { b" failed; " }
 }
 
+/// Adds what is done, and the name of the file.
+fn put_named(done: &[u8], part: Part, to: &mut Bytes) -> Result<(), NoMemory> {
+    to.append(done)?;
+    to.append(name_of(part).as_bytes())
+}
+
 /// Adds a call that changes or syncs a file.
 fn put_change(alloc: Global, call: &DiskCall, to: &mut Bytes) -> Result<(), NoMemory> {
-    let name = name_of(call.part);
-    let text = match &call.work {
+    match &call.work {
         DiskWork::Size => return Ok(()),
         DiskWork::Read { .. } => return Ok(()),
-        DiskWork::Write { at, piece } => format!(in alloc; "write {name} {at} {}", piece.len())?,
-        DiskWork::Cut { size } => format!(in alloc; "cut {name} {size}")?,
-        DiskWork::Sync => format!(in alloc; "sync {name}")?,
-    };
-    to.append(text.as_bytes())?;
+        DiskWork::Write { at, piece } => {
+            put_named(b"write ", call.part, to)?;
+            put_number(alloc, " ", *at, to)?;
+            put_number(alloc, " ", piece.len() as u64, to)?;
+        }
+        DiskWork::Cut { size } => {
+            put_named(b"cut ", call.part, to)?;
+            put_number(alloc, " ", *size, to)?;
+        }
+        DiskWork::Sync => put_named(b"sync ", call.part, to)?,
+    }
     to.append(ending(call.done))
 }
 
@@ -42,6 +59,19 @@ fn put_changes(alloc: Global, calls: &[DiskCall], to: &mut Bytes) -> Result<(), 
     Ok(())
 }
 
+/// At most 1024 bytes of a file, from an offset on.
+fn piece_at<D: Disk>(
+    alloc: Global,
+    disk: &mut D,
+    part: Part,
+    at: u64,
+) -> Result<Vec<u8>, LineFault> {
+    let mut piece = vec![in alloc; 0u8; 1024]?;
+    let count = disk.read(part, at, &mut piece)?;
+    piece.truncate(count);
+    Ok(piece)
+}
+
 /// Adds what a file holds.
 fn put_file(
     alloc: Global,
@@ -49,25 +79,28 @@ fn put_file(
     part: Part,
     to: &mut Bytes,
 ) -> Result<(), LineFault> {
-    let mut buf = vec![in alloc; 0u8; 1024]?;
     let mut at = 0u64;
     for _ in 0..1024 {
-        let count = disk.read(part, at, &mut buf)?;
-        if count == 0 {
+        let piece = piece_at(alloc, disk, part, at)?;
+        if piece.is_empty() {
             return Ok(());
         }
-        let (front, _) = buf.split_at(count.min(buf.len()));
-        put_shown(front, to)?;
-        at = at.saturating_add(count as u64);
+        put_shown(&piece, to)?;
+        at = at.saturating_add(piece.len() as u64);
     }
     Ok(())
+}
+
+/// Writes bytes to a file.
+fn put_at<D: Disk>(disk: &mut D, part: Part, at: u64, bytes: &[u8]) -> Result<(), Failed> {
+    disk.write_at(part, at, bytes)
 }
 
 /// Writes bytes to a file: `FILE OFFSET BYTES`.
 fn write(alloc: Global, disk: &mut MemDisk, text: &str, to: &mut Bytes) -> Result<(), LineFault> {
     let (file, rest) = first_of(text);
     let (offset, word) = first_of(rest);
-    disk.write_at(part(file)?, number(offset)?, &bytes(alloc, word)?)?;
+    put_at(disk, part(file)?, number(offset)?, &bytes(alloc, word)?)?;
     to.append(b"written")?;
     Ok(())
 }

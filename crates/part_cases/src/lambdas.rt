@@ -3,10 +3,11 @@
 
 ghost use Rattle.std.specs.Prelude.{◌<◌};
 
+use crate::texts::put_number as put_count;
 use case_text::{LineFault, bytes, first_of, number, point_of};
 use kap_base::{Bytes, Duplicate, NoMemory, Point, SCRIPT_LIMIT, SharedExpr, Text, Value};
 use lambda_eval::{EvalFault, value, value_of_all};
-use lambda_types::{Lambda, RegexPatterns, infer};
+use lambda_types::{Lambda, RegexPatterns, infer, send_lambda};
 use std::alloc::Global;
 use tick_lexer::lex;
 use tick_parser::{Stmt, Val, parse};
@@ -38,25 +39,31 @@ fn expression(alloc: Global, written: &str) -> Result<SharedExpr, LineFault> {
     only_lambda(alloc, tree.as_slice())
 }
 
-/// The lambda that is written so.
+/// The lambda that is written so, which may go to another thread.
 fn lambda_of(alloc: Global, written: &str) -> Result<Lambda, LineFault> {
     let mut pats = RegexPatterns::new(alloc, Vec::new(alloc));
     let expr = expression(alloc, written)?;
-    infer(alloc, &expr, &mut pats).map_err(|_| LineFault::NoForm)
+    match infer(alloc, &expr, &mut pats) {
+        Ok(lambda) => Ok(send_lambda(lambda)),
+        Err(_) => Err(LineFault::NoForm),
+    }
 }
 
 /// Adds a fault, whose place is one in the expression.
-fn put_fault(alloc: Global, name: &str, at: u32, to: &mut Bytes) -> Result<(), NoMemory> {
+fn put_fault(alloc: Global, name: &[u8], at: u32, to: &mut Bytes) -> Result<(), NoMemory> {
     let place = at.wrapping_sub(BEFORE.len() as u32);
-    to.append(format!(in alloc; "{name} at {place}")?.as_bytes())
+    to.append(name)?;
+    put_count(alloc, " at ", u64::from(place), to)
 }
 
 fn put_number(alloc: Global, number: i64, to: &mut Bytes) -> Result<(), NoMemory> {
     to.append(format!(in alloc; "{number}")?.as_bytes())
 }
 
-fn put_string(alloc: Global, text: &Text, to: &mut Bytes) -> Result<(), NoMemory> {
-    to.append(format!(in alloc; "'{text}'")?.as_bytes())
+fn put_string(text: &Text, to: &mut Bytes) -> Result<(), NoMemory> {
+    to.push(b'\'')?;
+    to.append(text.bytes())?;
+    to.push(b'\'')
 }
 
 /// Adds a value.
@@ -65,7 +72,7 @@ fn put_value(alloc: Global, value: &Value, to: &mut Bytes) -> Result<(), NoMemor
         Value::Int(number) => put_number(alloc, *number, to),
         Value::Bool(true) => to.append(b"TRUE"),
         Value::Bool(false) => to.append(b"FALSE"),
-        Value::Str(text) => put_string(alloc, text, to),
+        Value::Str(text) => put_string(text, to),
     }
 }
 
@@ -77,10 +84,10 @@ fn put_answer(
 ) -> Result<(), NoMemory> {
     match answer {
         Ok(value) => put_value(alloc, value, to),
-        Err(EvalFault::Missing(at)) => put_fault(alloc, "Missing", *at, to),
-        Err(EvalFault::Kind(at)) => put_fault(alloc, "Kind", *at, to),
-        Err(EvalFault::ZeroDivisor(at)) => put_fault(alloc, "ZeroDivisor", *at, to),
-        Err(EvalFault::Range(at)) => put_fault(alloc, "Range", *at, to),
+        Err(EvalFault::Missing(at)) => put_fault(alloc, b"Missing", *at, to),
+        Err(EvalFault::Kind(at)) => put_fault(alloc, b"Kind", *at, to),
+        Err(EvalFault::ZeroDivisor(at)) => put_fault(alloc, b"ZeroDivisor", *at, to),
+        Err(EvalFault::Range(at)) => put_fault(alloc, b"Range", *at, to),
         Err(EvalFault::NoMemory) => to.append(b"no memory"),
     }
 }
@@ -91,8 +98,8 @@ fn point(alloc: Global, line: &str) -> Result<Point, LineFault> {
     point_of(alloc, &bytes(alloc, line)?, &name, &name)
 }
 
-/// Adds the value of a lambda, asked for twice.
-fn put_values(
+/// Adds the value of a lambda.
+fn put_once(
     alloc: Global,
     lambda: &mut Lambda,
     earlier: u64,
@@ -103,9 +110,20 @@ fn put_values(
         return Err(LineFault::NoForm);
     }
     put_answer(alloc, &value(alloc, lambda, earlier, point), to)?;
-    to.append(b", ")?;
-    put_answer(alloc, &value(alloc, lambda, earlier, point), to)?;
     Ok(())
+}
+
+/// Adds the value of a lambda, asked for twice.
+fn put_values(
+    alloc: Global,
+    lambda: &mut Lambda,
+    earlier: u64,
+    point: &Point,
+    to: &mut Bytes,
+) -> Result<(), LineFault> {
+    put_once(alloc, lambda, earlier, point, to)?;
+    to.append(b", ")?;
+    put_once(alloc, lambda, earlier, point, to)
 }
 
 /// Adds the value of so many copies of a lambda, joined by `AND`.

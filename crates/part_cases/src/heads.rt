@@ -1,15 +1,16 @@
 //! `head make`, `head read`, `head switch COUNT`, and `head crashes`: what a crash may leave of it.
 
-use crate::disks::PICKS;
+use crate::disks::{PICKS, crashed};
 use crate::logs::put_fault;
+use crate::texts::put_number;
 use case_text::{LineFault, first_of, number};
 use gate_log::{make_head, read_head, switch};
 use kap_base::{Bytes, NoMemory};
-use kap_io::MemDisk;
+use kap_io::{Disk, MemDisk};
 use std::alloc::Global;
 
 /// Makes the head.
-fn make(alloc: Global, disk: &mut MemDisk, to: &mut Bytes) -> Result<(), NoMemory> {
+fn make<D: Disk>(alloc: Global, disk: &mut D, to: &mut Bytes) -> Result<(), NoMemory> {
     match make_head(disk) {
         Ok(()) => to.append(b"made"),
         Err(fault) => put_fault(alloc, fault, to),
@@ -17,15 +18,20 @@ fn make(alloc: Global, disk: &mut MemDisk, to: &mut Bytes) -> Result<(), NoMemor
 }
 
 /// Adds how many gates are open.
-fn read(alloc: Global, disk: &mut MemDisk, to: &mut Bytes) -> Result<(), NoMemory> {
+fn read<D: Disk>(alloc: Global, disk: &mut D, to: &mut Bytes) -> Result<(), NoMemory> {
     match read_head(disk) {
-        Ok(count) => to.append(format!(in alloc; "{count}")?.as_bytes()),
+        Ok(count) => put_number(alloc, "", count, to),
         Err(fault) => put_fault(alloc, fault, to),
     }
 }
 
 /// Opens the next gate behind so many.
-fn open_next(alloc: Global, disk: &mut MemDisk, run: u64, to: &mut Bytes) -> Result<(), NoMemory> {
+fn open_next<D: Disk>(
+    alloc: Global,
+    disk: &mut D,
+    run: u64,
+    to: &mut Bytes,
+) -> Result<(), NoMemory> {
     match switch(disk, run) {
         Ok(()) => to.append(b"switched"),
         Err(fault) => put_fault(alloc, fault, to),
@@ -37,7 +43,7 @@ fn put_crashes(alloc: Global, disk: &MemDisk, to: &mut Bytes) -> Result<(), NoMe
     for (name, pick) in PICKS {
         to.append(name.as_bytes())?;
         to.append(b" ")?;
-        read(alloc, &mut disk.crashed(pick)?, to)?;
+        read(alloc, &mut crashed(disk, pick)?, to)?;
         to.append(b"; ")?;
     }
     Ok(())

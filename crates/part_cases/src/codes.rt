@@ -1,5 +1,6 @@
 //! `code TYPE BYTES`: the value of a type that bytes begin with, spelled again, and how many bytes it took.
 
+use crate::texts::put_number;
 use case_text::{LineFault, bytes, first_of, put_shown};
 use kap_base::{Bytes, ItemList, KeyMap, Level, NoMemory, Text, Value};
 use state_code::{CodeFault, Cursor, Spelled};
@@ -15,7 +16,7 @@ fn put_spelled<T: Spelled>(alloc: Global, value: &T, to: &mut Bytes) -> Result<(
 /// Adds a fault of reading.
 fn put_fault(alloc: Global, fault: CodeFault, to: &mut Bytes) -> Result<(), NoMemory> {
     match fault {
-        CodeFault::At(at) => to.append(format!(in alloc; "fault at {at}")?.as_bytes()),
+        CodeFault::At(at) => put_number(alloc, "fault at ", at, to),
         CodeFault::NoMemory => to.append(b"no memory"),
     }
 }
@@ -31,7 +32,7 @@ fn put_taken<T: Spelled + Drop>(
         Ok(value) => put_spelled(alloc, &value, to)?,
         Err(fault) => put_fault(alloc, fault, to)?,
     }
-    to.append(format!(in alloc; " to {}", from.offset())?.as_bytes())
+    put_number(alloc, " to ", from.offset(), to)
 }
 
 /// Adds the value of a type with a name.

@@ -6,10 +6,11 @@
 ghost use Rattle.std.specs.Prelude.{◌<◌, IfOk};
 
 use crate::answers::{Answers, put_end};
+use crate::texts::put_numbers;
 use case_text::{LineFault, bytes, calls, first_of, number};
 use http_dialog::LinkEnd;
 use kap_base::{Bytes, NoMemory};
-use kap_io::{Door, Failed, MemDoor, MemLink};
+use kap_io::{Door, Failed, Link, MemDoor, MemLink};
 use link_serve::serve_link;
 use std::alloc::Global;
 
@@ -33,6 +34,11 @@ pub fn step_of(word: &str) -> Result<usize, LineFault>
     Ok(step)
 }
 
+/// Serves a connection to its end.
+fn serve_all<L: Link>(alloc: Global, link: &mut L, serve: &mut Answers) -> LinkEnd {
+    serve_link(alloc, link, serve)
+}
+
 /// Adds the answer of a line `link`.
 pub fn answer_link(alloc: Global, line: &str, to: &mut Bytes) -> Result<(), LineFault> {
     let (step, rest) = first_of(line);
@@ -43,7 +49,7 @@ pub fn answer_link(alloc: Global, line: &str, to: &mut Bytes) -> Result<(), Line
     let all = repeated(alloc, &bytes(alloc, word)?, number(times)?)?;
     let mut link = MemLink::new(alloc, all, step, fails);
     let mut serve = Answers { served: 0 };
-    let end = serve_link(alloc, &mut link, &mut serve);
+    let end = serve_all(alloc, &mut link, &mut serve);
     put_end(alloc, end, serve.served, link.bytes(), to)?;
     Ok(())
 }
@@ -65,7 +71,7 @@ fn count_end(alloc: Global, prefix: &[u8], step: usize, ends: &mut Ends) -> Resu
     all.extend_from_slice(prefix)?;
     let mut link = MemLink::new(alloc, all, step, Vec::new(alloc));
     let mut serve = Answers { served: 0 };
-    match serve_link(alloc, &mut link, &mut serve) {
+    match serve_all(alloc, &mut link, &mut serve) {
         LinkEnd::Closed => ends.closed = ends.closed.saturating_add(1),
         LinkEnd::Refused => ends.refused = ends.refused.saturating_add(1),
         _ => ends.others = ends.others.saturating_add(1),
@@ -89,11 +95,14 @@ pub fn answer_prefixes(alloc: Global, line: &str, to: &mut Bytes) -> Result<(), 
         let (prefix, _) = all.split_at(len.min(all.len()));
         count_end(alloc, prefix, step, &mut ends)?;
     }
-    let text = format!(in alloc;
-        "{} closed, {} refused, {} others, {} bytes written",
-        ends.closed, ends.refused, ends.others, ends.written
-    )?;
-    to.append(text.as_bytes())?;
+    let numbers = [
+        ("", u64::from(ends.closed)),
+        (" closed, ", u64::from(ends.refused)),
+        (" refused, ", u64::from(ends.others)),
+        (" others, ", ends.written),
+    ];
+    put_numbers(alloc, &numbers, to)?;
+    to.append(b" bytes written")?;
     Ok(())
 }
 
@@ -107,6 +116,18 @@ fn door_of(alloc: Global, bytes: &[u8], fails: Vec<u64>) -> Result<MemDoor, NoMe
     Ok(MemDoor::new(links, fails))
 }
 
+/// Serves a connection that came at a door, and adds how it ended.
+fn put_link(
+    alloc: Global,
+    mut link: MemLink,
+    serve: &mut Answers,
+    to: &mut Bytes,
+) -> Result<(), NoMemory> {
+    let end = serve_all(alloc, &mut link, serve);
+    put_end(alloc, end, serve.served, link.bytes(), to)?;
+    to.append(b"; ")
+}
+
 /// Adds the answer of a line `door`.
 pub fn answer_door(alloc: Global, line: &str, to: &mut Bytes) -> Result<(), LineFault> {
     let (fails, word) = first_of(line);
@@ -115,12 +136,7 @@ pub fn answer_door(alloc: Global, line: &str, to: &mut Bytes) -> Result<(), Line
     let mut serve = Answers { served: 0 };
     for _ in 0..4 {
         match door.accept() {
-            Ok(Some(link)) => {
-                let mut link = link;
-                let end = serve_link(alloc, &mut link, &mut serve);
-                put_end(alloc, end, serve.served, link.bytes(), to)?;
-                to.append(b"; ")?;
-            }
+            Ok(Some(link)) => put_link(alloc, link, &mut serve, to)?,
             Ok(None) => to.append(b"no more; ")?,
             Err(Failed) => to.append(b"failed; ")?,
         }

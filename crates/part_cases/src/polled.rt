@@ -6,6 +6,7 @@ ghost use Rattle.std.specs.Prelude.{◌<◌};
 
 use crate::answers::{Answers, put_end};
 use crate::links::{repeated, step_of};
+use crate::texts::put_numbers;
 use case_text::{LineFault, bytes, calls, first_of, number};
 use conn_future::{Step, take_step};
 use http_dialog::{Dialog, LinkEnd};
@@ -66,8 +67,12 @@ fn go_on(alloc: Global, number: u32, polled: &mut Polled) {
 
 /// Adds how a connection ended.
 fn put_polled(alloc: Global, polled: &Polled, to: &mut Bytes) -> Result<(), LineFault> {
-    let counts = format!(in alloc; "{} steps, {} waits, ", polled.steps, polled.waits)?;
-    to.append(counts.as_bytes())?;
+    let counts = [
+        ("", u64::from(polled.steps)),
+        (" steps, ", u64::from(polled.waits)),
+    ];
+    put_numbers(alloc, &counts, to)?;
+    to.append(b" waits, ")?;
     match polled.end {
         Some(end) => put_end(alloc, end, polled.serve.served, polled.link.bytes(), to)?,
         None => to.append(b"no end")?,

@@ -2,19 +2,21 @@
 //! and whether the disk was asked for each; `store behind TOPIC NUMBERS`: the topics behind so many
 //! transitions, by the count of these and the level of one.
 
+use crate::store_calls::{next_piece, open, topics_behind};
+use crate::texts::put_number;
 use crate::topics::put_level;
 use kap_base::{Bytes, NoMemory, Point, Shared, Text};
 use kap_io::MemDisk;
 use line_points::print_line;
 use std::alloc::Global;
-use topic_store::{PointsReader, Store, StoreFault, open_store};
+use topic_store::{PointsReader, Store, StoreFault};
 
 /// How many pieces are read at most.
 const MOST: u32 = 1000;
 
 /// Adds how many points a piece has, and the first and the last.
 fn put_shared(alloc: Global, piece: &[Shared<Point>], to: &mut Bytes) -> Result<(), NoMemory> {
-    to.append(format!(in alloc; "{}", piece.len())?.as_bytes())?;
+    put_number(alloc, "", piece.len() as u64, to)?;
     if let [first, .., last] = piece {
         to.append(b": ")?;
         to.append(print_line(alloc, first.value())?.as_slice())?;
@@ -36,17 +38,14 @@ fn put_next(
     reader: PointsReader,
     to: &mut Bytes,
 ) -> Result<Option<PointsReader>, StoreFault> {
-    if store.spent() {
-        return Err(StoreFault::DiskFault);
-    }
     let before = disk.calls().len();
-    let (piece, rest) = reader.next(store, disk)?;
-    put_shared(alloc, &piece, to)?;
+    let piece = next_piece(disk, store, reader)?;
+    put_shared(alloc, &piece.points, to)?;
     to.append(call_name(disk.calls().len() > before))?;
-    if piece.is_empty() {
+    if piece.points.is_empty() {
         return Ok(None);
     }
-    Ok(Some(rest))
+    Ok(Some(piece.rest))
 }
 
 /// Adds the points behind a number, as a reader gives them.
@@ -56,7 +55,7 @@ pub fn put_read(
     after: u64,
     to: &mut Bytes,
 ) -> Result<(), StoreFault> {
-    let store = open_store(alloc, disk)?;
+    let store = open(alloc, disk)?;
     let mut reader = store.read_points(after);
     for _ in 0..MOST {
         match put_next(alloc, disk, &store, reader, to)? {
@@ -76,11 +75,9 @@ fn put_behind(
     number: u64,
     to: &mut Bytes,
 ) -> Result<(), StoreFault> {
-    if store.spent() {
-        return Err(StoreFault::DiskFault);
-    }
-    let topics = store.topics_behind(disk, number)?;
-    to.append(format!(in alloc; "{} ", topics.count())?.as_bytes())?;
+    let topics = topics_behind(disk, store, number)?;
+    put_number(alloc, "", topics.count(), to)?;
+    to.push(b' ')?;
     put_level(&topics, topic, to)?;
     to.append(b"; ")?;
     Ok(())
@@ -94,7 +91,7 @@ pub fn put_topics(
     numbers: &[u64],
     to: &mut Bytes,
 ) -> Result<(), StoreFault> {
-    let store = open_store(alloc, disk)?;
+    let store = open(alloc, disk)?;
     for number in numbers {
         put_behind(alloc, disk, &store, topic, *number, to)?;
     }

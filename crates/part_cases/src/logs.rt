@@ -2,9 +2,11 @@
 //! many are done, or all where the count is `all`; `log bodies FILE`: opened, and each body with its gate;
 //! `log next FILE`: the same by the reader; `log crashes FILE`: what a crash may leave of it.
 
-use crate::disks::{PICKS, stop_behind};
+use crate::disks::{PICKS, crashed, stop_behind};
+use crate::log_calls::{add_body, body_at, made, next_of, opened, reader_of};
+use crate::texts::put_number;
 use case_text::{LineFault, bytes, first_of, part, put_shown};
-use gate_log::{Log, LogFault, make, open_log, read_log};
+use gate_log::{Log, LogFault};
 use kap_base::{Bytes, NoMemory};
 use kap_io::{MemDisk, Part};
 use std::alloc::Global;
@@ -16,7 +18,7 @@ const MOST: u32 = 1000;
 pub fn put_fault(alloc: Global, fault: LogFault, to: &mut Bytes) -> Result<(), NoMemory> {
     match fault {
         LogFault::Header => to.append(b"no header"),
-        LogFault::Torn(at) => to.append(format!(in alloc; "torn at {at}")?.as_bytes()),
+        LogFault::Torn(at) => put_number(alloc, "torn at ", at, to),
         LogFault::DiskFault => to.append(b"disk fault"),
         LogFault::Long => to.append(b"long"),
         LogFault::NoMemory => to.append(b"no memory"),
@@ -28,12 +30,12 @@ fn put_end(alloc: Global, log: &Log, to: &mut Bytes) -> Result<(), NoMemory> {
     if log.spent() {
         return to.append(b"spent");
     }
-    to.append(format!(in alloc; "end {}", log.end())?.as_bytes())
+    put_number(alloc, "end ", log.end(), to)
 }
 
 /// Makes a log.
 fn begin(alloc: Global, disk: &mut MemDisk, part: Part, to: &mut Bytes) -> Result<(), NoMemory> {
-    match make(alloc, disk, part) {
+    match made(alloc, disk, part) {
         Ok(log) => put_end(alloc, &log, to),
         Err(fault) => put_fault(alloc, fault, to),
     }
@@ -50,7 +52,7 @@ fn add(
     if log.spent() {
         return to.append(b"spent");
     }
-    if let Err(fault) = log.append(disk, body) {
+    if let Err(fault) = add_body(disk, log, body) {
         put_fault(alloc, fault, to)?;
         to.append(b" ")?;
     }
@@ -67,7 +69,7 @@ fn append(
 ) -> Result<(), LineFault> {
     let (count, word) = first_of(text);
     let body = bytes(alloc, word)?;
-    match open_log(alloc, disk, part) {
+    match opened(alloc, disk, part) {
         Ok(mut log) => {
             stop_behind(disk, count)?;
             add(alloc, disk, &mut log, &body, to)?;
@@ -79,7 +81,8 @@ fn append(
 
 /// Adds a body with its gate.
 fn put_body(alloc: Global, at: u64, body: &[u8], to: &mut Bytes) -> Result<(), NoMemory> {
-    to.append(format!(in alloc; "{at} ")?.as_bytes())?;
+    put_number(alloc, "", at, to)?;
+    to.push(b' ')?;
     put_shown(body, to)?;
     to.append(b"; ")
 }
@@ -92,10 +95,7 @@ fn put_next(
     at: u64,
     to: &mut Bytes,
 ) -> Result<Option<u64>, NoMemory> {
-    if log.spent() {
-        return Ok(None);
-    }
-    match log.body(disk, at) {
+    match body_at(disk, log, at) {
         Ok(Some((body, next))) => {
             put_body(alloc, at, body.as_slice(), to)?;
             Ok(Some(next))
@@ -127,7 +127,7 @@ fn put_bodies(
 
 /// Adds the bodies of a log.
 fn list(alloc: Global, disk: &mut MemDisk, part: Part, to: &mut Bytes) -> Result<(), NoMemory> {
-    match open_log(alloc, disk, part) {
+    match opened(alloc, disk, part) {
         Ok(log) => put_bodies(alloc, disk, &log, to),
         Err(fault) => put_fault(alloc, fault, to),
     }
@@ -135,9 +135,9 @@ fn list(alloc: Global, disk: &mut MemDisk, part: Part, to: &mut Bytes) -> Result
 
 /// Adds the bodies of a log, as the reader gives them.
 fn read(alloc: Global, disk: &mut MemDisk, part: Part, to: &mut Bytes) -> Result<(), LogFault> {
-    let mut reader = read_log(alloc, disk, part)?;
+    let mut reader = reader_of(alloc, disk, part)?;
     for _ in 0..MOST {
-        match reader.next(disk)? {
+        match next_of(disk, &mut reader)? {
             Some((at, body)) => put_body(alloc, at, body.as_slice(), to)?,
             None => return Ok(put_end(alloc, &reader.into_log(), to)?),
         }
@@ -163,7 +163,7 @@ fn put_crashes(alloc: Global, disk: &MemDisk, part: Part, to: &mut Bytes) -> Res
     for (name, pick) in PICKS {
         to.append(name.as_bytes())?;
         to.append(b": ")?;
-        list(alloc, &mut disk.crashed(pick)?, part, to)?;
+        list(alloc, &mut crashed(disk, pick)?, part, to)?;
         to.append(b". ")?;
     }
     Ok(())

@@ -4,6 +4,7 @@
 
 ghost use Rattle.std.specs.Prelude.{◌<◌};
 
+use crate::texts::{put_number, put_numbers};
 use case_text::{LineFault, bytes, calls, first_of, number, put_shown};
 use kap_base::{Bytes, NoMemory};
 use kap_http::{
@@ -61,7 +62,8 @@ fn put_ask(alloc: Global, ask: &Ask, to: &mut Bytes) -> Result<(), NoMemory> {
 
 /// Adds the status and the body of a refusal.
 fn put_refusal(alloc: Global, reply: &Reply, to: &mut Bytes) -> Result<(), NoMemory> {
-    to.append(format!(in alloc; "{} ", reply.status)?.as_bytes())?;
+    put_number(alloc, "", u64::from(reply.status), to)?;
+    to.push(b' ')?;
     put_shown(reply.body.as_slice(), to)
 }
 
@@ -89,7 +91,8 @@ fn put_fault(fault: HttpFault, to: &mut Bytes) -> Result<(), NoMemory> {
 
 /// Adds the number of bytes that are held.
 fn put_count(alloc: Global, count: usize, to: &mut Bytes) -> Result<(), NoMemory> {
-    to.append(format!(in alloc; "{count} ")?.as_bytes())
+    put_number(alloc, "", count as u64, to)?;
+    to.push(b' ')
 }
 
 /// The request of the head that bytes begin with; none where its bytes aren't there.
@@ -162,6 +165,18 @@ fn take_all(alloc: Global, held: &mut Bytes, to: &mut Bytes) -> Result<bool, NoM
     Ok(false)
 }
 
+/// Adds what a read gives, and says how many bytes that is; none where it fails.
+fn read_piece<L: Link>(link: &mut L, held: &mut Bytes) -> Result<Option<usize>, NoMemory> {
+    let mut piece = [0u8; 1024];
+    match link.read(&mut piece) {
+        Ok(count) => {
+            held.append(piece.split_at(count.min(1024)).0)?;
+            Ok(Some(count))
+        }
+        Err(Failed) => Ok(None),
+    }
+}
+
 /// Reads once, and says whether reading goes on.
 fn bring(
     alloc: Global,
@@ -169,18 +184,14 @@ fn bring(
     held: &mut Bytes,
     to: &mut Bytes,
 ) -> Result<bool, NoMemory> {
-    let mut piece = [0u8; 1024];
-    match link.read(&mut piece) {
-        Ok(0) => {
+    match read_piece(link, held)? {
+        Some(0) => {
             put_count(alloc, held.len(), to)?;
             to.append(b"end")?;
             Ok(false)
         }
-        Ok(count) => {
-            held.append(piece.split_at(count.min(1024)).0)?;
-            take_all(alloc, held, to)
-        }
-        Err(Failed) => {
+        Some(_) => take_all(alloc, held, to),
+        None => {
             put_count(alloc, held.len(), to)?;
             to.append(b"failed; ")?;
             Ok(true)
@@ -216,7 +227,8 @@ fn put_come(alloc: Global, line: &str, to: &mut Bytes) -> Result<(), LineFault> 
 fn put_head(alloc: Global, bytes: &[u8], to: &mut Bytes) -> Result<(), NoMemory> {
     match read_head(alloc, bytes) {
         Ok(Some(head)) => {
-            to.append(format!(in alloc; "{} and {}", head.len, head.size)?.as_bytes())
+            let numbers = [("", head.len as u64), (" and ", head.size as u64)];
+            put_numbers(alloc, &numbers, to)
         }
         Ok(None) => to.append(b"none"),
         Err(fault) => put_fault(fault, to),

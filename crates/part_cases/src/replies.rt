@@ -6,6 +6,7 @@ ghost use Rattle.std.specs.Prelude.{◌<◌, ◌||◌, IsTrue, not};
 ghost use Rattle.kap_base.specs.Texts.{is_empty};
 ghost use Rattle.kap_http.specs.ReplyValues.{is_bare, is_status};
 
+use crate::texts::put_number;
 use case_text::{LineFault, bytes, calls, first_of, number, put_shown};
 use kap_base::{Bytes, NoMemory};
 use kap_http::{HttpFault, Reply, error_reply, fault_text, no_memory_text, print_reply};
@@ -58,9 +59,9 @@ fn fault_bytes(name: &str) -> Result<&'static [u8], LineFault> {
 }
 
 /// Writes until all is written, and adds where a write failed.
-fn write_all(
+fn write_all<L: Link>(
     alloc: Global,
-    link: &mut MemLink,
+    link: &mut L,
     text: &[u8],
     to: &mut Bytes,
 ) -> Result<(), NoMemory> {
@@ -72,8 +73,8 @@ fn write_all(
         match link.write(rest) {
             Ok(count) => rest = rest.split_at(count.min(rest.len())).1,
             Err(Failed) => {
-                let left = format!(in alloc; "failed with {} left; ", rest.len())?;
-                to.append(left.as_bytes())?;
+                put_number(alloc, "failed with ", rest.len() as u64, to)?;
+                to.append(b" left; ")?;
             }
         }
     }

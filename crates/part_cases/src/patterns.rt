@@ -1,9 +1,9 @@
-//! `pattern match TEXT PATTERN`: whether a pattern finds a match in a text, and whether a copy of it does;
-//! `pattern refused TEXT PATTERN`: that of a pattern whose making is to fail.
+//! `pattern match TEXT PATTERN`: whether a pattern finds a match in a text, and whether a copy of it does, which
+//! may go to another thread; `pattern refused TEXT PATTERN`: that of a pattern whose making is to fail.
 
 use case_text::{LineFault, first_of, string, text};
 use kap_base::{Bytes, Duplicate};
-use lambda_types::{PatternFault, Patterns, RegexPatterns};
+use lambda_types::{PatternFault, Patterns, RegexPatterns, send_pattern};
 use std::alloc::Global;
 
 /// Adds whether a pattern finds a match in a text.
@@ -17,7 +17,7 @@ fn put_match(
     let searched = string(alloc, found_in)?;
     match pats.build(alloc, &text(alloc, pattern)?) {
         Ok(mut pattern) => {
-            let mut copy = pattern.copy(alloc)?;
+            let mut copy = send_pattern(pattern.copy(alloc)?);
             to.append(match_name(pattern.is_match(searched.as_str())))?;
             to.append(match_name(copy.is_match(searched.as_str())))?;
         }
