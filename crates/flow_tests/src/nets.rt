@@ -20,16 +20,6 @@ use std::process::Abort;
 use std::test::Fail;
 use task_run::LifePlan;
 
-/// The step by which a cell puts a message on the edge of an out.
-pub fn put(cell: u32, out: u32) -> Step {
-    Step::Put { cell, out }
-}
-
-/// The step by which a cell takes a message from an input.
-pub fn take(cell: u32, input: u32) -> Step {
-    Step::Take { cell, input }
-}
-
 /// Whether each number is below this one.
 fn are_below(numbers: &[u32], bound: usize) -> bool
     ensures { IsTrue result → Each (λ n. n < bound) numbers.now }
@@ -168,7 +158,7 @@ pub fn check_play<N: Node>(
 
 /// A step is made, or isn't enabled.
 #[tactic(auto, using(crate::proofs::CellLaws::same_cells))]
-pub fn check_step<N: Node>(
+fn check_step<N: Node>(
     rt: &(impl AllocGlobal + Abort),
     net: &mut Net<N>,
     next: Step,
@@ -182,6 +172,25 @@ pub fn check_step<N: Node>(
     let made = net.step(rt.alloc(), next)?;
     assert_eq!(rt; made, due, "{next:?}");
     Ok(())
+}
+
+/// Each step is made, or isn't enabled, one after the other.
+pub fn check_each<N: Node>(
+    rt: &(impl AllocGlobal + Abort),
+    net: &mut Net<N>,
+    steps: &[(Step, bool)],
+) -> Result<(), Fail>
+    requires { net.old.spent ≡ false }
+    ensures unspent { OnOk result (net.new.spent ≡ false) }
+    ensures last { OnOk result (net.new.last ≡ net.old.last) }
+    ensures cells { OnOk result (cell_count net.new.lives ≡ cell_count net.old.lives) }
+{
+    let Some((first, others)) = steps.split_first() else {
+        return Ok(());
+    };
+    let (next, due) = *first;
+    check_step(rt, net, next, due)?;
+    check_each(rt, net, others)
 }
 
 /// The net is at rest, and since the last such call these were the effects; and so many inputs of this cell
