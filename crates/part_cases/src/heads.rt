@@ -40,10 +40,10 @@ fn open_next<D: Disk>(
 
 /// Adds what a crash may leave.
 fn put_crashes(alloc: Global, disk: &MemDisk, to: &mut Bytes) -> Result<(), NoMemory> {
-    for (name, pick) in PICKS {
+    for (name, pick) in PICKS.iter() {
         to.append(name.as_bytes())?;
         to.append(b" ")?;
-        read(alloc, &mut crashed(disk, pick)?, to)?;
+        read(alloc, &mut crashed(disk, *pick)?, to)?;
         to.append(b"; ")?;
     }
     Ok(())

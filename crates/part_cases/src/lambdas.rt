@@ -5,7 +5,7 @@ ghost use Rattle.std.specs.Prelude.{◌<◌};
 
 use crate::texts::put_number as put_count;
 use case_text::{LineFault, bytes, first_of, number, point_of};
-use kap_base::{Bytes, Duplicate, NoMemory, Point, SCRIPT_LIMIT, SharedExpr, Text, Value};
+use kap_base::{Bytes, Duplicate, Expr, NoMemory, Point, SCRIPT_LIMIT, SharedExpr, Text, Value};
 use lambda_eval::{EvalFault, value, value_of_all};
 use lambda_types::{Lambda, RegexPatterns, infer, send_lambda};
 use std::alloc::Global;
@@ -15,15 +15,25 @@ use tick_parser::{Stmt, Val, parse};
 /// What stands before a lambda's expression in these scripts.
 const BEFORE: &str = "var f = lambda: ";
 
+/// The value that a script of one statement names.
+fn only_value(tree: &[Stmt]) -> Option<&Val> {
+    if tree.len() != 1 {
+        return None;
+    }
+    match tree.first()? {
+        Stmt::Var { value, .. } => Some(value),
+        _ => None,
+    }
+}
+
+fn copied(alloc: Global, expr: &Expr) -> Result<SharedExpr, NoMemory> {
+    SharedExpr::new(alloc, expr.copy(alloc)?)
+}
+
 /// The expression of the lambda that a script of one statement names.
 fn only_lambda(alloc: Global, tree: &[Stmt]) -> Result<SharedExpr, LineFault> {
-    match tree {
-        [
-            Stmt::Var {
-                value: Val::Lambda(expr, _),
-                ..
-            },
-        ] => Ok(SharedExpr::new(alloc, expr.copy(alloc)?)?),
+    match only_value(tree) {
+        Some(Val::Lambda(expr, _)) => Ok(copied(alloc, expr)?),
         _ => Err(LineFault::NoForm),
     }
 }

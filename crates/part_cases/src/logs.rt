@@ -160,10 +160,10 @@ fn list_by_reader(
 
 /// Adds what a crash may leave.
 fn put_crashes(alloc: Global, disk: &MemDisk, part: Part, to: &mut Bytes) -> Result<(), NoMemory> {
-    for (name, pick) in PICKS {
+    for (name, pick) in PICKS.iter() {
         to.append(name.as_bytes())?;
         to.append(b": ")?;
-        list(alloc, &mut crashed(disk, pick)?, part, to)?;
+        list(alloc, &mut crashed(disk, *pick)?, part, to)?;
         to.append(b". ")?;
     }
     Ok(())

@@ -102,10 +102,10 @@ fn put_opened(alloc: Global, disk: &mut MemDisk, to: &mut Bytes) -> Result<(), N
 
 /// Adds what a crash may leave.
 fn put_crashes(alloc: Global, disk: &MemDisk, to: &mut Bytes) -> Result<(), NoMemory> {
-    for (name, pick) in PICKS {
+    for (name, pick) in PICKS.iter() {
         to.append(name.as_bytes())?;
         to.append(b": ")?;
-        put_opened(alloc, &mut crashed(disk, pick)?, to)?;
+        put_opened(alloc, &mut crashed(disk, *pick)?, to)?;
         to.append(b". ")?;
     }
     Ok(())

@@ -6,18 +6,29 @@ use kap_base::{Bytes, Event, NoMemory, Text};
 use std::alloc::Global;
 use topic_core::{Topics, print_transition};
 
+/// A topic and an id.
+fn named(alloc: Global, topic: &str, id: &str) -> Result<(Text, Text), LineFault> {
+    let topic = text(alloc, topic)?;
+    let id = text(alloc, id)?;
+    Ok((topic, id))
+}
+
 /// The event that a line tells.
 fn event(alloc: Global, line: &str) -> Result<Event, LineFault> {
     let (topic, rest) = first_of(line);
     let (id, rest) = first_of(rest);
     let (word, rest) = first_of(rest);
     let (time, message) = first_of(rest);
+    let level = level(word)?;
+    let time = signed(time)?;
+    let message = text(alloc, message)?;
+    let (topic, id) = named(alloc, topic, id)?;
     Ok(Event {
-        topic: text(alloc, topic)?,
-        id: text(alloc, id)?,
-        level: level(word)?,
-        time: signed(time)?,
-        message: text(alloc, message)?,
+        topic,
+        id,
+        level,
+        time,
+        message,
     })
 }
 
