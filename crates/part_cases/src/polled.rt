@@ -94,18 +94,39 @@ pub fn answer_polled(alloc: Global, line: &str, to: &mut Bytes) -> Result<(), Li
     put_polled(alloc, &polled, to)
 }
 
+/// Two connections, by turns.
+#[derive(Drop)]
+struct Two {
+    one: Polled,
+    other: Polled,
+}
+
+/// Two connections that read what a line says, the second one twice.
+fn two_of(alloc: Global, step: &str, waits: &str, all: &[u8]) -> Result<Two, LineFault> {
+    let one = polled_of(alloc, step, waits, "-", repeated(alloc, all, 1)?)?;
+    let other = polled_of(alloc, step, waits, "-", repeated(alloc, all, 2)?)?;
+    Ok(Two { one, other })
+}
+
+fn take_turns(alloc: Global, two: &mut Two) {
+    for _ in 0..1_000 {
+        go_on(alloc, 1, &mut two.one);
+        go_on(alloc, 2, &mut two.other);
+    }
+}
+
+fn put_both(alloc: Global, two: &Two, to: &mut Bytes) -> Result<(), LineFault> {
+    put_polled(alloc, &two.one, to)?;
+    to.append(b"; ")?;
+    put_polled(alloc, &two.other, to)
+}
+
 /// Adds the answer of a line `turns`.
 pub fn answer_turns(alloc: Global, line: &str, to: &mut Bytes) -> Result<(), LineFault> {
     let (step, rest) = first_of(line);
     let (waits, word) = first_of(rest);
     let all = bytes(alloc, word)?;
-    let mut one = polled_of(alloc, step, waits, "-", repeated(alloc, &all, 1)?)?;
-    let mut other = polled_of(alloc, step, waits, "-", repeated(alloc, &all, 2)?)?;
-    for _ in 0..1_000 {
-        go_on(alloc, 1, &mut one);
-        go_on(alloc, 2, &mut other);
-    }
-    put_polled(alloc, &one, to)?;
-    to.append(b"; ")?;
-    put_polled(alloc, &other, to)
+    let mut two = two_of(alloc, step, waits, &all)?;
+    take_turns(alloc, &mut two);
+    put_both(alloc, &two, to)
 }
