@@ -156,22 +156,25 @@ pub fn check_play<N: Node>(
     Ok(())
 }
 
-/// A step is made, or isn't enabled.
+/// Whether each step is made, or isn't enabled, as it is due, one after the other.
 #[tactic(auto, using(crate::proofs::CellLaws::same_cells))]
-fn check_step<N: Node>(
-    rt: &(impl AllocGlobal + Abort),
+fn are_made<N: Node>(
+    alloc: Global,
     net: &mut Net<N>,
-    next: Step,
-    due: bool,
-) -> Result<(), Fail>
+    steps: &[(Step, bool)],
+) -> Result<bool, NoMemory>
     requires { net.old.spent ≡ false }
     ensures unspent { OnOk result (net.new.spent ≡ false) }
     ensures last { OnOk result (net.new.last ≡ net.old.last) }
     ensures cells { OnOk result (cell_count net.new.lives ≡ cell_count net.old.lives) }
 {
-    let made = net.step(rt.alloc(), next)?;
-    assert_eq!(rt; made, due, "{next:?}");
-    Ok(())
+    let Some((first, others)) = steps.split_first() else {
+        return Ok(true);
+    };
+    let (next, due) = *first;
+    let made = net.step(alloc, next)?;
+    let more = are_made(alloc, net, others)?;
+    Ok(made == due && more)
 }
 
 /// Each step is made, or isn't enabled, one after the other.
@@ -185,12 +188,8 @@ pub fn check_each<N: Node>(
     ensures last { OnOk result (net.new.last ≡ net.old.last) }
     ensures cells { OnOk result (cell_count net.new.lives ≡ cell_count net.old.lives) }
 {
-    let Some((first, others)) = steps.split_first() else {
-        return Ok(());
-    };
-    let (next, due) = *first;
-    check_step(rt, net, next, due)?;
-    check_each(rt, net, others)
+    assert!(rt; are_made(rt.alloc(), net, steps)?);
+    Ok(())
 }
 
 /// The net is at rest, and since the last such call these were the effects; and so many inputs of this cell
