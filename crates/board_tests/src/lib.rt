@@ -6,6 +6,8 @@ mod copies;
 #[cfg(test)]
 mod locks;
 #[cfg(test)]
+mod looks;
+#[cfg(test)]
 mod posts;
 #[cfg(test)]
 mod rows;

@@ -2,6 +2,7 @@
 
 ghost use Rattle.std.specs.Prelude.{◌≡◌};
 
+use crate::looks::{level_in, tell};
 use crate::posts::{show, transition};
 use kap_base::{Level, NoMemory, Text};
 use std::alloc::Global;
@@ -30,18 +31,30 @@ fn post_some<J: Naming, O: Drop, T: Shown<J, O>, R: Wait + Drop, H: Wait>(
     Ok(())
 }
 
+/// Whether all that both posted was published.
+fn has_both<J: Naming, O: Drop, T: Shown<J, O>, R: Wait + Drop>(
+    poster: &Poster<J, O, T, R>,
+) -> bool {
+    let (posted, published) = (poster.count(), poster.tell().len());
+    posted == 2 * POSTS && published == 2 * POSTS
+}
+
 /// Whether a look that is told sees what both posted.
 fn sees_both<J: Naming, O: Drop, T: Shown<J, O>, R: Wait + Drop>(
     alloc: Global,
     poster: &Poster<J, O, T, R>,
     look: &mut Look<J, O, T>,
 ) -> Result<bool, NoMemory> {
-    look.learn(poster.tell());
-    let one = look.level(&Text::from_str(alloc, "one")?);
-    let other = look.level(&Text::from_str(alloc, "other")?);
-    let counts = (poster.count(), poster.tell().len());
-    let warning = Ok(Some(Level::Warning));
-    Ok(one == warning && other == warning && counts == (2 * POSTS, 2 * POSTS))
+    let (first, second) = (
+        Text::from_str(alloc, "one")?,
+        Text::from_str(alloc, "other")?,
+    );
+    tell(poster, look);
+    let one = level_in(look, &first);
+    let other = level_in(look, &second);
+    let warning = Some(Some(Level::Warning));
+    let has_all = has_both(poster);
+    Ok(one == warning && other == warning && has_all)
 }
 
 /// Both threads post to the board.

@@ -25,12 +25,28 @@ pub fn transition(
     })
 }
 
+/// Posts a transition.
+pub fn post<J: Naming, O: Drop, T: Shown<J, O>, R: Wait + Drop>(
+    alloc: Global,
+    poster: &mut Poster<J, O, T, R>,
+    transition: &Transition,
+) -> Result<(), NoMemory> {
+    poster.post(alloc, transition)
+}
+
+/// Publishes what is pending.
+pub fn publish<J: Naming, O: Drop, T: Shown<J, O>, R: Wait + Drop>(
+    poster: &mut Poster<J, O, T, R>,
+) -> Result<(), NoMemory> {
+    poster.publish()
+}
+
 /// Posts a transition and publishes it.
 pub fn show<J: Naming, O: Drop, T: Shown<J, O>, R: Wait + Drop>(
     alloc: Global,
     poster: &mut Poster<J, O, T, R>,
     transition: &Transition,
 ) -> Result<(), NoMemory> {
-    poster.post(alloc, transition)?;
-    poster.publish()
+    post(alloc, poster, transition)?;
+    publish(poster)
 }

@@ -3,7 +3,8 @@
 ghost use Rattle.std.specs.Prelude.{◌≡◌};
 
 use crate::copies::text_of;
-use crate::posts::transition;
+use crate::looks::{copy_of, level_in, tell};
+use crate::posts::{post, publish, transition};
 use kap_base::{Level, NoMemory, Text};
 use std::alloc::Global;
 use std::marker::Brand;
@@ -33,10 +34,10 @@ fn reads<J: Naming, O: Drop, T: Shown<J, O>>(
     level: Option<Level>,
     kept: &str,
 ) -> Result<bool, NoMemory> {
-    let read = look.level(topic);
-    match look.copy(alloc) {
-        Ok(topics) => Ok(have_text(alloc, &topics, kept)? && read == Ok(level)),
-        Err(_) => Ok(false),
+    let read = level_in(look, topic);
+    match copy_of(alloc, look) {
+        Some(topics) => Ok(have_text(alloc, &topics, kept)? && read == Some(level)),
+        None => Ok(false),
     }
 }
 
@@ -48,8 +49,12 @@ fn read_before<J: Naming, O: Drop, T: Shown<J, O>, R: Wait + Drop>(
     topic: &Text,
 ) -> Result<bool, NoMemory> {
     let before = reads(alloc, look, topic, None, "")?;
-    poster.post(alloc, &transition(alloc, 1, TOPIC, "m", Level::Critical)?)?;
-    look.learn(poster.tell());
+    post(
+        alloc,
+        poster,
+        &transition(alloc, 1, TOPIC, "m", Level::Critical)?,
+    )?;
+    tell(poster, look);
     let pending = reads(alloc, look, topic, None, "")?;
     Ok(before && pending)
 }
@@ -61,8 +66,8 @@ fn read_behind<J: Naming, O: Drop, T: Shown<J, O>, R: Wait + Drop>(
     look: &mut Look<J, O, T>,
     topic: &Text,
 ) -> Result<bool, NoMemory> {
-    poster.publish()?;
-    look.learn(poster.tell());
+    publish(poster)?;
+    tell(poster, look);
     let behind = reads(alloc, look, topic, Some(Level::Critical), TEXT)?;
     Ok(behind && poster.count() == 1 && look.aways() == 0)
 }

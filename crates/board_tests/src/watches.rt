@@ -2,6 +2,7 @@
 
 ghost use Rattle.std.specs.Prelude.{◌≡◌};
 
+use crate::looks::{copy_of, count_in, is_refused, level_in, tell};
 use crate::posts::{show, transition};
 use kap_base::{Level, NoMemory, Text};
 use std::alloc::Global;
@@ -10,8 +11,7 @@ use std::process::Abort;
 use std::sync::Wait;
 use std::test::Fail;
 use std::thread::{Threads, join};
-use topic_board::{Look, LookFault, Naming, Opened, Poster, Shown, board};
-use topic_core::Topics;
+use topic_board::{Look, Naming, Opened, Poster, Shown, board};
 
 /// How many transitions are published.
 const POSTS: u64 = 10_000;
@@ -68,8 +68,8 @@ fn read_on<J: Naming, O: Drop, T: Shown<J, O>>(
     topic: &Text,
     last: Last,
 ) -> Option<Last> {
-    let level = look.level(topic).ok()?;
-    let topics = look.copy(alloc).ok()?;
+    let level = level_in(look, topic)?;
+    let topics = copy_of(alloc, look)?;
     if is_below(level, last.level)
         || is_below(topics.level(topic), level)
         || topics.count() < last.count
@@ -108,23 +108,18 @@ fn sees_the_end<J: Naming, O: Drop, T: Shown<J, O>, R: Wait + Drop>(
     look: &mut Look<J, O, T>,
     topic: &Text,
 ) -> bool {
-    look.learn(poster.tell());
-    let level = look.level(topic);
-    let copied = count_of(look.copy(alloc));
+    tell(&poster, look);
+    let level = level_in(look, topic);
+    let copied = count_in(alloc, look);
     let before = look.aways();
     poster.end();
-    let refused = look.level(topic).is_err() && count_of(look.copy(alloc)).is_none();
-    level == Ok(Some(Level::Critical))
+    let refused = is_refused(alloc, look, topic);
+    let behind = look.aways();
+    level == Some(Some(Level::Critical))
         && copied == Some(POSTS)
         && refused
-        && (before, look.aways()) == (0, 2)
-}
-
-fn count_of(topics: Result<Topics, LookFault>) -> Option<u64> {
-    match topics {
-        Ok(topics) => Some(topics.count()),
-        Err(_) => None,
-    }
+        && before == 0
+        && behind == 2
 }
 
 /// A look in one thread, the poster in another. Whether all was posted, and the look never went back.

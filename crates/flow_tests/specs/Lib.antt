@@ -1,3 +1,5 @@
--- a node of the tests
+-- nodes of the tests
 pub mod Relays
 pub mod Taps
+-- nets that are stopped at a barrier, and nets that go on there
+pub mod Captures

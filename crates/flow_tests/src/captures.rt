@@ -1,20 +1,21 @@
 //! Nets whose states are captured, and that go on in another net.
 
-ghost use Rattle.std.specs.Prelude.{◌≡◌, ℕ, ◌+◌, ◌<◌, ◌≤◌, [], ◌∷◌, false, IfOk, IfSome, IsPermutation, List, length};
+ghost use Rattle.std.specs.Prelude.{◌≡◌, ℕ, ◌+◌, ◌<◌, ◌≤◌, [], ◌∷◌, false, IfOk, IfSome, IsPermutation, List, OnOk, length};
 ghost use Rattle.std.specs.List.{AllByRecursion as Each, AllZip};
 ghost use Rattle.kap_base.specs.Points.{PointValue};
 ghost use Rattle.task_run.specs.Graphs.{Placed};
 ghost use Rattle.task_run.specs.Plans.{AreFirstNodes, graph_of};
 ghost use Rattle.flow_core.specs.Gathering.{LivesRise, NumbersEffects};
 ghost use Rattle.flow_core.specs.Making.{HasFewParents};
+ghost use Rattle.flow_core.specs.Messages.{AreMarksOf, load_messages};
 ghost use Rattle.flow_core.specs.Nets.{IsResting};
 ghost use Rattle.flow_core.specs.Ran.{HasGathered, HasRun};
 ghost use Rattle.flow_core.specs.Sorting.{AreRising};
 ghost use Rattle.barrier_snapshot.specs.Loading.{IsSameLife};
 ghost use Rattle.barrier_snapshot.specs.Resuming.{DidTheRestOf, DidTheSame, effects_behind};
 ghost use Rattle.barrier_snapshot.specs.Steady.{HasSteadyStream};
+ghost use Rattle.flow_tests.specs.Captures.{HasRunLoad, IsLoadedNew, RanAlike, RanBoth, Stopped, WentOn};
 
-use crate::nets::{put, take};
 use crate::points::{check_effects, three_points};
 use crate::taps::{TapNode, plan_of_taps};
 use barrier_snapshot::{
@@ -41,21 +42,137 @@ const BEFORE: &str = "1 3.1.0 10 plain\n1 3.1.1 10 plain\n2 3.1.0 20 plain\n2 3.
 const BEHIND: &str = "3 3.1.0 30 plain\n3 3.1.1 30 plain\n";
 
 /// The steps by which the second cell passes the inner barrier.
-fn steps_to_barrier() -> [Step; 12] {
-    [
-        put(0, 0),
-        put(0, 1),
-        take(1, 0),
-        take(1, 1),
-        put(0, 0),
-        put(0, 1),
-        take(1, 0),
-        take(1, 1),
-        put(0, 0),
-        put(0, 1),
-        take(1, 0),
-        take(1, 1),
-    ]
+const TO_BARRIER: [Step; 12] = [
+    Step::Put { cell: 0, out: 0 },
+    Step::Put { cell: 0, out: 1 },
+    Step::Take { cell: 1, input: 0 },
+    Step::Take { cell: 1, input: 1 },
+    Step::Put { cell: 0, out: 0 },
+    Step::Put { cell: 0, out: 1 },
+    Step::Take { cell: 1, input: 0 },
+    Step::Take { cell: 1, input: 1 },
+    Step::Put { cell: 0, out: 0 },
+    Step::Put { cell: 0, out: 1 },
+    Step::Take { cell: 1, input: 0 },
+    Step::Take { cell: 1, input: 1 },
+];
+
+/// A net of a plan that was loaded with points.
+fn load_new<N: Node>(
+    alloc: Global,
+    plan: LifePlan<N>,
+    points: &[Shared<Point>],
+    last: Stamp,
+    marks: &[Stamp],
+) -> Result<Net<N>, NoMemory>
+    requires few { HasFewParents plan }
+    requires first { AreFirstNodes N.spec N.state N.first plan.nodes }
+    requires last { last.0 ≡ length points.now }
+    requires marks { AreMarksOf points.now last marks.now }
+    ensures { IfOk result (IsLoadedNew N.Node plan points.now last marks.now) }
+{
+    effects_are_gathered::<N>();
+    let plans = Vec::from_array(alloc, [plan])?;
+    let mut net = Net::make(alloc, plans, 1)?;
+    net.load(alloc, points, last, marks)?;
+    Ok(net)
+}
+
+/// A net of a plan that is loaded with points and a barrier behind some of them, and makes these steps; and
+/// what is captured of it at the barrier. `None` comes where the steps don't end there.
+fn stop_inside<N: Node>(
+    alloc: Global,
+    plan: LifePlan<N>,
+    points: &[Shared<Point>],
+    mark: Stamp,
+    last: Stamp,
+    steps: &[Step],
+) -> Result<Option<(Net<N>, Bytes)>, NoMemory>
+    requires few { HasFewParents plan }
+    requires first { AreFirstNodes N.spec N.state N.first plan.nodes }
+    requires steady { HasSteadyStream N.Node plan }
+    requires last { last.0 ≡ length points.now }
+    requires marks { AreMarksOf points.now last (mark ∷ []) }
+    ensures { IfOk result (λ both. IfSome both (λ stopped.
+        Stopped N.Node plan points.now last (mark ∷ []) mark stopped.0 stopped.1)) }
+{
+    let mut net = load_new(alloc, plan, points, last, &[mark])?;
+    net.play(alloc, steps)?;
+    if !has_passed_inside(&net, mark) {
+        return Ok(None);
+    }
+    effects_are_gathered::<N>();
+    loads_have_messages();
+    streams_are_steady::<N>();
+    let bytes = capture(alloc, &net, mark)?;
+    Ok(Some((net, bytes)))
+}
+
+/// A net of a plan that runs a load of points to its rest, and what is captured of it there.
+fn stop_at_rest<N: Node>(
+    alloc: Global,
+    plan: LifePlan<N>,
+    points: &[Shared<Point>],
+    last: Stamp,
+) -> Result<Option<(Net<N>, Bytes)>, NoMemory>
+    requires few { HasFewParents plan }
+    requires first { AreFirstNodes N.spec N.state N.first plan.nodes }
+    requires last { last.0 ≡ length points.now }
+    ensures stopped { IfOk result (λ both. IfSome both (λ stopped.
+        Stopped N.Node plan points.now last [] last stopped.0 stopped.1)) }
+    ensures rest { IfOk result (λ both. IfSome both (λ stopped. Each IsResting stopped.0.lives)) }
+    ensures last { IfOk result (λ both. IfSome both (λ stopped. stopped.0.last ≡ last)) }
+{
+    effects_are_gathered::<N>();
+    let mut net = load_new(alloc, plan, points, last, &[])?;
+    net.run(alloc)?;
+    if !has_passed(&net, last) {
+        return Ok(None);
+    }
+    let bytes = capture(alloc, &net, last)?;
+    Ok(Some((net, bytes)))
+}
+
+/// Loads a net with points and runs it to rest.
+fn run_load<N: Node>(
+    alloc: Global,
+    net: &mut Net<N>,
+    points: &[Shared<Point>],
+    upto: Stamp,
+) -> Result<(), NoMemory>
+    requires unspent { net.old.spent ≡ false }
+    requires rest { Each IsResting net.old.lives }
+    requires none { net.old.gathered ≡ [] }
+    requires stamps { net.old.last.0 + length points.now ≤ upto.0 }
+    ensures { OnOk result (HasRunLoad N.Node (load_messages points.now upto []) net.old.lives net.new) }
+{
+    effects_are_gathered::<N>();
+    net.load(alloc, points, upto, &[])?;
+    net.run(alloc)?;
+    Ok(())
+}
+
+/// A net of a plan that goes on behind a barrier from what was captured there, and runs a load of points.
+/// `None` comes where the bytes aren't a capture of the plan's life.
+fn go_on_from<N: Node>(
+    alloc: Global,
+    plan: LifePlan<N>,
+    bytes: &[u8],
+    there: Stamp,
+    points: &[Shared<Point>],
+    upto: Stamp,
+) -> Result<Option<Net<N>>, NoMemory>
+    requires few { HasFewParents plan }
+    requires stamps { there.0 + length points.now ≤ upto.0 }
+    ensures { IfOk result (λ gone. IfSome gone (WentOn N.Node plan there bytes.now
+        (load_messages points.now upto []))) }
+{
+    let plans = Vec::from_array(alloc, [plan])?;
+    let Ok(mut net) = restore(alloc, plans, 1, bytes, there) else {
+        return Ok(None);
+    };
+    run_load(alloc, &mut net, points, upto)?;
+    Ok(Some(net))
 }
 
 /// A net of a plan that is loaded with points and a barrier behind some of them, makes these steps, and
@@ -80,38 +197,21 @@ fn goes_on<N: Node>(
     requires inside { cut < length points.now }
     requires mark { mark.0 ≡ cut }
     requires last { last.0 ≡ length points.now }
-    ensures unspent { IfOk result (λ both. IfSome both (λ nets. nets.0.spent ≡ false)) }
-    ensures unspent_too { IfOk result (λ both. IfSome both (λ nets. nets.1.spent ≡ false)) }
-    ensures behind { IfOk result (λ both. IfSome both (λ nets.
-        DidTheRestOf N.Node mark nets.0.lives nets.1.lives)) }
-    ensures gathered { IfOk result (λ both. IfSome both (λ nets. HasGathered [] nets.0)) }
-    ensures gathered_too { IfOk result (λ both. IfSome both (λ nets. HasGathered [] nets.1)) }
-    ensures rest { IfOk result (λ both. IfSome both (λ nets. Each IsResting nets.0.lives)) }
-    ensures runs { IfOk result (λ both. IfSome both (λ nets.
-        HasRun N.Node (graph_of N.spec plan ∷ []) points.now [] nets.0)) }
+    ensures { IfOk result (λ both. IfSome both (λ nets.
+        RanBoth N.Node plan points.now mark nets.0 nets.1)) }
 {
-    loads_have_messages();
     effects_are_gathered::<N>();
-    streams_are_steady::<N>();
+    let Some((mut net, bytes)) = stop_inside(alloc, plan, points, mark, last, steps)? else {
+        return Ok(None);
+    };
+    net.run(alloc)?;
+    let (_, behind) = points.split_at(cut);
+    let Some(other) = go_on_from(alloc, again, bytes.as_slice(), mark, behind, last)? else {
+        return Ok(None);
+    };
     lives_are_planned::<N>();
     lives_stand::<N>();
     nets_go_on::<N>();
-    let plans = Vec::from_array(alloc, [plan])?;
-    let mut net = Net::make(alloc, plans, 1)?;
-    net.load(alloc, points, last, &[mark])?;
-    net.play(alloc, steps)?;
-    if !has_passed_inside(&net, mark) {
-        return Ok(None);
-    }
-    let bytes = capture(alloc, &net, mark)?;
-    net.run(alloc)?;
-    let plans = Vec::from_array(alloc, [again])?;
-    let Ok(mut other) = restore(alloc, plans, 1, bytes.as_slice(), mark) else {
-        return Ok(None);
-    };
-    let (_, behind) = points.split_at(cut);
-    other.load(alloc, behind, last, &[])?;
-    other.run(alloc)?;
     Ok(Some((net, other)))
 }
 
@@ -133,34 +233,19 @@ fn goes_on_at_rest<N: Node>(
     requires some { 0 < length points.now }
     requires last { last.0 ≡ length points.now }
     requires end { last.0 + length more.now ≤ end.0 }
-    ensures unspent { IfOk result (λ both. IfSome both (λ nets. nets.0.spent ≡ false)) }
-    ensures unspent_too { IfOk result (λ both. IfSome both (λ nets. nets.1.spent ≡ false)) }
-    ensures same { IfOk result (λ both. IfSome both (λ nets.
-        AllZip (DidTheSame N.Node) nets.0.lives nets.1.lives)) }
-    ensures gathered { IfOk result (λ both. IfSome both (λ nets. HasGathered [] nets.0)) }
-    ensures gathered_too { IfOk result (λ both. IfSome both (λ nets. HasGathered [] nets.1)) }
+    ensures { IfOk result (λ both. IfSome both (λ nets. RanAlike N.Node nets.0 nets.1)) }
 {
-    effects_are_gathered::<N>();
+    let Some((mut net, bytes)) = stop_at_rest(alloc, plan, points, last)? else {
+        return Ok(None);
+    };
+    let before = net.collect(alloc);
+    run_load(alloc, &mut net, more, end)?;
+    let Some(other) = go_on_from(alloc, again, bytes.as_slice(), last, more, end)? else {
+        return Ok(None);
+    };
     lives_are_planned::<N>();
     lives_stand::<N>();
     nets_go_on::<N>();
-    let plans = Vec::from_array(alloc, [plan])?;
-    let mut net = Net::make(alloc, plans, 1)?;
-    net.load(alloc, points, last, &[])?;
-    net.run(alloc)?;
-    if !has_passed(&net, last) {
-        return Ok(None);
-    }
-    let bytes = capture(alloc, &net, last)?;
-    let before = net.collect(alloc);
-    net.load(alloc, more, end, &[])?;
-    net.run(alloc)?;
-    let plans = Vec::from_array(alloc, [again])?;
-    let Ok(mut other) = restore(alloc, plans, 1, bytes.as_slice(), last) else {
-        return Ok(None);
-    };
-    other.load(alloc, more, end, &[])?;
-    other.run(alloc)?;
     Ok(Some((net, other, before)))
 }
 
@@ -280,7 +365,6 @@ fn a_net_goes_on_from_an_inner_barrier(rt: HostRuntime) -> Result<(), Fail> {
     assert!(&rt; points.len() == 3);
     let plan = plan_of_taps(rt.alloc())?;
     let again = plan_of_taps(rt.alloc())?;
-    let steps = steps_to_barrier();
     let (mark, last) = (Stamp(2), Stamp(3));
     let Some((net, other, all, late)) = goes_on_and_collects::<TapNode>(
         rt.alloc(),
@@ -290,7 +374,7 @@ fn a_net_goes_on_from_an_inner_barrier(rt: HostRuntime) -> Result<(), Fail> {
         2,
         mark,
         last,
-        &steps,
+        &TO_BARRIER,
     )?
     else {
         return Err("no barrier".into());

@@ -7,7 +7,7 @@ ghost use Rattle.std.specs.Prelude.{◌≡◌, ◌<◌, ◌≤◌, false, IfOk, 
 ghost use Rattle.std.specs.List.{AllByRecursion as Each};
 ghost use Rattle.flow_core.specs.Nets.{IsResting, cell_count};
 
-use crate::nets::{check_play, check_rest, check_step, load, net_of, put, take};
+use crate::nets::{check_each, check_play, check_rest, load, net_of};
 use crate::points::three_points;
 use crate::relay::{RelayNode, diamond};
 use edge_queue::CAPACITY_LIMIT;
@@ -28,18 +28,35 @@ pub const FIRST: &str = "1 1.0.0 10 plain\n1 1.1.0 10 plain\n1 1.2.0 10 plain\n\
      3 1.3.0 30 marked\n3 1.3.1 30 plain\n";
 
 /// All steps, those of earlier cells first.
-pub fn downwards() -> [Step; 8] {
-    [
-        put(0, 0),
-        put(0, 1),
-        take(1, 0),
-        put(1, 0),
-        take(2, 0),
-        put(2, 0),
-        take(3, 0),
-        take(3, 1),
-    ]
-}
+pub const DOWNWARDS: [Step; 8] = [
+    Step::Put { cell: 0, out: 0 },
+    Step::Put { cell: 0, out: 1 },
+    Step::Take { cell: 1, input: 0 },
+    Step::Put { cell: 1, out: 0 },
+    Step::Take { cell: 2, input: 0 },
+    Step::Put { cell: 2, out: 0 },
+    Step::Take { cell: 3, input: 0 },
+    Step::Take { cell: 3, input: 1 },
+];
+
+/// Steps with room for one message on each edge, behind a load, and whether each is made. Five are.
+const MADE: [(Step, bool); 13] = [
+    // No such out, cell or input; and nothing is on the edge.
+    (Step::Put { cell: 0, out: 2 }, false),
+    (Step::Put { cell: 4, out: 0 }, false),
+    (Step::Take { cell: 4, input: 0 }, false),
+    (Step::Take { cell: 1, input: 1 }, false),
+    (Step::Take { cell: 1, input: 0 }, false),
+    // The edge has one place; then what was taken waits at the next out.
+    (Step::Put { cell: 0, out: 0 }, true),
+    (Step::Put { cell: 0, out: 0 }, false),
+    (Step::Take { cell: 1, input: 0 }, true),
+    (Step::Put { cell: 0, out: 0 }, true),
+    (Step::Take { cell: 1, input: 0 }, false),
+    (Step::Put { cell: 1, out: 0 }, true),
+    (Step::Put { cell: 1, out: 0 }, false),
+    (Step::Take { cell: 1, input: 0 }, true),
+];
 
 /// A diamond as a net of life 1, with room for so many messages on each edge.
 pub fn diamond_net(alloc: Global, capacity: u32) -> Result<Net<RelayNode>, NoMemory>
@@ -60,7 +77,7 @@ fn check_room(rt: &(impl AllocGlobal + Abort), capacity: u32, due: u64) -> Resul
 {
     let mut net = diamond_net(rt.alloc(), capacity)?;
     load(rt.alloc(), &mut net, &three_points(rt)?, 3, &[Stamp(2)])?;
-    check_play(rt, &mut net, &[put(0, 0)], due)
+    check_play(rt, &mut net, &[Step::Put { cell: 0, out: 0 }], due)
 }
 
 #[test]
@@ -78,33 +95,9 @@ fn check_idle<N: Node>(rt: &(impl AllocGlobal + Abort), net: &mut Net<N>) -> Res
     ensures last { OnOk result (net.new.last ≡ net.old.last) }
     ensures cells { OnOk result (cell_count net.new.lives ≡ cell_count net.old.lives) }
 {
-    check_play(rt, net, &downwards(), 0)?;
+    check_play(rt, net, &DOWNWARDS, 0)?;
     assert!(rt; net.at_rest());
     Ok(())
-}
-
-/// Steps of a diamond with room for one message on each edge, behind a load. Five are made.
-fn check_steps<N: Node>(rt: &(impl AllocGlobal + Abort), net: &mut Net<N>) -> Result<(), Fail>
-    requires { net.old.spent ≡ false }
-    ensures unspent { OnOk result (net.new.spent ≡ false) }
-    ensures last { OnOk result (net.new.last ≡ net.old.last) }
-    ensures cells { OnOk result (cell_count net.new.lives ≡ cell_count net.old.lives) }
-{
-    // No such out, cell or input; and nothing is on the edge.
-    check_step(rt, net, put(0, 2), false)?;
-    check_step(rt, net, put(4, 0), false)?;
-    check_step(rt, net, take(4, 0), false)?;
-    check_step(rt, net, take(1, 1), false)?;
-    check_step(rt, net, take(1, 0), false)?;
-    // The edge has one place; then what was taken waits at the next out.
-    check_step(rt, net, put(0, 0), true)?;
-    check_step(rt, net, put(0, 0), false)?;
-    check_step(rt, net, take(1, 0), true)?;
-    check_step(rt, net, put(0, 0), true)?;
-    check_step(rt, net, take(1, 0), false)?;
-    check_step(rt, net, put(1, 0), true)?;
-    check_step(rt, net, put(1, 0), false)?;
-    check_step(rt, net, take(1, 0), true)
 }
 
 #[test]
@@ -112,7 +105,7 @@ fn a_step_that_is_not_enabled_is_not_made(rt: HostRuntime) -> Result<(), Fail> {
     let mut net = diamond_net(rt.alloc(), 1)?;
     check_idle(&rt, &mut net)?;
     load(rt.alloc(), &mut net, &three_points(&rt)?, 3, &[Stamp(2)])?;
-    check_steps(&rt, &mut net)?;
-    check_play(&rt, &mut net, &downwards(), 35)?;
+    check_each(&rt, &mut net, &MADE)?;
+    check_play(&rt, &mut net, &DOWNWARDS, 35)?;
     check_rest(&rt, &mut net, FIRST, 3, 3)
 }

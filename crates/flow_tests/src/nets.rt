@@ -20,16 +20,6 @@ use std::process::Abort;
 use std::test::Fail;
 use task_run::LifePlan;
 
-/// The step by which a cell puts a message on the edge of an out.
-pub fn put(cell: u32, out: u32) -> Step {
-    Step::Put { cell, out }
-}
-
-/// The step by which a cell takes a message from an input.
-pub fn take(cell: u32, input: u32) -> Step {
-    Step::Take { cell, input }
-}
-
 /// Whether each number is below this one.
 fn are_below(numbers: &[u32], bound: usize) -> bool
     ensures { IsTrue result → Each (λ n. n < bound) numbers.now }
@@ -166,21 +156,39 @@ pub fn check_play<N: Node>(
     Ok(())
 }
 
-/// A step is made, or isn't enabled.
+/// Whether each step is made, or isn't enabled, as it is due, one after the other.
 #[tactic(auto, using(crate::proofs::CellLaws::same_cells))]
-pub fn check_step<N: Node>(
+fn are_made<N: Node>(
+    alloc: Global,
+    net: &mut Net<N>,
+    steps: &[(Step, bool)],
+) -> Result<bool, NoMemory>
+    requires { net.old.spent ≡ false }
+    ensures unspent { OnOk result (net.new.spent ≡ false) }
+    ensures last { OnOk result (net.new.last ≡ net.old.last) }
+    ensures cells { OnOk result (cell_count net.new.lives ≡ cell_count net.old.lives) }
+{
+    let Some((first, others)) = steps.split_first() else {
+        return Ok(true);
+    };
+    let (next, due) = *first;
+    let made = net.step(alloc, next)?;
+    let more = are_made(alloc, net, others)?;
+    Ok(made == due && more)
+}
+
+/// Each step is made, or isn't enabled, one after the other.
+pub fn check_each<N: Node>(
     rt: &(impl AllocGlobal + Abort),
     net: &mut Net<N>,
-    next: Step,
-    due: bool,
+    steps: &[(Step, bool)],
 ) -> Result<(), Fail>
     requires { net.old.spent ≡ false }
     ensures unspent { OnOk result (net.new.spent ≡ false) }
     ensures last { OnOk result (net.new.last ≡ net.old.last) }
     ensures cells { OnOk result (cell_count net.new.lives ≡ cell_count net.old.lives) }
 {
-    let made = net.step(rt.alloc(), next)?;
-    assert_eq!(rt; made, due, "{next:?}");
+    assert!(rt; are_made(rt.alloc(), net, steps)?);
     Ok(())
 }
 

@@ -4,7 +4,7 @@ ghost use Rattle.std.specs.Prelude.{◌≡◌, ◌<◌, ◌≤◌, false, OnOk};
 ghost use Rattle.std.specs.List.{AllByRecursion as Each};
 ghost use Rattle.flow_core.specs.Nets.{IsResting, cell_count};
 
-use crate::diamonds::{FIRST, diamond_net, downwards};
+use crate::diamonds::{DOWNWARDS, FIRST, diamond_net};
 use crate::nets::{check_rest, load};
 use crate::points::three_points;
 use edge_queue::CAPACITY_LIMIT;
@@ -58,6 +58,6 @@ fn nets_run_to_rest(rt: HostRuntime) -> Result<(), Fail> {
 fn steps_are_listed_by_cell(rt: HostRuntime) -> Result<(), Fail> {
     let net = diamond_net(rt.alloc(), 1)?;
     let steps = net.steps(rt.alloc())?;
-    assert_eq!(&rt; steps.as_slice(), downwards().as_slice());
+    assert_eq!(&rt; steps.as_slice(), DOWNWARDS.as_slice());
     Ok(())
 }

@@ -3,6 +3,7 @@
 
 ghost use Rattle.std.specs.Prelude.{◌≡◌, ◌<◌, ◌≤◌, false, IfOk};
 ghost use Rattle.std.specs.List.{AllByRecursion as Each};
+ghost use Rattle.flow_core.specs.Making.{HasFewParents};
 ghost use Rattle.flow_core.specs.Nets.{IsResting};
 
 use crate::diamonds::diamond_net;
@@ -18,20 +19,26 @@ use std::alloc::Global;
 use std::process::Abort;
 use std::test::Fail;
 use std::thread::Threads;
+use task_run::LifePlan;
 
-/// Five chains of two relays, the lives 1 to 5, on edges with room for one message. So each point takes a
-/// turn of its worker.
+/// The plans of five chains of two relays, the lives 1 to 5.
+fn five_plans(alloc: Global) -> Result<Vec<LifePlan<RelayNode>>, NoMemory>
+    ensures { IfOk result (λ plans. Each HasFewParents plans.items) }
+{
+    let mut plans = Vec::new(alloc);
+    'planning: for life in 1u32..6 {
+        plans.push(plan_of_two(alloc, life)?)?;
+    }
+    Ok(plans)
+}
+
+/// They as a net, on edges with room for one message. So each point takes a turn of its worker.
 fn five_chains(alloc: Global) -> Result<Net<RelayNode>, NoMemory>
     ensures unspent { IfOk result (λ net. net.spent ≡ false) }
     ensures rest { IfOk result (λ net. Each IsResting net.lives) }
     ensures last { IfOk result (λ net. net.last.0 ≡ 0) }
 {
-    let first = plan_of_two(alloc, 1)?;
-    let second = plan_of_two(alloc, 2)?;
-    let third = plan_of_two(alloc, 3)?;
-    let fourth = plan_of_two(alloc, 4)?;
-    let fifth = plan_of_two(alloc, 5)?;
-    let plans = Vec::from_array(alloc, [first, second, third, fourth, fifth])?;
+    let plans = five_plans(alloc)?;
     let net = Net::make(alloc, plans, 1)?;
     Ok(net)
 }

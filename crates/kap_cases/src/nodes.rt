@@ -9,12 +9,13 @@ use crate::fault::CaseFault;
 use crate::points::items;
 use crate::shown::{put_effects, put_items};
 use kap_base::{Bytes, Duplicate, Item, ItemList, SCRIPT_LIMIT, Text};
-use lambda_types::RegexPatterns;
+use lambda_types::{Patterns, RegexPatterns};
 use node_core::{Effects, Items, Node, run};
 use node_set::{ScriptNode, plan_task};
 use state_code::Cursor;
 use std::alloc::Global;
 use std::vec::IntoIter;
+use task_graph::Graph;
 use task_run::LifePlan;
 use tick_compile::compile;
 
@@ -31,19 +32,29 @@ fn nodes_in<N: Node>(plan: LifePlan<N>) -> Vec<N>
     nodes.into_items()
 }
 
+/// The graph of a script, where it has one.
+fn graph_of_script<P: Patterns>(
+    alloc: Global,
+    script: &str,
+    pats: &mut P,
+) -> Result<Graph, CaseFault> {
+    if script.len() > SCRIPT_LIMIT {
+        return Err(CaseFault::NoNodes);
+    }
+    match compile(alloc, script.as_bytes(), pats) {
+        Ok(task) => Ok(task.graph),
+        Err(_) => Err(CaseFault::NoNodes),
+    }
+}
+
 /// The nodes of a script, in life 1 of task `t`, in their first states.
 fn nodes_of<N: ScriptNode>(alloc: Global, script: &str) -> Result<Vec<N>, CaseFault>
     ensures { IfOk result (λ nodes. AreReady N.spec N.state N.first N.ports nodes.items) }
 {
-    if script.len() > SCRIPT_LIMIT {
-        return Err(CaseFault::NoNodes);
-    }
     let mut pats = RegexPatterns::new(alloc, Vec::new(alloc));
-    let Ok(task) = compile(alloc, script.as_bytes(), &mut pats) else {
-        return Err(CaseFault::NoNodes);
-    };
+    let graph = graph_of_script(alloc, script, &mut pats)?;
     let id = Text::from_str(alloc, "t")?;
-    let made = plan_task::<N>(alloc, &id, 1, task.graph)?;
+    let made = plan_task::<N>(alloc, &id, 1, graph)?;
     Ok(nodes_in(made.plan))
 }
 

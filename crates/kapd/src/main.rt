@@ -6,13 +6,19 @@
 
 mod places;
 
+ghost use Rattle.std.specs.Prelude.{IsTrue};
+ghost use Rattle.kap_base.specs.Points.{is_time};
+
 use flow_core::Net;
-use kap_io::{Clock, DirDisk, Disk, LockFile, MemDisk, NoGate, ReadSource, RealClock, WriteSink};
+use kap_io::{
+    Clock, DirDisk, Disk, LockFile, MemDisk, NoGate, ReadSource, RealClock, Sink, Source, WriteSink,
+};
 use kap_server::{Status, command, status_text};
-use lambda_types::RegexPatterns;
+use lambda_types::{Patterns, RegexPatterns};
 use net_run::NumberingNode;
 use node_set::{AnyNode, ScriptNode};
 use places::{Place, place_in};
+use std::alloc::Global;
 use std::env::Env;
 use std::fs::Files;
 use std::os::unix::fs::FileExt;
@@ -139,6 +145,32 @@ fn words_of<R: Env + AllocGlobal>(rt: &R) -> Result<Vec<String>, Status> {
     Ok(words)
 }
 
+/// Does what the words ask for, over any devices, by nodes of this type.
+fn run_over<
+    S: Source,
+    K: Sink,
+    D: Disk,
+    P: Patterns,
+    R: Threads + Sync,
+    N: ScriptNode + NumberingNode + Send,
+>(
+    rt: &R,
+    alloc: Global,
+    words: &[String],
+    now: i64,
+    input: &mut S,
+    out: &mut K,
+    disk: &mut D,
+    pats: &mut P,
+) -> Status
+    requires { IsTrue (is_time now) }
+{
+    let mut ran: Option<Net<N>> = None;
+    command(
+        rt, alloc, words, now, input, out, disk, pats, &NoGate, &mut ran,
+    )
+}
+
 /// Does what the words behind the place ask for, by nodes of this type, with the store on this disk.
 fn run_on<
     R: time::Clock + Threads + Sync + Input + Print + AllocGlobal,
@@ -149,8 +181,7 @@ fn run_on<
     let mut input = ReadSource::new(rt.reader());
     let mut out = WriteSink::new(io::writer(rt));
     let mut pats = RegexPatterns::new(rt.alloc(), Vec::new(rt.alloc()));
-    let mut ran: Option<Net<N>> = None;
-    command(
+    run_over::<_, _, _, _, R, N>(
         rt,
         rt.alloc(),
         words,
@@ -159,8 +190,6 @@ fn run_on<
         &mut out,
         disk,
         &mut pats,
-        &NoGate,
-        &mut ran,
     )
 }
 

@@ -2,13 +2,13 @@
 
 use crate::pings::{PING, Pings, pings_of};
 use http_dialog::LinkEnd;
-use kap_io::{Door, Patience, SocketDoor};
+use kap_io::{Door, Failed, Link, Patience, SocketDoor};
 use link_serve::serve_link;
 use std::alloc::Global;
 use std::io::{self, Read, Write};
 use std::net::{SocketAddr, TcpListener, TcpStream};
 use std::test::Fail;
-use std::thread::{self, join};
+use std::thread::{self, Threads, join};
 use std::time::Duration;
 
 /// A door at some port of the loopback, and where it is.
@@ -29,37 +29,43 @@ fn patience_of(idle: u64, whole: u64) -> Patience {
 }
 
 /// How many of some links were cut off, how the last one ended, and how many requests were served.
-#[derive(Clone, Copy, Debug, PartialEq, Eq)]
+#[derive(Clone, Copy, PartialEq, Eq)]
 struct Ended {
     cut_off: u32,
     last: Option<LinkEnd>,
     served: u32,
 }
 
+/// The next link at a door.
+fn next_link<B: Door<L>, L: Link + Drop>(door: &mut B) -> Option<L> {
+    match door.accept() {
+        Ok(link) => link,
+        Err(Failed) => None,
+    }
+}
+
+/// Serves a link to its end.
+fn serve_one<L: Link>(alloc: Global, link: &mut L, serve: &mut Pings) -> LinkEnd {
+    serve_link(alloc, link, serve)
+}
+
 /// Serves so many links, one after the other.
-fn serve_links<B: Door<L>, L: kap_io::Link + Drop>(
-    alloc: Global,
-    door: &mut B,
-    links: u32,
-) -> Ended {
+fn serve_links<B: Door<L>, L: Link + Drop>(alloc: Global, door: &mut B, links: u32) -> Ended {
     let mut serve = Pings { served: 0 };
-    let mut ended = Ended {
-        cut_off: 0,
-        last: None,
-        served: 0,
-    };
+    let mut cut_off = 0u32;
+    let mut last = None;
     for _ in 0..links {
-        if let Ok(Some(link)) = door.accept() {
-            let mut link = link;
-            let end = serve_link(alloc, &mut link, &mut serve);
-            if end == LinkEnd::ReadFault {
-                ended.cut_off = ended.cut_off.saturating_add(1);
-            }
-            ended.last = Some(end);
+        if let Some(mut link) = next_link(door) {
+            let end = serve_one(alloc, &mut link, &mut serve);
+            cut_off = cut_off.saturating_add(u32::from(end == LinkEnd::ReadFault));
+            last = Some(end);
         }
     }
-    ended.served = serve.served;
-    ended
+    Ended {
+        cut_off,
+        last,
+        served: serve.served,
+    }
 }
 
 /// Writes a text, and reads to the end.
@@ -69,40 +75,6 @@ fn exchange(rt: &HostRuntime, addr: SocketAddr, text: &[u8]) -> io::Result<Vec<u
     let mut came = Vec::new(rt.alloc());
     stream.read_to_end(&mut came)?;
     Ok(came)
-}
-
-#[test]
-fn a_pipeline_of_1500_gets_1000_replies(rt: HostRuntime) -> Result<(), Fail> {
-    let alloc = rt.alloc();
-    let (mut door, addr) = door_of(&rt, patience_of(5_000, 5_000))?;
-    let text = pings_of(alloc, 1_500)?;
-    let (ended, came) = join(
-        &rt,
-        || serve_links(alloc, &mut door, 1),
-        || exchange(&rt, addr, &text),
-    );
-    assert_eq!(rt; ended.last, Some(LinkEnd::Limit));
-    assert_eq!(rt; ended.served, 1_000);
-    assert_eq!(rt; came?.len(), 27_019);
-    Ok(())
-}
-
-#[test]
-fn a_413_arrives_behind_an_unread_body(rt: HostRuntime) -> Result<(), Fail> {
-    let alloc = rt.alloc();
-    let (mut door, addr) = door_of(&rt, patience_of(5_000, 5_000))?;
-    let head = b"POST /write?db=d HTTP/1.1\r\nContent-Length: 20000000\r\n\r\n";
-    let mut text = Vec::new(alloc);
-    text.extend_from_slice(head)?;
-    text.resize(head.len() + 2_000_000, b'm')?;
-    let (ended, came) = join(
-        &rt,
-        || serve_links(alloc, &mut door, 1),
-        || exchange(&rt, addr, &text),
-    );
-    assert_eq!(rt; ended.last, Some(LinkEnd::Refused));
-    assert!(rt; came?.starts_with(b"HTTP/1.1 413 Payload Too Large\r\n"));
-    Ok(())
 }
 
 /// A head that is never whole.
@@ -138,41 +110,10 @@ fn ask_behind_slow(rt: &HostRuntime, addr: SocketAddr) -> io::Result<Vec<u8>> {
     Ok(came)
 }
 
-#[test]
-fn four_clients_of_a_byte_at_a_time_are_cut_off(rt: HostRuntime) -> Result<(), Fail> {
-    let alloc = rt.alloc();
-    let (mut door, addr) = door_of(&rt, patience_of(5_000, 500))?;
-    let (ended, came) = join(
-        &rt,
-        || serve_links(alloc, &mut door, 5),
-        || ask_behind_slow(&rt, addr),
-    );
-    assert_eq!(rt; ended.cut_off, 4);
-    assert_eq!(rt; ended.last, Some(LinkEnd::Closed));
-    assert_eq!(rt; ended.served, 1);
-    assert_eq!(rt; came?.len(), 46);
-    Ok(())
-}
-
 /// Leaves a connection idle, and asks over another one.
 fn ask_beside_idle(rt: &HostRuntime, addr: SocketAddr) -> io::Result<Vec<u8>> {
     let _idle = TcpStream::connect(rt, addr)?;
     exchange(rt, addr, b"GET / HTTP/1.1\r\nConnection: close\r\n\r\n")
-}
-
-#[test]
-fn an_idle_client_is_cut_off(rt: HostRuntime) -> Result<(), Fail> {
-    let alloc = rt.alloc();
-    let (mut door, addr) = door_of(&rt, patience_of(300, 5_000))?;
-    let (ended, came) = join(
-        &rt,
-        || serve_links(alloc, &mut door, 2),
-        || ask_beside_idle(&rt, addr),
-    );
-    assert_eq!(rt; ended.cut_off, 1);
-    assert_eq!(rt; ended.last, Some(LinkEnd::Closed));
-    assert_eq!(rt; came?.len(), 46);
-    Ok(())
 }
 
 /// Sends a body of 8 MiB in pieces of 4,096 bytes, and reads to the end.
@@ -189,17 +130,97 @@ fn send_pieces(rt: &HostRuntime, addr: SocketAddr) -> io::Result<Vec<u8>> {
     Ok(came)
 }
 
+/// What asks at a door.
+#[derive(Clone, Copy)]
+enum Client<'a> {
+    /// One that writes a text.
+    Text(&'a [u8]),
+    /// One behind four that send a byte at a time.
+    BehindSlow,
+    /// One beside an idle one.
+    BesideIdle,
+    /// One that sends a body in pieces.
+    Pieces,
+}
+
+/// Asks, and reads to the end.
+fn ask(rt: &HostRuntime, addr: SocketAddr, client: Client<'_>) -> io::Result<Vec<u8>> {
+    match client {
+        Client::Text(text) => exchange(rt, addr, text),
+        Client::BehindSlow => ask_behind_slow(rt, addr),
+        Client::BesideIdle => ask_beside_idle(rt, addr),
+        Client::Pieces => send_pieces(rt, addr),
+    }
+}
+
+/// Serves so many links, with this patience in milliseconds for an idle link and for a whole request, while a
+/// client asks in a thread of its own. How they ended, and what came there.
+fn serve_beside(
+    rt: &HostRuntime,
+    threads: &impl Threads,
+    patience: (u64, u64),
+    links: u32,
+    client: Client<'_>,
+) -> io::Result<(Ended, Vec<u8>)> {
+    let (mut door, addr) = door_of(rt, patience_of(patience.0, patience.1))?;
+    let (ended, came) = join(
+        threads,
+        || serve_links(rt.alloc(), &mut door, links),
+        || ask(rt, addr, client),
+    );
+    Ok((ended, came?))
+}
+
+/// So many were cut off, the last one ended so, and so many requests were served.
+fn ending(cut_off: u32, last: LinkEnd, served: u32) -> Ended {
+    Ended {
+        cut_off,
+        last: Some(last),
+        served,
+    }
+}
+
+#[test]
+fn a_pipeline_of_1500_gets_1000_replies(rt: HostRuntime) -> Result<(), Fail> {
+    let text = pings_of(rt.alloc(), 1_500)?;
+    let (how, came) = serve_beside(&rt, &rt, (5_000, 5_000), 1, Client::Text(&text))?;
+    assert!(rt; how == ending(0, LinkEnd::Limit, 1_000));
+    assert!(rt; came.len() == 27_019);
+    Ok(())
+}
+
+#[test]
+fn a_413_arrives_behind_an_unread_body(rt: HostRuntime) -> Result<(), Fail> {
+    let head = b"POST /write?db=d HTTP/1.1\r\nContent-Length: 20000000\r\n\r\n";
+    let mut text = Vec::new(rt.alloc());
+    text.extend_from_slice(head)?;
+    text.resize(head.len() + 2_000_000, b'm')?;
+    let (how, came) = serve_beside(&rt, &rt, (5_000, 5_000), 1, Client::Text(&text))?;
+    assert!(rt; how == ending(0, LinkEnd::Refused, 0));
+    assert!(rt; came.starts_with(b"HTTP/1.1 413 Payload Too Large\r\n"));
+    Ok(())
+}
+
+#[test]
+fn four_clients_of_a_byte_at_a_time_are_cut_off(rt: HostRuntime) -> Result<(), Fail> {
+    let (how, came) = serve_beside(&rt, &rt, (5_000, 500), 5, Client::BehindSlow)?;
+    assert!(rt; how == ending(4, LinkEnd::Closed, 1));
+    assert!(rt; came.len() == 46);
+    Ok(())
+}
+
+#[test]
+fn an_idle_client_is_cut_off(rt: HostRuntime) -> Result<(), Fail> {
+    let (how, came) = serve_beside(&rt, &rt, (300, 5_000), 2, Client::BesideIdle)?;
+    assert!(rt; how == ending(1, LinkEnd::Closed, 1));
+    assert!(rt; came.len() == 46);
+    Ok(())
+}
+
 #[test]
 fn a_body_of_8_mib_in_pieces_is_served(rt: HostRuntime) -> Result<(), Fail> {
-    let alloc = rt.alloc();
-    let (mut door, addr) = door_of(&rt, patience_of(5_000, 30_000))?;
-    let (ended, came) = join(
-        &rt,
-        || serve_links(alloc, &mut door, 1),
-        || send_pieces(&rt, addr),
-    );
-    assert_eq!(rt; ended.last, Some(LinkEnd::Closed));
-    assert_eq!(rt; ended.served, 1);
-    assert_eq!(rt; came?.len(), 46);
+    let (how, came) = serve_beside(&rt, &rt, (5_000, 30_000), 1, Client::Pieces)?;
+    assert!(rt; how == ending(0, LinkEnd::Closed, 1));
+    assert!(rt; came.len() == 46);
     Ok(())
 }

@@ -1,100 +1,70 @@
-use Rattle.std.proofs.Common.{◌≡◌, ◌+◌, ◌∙◌, ◌++◌, [], ◌∷◌, ap, arith, drop, length, refl, subst, sym, take}
-use Rattle.std.specs.Prelude.{Contains}
+use Rattle.std.proofs.Common.{◌≡◌, ◌+◌, ◌∙◌, ◌++◌, [], ◌∷◌, ap, arith, drop, length, subst, sym, take}
+use Rattle.std.specs.Prelude.{IfSome}
 use Rattle.std.proofs.lemmas.List.{take-append-drop}
-use Rattle.merge_node.specs.Merge.{barriers}
-use Rattle.flow_core.specs.Making.{AreLivesOf}
 use Rattle.flow_core.specs.Messages.{load_messages}
-use Rattle.flow_core.specs.Nets.{plans_from}
-use Rattle.flow_core.specs.Ran.{IsNew}
-use Rattle.task_run.specs.Plans.{AreFirstStates, graph_of}
+use Rattle.task_run.specs.Plans.{graph_of}
 use Rattle.barrier_snapshot.specs.Barriers.{IsCaptureAt, cells_in}
-use Rattle.barrier_snapshot.specs.Restoring.{Restores}
 use Rattle.barrier_snapshot.specs.Resuming.{AreLoadedWith}
+use Rattle.flow_tests.specs.Captures.{Stopped, WentOn}
 use Rattle.flow_tests.proofs.captures.goes_on.Goals as goal
 
-pub capture-requires-clause-passed : goal.capture-requires-clause-passed
-capture-requires-clause-passed g c =
-    let node = g.N.Node in
-    let points = c.args.points.now in
-    let mark = c.args.mark in
-    let last = c.args.last in
+pub stop_inside-requires-clause-marks : goal.stop_inside-requires-clause-marks
+stop_inside-requires-clause-marks g c =
     let some = c.requires.some in
     let inside = c.requires.inside in
     let at = c.requires.mark in
     let end = c.requires.last in
-    let msgs = load_messages points last (mark ∷ []) in
-    let has : Contains (barriers msgs) mark =
-    subst (λ l. Contains l mark) (sym (c.loads_have_messages.ensures.barriers points last (mark ∷ []) (omega (arith, end)) (omega (arith, some, at, end), omega (arith, inside, at, end), tt))) (0, omega arith, refl) in
-    let are = subst (λ plans. AreLivesOf node plans c.in_ok-net.net.lives) c.in_ok-plans.ensures.items c.in_ok-net.ensures.lives in
-    c.if-not-has_passed_inside.ensures.passed refl
-    (c.streams_are_steady.ensures.loaded mark msgs (c.args.plan ∷ []) c.in_ok-net.net.lives c.play.new.self.lives are (c.requires.steady, tt) has (c.in_ok-play.ensures.goes.plans ∙ c.in_ok-load.ensures.plans) (c.in_ok-play.ensures.goes.specs ∙ c.in_ok-load.ensures.specs))
+    (omega (arith, some, at, end), omega (arith, inside, at, end), tt)
 
-pub returns-clause-behind : goal.returns-clause-behind
-returns-clause-behind g c =
+pub go_on_from-requires-clause-stamps : goal.go_on_from-requires-clause-stamps
+go_on_from-requires-clause-stamps g c =
+    let at = c.requires.mark in
+    let end = c.requires.last in
+    let long = c.split_at.ensures.back_len in
+    omega (arith, at, end, long)
+
+pub returns : goal.returns
+returns g c =
     let node = g.N.Node in
     let points = c.args.points.now in
     let front = take c.args.cut points in
     let back = drop c.args.cut points in
     let mark = c.args.mark in
+    let marks = mark ∷ [] in
     let last = c.args.last in
     let some = c.requires.some in
     let inside = c.requires.inside in
     let at = c.requires.mark in
     let end = c.requires.last in
+    let first = c.args.plan ∷ [] in
+    let again = c.args.again ∷ [] in
+    let net = c.in-Some.net in
+    let other = c.in-Some-2.other in
+    let ran = c.in_ok-run.ensures in
+    let s : Stopped node c.args.plan points last marks mark net c.in-Some.bytes = subst (λ both. IfSome both (λ stopped. Stopped node c.args.plan points last marks mark stopped.0 stopped.1)) c.in-Some.is c.in_ok-net.ensures in
+    let w : WentOn node c.args.again mark c.as_slice.result.now (load_messages c.split_at.result.1.now last []) other = subst (λ gone. IfSome gone (WentOn node c.args.again mark c.as_slice.result.now (load_messages c.split_at.result.1.now last []))) c.in-Some-2.is c.in_ok-other.ensures in
     let whole : front ++ back ≡ points = take-append-drop c.args.cut points in
     let long : length (front ++ back) ≡ length points = ap (λ l. length l) whole in
     let behind : length back + c.args.cut ≡ length points = ap (λ l. length l + c.args.cut) (sym c.split_at.ensures.back) ∙ c.split_at.ensures.back_len in
-    let msgs = load_messages (front ++ back) last (mark ∷ []) in
-    let same : load_messages points last (mark ∷ []) ≡ msgs = ap (λ l. load_messages l last (mark ∷ [])) (sym whole) in
-    let made = c.in_ok-net.net.lives in
-    let first = c.args.plan ∷ [] in
-    let again = c.args.again ∷ [] in
-    let are = subst (λ plans. AreLivesOf node plans made) c.in_ok-plans.ensures.items c.in_ok-net.ensures.lives in
-    let stands = c.lives_stand.ensures.made first made are (c.requires.first, tt) in
-    let loaded = c.in_ok-load.ensures.plans ∙ ap (λ l. plans_from node l made) same in
-    let stop : AreLoadedWith node msgs made c.play.new.self.lives = record {
-      plans = c.in_ok-play.ensures.goes.plans ∙ loaded;
-      specs = c.in_ok-play.ensures.goes.specs ∙ c.in_ok-load.ensures.specs;
-      lives = c.in_ok-bytes.ensures.lives;
+    let msgs = load_messages (front ++ back) last marks in
+    let stop : AreLoadedWith node msgs s.made net.lives = subst (λ l. AreLoadedWith node (load_messages l last marks) s.made net.lives) (sym whole) s.loaded in
+    let rest : AreLoadedWith node msgs s.made c.run.new.self.lives = record {
+      plans = ran.goes.plans ∙ stop.plans;
+      specs = ran.goes.specs ∙ stop.specs;
+      lives = ran.whole.kept;
     } in
-    let rest : AreLoadedWith node msgs made c.run.new.self.lives = record {
-      plans = c.in_ok-run.ensures.goes.plans ∙ c.in_ok-play.ensures.goes.plans ∙ loaded;
-      specs = c.in_ok-run.ensures.goes.specs ∙ c.in_ok-play.ensures.goes.specs ∙ c.in_ok-load.ensures.specs;
-      lives = c.in_ok-run.ensures.whole.kept;
-    } in
-    let go : AreLoadedWith node (load_messages back last []) c.in-Ok.other.lives c.run-2.new.self.lives = record {
-      plans = c.in_ok-run-2.ensures.goes.plans ∙ c.in_ok-load-2.ensures.plans ∙ ap (λ l. plans_from node (load_messages l last []) c.in-Ok.other.lives) c.split_at.ensures.back;
-      specs = c.in_ok-run-2.ensures.goes.specs ∙ c.in_ok-load-2.ensures.specs;
-      lives = c.in_ok-run-2.ensures.whole.kept;
-    } in
-    let restores = subst (λ plans. Restores node plans mark c.as_slice.result.now c.in-Ok.other) c.in_ok-plans-2.ensures.items c.in-Ok.ensures.restores in
-    let capture = subst (λ bytes. IsCaptureAt node mark (cells_in c.play.new.self.lives) bytes) (sym c.as_slice.ensures) c.in_ok-bytes.ensures.capture in
-    let planned = c.lives_are_planned.ensures.loaded msgs again made c.play.new.self.lives (c.lives_are_planned.ensures.made first again made are (c.requires.same, tt)) stop in
-    c.nets_go_on.ensures.behind 0 front back mark last [] [] again mark c.as_slice.result.now made c.play.new.self.lives c.run.new.self.lives c.in-Ok.other c.run-2.new.self.lives
-    (omega (arith, long, end)) (omega (arith, behind, at, end)) (omega (arith, long, some, at, end), omega (arith, inside, at, end), tt)
-    stands stop rest c.in_ok-run.ensures.rest capture planned restores go c.in_ok-run-2.ensures.rest
-
-pub returns-clause-gathered : goal.returns-clause-gathered
-returns-clause-gathered g c =
-    let moved = c.effects_are_gathered.ensures.moved [] in
-    let loaded = c.effects_are_gathered.ensures.loaded c.in_ok-net.net c.load.new.self c.in_ok-net.ensures.gathered c.in_ok-load.ensures.gathers in
-    moved c.play.new.self c.run.new.self (moved c.load.new.self c.play.new.self loaded c.in_ok-play.ensures.goes.gathers) c.in_ok-run.ensures.goes.gathers
-
-pub returns-clause-gathered_too : goal.returns-clause-gathered_too
-returns-clause-gathered_too g c =
-    let loaded = c.effects_are_gathered.ensures.loaded c.in-Ok.other c.load-2.new.self c.in-Ok.ensures.restores.gathered c.in_ok-load-2.ensures.gathers in
-    c.effects_are_gathered.ensures.moved [] c.load-2.new.self c.run-2.new.self loaded c.in_ok-run-2.ensures.goes.gathers
-
-pub returns-clause-runs : goal.returns-clause-runs
-returns-clause-runs g c =
-    let node = g.N.Node in
-    let points = c.args.points.now in
-    let some = c.requires.some in
-    let inside = c.requires.inside in
-    let at = c.requires.mark in
-    let end = c.requires.last in
-    let first = c.args.plan ∷ [] in
-    let graphs = graph_of node.spec c.args.plan ∷ [] in
-    let new = subst (λ plans. AreFirstStates node.spec node.state node.first plans → IsNew node plans c.in_ok-net.net) c.in_ok-plans.ensures.items c.in_ok-net.ensures.new (c.requires.first, tt) in
-    let loaded = c.in_ok-load.ensures.first first new end (omega (arith, some, at, end), omega (arith, inside, at, end), tt) in
-    c.in_ok-run.ensures.goes.runs graphs points [] (c.in_ok-play.ensures.goes.runs graphs points [] loaded)
+    let go : AreLoadedWith node (load_messages back last []) w.restored.lives other.lives = subst (λ l. AreLoadedWith node (load_messages l last []) w.restored.lives other.lives) c.split_at.ensures.back w.ran.loaded in
+    let capture = subst (λ bytes. IsCaptureAt node mark (cells_in net.lives) bytes) (sym c.as_slice.ensures) s.capture in
+    let stands = c.lives_stand.ensures.made first s.made s.are (c.requires.first, tt) in
+    let planned = c.lives_are_planned.ensures.loaded msgs again s.made net.lives (c.lives_are_planned.ensures.made first again s.made s.are (c.requires.same, tt)) stop in
+    record {
+      behind = c.nets_go_on.ensures.behind 0 front back mark last [] [] again mark c.as_slice.result.now s.made net.lives c.run.new.self.lives w.restored other.lives
+          (omega (arith, long, end)) (omega (arith, behind, at, end)) (omega (arith, long, some, at, end), omega (arith, inside, at, end), tt)
+          stands stop rest ran.rest capture planned w.restores go w.ran.rest;
+      rest = ran.rest;
+      gathered = c.effects_are_gathered.ensures.moved [] net c.run.new.self s.gathered ran.goes.gathers;
+      gathered_too = w.ran.gathered;
+      runs = ran.goes.runs (graph_of node.spec c.args.plan ∷ []) points [] s.runs;
+      unspent = ran.unspent;
+      unspent_too = w.ran.unspent;
+    }
