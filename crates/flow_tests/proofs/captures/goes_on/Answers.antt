@@ -5,8 +5,9 @@ use Rattle.merge_node.specs.Merge.{barriers}
 use Rattle.flow_core.specs.Making.{AreLivesOf}
 use Rattle.flow_core.specs.Messages.{load_messages}
 use Rattle.flow_core.specs.Nets.{plans_from}
-use Rattle.flow_core.specs.Ran.{IsNew}
-use Rattle.task_run.specs.Plans.{AreFirstStates, graph_of}
+use Rattle.net_epochs.proofs.StandLaws.{lives_first}
+use Rattle.task_run.specs.Courses.{from_first}
+use Rattle.task_run.specs.Plans.{graph_of}
 use Rattle.barrier_snapshot.specs.Barriers.{IsCaptureAt, cells_in}
 use Rattle.barrier_snapshot.specs.Restoring.{Restores}
 use Rattle.barrier_snapshot.specs.Resuming.{AreLoadedWith}
@@ -85,16 +86,20 @@ returns-clause-gathered_too g c =
     let loaded = c.effects_are_gathered.ensures.loaded c.in-Ok.other c.load-2.new.self c.in-Ok.ensures.restores.gathered c.in_ok-load-2.ensures.gathers in
     c.effects_are_gathered.ensures.moved [] c.load-2.new.self c.run-2.new.self loaded c.in_ok-run-2.ensures.goes.gathers
 
-pub returns-clause-runs : goal.returns-clause-runs
-returns-clause-runs g c =
+pub returns-clause-did : goal.returns-clause-did
+returns-clause-did g c =
     let node = g.N.Node in
     let points = c.args.points.now in
     let some = c.requires.some in
     let inside = c.requires.inside in
     let at = c.requires.mark in
     let end = c.requires.last in
+    let made = c.in_ok-net.net.lives in
     let first = c.args.plan ∷ [] in
-    let graphs = graph_of node.spec c.args.plan ∷ [] in
-    let new = subst (λ plans. AreFirstStates node.spec node.state node.first plans → IsNew node plans c.in_ok-net.net) c.in_ok-plans.ensures.items c.in_ok-net.ensures.new (c.requires.first, tt) in
-    let loaded = c.in_ok-load.ensures.first first new end (omega (arith, some, at, end), omega (arith, inside, at, end), tt) in
-    c.in_ok-run.ensures.goes.runs graphs points [] (c.in_ok-play.ensures.goes.runs graphs points [] loaded)
+    let are = subst (λ plans. AreLivesOf node plans made) c.in_ok-plans.ensures.items c.in_ok-net.ensures.lives in
+    let courses = from_first [] (graph_of node.spec c.args.plan ∷ []) in
+    c.epochs_go_on.ensures.did 0 points c.args.last (c.args.mark ∷ []) courses made c.run.new.self.lives
+    (omega (arith, end)) (omega (arith, some, at, end), omega (arith, inside, at, end), tt) (omega arith, tt) (lives_first node first made are (c.requires.first, tt))
+    (c.in_ok-run.ensures.goes.plans ∙ c.in_ok-play.ensures.goes.plans ∙ c.in_ok-load.ensures.plans)
+    (c.in_ok-run.ensures.goes.specs ∙ c.in_ok-play.ensures.goes.specs ∙ c.in_ok-load.ensures.specs)
+    c.in_ok-run.ensures.whole.kept c.in_ok-run.ensures.rest
