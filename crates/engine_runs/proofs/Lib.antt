@@ -11,4 +11,3 @@ pub mod PlanLaws
 pub mod HeldLaws
 pub mod OpenLaws
 pub mod RestoreLaws
-pub mod TellLaws

@@ -65,17 +65,6 @@ module _ {N P S : Type 0} (g : Ghosts N P S) (planned : Planned P) (lives : List
     pub times : times_fit (map event_of (Trans (life_events points))) ≡ true
     pub count : r.points ≡ length points
 
-  -- Behind points the lives ran on more: the text of what they do with these was appended, by the names of all lives,
-  -- and the transitions that these points make were put behind others.
-  pub record Tells (points new : List PointValue) (text text_after : List ℕ)
-      (told told_after : List Transition) : Type 0 where
-    pub effects : List Effect
-    pub more : stored_effects g.answer lives (graphs_from planned 1 lives tasks) (points ++ new)
-        ≡ stored_effects g.answer lives (graphs_from planned 1 lives tasks) points ++ effects
-    pub text_is : text_after ≡ text ++ text_behind (names_from lives tasks) (life_events points) effects
-    pub told_is : (before : List Transition) → Trans (life_events points) ≡ before ++ told
-        → Trans (life_events (points ++ new)) ≡ before ++ told_after
-
 -- it can go on: its net is at rest behind the points, and nothing is left to collect
 pub record CanGoOn {N : Type 0} (r : RunValue N) : Type 0 where
   pub unspent : r.net.spent ≡ false
