@@ -7,7 +7,8 @@ ghost use Rattle.task_run.specs.Courses.{Course, end_of, grown, later_effects};
 ghost use Rattle.task_run.specs.Lives.{effects_of};
 ghost use Rattle.task_run.specs.Plans.{PlanValue, graph_of};
 ghost use Rattle.flow_core.specs.Gathering.{LivesRise};
-ghost use Rattle.flow_core.specs.Nets.{HasStreamsCarried, IsResting, numbers_of};
+ghost use Rattle.flow_core.specs.Messages.{load_messages};
+ghost use Rattle.flow_core.specs.Nets.{HasStreamsCarried, IsLifeIn, IsResting, numbers_of, plans_from, plans_in, specs_in};
 ghost use Rattle.flow_core.specs.Rooms.{rooms_in};
 ghost use Rattle.net_epochs.specs.Epochs.{IsOnCourse, StandsAt, nodes_in};
 ghost use Rattle.net_run.specs.Epochs.{Stands};
@@ -52,6 +53,10 @@ pub fn run_epoch<N: NumberingNode + Send, R: Threads + Sync, G: Gate + Sync>(
     requires upto { net.old.last.0 + length points.now ≤ upto.0 }
     ensures rest { OnOk result (Each IsResting net.new.lives) }
     ensures streams { OnOk result (Each (HasStreamsCarried N.Node) net.new.lives) }
+    ensures sound { OnOk result (Each (IsLifeIn N.Node) net.new.lives) }
+    ensures loaded { OnOk result (plans_in N.Node net.new.lives
+        ≡ plans_from N.Node (load_messages points.now upto []) net.old.lives) }
+    ensures specs { OnOk result (specs_in N.Node net.new.lives ≡ specs_in N.Node net.old.lives) }
     ensures none { OnOk result (net.new.gathered ≡ []) }
     ensures numbers { OnOk result (numbers_of net.new.lives ≡ numbers_of net.old.lives) }
     ensures last { OnOk result (net.new.last ≡ upto) }

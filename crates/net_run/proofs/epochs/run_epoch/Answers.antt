@@ -5,7 +5,7 @@ use Rattle.kap_base.specs.declared.items.Stamp.{Stamp}
 use Rattle.task_run.specs.Courses.{grown, later_effects}
 use Rattle.flow_core.specs.Gathering.{LivesRise}
 use Rattle.flow_core.proofs.GatheredLaws.{gathered_loaded, gathered_moved}
-use Rattle.flow_core.specs.Nets.{HasStreamsCarried, IsResting, numbers_of}
+use Rattle.flow_core.specs.Nets.{HasStreamsCarried, IsLifeIn, IsResting, numbers_of, plans_in, specs_in}
 use Rattle.flow_core.specs.Ran.{effects_in}
 use Rattle.flow_core.specs.Rooms.{rooms_in}
 use Rattle.flow_core.proofs.UniqueLaws.{sorted_is}
@@ -55,3 +55,12 @@ returns-clause-numbers g c = ap numbers_of c.collect.ensures.lives ∙ c.in_ok-m
 
 pub returns-clause-rooms : goal.returns-clause-rooms
 returns-clause-rooms g c = ap rooms_in c.collect.ensures.lives ∙ c.in_ok-move_to_rest.ensures.goes.rooms ∙ c.in_ok-load.ensures.rooms
+
+pub returns-clause-sound : goal.returns-clause-sound
+returns-clause-sound g c = subst (Each (IsLifeIn g.N.Node)) (sym c.collect.ensures.lives) c.in_ok-move_to_rest.ensures.whole.kept
+
+pub returns-clause-loaded : goal.returns-clause-loaded
+returns-clause-loaded g c = ap (plans_in g.N.Node) c.collect.ensures.lives ∙ c.in_ok-move_to_rest.ensures.goes.plans ∙ c.in_ok-load.ensures.plans
+
+pub returns-clause-specs : goal.returns-clause-specs
+returns-clause-specs g c = ap (specs_in g.N.Node) c.collect.ensures.lives ∙ c.in_ok-move_to_rest.ensures.goes.specs ∙ c.in_ok-load.ensures.specs
