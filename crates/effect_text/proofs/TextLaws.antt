@@ -1,11 +1,12 @@
 -- Texts of effects, one behind the other.
-use Rattle.std.proofs.Common.{◌≡◌, ℕ, ◌+◌, ◌<◌, List, [], ◌∷◌, ◌++◌, Option, drop, get_or, length, take, refl, sym, ap, ◌∙◌, append-nil, append_assoc}
+use Rattle.std.proofs.Common.{◌≡◌, ℕ, ◌+◌, ◌<◌, Bool, true, false, ◌&&◌, List, [], ◌∷◌, ◌++◌, Option, drop, get_or, length, take, refl, sym, ap, ◌∙◌, append-nil, append_assoc}
 use Rattle.std.proofs.lemmas.List.{take_more}
 use Rattle.std.proofs.lemmas.List.Concat.{flat_map-append}
-use Rattle.std.specs.List.{AllByRecursion as Each, flat_map, slice_get}
+use Rattle.std.specs.List.{AllByRecursion as Each, flat_map, list_all, slice_get}
 use Rattle.std.specs.Option.{option_map_or}
 use Rattle.kap_base.specs.declared.items.Effect.{Effect}
 use Rattle.kap_base.specs.Events.{EventValue}
+use Rattle.kap_base.specs.Points.{is_time}
 use Rattle.topic_core.specs.Print.{transition_line}
 use Rattle.topic_core.specs.Topics.{Trans}
 use Rattle.topic_core.specs.declared.transition.Transition.{Transition}
@@ -80,3 +81,19 @@ one_event events effects i e lt is =
     append_assoc events (events_of (take i effects)) (event_in e.what)
     ∙ ap (λ l. events ++ (events_of (take i effects) ++ l)) (sym (append-nil (event_in e.what)))
     ∙ ap (λ l. events ++ l) (sym (flat_map-append (λ (x : Effect). event_in x.what) (take i effects) (e ∷ [])) ∙ ap events_of (sym (take_one effects i e lt is)))
+
+-- ---- the times of their events
+
+abbrev pub are_timely : List EventValue → Bool
+are_timely es = list_all (λ e. is_time e.time) es
+
+timely-append : (xs ys : List EventValue) → are_timely (xs ++ ys) ≡ (are_timely xs && are_timely ys)
+timely-append [] ys = refl
+timely-append (x ∷ xs) ys = elim (is_time x.time) as (λ b. (b && are_timely (xs ++ ys)) ≡ ((b && are_timely xs) && are_timely ys)) [
+  | true ↦ timely-append xs ys
+  | false ↦ refl
+]
+
+-- those of more events are in range too
+pub times_behind : (xs ys : List EventValue) → are_timely xs ≡ true → are_timely ys ≡ true → are_timely (xs ++ ys) ≡ true
+times_behind xs ys a b = timely-append xs ys ∙ rw (a, b) refl

@@ -1,8 +1,9 @@
 //! The lines of effects.
 
-ghost use Rattle.std.specs.Prelude.{◌≡◌, ◌++◌, ◌∷◌, [], List, OnOk, option_map};
-ghost use Rattle.std.specs.List.{flat_map};
+ghost use Rattle.std.specs.Prelude.{◌≡◌, ◌++◌, ◌∷◌, [], true, List, OnOk, option_map};
+ghost use Rattle.std.specs.List.{flat_map, list_all};
 ghost use Rattle.kap_base.specs.Events.{EventValue};
+ghost use Rattle.kap_base.specs.Points.{is_time};
 ghost use Rattle.topic_core.specs.Print.{transition_line};
 ghost use Rattle.topic_core.specs.Topics.{StandsFor, Trans};
 ghost use Rattle.topic_core.specs.declared.transition.Transition.{Transition};
@@ -58,6 +59,14 @@ fn put_out_line(id: &[u8], node: &[u8], point: &Point, text: &mut Bytes) -> Resu
     text.push(b'\n')
 }
 
+/// The time of an event lies in the range of times, so that its transition may be stored.
+fn event_is_timely(event: &Event)
+    ensures { is_time event.now.time ≡ true }
+{
+    // Only a field says what holds of each event.
+    let _time = event.time;
+}
+
 /// Adds the line of the transition that an event makes, where it makes one, and the transition itself.
 fn tell_event(
     alloc: Global,
@@ -73,7 +82,9 @@ fn tell_event(
     ensures told { (events : List EventValue) (before : List Transition) → StandsFor events topics.old
         → Trans events ≡ before ++ told.old.items
         → OnOk result (Trans (events ++ event.now ∷ []) ≡ before ++ told.new.items) }
+    ensures times { is_time event.now.time ≡ true }
 {
+    event_is_timely(event);
     match topics.accept(alloc, event)? {
         Some(transition) => {
             let line = print_transition(alloc, &transition)?;
@@ -101,6 +112,7 @@ fn tell_effect(
     ensures told { (events : List EventValue) (before : List Transition) → StandsFor events topics.old
         → Trans events ≡ before ++ told.old.items
         → OnOk result (Trans (events ++ event_in effect.now.what) ≡ before ++ told.new.items) }
+    ensures times { list_all (λ e. is_time e.time) (event_in effect.now.what) ≡ true }
 {
     match &effect.what {
         What::Line(point) => {
@@ -119,8 +131,8 @@ fn tell_effect(
 /// Adds the text of effects that come behind the events that `topics` has taken, and lets it take theirs: a
 /// line `out ID NODE POINT` for each logged point, with the point in canonical line protocol, and one `alert
 /// ..` for each transition, as `print_transition` has it. The transitions themselves are appended to `told`,
-/// which so goes on to be the last transitions of the events. After `NoMemory` the text, the topics and what
-/// was told are any.
+/// which so goes on to be the last transitions of the events; their times lie in the range of times. After
+/// `NoMemory` the text, the topics and what was told are any.
 pub fn tell_effects(
     alloc: Global,
     tasks: &[TaskNames],
@@ -136,6 +148,7 @@ pub fn tell_effects(
     ensures told { (events : List EventValue) (before : List Transition) → StandsFor events topics.old
         → Trans events ≡ before ++ told.old.items
         → OnOk result (Trans (events ++ events_of effects.now) ≡ before ++ told.new.items) }
+    ensures times { OnOk result (list_all (λ e. is_time e.time) (events_of effects.now) ≡ true) }
 {
     'putting: for effect in effects {
         tell_effect(alloc, tasks, topics, effect, text, told)?;
