@@ -1,7 +1,9 @@
 //! The lives of a store run on, behind all its points: more points come, a life begins, lives end, and what
 //! they are is told as a snapshot.
 
+use crate::planning::next_number;
 use crate::runs::EngineRun;
+use crate::turning::end_lives;
 use barrier_snapshot::{capture, has_passed};
 use effect_text::{TaskNames, tell_effects};
 use kap_base::{Bytes, NoMemory, Point, Shared, Stamp, Text};
@@ -16,9 +18,6 @@ use store_records::Life;
 use task_run::LifePlan;
 use tick_compile::Task;
 use topic_core::Transition;
-
-use crate::planning::next_number;
-use crate::turning::end_lives;
 
 /// The life that begins next: its names, and a plan that has its nodes in their first states.
 #[derive(Drop)]
@@ -48,6 +47,7 @@ impl<N: ScriptNode + NumberingNode + Send> EngineRun<N> {
     ghost use Rattle.kap_base.specs.Points.{PointValue};
     ghost use Rattle.barrier_snapshot.specs.Snapshots.{IsSnapshot};
     ghost use Rattle.life_effects.specs.Effects.{LivesFit, open_courses};
+    ghost use Rattle.store_records.specs.States.{AreStates};
     ghost use Rattle.store_records.specs.declared.task.Life.{Life};
     ghost use Rattle.task_run.specs.Plans.{IsPlan};
     ghost use Rattle.tick_compile.specs.declared.tasks.Task.{Task};
@@ -136,12 +136,7 @@ impl<N: ScriptNode + NumberingNode + Send> EngineRun<N> {
     }
 
     /// The life of the task with this id that begins next, by the task of its script.
-    pub fn plan_next(
-        &self,
-        alloc: Global,
-        id: &Text,
-        task: Task,
-    ) -> Result<NextLife<N>, NoMemory>
+    pub fn plan_next(&self, alloc: Global, id: &Text, task: Task) -> Result<NextLife<N>, NoMemory>
         ensures planned { IfOk result (λ next. (life : Life) → life.task ≡ id.now
             → IsTaskOf life task → IsPlanned N.planned N.spec N.state N.first
             (length self.now.names + 1) life next) }
@@ -198,6 +193,7 @@ impl<N: ScriptNode + NumberingNode + Send> EngineRun<N> {
     /// store.
     pub fn snapshot(&self, alloc: Global) -> Result<Option<Bytes>, NoMemory>
         requires { self.now.spent ≡ false }
+        ensures form { IfOk result (λ found. IfSome found AreStates) }
         ensures states { IfOk result (λ found. (lives : List Life) (tasks : List Task)
             (before : List PointValue) → LivesFit (length before) lives
             → HasRun N.Node N.planned lives tasks before 1 self.now
@@ -208,7 +204,7 @@ impl<N: ScriptNode + NumberingNode + Send> EngineRun<N> {
             → HasRun N.Node N.planned lives tasks before 1 self.now
             → result ≡ Ok None → ⊥) }
     {
-        let last = self.net.last();
+        let last = Stamp(self.points);
         if !has_passed(&self.net, last) {
             return Ok(None);
         }

@@ -2,6 +2,7 @@
 //! the transitions of their alerts are told. It knows no disk.
 #![tactic(auto)]
 
+mod changing;
 mod fault;
 mod gathering;
 mod laws;
@@ -11,6 +12,7 @@ mod runs;
 mod spans;
 mod turning;
 
+pub use changing::NextLife;
 pub use fault::{RunFault, fault_at};
 pub use laws::{effects_come_behind, lives_go_on_later, lives_lie_behind_records, open_lives_run};
 pub use runs::EngineRun;

@@ -1,12 +1,1 @@
-pub mod AddLaws
-pub mod SizeLaws
-pub mod SnapLaws
-pub mod PassLaws
-pub mod StoredLaws
-pub mod GoodLaws
-pub mod OpenLaws
-pub mod AskLaws
-pub mod WhyLaws
-pub mod ReadLaws
-pub mod CauseLaws
 pub mod MakeLaws

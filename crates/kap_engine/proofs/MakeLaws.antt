@@ -17,15 +17,15 @@ use Rattle.topic_store.specs.Stores.{IsNamed, IsNoStore, IsOn, StoreState}
 use Rattle.topic_store.specs.declared.fault.StoreFault.{StoreFault}
 use Rattle.topic_store.specs.declared.fault.StoreFault.TheVariants as stores
 use Rattle.engine_runs.specs.Running.{RunValue}
-use Rattle.kap_engine.specs.Adding.{IsOnBehind, stands_with_some}
+use Rattle.engine_store.specs.Adding.{IsOnBehind, stands_with_some}
 use Rattle.kap_engine.specs.Engines.{IsEngineBehind}
-use Rattle.kap_engine.specs.Faults.{store_fault}
-use Rattle.kap_engine.specs.Good.{IsFull, IsGood, stays_or_good}
-use Rattle.kap_engine.specs.Opening.{HasRunAll}
-use Rattle.kap_engine.specs.declared.fault.EngineFault.{EngineFault}
-use Rattle.kap_engine.specs.declared.fault.EngineFault.TheVariants.{NotStore}
-use Rattle.kap_engine.proofs.GoodLaws.{full_added, runs_added, some_good}
-use Rattle.kap_engine.proofs.OpenLaws.{due_are, due_next}
+use Rattle.engine_store.specs.Faults.{store_fault}
+use Rattle.engine_store.specs.Good.{IsFull, IsGood, stays_or_good}
+use Rattle.engine_store.specs.Opening.{HasRunAll}
+use Rattle.engine_store.specs.declared.fault.EngineFault.{EngineFault}
+use Rattle.engine_store.specs.declared.fault.EngineFault.TheVariants.{NotStore}
+use Rattle.engine_store.proofs.GoodLaws.{full_added, runs_added, some_good}
+use Rattle.engine_store.proofs.OpenLaws.{due_are, due_next}
 
 none-more : (xs ys : List Transition) → xs ≡ xs ++ ys → ys ≡ []
 none-more xs [] e = refl

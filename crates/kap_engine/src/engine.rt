@@ -1,10 +1,8 @@
 //! An engine, and its making.
 
-use crate::adding::add_transitions;
-use crate::fault::EngineFault;
-use crate::opening::run_store;
 use edge_queue::CAPACITY_LIMIT;
 use engine_runs::EngineRun;
+use engine_store::{EngineFault, add_transitions, run_store};
 use flow_core::Net;
 use kap_io::{Disk, Gate};
 use lambda_types::Patterns;
@@ -20,30 +18,48 @@ use tick_compile::scripts_have_one_answer;
 use topic_core::{Topics, transition_laws};
 use topic_store::{Store, open_store};
 
-/// An engine: a store on a disk, and the lives of its tasks as they run. Contracts see these two, and the
-/// transitions that the last change on it stored.
+/// An engine: a store on a disk, and the lives of its tasks as they run. Contracts see these two, the
+/// transitions that the last change on it stored, and whether a call failed in the middle. Then it is spent:
+/// it is made anew.
 #[derive(Drop)]
 pub struct Engine<N: Node> {
-    store: Store,
-    run: EngineRun<N>,
-    stored: Transitions,
+    pub(crate) store: Store,
+    pub(crate) run: EngineRun<N>,
+    pub(crate) stored: Transitions,
+    pub(crate) workers: u32,
+    pub(crate) spent: bool,
+    ghost some: { 0 < workers },
+    ghost few: { workers ≤ WORKER_LIMIT },
 }
 
 impl<N: Node> Model for Engine<N> {
     ghost use Rattle.std.specs.Coded.{codes};
+    ghost use Rattle.std.specs.Prelude.{◌≡◌, false};
     ghost use Rattle.flow_cells.specs.contracts.parts.Gathered as gathered_effects;
     ghost use Rattle.kap_base.specs.Maps.{key_map_code};
-    ghost use Rattle.kap_engine.specs.Engines.{EngineValue};
+    ghost use Rattle.kap_engine.specs.Engines.{CanWork, EngineValue};
 
     ghost Value = { EngineValue N };
 
     ghost coded = { Prim.hlevel (codes, key_map_code, gathered_effects.the_row.coded) };
 
-    ghost view = { λ e. record { store = e.store; run = e.run; stored = e.stored } };
+    ghost view = { λ e. record {
+      store = e.store;
+      run = e.run;
+      stored = e.stored;
+      spent = e.spent;
+    } };
+
+    ghost invariant = { λ e. e.spent ≡ false → CanWork (record {
+      store = e.store;
+      run = e.run;
+      stored = e.stored;
+      spent = e.spent;
+    }) };
 }
 
 impl<N: ScriptNode + NumberingNode + Send> Engine<N> {
-    ghost use Rattle.std.specs.Prelude.{◌≡◌, ◌<◌, ◌≤◌, ◌||◌, ℕ, [], false, IfOk, IsErrOf, IsTrue, List};
+    ghost use Rattle.std.specs.Prelude.{◌≡◌, ◌<◌, ◌≤◌, ℕ, [], false, IfOk, IsErrOf, IsTrue, List};
     ghost use Rattle.kap_base.specs.Words.{HasRisen};
     ghost use Rattle.kap_io.specs.Moments.{Moments, Quiet};
     ghost use Rattle.kap_io.specs.declared.disk.Part.{Part};
@@ -53,8 +69,8 @@ impl<N: ScriptNode + NumberingNode + Send> Engine<N> {
     ghost use Rattle.store_records.specs.declared.rec.Rec.{Rec};
     ghost use Rattle.topic_store.specs.Stores.{Stands};
     ghost use Rattle.kap_engine.specs.Engines.{IsEngineBehind};
-    ghost use Rattle.kap_engine.specs.Faults.{EngineCause, IsAsked, IsNoGood};
-    ghost use Rattle.kap_engine.specs.Good.{IsFull, IsGood, stays_or_good};
+    ghost use Rattle.engine_store.specs.Faults.{EngineCause, IsAsked, IsNoGood};
+    ghost use Rattle.engine_store.specs.Good.{IsFull, IsGood, stays_or_good};
 
     /// Opens the store on a disk, restores the lives of its tasks from its last snapshot, runs them on the
     /// points behind it, and stores the transitions that are missing. It works with so many workers, 1 to 64,
@@ -94,8 +110,8 @@ impl<N: ScriptNode + NumberingNode + Send> Engine<N> {
             → IsGood N.Node N.planned rs → (part : Part) (offset : ℕ)
             → IsErrOf result (EngineFault.NotStore part offset)
             → HasRisen (P.refusals pats.old) (P.refusals pats.new) }
+        ensures unspent { IfOk result (λ engine. engine.spent ≡ false) }
         ensures usable { IfOk result (λ engine. engine.store.log.spent ≡ false) }
-        ensures unspent { IfOk result (λ engine. engine.run.spent ≡ false) }
         ensures valid { IfOk result (λ engine. AreValid engine.store.kept) }
         ensures stored { IfOk result (λ engine. engine.stored ≡ []) }
         ensures cause { EngineCause (D.faults disk.old) (D.faults disk.new) result }
@@ -111,6 +127,8 @@ impl<N: ScriptNode + NumberingNode + Send> Engine<N> {
             store,
             run,
             stored: Transitions::new(alloc),
+            workers,
+            spent: false,
         })
     }
 
@@ -137,9 +155,9 @@ impl<N: ScriptNode + NumberingNode + Send> Engine<N> {
 
     /// Whether a call on it failed in the middle. It is then to be made anew.
     pub fn spent(&self) -> bool
-        ensures { result ≡ (self.now.store.log.spent || self.now.run.spent) }
+        ensures { result ≡ self.now.spent }
     {
-        self.store.spent() || self.run.is_spent()
+        self.spent
     }
 
     /// The transitions that the last change on this engine stored; none behind its making.

@@ -1,15 +1,14 @@
-//! An engine: a store, and the lives of its tasks as they run. Opening it restores them, and stores the
-//! transitions that are missing.
+//! An engine: a store on a disk, and the lives of its tasks as they run. Opening it restores them and stores
+//! the transitions that are missing; then points are written, and tasks are defined, enabled, disabled and
+//! deleted.
 #![tactic(auto)]
 
-mod adding;
-mod asking;
+mod changing;
 mod engine;
-mod fault;
-mod opening;
+mod writing;
 
 pub use engine::Engine;
-pub use fault::EngineFault;
+pub use engine_store::EngineFault;
 
-/// How many bytes the body of a record of transitions has at most before its last one.
-pub const PIECE_LIMIT: u64 = 1_048_576;
+/// From how many points behind the last snapshot on a write ends with a snapshot.
+pub const SNAP_POINTS: u64 = 4_096;

@@ -27,11 +27,11 @@ use Rattle.engine_runs.specs.Running.{life_events}
 use Rattle.engine_runs.specs.Scripts.{AreTasksOf}
 use Rattle.engine_runs.specs.Whole.{due_of}
 use Rattle.kap_engine.specs.Engines.{EngineValue, IsEngineBehind}
-use Rattle.kap_engine.specs.Faults.{IsNoGood, no_lives, no_store}
-use Rattle.kap_engine.specs.Good.{IsGood, graphs_in, stays_or_good}
-use Rattle.kap_engine.proofs.GoodLaws.{due_same}
-use Rattle.kap_engine.specs.declared.fault.EngineFault.{EngineFault}
-use Rattle.kap_engine.specs.declared.fault.EngineFault.TheVariants as engines
+use Rattle.engine_store.specs.Faults.{IsNoGood, no_lives, no_store}
+use Rattle.engine_store.specs.Good.{IsGood, graphs_in, stays_or_good}
+use Rattle.engine_store.proofs.GoodLaws.{due_same}
+use Rattle.engine_store.specs.declared.fault.EngineFault.{EngineFault}
+use Rattle.engine_store.specs.declared.fault.EngineFault.TheVariants as engines
 use Rattle.store_lists.specs.Lists.{points_text, tasks_text, topics_text, transitions_text}
 use Rattle.store_lists.specs.Writing.{Lists}
 use Rattle.store_lists.specs.declared.fault.ListFault.{ListFault}

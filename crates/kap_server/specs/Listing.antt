@@ -12,9 +12,9 @@ use Rattle.topic_core.specs.Topics.{topics_after}
 use Rattle.topic_core.specs.declared.transition.Transition.{Transition}
 use Rattle.topic_store.specs.Stores.{Stands}
 use Rattle.engine_runs.specs.Whole.{due_of}
-use Rattle.kap_engine.specs.Adding.{HasAdded}
-use Rattle.kap_engine.specs.Faults.{IsAsked, IsNoGood}
-use Rattle.kap_engine.specs.Good.{IsFull, IsGood, graphs_in}
+use Rattle.engine_store.specs.Adding.{HasAdded}
+use Rattle.engine_store.specs.Faults.{IsAsked, IsNoGood}
+use Rattle.engine_store.specs.Good.{IsFull, IsGood, graphs_in}
 use Rattle.store_lists.specs.Lists.{points_text, tasks_text, topics_text, transitions_text}
 use Rattle.kap_server.specs.declared.status.Status.{Status}
 use Rattle.kap_server.specs.declared.status.Status.TheVariants.{Ok, Usage, Script, Line, Truncated, NotStore, Exists, TooManyTasks, TooLong, NoMemory, ReadFault, WriteFault, DiskFault}

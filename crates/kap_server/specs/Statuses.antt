@@ -14,8 +14,8 @@ use Rattle.kap_io.specs.declared.disk.Part.{Part}
 use Rattle.kap_io.specs.declared.disk.Part.TheVariants.{Head, Left, Right}
 use Rattle.topic_store.specs.declared.fault.StoreFault.{StoreFault}
 use Rattle.topic_store.specs.declared.fault.StoreFault.TheVariants as stores
-use Rattle.kap_engine.specs.declared.fault.EngineFault.{EngineFault}
-use Rattle.kap_engine.specs.declared.fault.EngineFault.TheVariants as engines
+use Rattle.engine_store.specs.declared.fault.EngineFault.{EngineFault}
+use Rattle.engine_store.specs.declared.fault.EngineFault.TheVariants as engines
 use Rattle.store_lists.specs.declared.fault.ListFault.{ListFault}
 use Rattle.store_lists.specs.declared.fault.ListFault.TheVariants as lists
 

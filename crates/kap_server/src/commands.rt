@@ -11,7 +11,7 @@ ghost use Rattle.recording_file.specs.Reading.{HasEnded};
 ghost use Rattle.recording_file.specs.Recording.{reading_of};
 ghost use Rattle.sample_points.specs.Samples.{sample_text};
 ghost use Rattle.tick_compile.specs.declared.tasks.Task.{Task};
-ghost use Rattle.kap_engine.specs.Good.{IsFull, IsGood, stays_or_good};
+ghost use Rattle.engine_store.specs.Good.{IsFull, IsGood, stays_or_good};
 ghost use Rattle.kap_server.specs.Checking.{Checked, ChecksTo};
 ghost use Rattle.kap_server.specs.Command.{AsksForTooMany, AsksToCheck, AsksToGenerate, AsksToInit, AsksToReplay, AsksToShow, AsksToSummarize};
 ghost use Rattle.kap_server.specs.Command.{ExactlyWhere, IsUnlessDiskFailed, IsUnlessFailed};

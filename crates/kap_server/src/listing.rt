@@ -10,7 +10,7 @@ ghost use Rattle.store_records.specs.declared.rec.Rec.{Rec};
 ghost use Rattle.topic_core.specs.Topics.{topics_after};
 ghost use Rattle.topic_store.specs.Stores.{IsOn, Stands};
 ghost use Rattle.store_lists.specs.Writing.{ListCause, Lists};
-ghost use Rattle.kap_engine.specs.Good.{IsFull, IsGood, stays_or_good};
+ghost use Rattle.engine_store.specs.Good.{IsFull, IsGood, stays_or_good};
 ghost use Rattle.kap_server.specs.Listing.{AreOthers, IsOfList, LeavesFull, Opens, Shows, held_whole, list_text};
 
 use crate::options::{capacity_of, no_options, workers_of};

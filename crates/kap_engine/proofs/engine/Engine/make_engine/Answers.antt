@@ -6,12 +6,12 @@ use Rattle.topic_store.specs.Stores.{IsOn, StoreState}
 use Rattle.topic_store.specs.declared.fault.StoreFault.{StoreFault}
 use Rattle.topic_store.proofs.Found.{seen_stands}
 use Rattle.topic_store.proofs.Quietly.{on_quietly}
-use Rattle.kap_engine.specs.Faults.{no_lives, no_store}
-use Rattle.kap_engine.specs.declared.fault.EngineFault.{EngineFault}
-use Rattle.kap_engine.specs.declared.fault.EngineFault.TheVariants.{NotStore}
-use Rattle.kap_engine.proofs.CauseLaws.{cause_later, cause_none, cause_of, cause_same, cause_store, no_place, same_fault}
+use Rattle.engine_store.specs.Faults.{no_lives, no_store}
+use Rattle.engine_store.specs.declared.fault.EngineFault.{EngineFault}
+use Rattle.engine_store.specs.declared.fault.EngineFault.TheVariants.{NotStore}
+use Rattle.engine_store.proofs.CauseLaws.{cause_later, cause_none, cause_of, cause_same, cause_store, no_place, same_fault}
 use Rattle.kap_engine.proofs.MakeLaws.{found_fault, good_moments, made_behind, may_store, named_by, none_missing, on_seen, opened_fault, quiet_good, quiet_still}
-use Rattle.kap_engine.proofs.WhyLaws.{good_rose}
+use Rattle.engine_store.proofs.WhyLaws.{good_rose}
 use Rattle.kap_engine.proofs.engine.Engine.make_engine.Goals as goal
 
 -- ---- there is no store

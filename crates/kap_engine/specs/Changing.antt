@@ -1,0 +1,74 @@
+-- What a change of a task leaves.
+use Rattle.std.specs.Prelude.{◌≡◌, ◌⊎◌, ℕ, ◌≤◌, ⊤, true, false, List, [], ◌∷◌, ◌++◌, Some, length}
+use Rattle.kap_io.specs.Disk.{Image}
+use Rattle.kap_io.specs.declared.disk.Part.{Part}
+use Rattle.kap_base.specs.declared.limits.TheConstants.{TASK_LIMIT}
+use Rattle.node_core.specs.declared.node.Node.{Ghosts}
+use Rattle.node_set.specs.Tasks.{Planned}
+use Rattle.store_records.specs.Held.{has_task, task_of}
+use Rattle.store_records.specs.declared.rec.Rec.{Rec}
+use Rattle.store_records.specs.declared.task.StoredTask.{StoredTask}
+use Rattle.tick_compile.specs.Scripts.{Refuses}
+use Rattle.tick_compile.specs.Tasks.{refusal_in}
+use Rattle.topic_store.specs.Stores.{Stands}
+use Rattle.engine_runs.specs.Faults.{IsRefused}
+use Rattle.engine_store.specs.Asking.{IsScript}
+use Rattle.engine_store.specs.Good.{IsFull}
+use Rattle.engine_store.specs.declared.fault.EngineFault.{EngineFault}
+use Rattle.engine_store.specs.declared.fault.EngineFault.TheVariants.{DiskFault, Exists, NoMemory, NoTask, NotStore, Script, TooManyTasks}
+
+module _ {N P S : Type 0} (g : Ghosts N P S) (planned : Planned P) where
+  -- the files stand for these records, which are those of a store that has all transitions
+  pub record StandsFull (rs : List Rec) (files : Image) : Type 0 where
+    pub stands : Stands rs files
+    pub full : IsFull g planned rs
+
+  -- they stand for these, or for one record more
+  abbrev pub stands_full_before_or_after : List Rec → Rec → Image → Image → Type 0
+  stands_full_before_or_after rs r old files = StandsFull rs files ⊎ StandsFull (rs ++ r ∷ []) files
+
+-- ---- why a task isn't defined
+
+-- Why no task of this id is defined by this script, in this order: the script is none of a task, a task has the id, or
+-- there are as many as may be. The text is the last pattern that was refused.
+abbrev pub IsWhyNoneDefined : List ℕ → List ℕ → List ℕ → List StoredTask → EngineFault → Type 0
+IsWhyNoneDefined refused id script tasks (Script fault) = Refuses (refusal_in fault refused) script fault
+IsWhyNoneDefined refused id script tasks Exists = IsScript script × (has_task id tasks ≡ true)
+IsWhyNoneDefined refused id script tasks TooManyTasks =
+    IsScript script × (has_task id tasks ≡ false) × (TASK_LIMIT ≤ length tasks)
+IsWhyNoneDefined refused id script tasks DiskFault = ⊤
+IsWhyNoneDefined refused id script tasks NoMemory = ⊤
+IsWhyNoneDefined refused id script tasks NoTask = ⊥
+IsWhyNoneDefined refused id script tasks (NotStore part offset) = ⊥
+
+-- ---- why a task isn't enabled
+
+-- the script of a task that isn't enabled was refused in the call, which the record at this place of the log defined
+pub record IsRefusedAgain (before after : ℕ) (refused id : List ℕ) (tasks : List StoredTask) (offset : ℕ) : Type 0 where
+  pub task : StoredTask
+  pub is : task_of id tasks ≡ Some task
+  pub disabled : task.enabled ≡ false
+  pub place : offset ≡ task.define_at
+  pub why : IsRefused before after refused task.script
+
+-- Why no task of this id is enabled: none has it, or its script is refused in the call.
+abbrev pub IsWhyNoneEnabled : ℕ → ℕ → List ℕ → Part → List ℕ → List StoredTask → EngineFault → Type 0
+IsWhyNoneEnabled before after refused log id tasks NoTask = has_task id tasks ≡ false
+IsWhyNoneEnabled before after refused log id tasks (NotStore part offset) =
+    (part ≡ log) × IsRefusedAgain before after refused id tasks offset
+IsWhyNoneEnabled before after refused log id tasks DiskFault = ⊤
+IsWhyNoneEnabled before after refused log id tasks NoMemory = ⊤
+IsWhyNoneEnabled before after refused log id tasks fault = ⊥
+
+-- Why no task of this id is disabled or deleted: none has it.
+abbrev pub IsWhyNoneEnded : List ℕ → List StoredTask → EngineFault → Type 0
+IsWhyNoneEnded id tasks NoTask = has_task id tasks ≡ false
+IsWhyNoneEnded id tasks DiskFault = ⊤
+IsWhyNoneEnded id tasks NoMemory = ⊤
+IsWhyNoneEnded id tasks fault = ⊥
+
+-- a refusal of these kinds changes nothing
+abbrev pub IsRefusal : EngineFault → Type 0
+IsRefusal DiskFault = ⊥
+IsRefusal NoMemory = ⊥
+IsRefusal fault = ⊤

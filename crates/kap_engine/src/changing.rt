@@ -1,0 +1,234 @@
+//! Tasks are defined, enabled, disabled and deleted.
+
+ghost use Rattle.std.specs.Prelude.{◌≡◌, ◌≤◌, ◌∷◌, ◌++◌, [], false, true, length, IfErr, IsTrue, List, OnOk};
+ghost use Rattle.kap_base.specs.Words.{HasRisen};
+ghost use Rattle.kap_base.specs.Texts.{is_task_id};
+ghost use Rattle.kap_base.specs.declared.limits.TheConstants.{SCRIPT_LIMIT};
+ghost use Rattle.kap_io.specs.Moments.{Moments};
+ghost use Rattle.store_records.specs.declared.rec.Rec.{Rec};
+ghost use Rattle.tick_compile.specs.Tasks.{is_refusal};
+ghost use Rattle.engine_store.specs.Faults.{EngineCause};
+ghost use Rattle.kap_engine.specs.Changing.{IsRefusal, IsWhyNoneDefined, IsWhyNoneEnabled, IsWhyNoneEnded, stands_full_before_or_after};
+ghost use Rattle.kap_engine.specs.Engines.{IsEngine};
+
+use crate::engine::Engine;
+use engine_runs::NextLife;
+use engine_store::{EngineFault, compile_fault};
+use kap_base::{TASK_LIMIT, Text};
+use kap_io::Disk;
+use lambda_types::Patterns;
+use net_run::NumberingNode;
+use node_set::ScriptNode;
+use std::alloc::Global;
+use store_records::{Rec, Transitions, find_task, has_task};
+use tick_compile::{ScriptFault, compile};
+
+impl<N: ScriptNode + NumberingNode + Send> Engine<N> {
+    /// The life that begins where the task at this place is enabled; none where it is enabled already.
+    fn plan_enabled<P: Patterns>(
+        &self,
+        alloc: Global,
+        place: usize,
+        pats: &mut P,
+    ) -> Result<Option<NextLife<N>>, EngineFault> {
+        let Some(task) = self.store.tasks().get(place) else {
+            return Ok(None);
+        };
+        if task.enabled {
+            return Ok(None);
+        }
+        match compile(alloc, task.script.bytes(), pats) {
+            Ok(made) => Ok(Some(self.run.plan_next(alloc, &task.id, made)?)),
+            Err(ScriptFault::NoMemory) => Err(EngineFault::NoMemory),
+            Err(_) => Err(EngineFault::NotStore {
+                part: self.store.part(),
+                offset: task.define_at,
+            }),
+        }
+    }
+
+    /// Adds a record to the store, and begins the life that was planned for it.
+    fn add_change<D: Disk>(
+        &mut self,
+        alloc: Global,
+        disk: &mut D,
+        rec: &Rec,
+        next: Option<NextLife<N>>,
+    ) -> Result<(), EngineFault> {
+        if let Err(fault) = self.store.add(disk, rec) {
+            self.spent = self.store.spent();
+            return Err(EngineFault::from(fault));
+        }
+        self.spent = true;
+        self.stored = Transitions::new(alloc);
+        if let Some(next) = next {
+            self.run.begin_next(alloc, next)?;
+        }
+        self.run.end_lives(self.store.lives());
+        self.spent = false;
+        Ok(())
+    }
+
+    /// Defines a task with this id by a script, enabled or not. `Script` comes exactly where the script isn't
+    /// that of a task; else `Exists` exactly where a task has the id; else `TooManyTasks` exactly where 64 are
+    /// there. These change nothing. `DiskFault` comes only where the disk's count of faults rose in this
+    /// call, and `NoMemory` where memory ran out: the engine is spent then, unless nothing has changed.
+    pub fn define<D: Disk, P: Patterns>(
+        &mut self,
+        alloc: Global,
+        disk: &mut D,
+        id: &Text,
+        script: &Text,
+        enabled: bool,
+        pats: &mut P,
+    ) -> Result<(), EngineFault>
+        requires unspent { self.old.spent ≡ false }
+        requires id { IsTrue (is_task_id id.now) }
+        requires short { length script.now ≤ SCRIPT_LIMIT }
+        ensures unspent { OnOk result (self.new.spent ≡ false) }
+        ensures defined { IsTrue D.tells → (rs : List Rec)
+            → IsEngine N.Node N.planned rs (D.seen disk.old) (D.may_leave disk.old) self.old
+            → OnOk result (IsEngine N.Node N.planned
+            (rs ++ Rec.Define id.now script.now enabled ∷ [])
+            (D.seen disk.new) (D.may_leave disk.new) self.new) }
+        ensures any_moment { IsTrue D.tells → (rs : List Rec)
+            → IsEngine N.Node N.planned rs (D.seen disk.old) (D.may_leave disk.old) self.old
+            → Moments D.moment D.may_leave D.left_since disk.old disk.new
+            (stands_full_before_or_after N.Node N.planned rs
+            (Rec.Define id.now script.now enabled)) }
+        ensures stored { OnOk result (self.new.stored ≡ []) }
+        ensures why { IfErr result
+            (IsWhyNoneDefined (P.refused pats.new) id.now script.now self.old.store.kept.tasks) }
+        ensures rose { IfErr result (λ f. (fault : _) → f ≡ EngineFault.Script fault
+            → is_refusal fault ≡ true → HasRisen (P.refusals pats.old) (P.refusals pats.new)) }
+        ensures still { IfErr result (λ f. IsRefusal f
+            → (self.new ≡ self.old) × (disk.new ≡ disk.old)) }
+        ensures quiet { IfErr result (λ f. self.new.spent ≡ false → disk.new ≡ disk.old) }
+        ensures cause { EngineCause (D.faults disk.old) (D.faults disk.new) result }
+    {
+        let task = match compile(alloc, script.bytes(), pats) {
+            Ok(task) => task,
+            Err(fault) => return Err(compile_fault(fault)),
+        };
+        if has_task(self.store.tasks(), id) {
+            return Err(EngineFault::Exists);
+        }
+        if TASK_LIMIT <= self.store.tasks().len() {
+            return Err(EngineFault::TooManyTasks);
+        }
+        let next = if enabled {
+            Some(self.run.plan_next(alloc, id, task)?)
+        } else {
+            None
+        };
+        let id = id.copy(alloc)?;
+        let script = script.copy(alloc)?;
+        let rec = Rec::Define {
+            id,
+            script,
+            enabled,
+        };
+        self.add_change(alloc, disk, &rec, next)
+    }
+
+    /// Enables the task with this id: where it isn't enabled, a life of it begins. `NoTask` comes exactly
+    /// where no task has the id, and `NotStore`, with the place of the record that defined it, only where a
+    /// pattern of its script was refused in this call; these change nothing. All else is as `define` says.
+    pub fn enable<D: Disk, P: Patterns>(
+        &mut self,
+        alloc: Global,
+        disk: &mut D,
+        id: &Text,
+        pats: &mut P,
+    ) -> Result<(), EngineFault>
+        requires unspent { self.old.spent ≡ false }
+        ensures unspent { OnOk result (self.new.spent ≡ false) }
+        ensures enabled { IsTrue D.tells → (rs : List Rec)
+            → IsEngine N.Node N.planned rs (D.seen disk.old) (D.may_leave disk.old) self.old
+            → OnOk result (IsEngine N.Node N.planned (rs ++ Rec.Enable id.now ∷ [])
+            (D.seen disk.new) (D.may_leave disk.new) self.new) }
+        ensures any_moment { IsTrue D.tells → (rs : List Rec)
+            → IsEngine N.Node N.planned rs (D.seen disk.old) (D.may_leave disk.old) self.old
+            → Moments D.moment D.may_leave D.left_since disk.old disk.new
+            (stands_full_before_or_after N.Node N.planned rs (Rec.Enable id.now)) }
+        ensures stored { OnOk result (self.new.stored ≡ []) }
+        ensures why { IfErr result
+            (IsWhyNoneEnabled (P.refusals pats.old) (P.refusals pats.new) (P.refused pats.new)
+            self.old.store.log.part id.now self.old.store.kept.tasks) }
+        ensures still { IfErr result (λ f. IsRefusal f
+            → (self.new ≡ self.old) × (disk.new ≡ disk.old)) }
+        ensures quiet { IfErr result (λ f. self.new.spent ≡ false → disk.new ≡ disk.old) }
+        ensures cause { EngineCause (D.faults disk.old) (D.faults disk.new) result }
+    {
+        let Some(place) = find_task(self.store.tasks(), id) else {
+            return Err(EngineFault::NoTask);
+        };
+        let next = self.plan_enabled(alloc, place, pats)?;
+        let id = id.copy(alloc)?;
+        self.add_change(alloc, disk, &Rec::Enable { id }, next)
+    }
+
+    /// Disables the task with this id: where it is enabled, its life ends. `NoTask` comes exactly where no
+    /// task has the id, and changes nothing. All else is as `define` says.
+    pub fn disable<D: Disk>(
+        &mut self,
+        alloc: Global,
+        disk: &mut D,
+        id: &Text,
+    ) -> Result<(), EngineFault>
+        requires unspent { self.old.spent ≡ false }
+        ensures unspent { OnOk result (self.new.spent ≡ false) }
+        ensures disabled { IsTrue D.tells → (rs : List Rec)
+            → IsEngine N.Node N.planned rs (D.seen disk.old) (D.may_leave disk.old) self.old
+            → OnOk result (IsEngine N.Node N.planned (rs ++ Rec.Disable id.now ∷ [])
+            (D.seen disk.new) (D.may_leave disk.new) self.new) }
+        ensures any_moment { IsTrue D.tells → (rs : List Rec)
+            → IsEngine N.Node N.planned rs (D.seen disk.old) (D.may_leave disk.old) self.old
+            → Moments D.moment D.may_leave D.left_since disk.old disk.new
+            (stands_full_before_or_after N.Node N.planned rs (Rec.Disable id.now)) }
+        ensures stored { OnOk result (self.new.stored ≡ []) }
+        ensures why { IfErr result (IsWhyNoneEnded id.now self.old.store.kept.tasks) }
+        ensures still { IfErr result (λ f. IsRefusal f
+            → (self.new ≡ self.old) × (disk.new ≡ disk.old)) }
+        ensures quiet { IfErr result (λ f. self.new.spent ≡ false → disk.new ≡ disk.old) }
+        ensures cause { EngineCause (D.faults disk.old) (D.faults disk.new) result }
+    {
+        if !has_task(self.store.tasks(), id) {
+            return Err(EngineFault::NoTask);
+        }
+        let id = id.copy(alloc)?;
+        self.add_change(alloc, disk, &Rec::Disable { id }, None)
+    }
+
+    /// Deletes the task with this id: where it is enabled, its life ends. `NoTask` comes exactly where no task
+    /// has the id, and changes nothing. All else is as `define` says.
+    pub fn delete<D: Disk>(
+        &mut self,
+        alloc: Global,
+        disk: &mut D,
+        id: &Text,
+    ) -> Result<(), EngineFault>
+        requires unspent { self.old.spent ≡ false }
+        ensures unspent { OnOk result (self.new.spent ≡ false) }
+        ensures deleted { IsTrue D.tells → (rs : List Rec)
+            → IsEngine N.Node N.planned rs (D.seen disk.old) (D.may_leave disk.old) self.old
+            → OnOk result (IsEngine N.Node N.planned (rs ++ Rec.Delete id.now ∷ [])
+            (D.seen disk.new) (D.may_leave disk.new) self.new) }
+        ensures any_moment { IsTrue D.tells → (rs : List Rec)
+            → IsEngine N.Node N.planned rs (D.seen disk.old) (D.may_leave disk.old) self.old
+            → Moments D.moment D.may_leave D.left_since disk.old disk.new
+            (stands_full_before_or_after N.Node N.planned rs (Rec.Delete id.now)) }
+        ensures stored { OnOk result (self.new.stored ≡ []) }
+        ensures why { IfErr result (IsWhyNoneEnded id.now self.old.store.kept.tasks) }
+        ensures still { IfErr result (λ f. IsRefusal f
+            → (self.new ≡ self.old) × (disk.new ≡ disk.old)) }
+        ensures quiet { IfErr result (λ f. self.new.spent ≡ false → disk.new ≡ disk.old) }
+        ensures cause { EngineCause (D.faults disk.old) (D.faults disk.new) result }
+    {
+        if !has_task(self.store.tasks(), id) {
+            return Err(EngineFault::NoTask);
+        }
+        let id = id.copy(alloc)?;
+        self.add_change(alloc, disk, &Rec::Delete { id }, None)
+    }
+}
