@@ -6,7 +6,7 @@ use crate::runs::EngineRun;
 use crate::turning::end_lives;
 use barrier_snapshot::{capture, has_passed};
 use effect_text::{TaskNames, tell_effects};
-use kap_base::{Bytes, NoMemory, Point, Shared, Stamp, Text};
+use kap_base::{Bytes, Duplicate, NoMemory, Point, Shared, Stamp, Text};
 use kap_io::Gate;
 use net_run::{EPOCH_LIMIT, NumberingNode, Way, run_epoch};
 use node_core::Node;

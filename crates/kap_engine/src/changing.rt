@@ -14,7 +14,7 @@ ghost use Rattle.kap_engine.specs.Engines.{IsEngine};
 use crate::engine::Engine;
 use engine_runs::NextLife;
 use engine_store::{EngineFault, compile_fault};
-use kap_base::{TASK_LIMIT, Text};
+use kap_base::{Duplicate, TASK_LIMIT, Text};
 use kap_io::Disk;
 use lambda_types::Patterns;
 use net_run::NumberingNode;

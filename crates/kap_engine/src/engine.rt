@@ -122,7 +122,7 @@ impl<N: ScriptNode + NumberingNode + Send> Engine<N> {
         let least = few_points(store.tasks().len());
         let way = Way::Workers(Workers::new(rt, workers, gate, least));
         let (run, due) = run_store(alloc, &store, disk, capacity, &way, pats)?;
-        add_transitions(&mut store, disk, due)?;
+        add_transitions(alloc, &mut store, disk, due)?;
         Ok(Engine {
             store,
             run,
