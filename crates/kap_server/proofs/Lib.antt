@@ -11,3 +11,4 @@ pub mod RunLaws
 pub mod ListLaws
 pub mod GenLaws
 pub mod NetLaws
+pub mod ExportLaws

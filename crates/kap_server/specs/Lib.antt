@@ -14,3 +14,5 @@ pub mod Listing
 pub mod Command
 pub mod Generating
 pub mod Nets
+-- what the alerts of a store have to do with a replay
+pub mod Exporting
