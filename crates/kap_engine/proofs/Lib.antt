@@ -1,1 +1,5 @@
 pub mod MakeLaws
+pub mod LikeLaws
+pub mod BatchLaws
+pub mod ShotLaws
+pub mod WriteLaws
