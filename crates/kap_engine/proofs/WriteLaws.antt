@@ -22,11 +22,11 @@ use Rattle.kap_engine.proofs.ShotLaws.{snapped_same}
 
 module _ {N P S : Type 0} (g : Ghosts N P S) (planned : Planned P) (rs rs' : List Rec) (new : List PointValue) (full : IsFull g planned rs) (b : HasBatch rs new rs') where
   -- the engine stands over records that hold the points more
-  pub written : (r : RunValue N) (text : List ℕ) (due : List Transition) (seen : Image) (images : Image → Type 0) (store : StoreState) → HasStored g planned rs' full.good.tasks due seen images store
+  pub written : (r : RunValue N) (text : List ℕ) (due stored : List Transition) → stored ≡ due → (seen : Image) (images : Image → Type 0) (store : StoreState) → HasStored g planned rs' full.good.tasks due seen images store
       → HasRun g planned (held rs).lives full.good.tasks ((held rs).points ++ new) 1 r → length r.names ≡ length (held rs).lives
       → Tells g planned (held rs).lives full.good.tasks (held rs).points new [] text [] due
-      → HasWritten g planned rs full.good.tasks new seen images (record { store = store; run = r; stored = due; spent = false }) text
-  written r text due seen images store m h names t =
+      → HasWritten g planned rs full.good.tasks new seen images (record { store = store; run = r; stored = stored; spent = false }) text
+  written r text due stored same seen images store m h names t =
       let lives : (held m.records).lives ≡ (held rs).lives = m.holds.lives ∙ b.has.lives in
       let points : (held m.records).points ≡ (held rs).points ++ new = m.holds.points ∙ b.has.points in
       record {
@@ -41,26 +41,27 @@ module _ {N P S : Type 0} (g : Ghosts N P S) (planned : Planned P) (rs rs' : Lis
           numbered = names ∙ ap (λ (ls : List Life). length ls) (sym lives);
         };
         points = points_then new due (held rs) (held rs') (held m.records) b.has m.holds;
-        transitions = m.holds.transitions ∙ ap (λ (l : List Transition). l ++ due) b.transitions;
+        transitions = m.holds.transitions ∙ ap (λ (l : List Transition). l ++ due) b.transitions ∙ ap (λ (l : List Transition). (held rs).transitions ++ l) (sym same);
         snapped_is = snapped_same g planned rs rs' m.records full.good.tasks b.snap m.snapped_is;
         tells = record { effects = t.effects; more = t.more; text_is = t.text_is };
       }
 
 -- ---- at each moment
 
-module _ {N P S : Type 0} (g : Ghosts N P S) (planned : Planned P) (rs : List Rec) (db rp : List ℕ) (new : List PointValue) (full : IsFull g planned rs) (behind : ComeBehind g.answer)
+module _ {N P S : Type 0} (g : Ghosts N P S) (planned : Planned P) (rs : List Rec) (db rp : List ℕ) (new given : List PointValue) (same : given ≡ new) (full : IsFull g planned rs) (behind : ComeBehind g.answer)
     {D : Type 0} (moment : D → ℕ) (may_leave : D → Image → Type 0) (left_since : D → ℕ → Image → Type 0) where
   -- while the batch is added
-  pub batch_moments : (old new' : D) → Moments moment may_leave left_since old new' (stands_before_or_after rs (kinds.Batch db rp new)) → Moments moment may_leave left_since old new' (stands_writing g planned rs new)
-  batch_moments old new' run =
-      weaker moment may_leave left_since old new' _ _ run
+  pub batch_moments : (old now : D) → Moments moment may_leave left_since old now (stands_before_or_after rs (kinds.Batch db rp given)) → Moments moment may_leave left_since old now (stands_writing g planned rs new)
+  batch_moments old now run =
+      let here = subst (λ (ps : List PointValue). Moments moment may_leave left_since old now (stands_before_or_after rs (kinds.Batch db rp ps))) same run in
+      weaker moment may_leave left_since old now _ _ here
       (λ a b was how. with_or_without g planned rs (rs ++ kinds.Batch db rp new ∷ []) new full (batch_held rs db rp new) behind b how)
 
   -- and while its transitions are
-  pub due_moments : (old mid new' : D) → Moments moment may_leave left_since old mid (stands_before_or_after rs (kinds.Batch db rp new))
-      → Moments moment may_leave left_since mid new' (stands_storing g planned (rs ++ kinds.Batch db rp new ∷ []))
-      → Moments moment may_leave left_since old new' (stands_writing g planned rs new)
-  due_moments old mid new' one two =
-      then_run moment may_leave left_since old mid new' _ _ _ (batch_moments old mid one) two
+  pub due_moments : (old mid now : D) → Moments moment may_leave left_since old mid (stands_before_or_after rs (kinds.Batch db rp given))
+      → Moments moment may_leave left_since mid now (stands_storing g planned (rs ++ kinds.Batch db rp new ∷ []))
+      → Moments moment may_leave left_since old now (stands_writing g planned rs new)
+  due_moments old mid now one two =
+      then_run moment may_leave left_since old mid now _ _ _ (batch_moments old mid one) two
       (λ a b was how. how)
       (λ a b c was how left s. with_some g planned rs (rs ++ kinds.Batch db rp new ∷ []) new full (batch_held rs db rp new) c s)
