@@ -27,7 +27,7 @@ module _ {D : Type 0} (e : StoreFault) (old now : D) (was store : StoreState) (r
 
 -- where the store isn't spent, nothing has changed
 pub still_of : {D : Type 0} (e : StoreFault) (old now : D) (was store : StoreState) (rose : Type 0) (spent : Bool) → AddFault (Err e) old now was store rose → spent ≡ store.log.spent → spent ≡ false → now ≡ old
-still_of (stores.NotStore part offset) old now was store rose spent fault is no = absurd fault
-still_of stores.DiskFault old now was store rose spent fault is no = absurd (true≢false (sym fault.0 ∙ sym is ∙ no))
-still_of stores.Long old now was store rose spent fault is no = fault.0
-still_of stores.NoMemory old now was store rose spent fault is no = fault.0
+still_of (stores.NotStore part offset) old now was store rose spent fault is apart = absurd fault
+still_of stores.DiskFault old now was store rose spent fault is apart = absurd (true≢false (sym fault.0 ∙ sym is ∙ apart))
+still_of stores.Long old now was store rose spent fault is apart = fault.0
+still_of stores.NoMemory old now was store rose spent fault is apart = fault.0

@@ -26,14 +26,14 @@ returns-then-unsnapped-lt-SNAP_POINTS-clause-cause g c = cause_none _ _ _ (omega
 
 -- ---- there is no memory for the states
 
-pub returns-in_err-snapshot-clause-any_moment : goal.returns-in_err-snapshot-clause-any_moment
-returns-in_err-snapshot-clause-any_moment g c = λ tells rs full on h.
+pub returns-in_err-states-clause-any_moment : goal.returns-in_err-states-clause-any_moment
+returns-in_err-states-clause-any_moment g c = λ tells rs full on h.
     no_call g.D.Disk.moment g.D.Disk.may_leave g.D.Disk.left_since c.args.disk.now _ (λ i left. none_storing g.N.Node g.N.ScriptNode.planned rs full _ _ c.args.store.now on i left)
 
 -- ---- there are none
 
 pub returns-in_default-clause-stored : goal.returns-in_default-clause-stored
-returns-in_default-clause-stored g c = λ tells rs full on h. absurd (c.in_ok-snapshot.ensures.some (held rs).lives full.good.tasks (held rs).points (held_fits rs) h refl)
+returns-in_default-clause-stored g c = λ tells rs full on h. absurd (c.in_ok-states.ensures.some (held rs).lives full.good.tasks (held rs).points (held_fits rs) h refl)
 
 pub returns-in_default-clause-any_moment : goal.returns-in_default-clause-any_moment
 returns-in_default-clause-any_moment g c = λ tells rs full on h.
@@ -43,7 +43,7 @@ returns-in_default-clause-any_moment g c = λ tells rs full on h.
 
 pub returns-clause-stored : goal.returns-clause-stored
 returns-clause-stored g c = λ tells rs full on h.
-    let are = c.in_ok-snapshot.ensures.states (held rs).lives full.good.tasks (held rs).points (held_fits rs) h in
+    let are = c.in_ok-states.ensures.states (held rs).lives full.good.tasks (held rs).points (held_fits rs) h in
     let many : SNAP_POINTS ≤ c.unsnapped.result = grind (arith, nat_tests) in
     on_ok_weaker c.add_states.result (snap_stored g.N.Node g.N.ScriptNode.planned rs full c.in-Some.states are _ _ c.add_states.new.store
     (subst (λ (n : ℕ). SNAP_POINTS ≤ n) (c.unsnapped.ensures ∙ count_is g.N.Node g.N.ScriptNode.planned rs full _ _ c.args.store.now on) many))
@@ -51,6 +51,6 @@ returns-clause-stored g c = λ tells rs full on h.
 
 pub returns-clause-any_moment : goal.returns-clause-any_moment
 returns-clause-any_moment g c = λ tells rs full on h.
-    let are = c.in_ok-snapshot.ensures.states (held rs).lives full.good.tasks (held rs).points (held_fits rs) h in
+    let are = c.in_ok-states.ensures.states (held rs).lives full.good.tasks (held rs).points (held_fits rs) h in
     weaker g.D.Disk.moment g.D.Disk.may_leave g.D.Disk.left_since _ _ _ _ (c.add_states.ensures.any_moment tells rs on)
     (λ a b was how. snap_storing g.N.Node g.N.ScriptNode.planned rs full c.in-Some.states are b how)

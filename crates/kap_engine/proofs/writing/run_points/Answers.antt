@@ -16,5 +16,5 @@ returns-clause-tells g c = λ lives tasks before more h.
     let here = subst (λ (ps : List PointValue). HasRun g.N.Node g.N.ScriptNode.planned lives tasks before (length ps + more) c.args.run.now) (sym same) h in
     subst (λ (ps : List PointValue). Tells g.N.Node g.N.ScriptNode.planned lives tasks before ps [] c.run_on.new.text [] c.run_on.new.told.items) same
     (subst (λ (b : List ℕ). Tells g.N.Node g.N.ScriptNode.planned lives tasks before c.deref.result.now b c.run_on.new.text [] c.run_on.new.told.items) c.new-text.ensures
-    (subst (λ (ts : List Transition). Tells g.N.Node g.N.ScriptNode.planned lives tasks before c.deref.result.now c.new-text.result c.run_on.new.text ts c.run_on.new.told.items) c.new-told.ensures
+    (subst (λ (ts : List Transition). Tells g.N.Node g.N.ScriptNode.planned lives tasks before c.deref.result.now c.new-text.result c.run_on.new.text ts c.run_on.new.told.items) c.new-told.ensures.items
     (c.in_ok-run_on.ensures.tells lives tasks before more here)))

@@ -11,7 +11,7 @@ use Rattle.engine_store.proofs.CauseLaws.{cause_later, cause_none, cause_of, cau
 use Rattle.kap_engine.proofs.AddLaws.{disk_rose, fault_of, none_placed, still_of}
 use Rattle.kap_engine.proofs.BatchLaws.{batch_good, batch_held, ran_all}
 use Rattle.kap_engine.proofs.WriteLaws.{batch_moments, due_moments, written}
-use Rattle.kap_engine.proofs.writing.Engine.write.Goals as goal
+use Rattle.kap_engine.proofs.engine.Engine.write.Goals as goal
 
 -- ---- the batch isn't stored
 
@@ -22,7 +22,7 @@ returns-in-Err-clause-any_moment g c = λ tells rs at.
     g.D.Disk.moment g.D.Disk.may_leave g.D.Disk.left_since _ _ (c.add_batch.ensures.any_moment tells rs stood)
 
 pub returns-in-Err-clause-still : goal.returns-in-Err-clause-still
-returns-in-Err-clause-still g c = λ no. still_of c.in-Err.fault _ _ _ _ _ c.spent.result c.in-Err.ensures.cause c.spent.ensures no
+returns-in-Err-clause-still g c = λ unspent. still_of c.in-Err.fault _ _ _ _ _ c.spent.result c.in-Err.ensures.cause c.spent.ensures unspent
 
 pub returns-in-Err-clause-faults : goal.returns-in-Err-clause-faults
 returns-in-Err-clause-faults g c = fault_of c.in-Err.fault c.from.result c.from.ensures (none_placed c.in-Err.fault _ _ _ _ _ c.in-Err.ensures.cause)
