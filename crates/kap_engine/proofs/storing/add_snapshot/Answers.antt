@@ -1,9 +1,14 @@
-use Rattle.std.proofs.Common.{◌≡◌, ◌-◌, ◌<◌, ◌≤◌, length, ℕ, List, refl, sym, subst, arith, ◌∙◌}
+use Rattle.std.proofs.Common.{◌≡◌, ◌-◌, ◌<◌, ◌≤◌, length, ℕ, List, Ok, Option, ap, sym, subst, arith, ◌∙◌}
+use Rattle.std.specs.Prelude.{IfSome}
 use Rattle.std.proofs.lemmas.Bool.Decides.{nat_tests}
 use Rattle.std.proofs.lemmas.Result.{err_from_is_err_and, on_ok_weaker}
 use Rattle.kap_io.specs.Moments.{no_call, weaker}
+use Rattle.barrier_snapshot.specs.Snapshots.{IsSnapshot}
 use Rattle.life_effects.proofs.FitLaws.{held_fits}
+use Rattle.life_effects.specs.Effects.{open_courses}
 use Rattle.store_records.specs.Histories.{held}
+use Rattle.topic_store.proofs.Rereading.{none_of}
+use Rattle.engine_runs.specs.Scripts.{graphs_from}
 use Rattle.engine_store.proofs.CauseLaws.{cause_none, cause_other}
 use Rattle.kap_engine.specs.Writing.{snapped, snapped_in}
 use Rattle.kap_engine.specs.declared.TheConstants.{SNAP_POINTS}
@@ -33,7 +38,7 @@ returns-in_err-states-clause-any_moment g c = λ tells rs full on h.
 -- ---- there are none
 
 pub returns-in_default-clause-stored : goal.returns-in_default-clause-stored
-returns-in_default-clause-stored g c = λ tells rs full on h. absurd (c.in_ok-states.ensures.some (held rs).lives full.good.tasks (held rs).points (held_fits rs) h refl)
+returns-in_default-clause-stored g c = λ tells rs full on h. absurd (c.in_ok-states.ensures.some (held rs).lives full.good.tasks (held rs).points (held_fits rs) h (ap (λ (o : Option (List ℕ)). Ok o) (none_of _ c.in_default.not-Some)))
 
 pub returns-in_default-clause-any_moment : goal.returns-in_default-clause-any_moment
 returns-in_default-clause-any_moment g c = λ tells rs full on h.
@@ -43,7 +48,8 @@ returns-in_default-clause-any_moment g c = λ tells rs full on h.
 
 pub returns-clause-stored : goal.returns-clause-stored
 returns-clause-stored g c = λ tells rs full on h.
-    let are = c.in_ok-states.ensures.states (held rs).lives full.good.tasks (held rs).points (held_fits rs) h in
+    let are = subst (λ (o : Option (List ℕ)). IfSome o (IsSnapshot g.N.Node (open_courses (held rs).lives (graphs_from g.N.ScriptNode.planned 1 (held rs).lives full.good.tasks) (held rs).points))) c.in-Some.is
+    (c.in_ok-states.ensures.states (held rs).lives full.good.tasks (held rs).points (held_fits rs) h) in
     let many : SNAP_POINTS ≤ c.unsnapped.result = grind (arith, nat_tests) in
     on_ok_weaker c.add_states.result (snap_stored g.N.Node g.N.ScriptNode.planned rs full c.in-Some.states are _ _ c.add_states.new.store
     (subst (λ (n : ℕ). SNAP_POINTS ≤ n) (c.unsnapped.ensures ∙ count_is g.N.Node g.N.ScriptNode.planned rs full _ _ c.args.store.now on) many))
@@ -51,6 +57,7 @@ returns-clause-stored g c = λ tells rs full on h.
 
 pub returns-clause-any_moment : goal.returns-clause-any_moment
 returns-clause-any_moment g c = λ tells rs full on h.
-    let are = c.in_ok-states.ensures.states (held rs).lives full.good.tasks (held rs).points (held_fits rs) h in
+    let are = subst (λ (o : Option (List ℕ)). IfSome o (IsSnapshot g.N.Node (open_courses (held rs).lives (graphs_from g.N.ScriptNode.planned 1 (held rs).lives full.good.tasks) (held rs).points))) c.in-Some.is
+    (c.in_ok-states.ensures.states (held rs).lives full.good.tasks (held rs).points (held_fits rs) h) in
     weaker g.D.Disk.moment g.D.Disk.may_leave g.D.Disk.left_since _ _ _ _ (c.add_states.ensures.any_moment tells rs on)
     (λ a b was how. snap_storing g.N.Node g.N.ScriptNode.planned rs full c.in-Some.states are b how)

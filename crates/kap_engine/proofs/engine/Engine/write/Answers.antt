@@ -22,7 +22,7 @@ returns-in-Err-clause-any_moment g c = λ tells rs at.
     g.D.Disk.moment g.D.Disk.may_leave g.D.Disk.left_since _ _ (c.add_batch.ensures.any_moment tells rs stood)
 
 pub returns-in-Err-clause-still : goal.returns-in-Err-clause-still
-returns-in-Err-clause-still g c = λ unspent. still_of c.in-Err.fault _ _ _ _ _ c.spent.result c.in-Err.ensures.cause c.spent.ensures unspent
+returns-in-Err-clause-still g c = λ unspent. still_of c.in-Err.fault _ _ _ _ _ c.spent-self-inside.result c.in-Err.ensures.cause c.spent-self-inside.ensures unspent
 
 pub returns-in-Err-clause-faults : goal.returns-in-Err-clause-faults
 returns-in-Err-clause-faults g c = fault_of c.in-Err.fault c.from.result c.from.ensures (none_placed c.in-Err.fault _ _ _ _ _ c.in-Err.ensures.cause)
@@ -50,8 +50,8 @@ returns-in_err-text-clause-cause g c =
 
 -- ---- what is due isn't stored
 
-pub returns-in_err-store_due-clause-any_moment : goal.returns-in_err-store_due-clause-any_moment
-returns-in_err-store_due-clause-any_moment g c = λ tells rs at.
+pub returns-in_err-self-inside-clause-any_moment : goal.returns-in_err-self-inside-clause-any_moment
+returns-in_err-self-inside-clause-any_moment g c = λ tells rs at.
     let behind = c.effects_come_behind.ensures in
     let stood = subst (λ (v : EngineValue _). IsOn rs (g.D.Disk.seen c.args.disk.now) (g.D.Disk.may_leave c.args.disk.now) v.store) (sym c.self.view_is) at.on in
     let runs = subst (λ (v : EngineValue _). HasRun g.N.Node g.N.ScriptNode.planned (held rs).lives at.full.good.tasks (held rs).points 1 v.run) (sym c.self.view_is) at.runs in
@@ -65,15 +65,15 @@ returns-in_err-store_due-clause-any_moment g c = λ tells rs at.
     due_moments g.N.Node g.N.ScriptNode.planned rs c.args.db.now c.args.rp.now c.args.points c.as_slice.result.now c.as_slice.ensures at.full behind g.D.Disk.moment g.D.Disk.may_leave g.D.Disk.left_since _ _ _
     (c.add_batch.ensures.any_moment tells rs stood) (c.store_due.ensures.any_moment tells _ good on all c.in_ok-text.ensures.few)
 
-pub returns-in_err-store_due-clause-faults : goal.returns-in_err-store_due-clause-faults
-returns-in_err-store_due-clause-faults g c =
-    let p = err_from_is_err_and c.from_residual-in_err-store_due.result c.from_residual-in_err-store_due.ensures.1 in
-    rw (p.1, p.2) c.in_err-store_due.ensures.faults
+pub returns-in_err-self-inside-clause-faults : goal.returns-in_err-self-inside-clause-faults
+returns-in_err-self-inside-clause-faults g c =
+    let p = err_from_is_err_and c.from_residual-in_err-self-inside.result c.from_residual-in_err-self-inside.ensures.1 in
+    rw (p.1, p.2) c.in_err-self-inside.ensures.faults
 
-pub returns-in_err-store_due-clause-cause : goal.returns-in_err-store_due-clause-cause
-returns-in_err-store_due-clause-cause g c =
-    let p = err_from_is_err_and c.from_residual-in_err-store_due.result c.from_residual-in_err-store_due.ensures.1 in
-    cause_same _ _ _ c.in_err-store_due.field-0.0 p.0 p.1 p.2 (cause_later _ _ _ _ c.add_batch.ensures.later c.in_err-store_due.ensures.cause)
+pub returns-in_err-self-inside-clause-cause : goal.returns-in_err-self-inside-clause-cause
+returns-in_err-self-inside-clause-cause g c =
+    let p = err_from_is_err_and c.from_residual-in_err-self-inside.result c.from_residual-in_err-self-inside.ensures.1 in
+    cause_same _ _ _ c.in_err-self-inside.field-0.0 p.0 p.1 p.2 (cause_later _ _ _ _ c.add_batch.ensures.later c.in_err-self-inside.ensures.cause)
 
 -- ---- all is
 
@@ -90,8 +90,8 @@ returns-clause-written g c = λ tells rs at.
     let all = ran_all g.N.Node g.N.ScriptNode.planned rs _ c.args.points at.full b c.run_points.new.run c.in_ok-text.text c.in_ok-text.told.items ran told in
     let on = subst (λ (ps : List PointValue). IsOn (rs ++ kinds.Batch c.args.db.now c.args.rp.now ps ∷ []) (g.D.Disk.seen c.add_batch.new.disk) (g.D.Disk.may_leave c.add_batch.new.disk) c.add_batch.new.self) c.as_slice.ensures (c.in_default.ensures.added tells rs stood) in
     let named = ap length c.in_ok-text.ensures.names ∙ subst (λ (v : EngineValue _). length v.run.names ≡ length (held rs).lives) (sym c.self.view_is) at.numbered in
-    written g.N.Node g.N.ScriptNode.planned rs _ c.args.points at.full b c.run_points.new.run c.in_ok-text.text c.in_ok-text.told.items _ c.in_ok-store_due.ensures.same _ _ _
-    (c.in_ok-store_due.ensures.stored tells _ good on all c.in_ok-text.ensures.few) ran named told
+    written g.N.Node g.N.ScriptNode.planned rs _ c.args.points at.full b c.run_points.new.run c.in_ok-text.text c.in_ok-text.told.items _ c.in_ok-self-inside.ensures.same _ _ _
+    (c.in_ok-self-inside.ensures.stored tells _ good on all c.in_ok-text.ensures.few) ran named told
 
 pub returns-clause-any_moment : goal.returns-clause-any_moment
 returns-clause-any_moment g c = λ tells rs at.
