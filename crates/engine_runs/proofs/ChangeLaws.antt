@@ -25,9 +25,9 @@ use Rattle.tick_compile.specs.Scripts.{Accepts}
 use Rattle.tick_compile.specs.declared.tasks.Task.{Task}
 use Rattle.topic_core.specs.Topics.{StandsFor, TopicsValue, Trans, event_of}
 use Rattle.engine_runs.specs.Later.{AreLater, IsLastLater, IsLater}
-use Rattle.engine_runs.specs.Running.{AreRested, HasRun, LivesRun, RunValue, courses_on, life_events}
+use Rattle.engine_runs.specs.Running.{AreRested, HasRun, LivesRun, RunValue, life_events}
 use Rattle.engine_runs.specs.Scripts.{AreTasksOf, IsTaskOf, graphs_from, life_names, life_nodes, names_from}
-use Rattle.engine_runs.specs.Spans.{AreThere, HasEnded, IsAway, IsOnward, IsOpenOver, IsThere, numbers_from, picked}
+use Rattle.engine_runs.specs.Spans.{AreThere, HasEnded, IsAway, IsOnward, IsThere, numbers_from, picked}
 use Rattle.engine_runs.proofs.OpenLaws.{course_later, effects_later}
 use Rattle.engine_runs.proofs.PlaceLaws.{get_last, name_at, numbers_below}
 use Rattle.engine_runs.proofs.RestedLaws.{rested_there}

@@ -3,7 +3,6 @@ pub mod FaultLaws
 pub mod LaterLaws
 pub mod PlaceLaws
 pub mod ScriptLaws
-pub mod GatherLaws
 pub mod RestedLaws
 pub mod TurnLaws
 pub mod TimeLaws

@@ -1,6 +1,6 @@
 -- Lives that rest behind their net's last barrier: how they come there, and what is captured of them.
 use Rattle.std.proofs.Common.{◌≡◌, ℕ, ◌+◌, ◌<◌, ◌≤◌, List, [], ◌∷◌, ◌++◌, length, map, sym, ap, subst, inl, arith}
-use Rattle.std.specs.List.{AllByRecursion as Each, AllZip, remove}
+use Rattle.std.specs.List.{AllByRecursion as Each, AllZip}
 use Rattle.kap_base.specs.Points.{PointValue}
 use Rattle.kap_base.specs.declared.items.Item.{Item}
 use Rattle.kap_base.specs.declared.items.Stamp.{Stamp}
@@ -15,7 +15,7 @@ use Rattle.flow_cells.specs.declared.parts.CellParts.{CellParts}
 use Rattle.flow_cells.specs.declared.parts.InEdge.{InEdge}
 use Rattle.flow_core.proofs.EndLaws.{each_remove}
 use Rattle.flow_core.specs.LifeLoads.{acts_of}
-use Rattle.flow_core.specs.Making.{AreLivesBehind, Begins, Ends, IsLifeBehind}
+use Rattle.flow_core.specs.Making.{AreLivesBehind, Begins, Ends}
 use Rattle.flow_core.specs.Messages.{load_messages}
 use Rattle.flow_core.specs.Nets.{IsLifeIn, IsResting, NetValue, NumberedLife}
 use Rattle.flow_life.specs.Making.{IsClean, passed_of}

@@ -1,4 +1,4 @@
-use Rattle.std.proofs.Common.{◌≡◌, ap, refl, sym, subst, ◌∙◌}
+use Rattle.std.proofs.Common.{ap, refl, sym, subst, ◌∙◌}
 use Rattle.engine_runs.specs.Running.{HasRun}
 use Rattle.engine_runs.proofs.ChangeLaws.{open_snapshot}
 use Rattle.engine_runs.proofs.RestedLaws.{rested_at}
