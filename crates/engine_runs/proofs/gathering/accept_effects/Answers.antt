@@ -1,9 +1,8 @@
 use Rattle.std.proofs.Common.{◌≡◌, true, [], ap, sym, subst, ◌∙◌, append-nil, drop, refl, take}
 use Rattle.topic_core.specs.Topics.{StandsFor, Trans}
-use Rattle.effect_text.proofs.TextLaws.{one_event}
+use Rattle.effect_text.proofs.TextLaws.{one_event, times_behind}
 use Rattle.effect_text.specs.Lines.{event_in, events_of}
 use Rattle.life_effects.specs.Times.{times_fit}
-use Rattle.engine_runs.proofs.GatherLaws.{times_behind}
 use Rattle.engine_runs.proofs.gathering.accept_effects.Goals as goal
 
 pub accepting-init : goal.accepting-init
