@@ -1,5 +1,4 @@
-use Rattle.std.proofs.Common.{◌≡◌, length, List, ◌∙◌}
-use Rattle.store_records.specs.Histories.{held}
+use Rattle.std.proofs.Common.{◌∙◌}
 use Rattle.store_records.specs.declared.rec.Rec.TheVariants as kinds
 use Rattle.engine_store.proofs.CauseLaws.{cause_none, cause_of}
 use Rattle.kap_engine.proofs.AddLaws.{disk_rose, fault_of, long_of, none_placed, same_of}
