@@ -1,5 +1,5 @@
 -- Transitions that are due are stored, and a snapshot behind them.
-use Rattle.std.proofs.Common.{◌≡◌, ℕ, List, length}
+use Rattle.std.proofs.Common.{ℕ, List}
 use Rattle.kap_io.specs.Disk.{Image}
 use Rattle.kap_io.specs.Moments.{Moments, then_run, weaker}
 use Rattle.node_core.specs.declared.node.Node.{Ghosts}

@@ -1,6 +1,6 @@
 -- A snapshot that is stored behind all transitions.
 use Rattle.std.proofs.Common.{◌≡◌, ◌⊎◌, inl, inr, ⊎_elim, ℕ, ◌+◌, ◌-◌, ◌<◌, ◌≤◌, List, [], ◌∷◌, ◌++◌, length, refl, sym, ap, subst, ◌∙◌, append-nil, append_assoc, arith}
-use Rattle.std.specs.Prelude.{Option, Some}
+use Rattle.std.specs.Prelude.{Option}
 use Rattle.kap_base.specs.Points.{PointValue}
 use Rattle.kap_io.specs.Disk.{Image}
 use Rattle.kap_io.specs.Moments.{Moments}
@@ -26,10 +26,10 @@ use Rattle.topic_store.proofs.Adding.{image_stands}
 use Rattle.tick_compile.specs.declared.tasks.Task.{Task}
 use Rattle.engine_runs.specs.Whole.{IsSnapOf}
 use Rattle.engine_store.specs.Adding.{HasAdded}
-use Rattle.engine_store.specs.Good.{IsFull, IsGood, StandsGood, graphs_in}
+use Rattle.engine_store.specs.Good.{IsFull, StandsGood, graphs_in}
 use Rattle.engine_store.proofs.GoodLaws.{due_on}
 use Rattle.engine_store.proofs.SnapLaws.{last_added}
-use Rattle.kap_engine.specs.Writing.{HasSnap, HasSnapped, HasStored, HasTransitions, IsLong, IsSnapped, StandsStoring, snap_of, snapped, snapped_in, too_long, with_snap}
+use Rattle.kap_engine.specs.Writing.{HasSnap, HasSnapped, HasStored, HasTransitions, IsSnapped, StandsStoring, snap_of, snapped, snapped_in, too_long, with_snap}
 use Rattle.kap_engine.specs.declared.TheConstants.{SNAP_POINTS}
 use Rattle.kap_engine.proofs.LikeLaws.{good_like}
 
@@ -133,8 +133,8 @@ module _ {N P S : Type 0} (g : Ghosts N P S) (planned : Planned P) (rs : List Re
       e
 
   -- where one is due it was stored, unless it is too long
-  pub snap_stored : (seen : Image) (images : Image → Type 0) (store : StoreState) → SNAP_POINTS ≤ length (held rs).points - snapped (held rs) → HasSnap rs states seen images store → HasStored g planned rs full.good.tasks [] seen images store
-  snap_stored seen images store due (with_snap on) = record {
+  pub snap_stored : (seen : Image) (images : Image → Type 0) (store : StoreState) (n : ℕ) → n ≡ length (held rs).points - snapped (held rs) → SNAP_POINTS ≤ n → HasSnap rs states seen images store → HasStored g planned rs full.good.tasks [] seen images store
+  snap_stored seen images store n is due (with_snap on) = record {
     records = rs ++ snap_of rs states ∷ [];
     on = on;
     full = snap_full;
@@ -143,11 +143,11 @@ module _ {N P S : Type 0} (g : Ghosts N P S) (planned : Planned P) (rs : List Re
     snapped_is = record {
       few = λ lt.
           let same : length (held (rs ++ snap_of rs states ∷ [])).points ≡ length (held rs).points = ap length (snap_held rs states).points in
-          absurd (omega (arith, due, lt, same));
+          absurd (omega (arith, is, due, lt, same));
       many = λ le. inl (snap_last rs states);
     };
   }
-  snap_stored seen images store due (too_long long on) = record {
+  snap_stored seen images store n is due (too_long long on) = record {
     records = rs;
     on = on;
     full = full;
@@ -163,13 +163,14 @@ module _ {N P S : Type 0} (g : Ghosts N P S) (planned : Planned P) (rs : List Re
 
 module _ {N P S : Type 0} (g : Ghosts N P S) (planned : Planned P) (rs : List Rec) (full : IsFull g planned rs) (seen : Image) (images : Image → Type 0) (store : StoreState) (on : IsOn rs seen images store) where
   -- the points behind the last snapshot are counted by what is kept
-  pub count_is : store.kept.points - snapped_in store.kept.snap ≡ length (held rs).points - snapped (held rs)
-  count_is =
-      ap (λ (n : ℕ). n - snapped_in store.kept.snap) on.kept.keeps.points
+  pub counted : (n : ℕ) → n ≡ store.kept.points - snapped_in store.kept.snap → n ≡ length (held rs).points - snapped (held rs)
+  counted n is =
+      is
+      ∙ ap (λ (n : ℕ). n - snapped_in store.kept.snap) on.kept.keeps.points
       ∙ ap (λ (s : Option Snapshot). length (held rs).points - snapped_in s) on.kept.keeps.snap
 
-  pub none_stored : store.kept.points - snapped_in store.kept.snap < SNAP_POINTS → HasStored g planned rs full.good.tasks [] seen images store
-  none_stored few = record {
+  pub none_stored : (n : ℕ) → n ≡ store.kept.points - snapped_in store.kept.snap → n < SNAP_POINTS → HasStored g planned rs full.good.tasks [] seen images store
+  none_stored n is few = record {
     records = rs;
     on = on;
     full = full;
@@ -177,7 +178,7 @@ module _ {N P S : Type 0} (g : Ghosts N P S) (planned : Planned P) (rs : List Re
     holds = none_more (held rs);
     snapped_is = record {
       few = λ lt. refl;
-      many = λ le. let same = count_is in absurd (omega (arith, few, le, same));
+      many = λ le. let same = counted n is in absurd (omega (arith, few, le, same));
     };
   }
 

@@ -15,8 +15,7 @@ use Rattle.topic_store.specs.Adding.{stands_before_or_after}
 use Rattle.topic_store.specs.Stores.{StoreState}
 use Rattle.engine_runs.specs.Running.{HasRun, RunValue, Tells}
 use Rattle.engine_store.specs.Good.{IsFull}
-use Rattle.kap_engine.specs.Engines.{IsEngine}
-use Rattle.kap_engine.specs.Writing.{HasStored, HasWritten, TellsOf, stands_storing, stands_writing}
+use Rattle.kap_engine.specs.Writing.{HasStored, HasWritten, stands_storing, stands_writing}
 use Rattle.kap_engine.proofs.BatchLaws.{ComeBehind, HasBatch, batch_held, points_then, with_or_without, with_some}
 use Rattle.kap_engine.proofs.ShotLaws.{snapped_same}
 

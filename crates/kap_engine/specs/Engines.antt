@@ -1,9 +1,8 @@
 -- An engine on its disk.
-use Rattle.std.specs.Prelude.{◌≡◌, ◌<◌, ◌≤◌, ℕ, Bool, false, List, length}
+use Rattle.std.specs.Prelude.{◌≡◌, Bool, false, List, length}
 use Rattle.kap_io.specs.Disk.{Image}
 use Rattle.node_core.specs.declared.node.Node.{Ghosts}
 use Rattle.node_set.specs.Tasks.{Planned}
-use Rattle.node_workers.specs.declared.TheConstants.{WORKER_LIMIT}
 use Rattle.store_kept.specs.Keeping.{AreValid}
 use Rattle.store_records.specs.Histories.{held}
 use Rattle.store_records.specs.declared.rec.Rec.{Rec}

@@ -1,7 +1,7 @@
-use Rattle.std.proofs.Common.{◌≡◌, ◌-◌, ◌<◌, ◌≤◌, length, ℕ, List, Ok, Option, ap, sym, subst, arith, ◌∙◌}
+use Rattle.std.proofs.Common.{◌<◌, ◌≤◌, ℕ, List, Ok, Option, ap, subst, arith}
 use Rattle.std.specs.Prelude.{IfSome}
 use Rattle.std.proofs.lemmas.Bool.Decides.{nat_tests}
-use Rattle.std.proofs.lemmas.Result.{err_from_is_err_and, on_ok_weaker}
+use Rattle.std.proofs.lemmas.Result.{on_ok_weaker}
 use Rattle.kap_io.specs.Moments.{no_call, weaker}
 use Rattle.barrier_snapshot.specs.Snapshots.{IsSnapshot}
 use Rattle.life_effects.proofs.FitLaws.{held_fits}
@@ -9,10 +9,9 @@ use Rattle.life_effects.specs.Effects.{open_courses}
 use Rattle.store_records.specs.Histories.{held}
 use Rattle.topic_store.proofs.Rereading.{none_of}
 use Rattle.engine_runs.specs.Scripts.{graphs_from}
-use Rattle.engine_store.proofs.CauseLaws.{cause_none, cause_other}
-use Rattle.kap_engine.specs.Writing.{snapped, snapped_in}
+use Rattle.engine_store.proofs.CauseLaws.{cause_none}
 use Rattle.kap_engine.specs.declared.TheConstants.{SNAP_POINTS}
-use Rattle.kap_engine.proofs.ShotLaws.{count_is, none_stored, none_storing, snap_stored, snap_storing}
+use Rattle.kap_engine.proofs.ShotLaws.{counted, none_stored, none_storing, snap_stored, snap_storing}
 use Rattle.kap_engine.proofs.storing.add_snapshot.Goals as goal
 
 -- ---- none is due
@@ -20,7 +19,7 @@ use Rattle.kap_engine.proofs.storing.add_snapshot.Goals as goal
 pub returns-then-unsnapped-lt-SNAP_POINTS-clause-stored : goal.returns-then-unsnapped-lt-SNAP_POINTS-clause-stored
 returns-then-unsnapped-lt-SNAP_POINTS-clause-stored g c = λ tells rs full on h.
     let lt : c.unsnapped.result < SNAP_POINTS = grind (arith, nat_tests) in
-    none_stored g.N.Node g.N.ScriptNode.planned rs full _ _ c.args.store.now on (subst (λ (n : ℕ). n < SNAP_POINTS) c.unsnapped.ensures lt)
+    none_stored g.N.Node g.N.ScriptNode.planned rs full _ _ c.args.store.now on c.unsnapped.result c.unsnapped.ensures lt
 
 pub returns-then-unsnapped-lt-SNAP_POINTS-clause-any_moment : goal.returns-then-unsnapped-lt-SNAP_POINTS-clause-any_moment
 returns-then-unsnapped-lt-SNAP_POINTS-clause-any_moment g c = λ tells rs full on h.
@@ -52,7 +51,7 @@ returns-clause-stored g c = λ tells rs full on h.
     (c.in_ok-states.ensures.states (held rs).lives full.good.tasks (held rs).points (held_fits rs) h) in
     let many : SNAP_POINTS ≤ c.unsnapped.result = grind (arith, nat_tests) in
     on_ok_weaker c.add_states.result (snap_stored g.N.Node g.N.ScriptNode.planned rs full c.in-Some.states are _ _ c.add_states.new.store
-    (subst (λ (n : ℕ). SNAP_POINTS ≤ n) (c.unsnapped.ensures ∙ count_is g.N.Node g.N.ScriptNode.planned rs full _ _ c.args.store.now on) many))
+    c.unsnapped.result (counted g.N.Node g.N.ScriptNode.planned rs full _ _ c.args.store.now on c.unsnapped.result c.unsnapped.ensures) many)
     (c.add_states.ensures.added tells rs on)
 
 pub returns-clause-any_moment : goal.returns-clause-any_moment

@@ -1,5 +1,5 @@
-use Rattle.std.proofs.Common.{◌≡◌, length, List, ◌∙◌}
-use Rattle.store_records.specs.Histories.{held}
+use Rattle.std.proofs.Common.{◌∙◌}
+use Rattle.store_records.specs.declared.rec.Rec.TheVariants as kinds
 use Rattle.engine_store.proofs.CauseLaws.{cause_none, cause_of}
 use Rattle.kap_engine.proofs.AddLaws.{disk_rose, fault_of, long_of, none_placed, same_of}
 use Rattle.kap_engine.proofs.ShotLaws.{on_same, snap_long, snap_may, snap_more, snap_run}
@@ -26,7 +26,7 @@ returns-in-Err-Long-clause-added g c = λ tells rs on.
     let points = c.count-points.ensures ∙ on.kept.keeps.points in
     let trans = c.trans_count-trans.ensures ∙ on.kept.keeps.transitions in
     let fault = same_of c.in-Err-Long.field-0 _ _ _ _ _ c.in-Err-Long.field-0-is c.in-Err-Long.ensures.cause in
-    snap_long rs _ _ c.args.states points trans _ _ _ (long_of _ c.in-Err-Long.field-0 c.in-Err-Long.field-0-is c.in-Err-Long.ensures.long)
+    snap_long rs _ _ c.args.states points trans _ _ _ (long_of (kinds.Snap c.count-points.result c.trans_count-trans.result c.args.states) c.in-Err-Long.field-0 c.in-Err-Long.field-0-is c.in-Err-Long.ensures.long)
     (on_same g.D.Disk.seen g.D.Disk.may_leave _ _ rs _ _ fault.0 fault.1 on)
 
 pub returns-in-Err-Long-clause-any_moment : goal.returns-in-Err-Long-clause-any_moment

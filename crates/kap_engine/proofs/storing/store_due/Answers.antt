@@ -1,4 +1,4 @@
-use Rattle.std.proofs.Common.{◌≡◌, List, Err, ap, sym, arith, ◌∙◌}
+use Rattle.std.proofs.Common.{Err, ap, arith}
 use Rattle.std.proofs.lemmas.Result.{err_from_is_err_and}
 use Rattle.topic_store.specs.declared.fault.StoreFault.{StoreFault}
 use Rattle.engine_store.proofs.CauseLaws.{cause_later, cause_none, cause_of, cause_same}
