@@ -1,7 +1,11 @@
 -- An engine stands behind a record that changes a task: where a life begins, where one ends, and where none does.
-use Rattle.std.proofs.Common.{◌≡◌, ◌⊎◌, inl, inr, ⊎_elim, ℕ, ◌+◌, Bool, true, false, cond, List, [], ◌∷◌, ◌++◌, length, Option, None, Some, refl, sym, ap, subst, ◌∙◌, length-append, arith}
+use Rattle.std.proofs.Common.{◌≡◌, ◌⊎◌, inl, inr, ⊎_elim, ℕ, ◌+◌, ◌<◌, ◌≤◌, Bool, true, false, not, ◌&&◌, cond, List, [], ◌∷◌, ◌++◌, length, Option, None, Some, refl, sym, ap, subst, ◌∙◌, length-append, arith}
+use Rattle.std.specs.Prelude.{nat_le, nat_lt, slice_get}
 use Rattle.std.specs.List.{AllByRecursion as Each, AllZip}
+use Rattle.std.proofs.lemmas.Bool.Decides.{nat_tests}
 use Rattle.kap_base.specs.Points.{PointValue}
+use Rattle.kap_base.specs.Texts.{is_task_id}
+use Rattle.kap_base.specs.declared.limits.TheConstants.{SCRIPT_LIMIT, TASK_LIMIT}
 use Rattle.kap_io.specs.Disk.{Image}
 use Rattle.kap_io.specs.Moments.{Moments, no_call, weaker}
 use Rattle.effect_text.specs.declared.names.TaskNames.{TaskNames}
@@ -9,8 +13,11 @@ use Rattle.life_effects.proofs.FitLaws.{held_fits}
 use Rattle.life_effects.specs.Effects.{LivesFit}
 use Rattle.node_core.specs.declared.node.Node.{Ghosts}
 use Rattle.node_set.specs.Tasks.{Planned}
-use Rattle.store_records.specs.Held.{begun, ended, life_from, life_of, task_of}
+use Rattle.store_kept.specs.Keeping.{AreValid, KeptValue}
+use Rattle.store_records.specs.Held.{begun, ended, has_task, life_from, life_of, may_define, task_of}
 use Rattle.store_records.specs.Histories.{end_of, held}
+use Rattle.store_records.specs.Orders.{IsValid}
+use Rattle.store_records.specs.Records.{HasForm}
 use Rattle.store_records.specs.declared.rec.Rec.{Rec}
 use Rattle.store_records.specs.declared.rec.Rec.TheVariants as kinds
 use Rattle.store_records.specs.declared.task.Life.{Life}
@@ -24,12 +31,41 @@ use Rattle.topic_store.proofs.Adding.{image_stands}
 use Rattle.engine_runs.specs.Later.{AreLater}
 use Rattle.engine_runs.specs.Running.{HasRun, RunValue}
 use Rattle.engine_runs.specs.Scripts.{AreTasksOf, IsPlanned, IsTaskOf}
+use Rattle.engine_runs.proofs.PlaceLaws.{each_at}
 use Rattle.engine_runs.proofs.RunLaws.{ran_less}
 use Rattle.engine_store.specs.Good.{IsFull}
 use Rattle.kap_engine.specs.Changing.{AreNext, ChangesTask, DefinesScript, IsNext, stands_full_before_or_after}
 use Rattle.kap_engine.specs.Engines.{IsEngine}
 use Rattle.kap_engine.proofs.FullLaws.{full_behind, later, lives_are, new_lives, new_scripts, new_tasks, old_lives, same_points}
 use Rattle.kap_engine.proofs.TaskLaws.{LifeHasScript, ended_tasks, tasks_for}
+
+-- ---- the record
+
+-- it has the form of its kind
+pub change_form : (r : Rec) → ChangesTask r → HasForm r
+change_form (kinds.Define id script enabled) c = tt
+change_form (kinds.Enable id) c = tt
+change_form (kinds.Disable id) c = tt
+change_form (kinds.Delete id) c = tt
+change_form (kinds.Batch db rp points) c = absurd c
+change_form (kinds.Trans ts) c = tt
+change_form (kinds.Snap points trans states) c = absurd c
+
+both-true : (a b : Bool) → a ≡ true → b ≡ true → (a && b) ≡ true
+both-true true b e f = f
+both-true false b e f = e
+
+-- a task may be defined
+pub define_may : (id script : List ℕ) (tasks : List StoredTask) → is_task_id id ≡ true → has_task id tasks ≡ false → length tasks < TASK_LIMIT → length script ≤ SCRIPT_LIMIT → may_define id script tasks ≡ true
+define_may id script tasks called free few short =
+    let lt : nat_lt (length tasks) TASK_LIMIT ≡ true = grind (arith, nat_tests) in
+    let le : nat_le (length script) SCRIPT_LIMIT ≡ true = grind (arith, nat_tests) in
+    both-true (is_task_id id) _ called (both-true (not (has_task id tasks)) _ (ap not free) (both-true (nat_lt (length tasks) TASK_LIMIT) (nat_le (length script) SCRIPT_LIMIT) lt le))
+
+-- the script of a task that is kept is short
+pub stored_short : (kept : KeptValue) (tasks : List StoredTask) (place : ℕ) (task : StoredTask) → AreValid kept → tasks ≡ kept.tasks → slice_get tasks place ≡ Some task → length task.script ≤ SCRIPT_LIMIT
+stored_short kept tasks place task valid same at =
+    (each_at (λ (t : StoredTask). IsValid t.id t.script) tasks place task (subst (Each (λ (t : StoredTask). IsValid t.id t.script)) (sym same) valid.tasks) at).short
 
 -- ---- the life that begins
 
@@ -88,6 +124,25 @@ module _ {N P S : Type 0} (g : Ghosts N P S) (planned : Planned P) where
   one-begins n begun [] h next new are = absurd are
   one-begins n begun (life ∷ []) h next new are = record { life = life; task = h.0.0; is = refl; task_is = refl; accepted = h.0.1; new = new.0; planned_is = are }
   one-begins n begun (life ∷ other ∷ lives) h next new are = absurd are
+
+  -- where the task that is enabled isn't so yet one begins, and else none does
+  pub next_of : (n begun : ℕ) (found : Option StoredTask) (task : StoredTask) (next : TaskNames × PlanValue N) → found ≡ Some task → task.enabled ≡ false → IsNext g planned begun (life_from n task) next → AreNext g planned begun (life_of n found) (Some next)
+  next_of n begun None task next is off one = absurd cc
+  next_of n begun (Some found) task next is off one =
+      let same : found ≡ task = cc in
+      subst (λ (t : StoredTask). AreNext g planned begun (life_of n (Some t)) (Some next)) (sym same)
+      (subst (λ (b : Bool). AreNext g planned begun (cond b [] (life_from n task ∷ [])) (Some next)) (sym off) one)
+
+  pub next_none : (n begun : ℕ) (found : Option StoredTask) → found ≡ None → AreNext g planned begun (life_of n found) None
+  next_none n begun None e = tt
+  next_none n begun (Some task) e = absurd cc
+
+  pub next_enabled : (n begun : ℕ) (found : Option StoredTask) (task : StoredTask) → found ≡ Some task → task.enabled ≡ true → AreNext g planned begun (life_of n found) None
+  next_enabled n begun None task is on = tt
+  next_enabled n begun (Some found) task is on =
+      let same : found ≡ task = cc in
+      subst (λ (t : StoredTask). AreNext g planned begun (life_of n (Some t)) None) (sym same)
+      (subst (λ (b : Bool). AreNext g planned begun (cond b [] (life_from n task ∷ [])) None) (sym on) tt)
 
   none-begins : (begun : ℕ) (lives : List Life) → AreNext g planned begun lives None → lives ≡ []
   none-begins begun [] are = refl
@@ -186,9 +241,11 @@ module _ {N P S : Type 0} (g : Ghosts N P S) (planned : Planned P) where
     -- at each moment each image stands for the store without the record or with it
     pub full_moments : {D : Type 0} (moment : D → ℕ) (may_leave : D → Image → Type 0) (left_since : D → ℕ → Image → Type 0) (old new : D)
         → Moments moment may_leave left_since old new (stands_before_or_after rs r) → Moments moment may_leave left_since old new (stands_full_before_or_after g planned rs r)
-    full_moments moment may_leave left_since old new m =
-        weaker moment may_leave left_since old new _ _ m
-        (λ a b was how. ⊎_elim (λ s. inl (record { stands = s; full = full })) (λ s. inr (record { stands = s; full = full_behind g planned rs r changes defines full })) how)
+    full_moments moment may_leave left_since old new m = weaker moment may_leave left_since old new _ _ m (λ a b was how. stands-full a b how)
+      where
+        stands-full : (a b : Image) → stands_before_or_after rs r a b → stands_full_before_or_after g planned rs r a b
+        stands-full a b (inl s) = inl (record { stands = s; full = full })
+        stands-full a b (inr s) = inr (record { stands = s; full = full_behind g planned rs r changes defines full })
 
   -- where nothing is added each stands for the store as it was
   pub still_moments : {D : Type 0} (seen : D → Image) (moment : D → ℕ) (may_leave : D → Image → Type 0) (left_since : D → ℕ → Image → Type 0) (d : D) (rs : List Rec) (r : Rec) (store : StoreState)

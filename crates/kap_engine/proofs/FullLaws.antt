@@ -2,6 +2,7 @@
 use Rattle.std.proofs.Common.{◌≡◌, ℕ, ◌+◌, ◌≤◌, Bool, true, false, ◌||◌, cond, List, [], ◌∷◌, ◌++◌, length, refl, sym, ap, subst, ◌∙◌, append-nil, length-append, arith, true≢false}
 use Rattle.std.specs.List.{AllByRecursion as Each, list_any}
 use Rattle.kap_base.specs.Points.{PointValue}
+use Rattle.kap_base.specs.declared.items.Effect.{Effect}
 use Rattle.barrier_snapshot.specs.Snapshots.{IsSnapshot}
 use Rattle.effect_text.specs.Lines.{events_of}
 use Rattle.life_effects.specs.Effects.{course_of, courses_of, open_courses, stored_effects}
@@ -65,8 +66,8 @@ pub same_points : (rs : List Rec) (r : Rec) → ChangesTask r → (held (rs ++ r
 same_points rs r c =
     ap (λ (h : Held). h.points) (held_push rs r) ∙ ap (λ (ps : List PointValue). (held rs).points ++ ps) (no-points r c) ∙ append-nil (held rs).points
 
-same-transitions : (rs : List Rec) (r : Rec) → ChangesTask r → (held (rs ++ r ∷ [])).transitions ≡ (held rs).transitions
-same-transitions rs r c =
+pub same_transitions : (rs : List Rec) (r : Rec) → ChangesTask r → (held (rs ++ r ∷ [])).transitions ≡ (held rs).transitions
+same_transitions rs r c =
     ap (λ (h : Held). h.transitions) (held_push rs r) ∙ ap (λ (ts : List Transition). (held rs).transitions ++ ts) (no-transitions r c) ∙ append-nil (held rs).transitions
 
 -- ---- the last snapshot stays
@@ -129,8 +130,7 @@ module _ {P : Type 0} (planned : Planned P) where
   graphs-front k n (life ∷ lives) [] tasks more later are = absurd later
   graphs-front k n (life ∷ lives) (other ∷ others) [] more later are = absurd are
   graphs-front k n (life ∷ lives) (other ∷ others) (task ∷ tasks) more later are =
-      let rest = graphs-front k (n + 1) lives others tasks more later.1 are.1 in
-      (
+      let rest = graphs-front k (n + 1) lives others tasks more later.1 are.1 in (
         rest.0,
         ap (λ (id : List ℕ). nodes_from planned id n 0 task.graph ∷ graphs_from planned (n + 1) others (tasks ++ more)) later.0.task
             ∙ ap (λ (gs : List (List (Placed P))). life_nodes planned n life task ∷ gs) rest.1,
@@ -169,10 +169,10 @@ module _ {N P S : Type 0} (g : Ghosts N P S) where
 -- ---- one more record
 
 module _ {N P S : Type 0} (g : Ghosts N P S) (planned : Planned P) (rs : List Rec) (r : Rec) (changes : ChangesTask r) (defines : DefinesScript r) (full : IsFull g planned rs) where
-  abbrev before : Held
+  abbrev pub before : Held
   before = held rs
 
-  abbrev behind : Held
+  abbrev pub behind : Held
   behind = held (rs ++ r ∷ [])
 
   -- the lives that begin with it
@@ -196,58 +196,57 @@ module _ {N P S : Type 0} (g : Ghosts N P S) (planned : Planned P) (rs : List Re
   pub later : AreLater (length before.points) before.lives behind.lives
   later = held_later rs (r ∷ [])
 
-  all-tasks : AreTasksOf behind.lives (full.good.tasks ++ new_tasks)
-  all-tasks =
+  pub all_tasks : AreTasksOf behind.lives (full.good.tasks ++ new_tasks)
+  all_tasks =
       subst (λ (ls : List Life). AreTasksOf ls (full.good.tasks ++ new_tasks)) (sym lives_are)
       (zip_both IsTaskOf old_lives full.good.tasks new_lives new_tasks (ended_tasks (length before.points) r before.tasks before.lives full.good.tasks full.good.are) (are_for new_lives new_scripts))
 
-  all-scripts : AreScripts behind.tasks behind.lives
-  all-scripts = record {
+  pub all_scripts : AreScripts behind.tasks behind.lives
+  all_scripts = record {
     of_tasks = subst (λ (h : Held). Each HasScript h.tasks) (sym (held_push rs r)) (tasks_scripts (end_of rs) r before.tasks defines full.good.scripts.of_tasks);
     of_lives =
         subst (Each LifeHasScript) (sym lives_are)
         (each_both LifeHasScript old_lives new_lives (ended_scripts (length before.points) r before.tasks before.lives full.good.scripts.of_lives) new_scripts);
   }
 
-  abbrev graphs : List (List (Placed P))
+  abbrev pub graphs : List (List (Placed P))
   graphs = graphs_in g planned rs full.good.tasks
 
-  front : (rest : List (List (Placed P))) × (graphs_in g planned (rs ++ r ∷ []) (full.good.tasks ++ new_tasks) ≡ graphs ++ rest)
+  pub front : (rest : List (List (Placed P))) × (graphs_in g planned (rs ++ r ∷ []) (full.good.tasks ++ new_tasks) ≡ graphs ++ rest)
   front = graphs-front planned (length before.points) 1 before.lives behind.lives full.good.tasks new_tasks later full.good.are
 
   long : length graphs ≡ length before.lives
   long = graphs-long planned 1 before.lives full.good.tasks full.good.are
 
   -- what is due is as before
-  same-due : due_of g.answer (graphs_in g planned (rs ++ r ∷ []) (full.good.tasks ++ new_tasks)) behind ≡ due_of g.answer graphs before
-  same-due =
+  pub same_due : due_of g.answer (graphs_in g planned (rs ++ r ∷ []) (full.good.tasks ++ new_tasks)) behind ≡ due_of g.answer graphs before
+  same_due =
       ap (λ (gs : List (List (Placed P))). due_of g.answer gs behind) front.1
       ∙ ap (λ (ps : List PointValue). Trans (events_of (stored_effects g.answer behind.lives (graphs ++ front.0) ps))) (same_points rs r changes)
-      ∙ ap (λ es. Trans (events_of es)) (effects_later g.answer (length before.points) before.lives behind.lives (graphs ++ front.0) before.points refl later)
+      ∙ ap (λ (es : List Effect). Trans (events_of es)) (effects_later g.answer (length before.points) before.lives behind.lives (graphs ++ front.0) before.points refl later)
       ∙ due-front g.answer before graphs front.0 (omega (arith, long))
 
-  same-snap : (s : LastSnap (rs ++ r ∷ [])) → IsSnapOf g (graphs_in g planned (rs ++ r ∷ []) (full.good.tasks ++ new_tasks)) (held s.before) s.trans s.states
-  same-snap s =
+  pub same_snap : (s : LastSnap (rs ++ r ∷ [])) → IsSnapOf g (graphs_in g planned (rs ++ r ∷ []) (full.good.tasks ++ new_tasks)) (held s.before) s.trans s.states
+  same_snap s =
       let b = snap-behind rs r s.before s.points s.trans s.states s.behind (no-snap r changes) s.none_behind s.split in
-      let l : LastSnap rs = last_before rs s.before s.points s.trans s.states b in
       let fewer : length (held s.before).lives ≤ length before.lives =
       later_long (length (held s.before).points) (held s.before).lives before.lives
       (subst (λ (all : List Rec). AreLater (length (held s.before).points) (held s.before).lives (held all).lives) (sym b.split) (held_later s.before (kinds.Snap s.points s.trans s.states ∷ b.behind))) in
       subst (λ (gs : List (List (Placed P))). IsSnapOf g gs (held s.before) s.trans s.states) (sym front.1)
-      (snap-front g (held s.before) s.trans s.states graphs front.0 (omega (arith, fewer, long)) (full.good.consistent.snap l))
+      (snap-front g (held s.before) s.trans s.states graphs front.0 (omega (arith, fewer, long)) (full.good.consistent.snap (last_before rs s.before s.points s.trans s.states b)))
 
   -- it has its scripts, its snapshot and all transitions as before
   abbrev pub full_behind : IsFull g planned (rs ++ r ∷ [])
   full_behind = record {
     good = record {
-      scripts = all-scripts;
+      scripts = all_scripts;
       tasks = full.good.tasks ++ new_tasks;
-      are = all-tasks;
+      are = all_tasks;
       consistent = record {
         others = full.good.consistent.others;
-        prefix = same-due ∙ full.good.consistent.prefix ∙ ap (λ (ts : List Transition). ts ++ full.good.consistent.others) (sym (same-transitions rs r changes));
-        snap = same-snap;
+        prefix = same_due ∙ full.good.consistent.prefix ∙ ap (λ (ts : List Transition). ts ++ full.good.consistent.others) (sym (same_transitions rs r changes));
+        snap = same_snap;
       };
     };
-    all = same-due ∙ full.all ∙ sym (same-transitions rs r changes);
+    all = same_due ∙ full.all ∙ sym (same_transitions rs r changes);
   }

@@ -1,1 +1,5 @@
 pub mod MakeLaws
+pub mod TaskLaws
+pub mod FullLaws
+pub mod ChangeLaws
+pub mod RefusalLaws

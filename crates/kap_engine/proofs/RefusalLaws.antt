@@ -1,7 +1,8 @@
 -- Why tasks aren't changed.
-use Rattle.std.proofs.Common.{◌≡◌, ◌⊎◌, inl, inr, ℕ, Bool, true, false, ◌||◌, cond, List, [], ◌∷◌, length, Option, None, Some, Ok, Err, refl, sym, ap, subst, ◌∙◌, arith}
-use Rattle.std.specs.Prelude.{◌≢◌, IfErr, Result, slice_get, IsTrue}
-use Rattle.std.specs.List.{find, list_any, position, position_or_len}
+use Rattle.std.proofs.Common.{◌≡◌, ℕ, ◌+◌, ◌<◌, Bool, true, false, not, ◌||◌, cond, List, [], ◌∷◌, length, Option, None, Some, Ok, Err, refl, sym, ap, subst, ◌∙◌, arith, true≢false}
+use Rattle.std.specs.Prelude.{◌≢◌, IfErr, Result, nat_lt, slice_get}
+use Rattle.std.specs.List.{list_any, position, position_or_len}
+use Rattle.std.proofs.lemmas.Bool.Decides.{nat_tests}
 use Rattle.std.proofs.lemmas.List.Folds.{find_at}
 use Rattle.kap_base.specs.Words.{HasRisen}
 use Rattle.kap_io.specs.declared.disk.Part.{Part}
@@ -142,7 +143,7 @@ failed_rose P (Err engines.NoMemory) h = λ fault e. absurd cc
 -- ---- a record that isn't added
 
 module _ {D : Type 0} (before after : D) (old new : StoreState) (rose : Type 0) where
-  pub add_failed : {T : Type 0} (e : StoreFault) (f : EngineFault) → f ≡ store_fault e → AddFault (Err e) before after old new rose → IsFailure f
+  pub add_failed : (e : StoreFault) (f : EngineFault) → f ≡ store_fault e → AddFault (Err e) before after old new rose → IsFailure f
   add_failed (stores.NotStore part offset) f is added = absurd added
   add_failed stores.DiskFault f is added = subst IsFailure (sym is) tt
   add_failed stores.Long f is added = subst IsFailure (sym is) tt
@@ -163,15 +164,47 @@ module _ {D : Type 0} (before after : D) (old new : StoreState) (rose : Type 0) 
 
 -- ---- the task of an id
 
+module _ {A : Type 0} (p : A → Bool) where
+  some-below : (xs : List A) → list_any p xs ≡ true → position_or_len p xs < length xs
+  some-below [] e = absurd (true≢false (sym e))
+  some-below (x ∷ xs) e = elim (p x) as (λ b. (b || list_any p xs) ≡ true → cond (not b) (1 + position_or_len p xs) 0 < length (x ∷ xs)) [
+    | true ↦ λ e. omega arith
+    | false ↦ λ e. let rest = some-below xs e in omega (arith, rest)
+  ] e
+
+  none-below : (xs : List A) → list_any p xs ≡ false → position_or_len p xs ≡ length xs
+  none-below [] e = refl
+  none-below (x ∷ xs) e = elim (p x) as (λ b. (b || list_any p xs) ≡ false → cond (not b) (1 + position_or_len p xs) 0 ≡ length (x ∷ xs)) [
+    | true ↦ λ e. absurd (true≢false e)
+    | false ↦ λ e. let rest = none-below xs e in omega (arith, rest)
+  ] e
+
+  -- none passes where none was found
+  none-found : (xs : List A) → position p xs ≡ None → list_any p xs ≡ false
+  none-found xs e = elim (list_any p xs) as (λ t. list_any p xs ≡ t → t ≡ false) [
+    | true ↦ λ t. let lt = some-below xs t in let low : nat_lt (position_or_len p xs) (length xs) ≡ true = grind (arith, nat_tests) in absurd (cc (low, e))
+    | false ↦ λ t. refl
+  ] refl
+
+  -- and one does where one was
+  some-found : (xs : List A) (i : ℕ) → position p xs ≡ Some i → list_any p xs ≡ true
+  some-found xs i e = elim (list_any p xs) as (λ t. list_any p xs ≡ t → t ≡ true) [
+    | true ↦ λ t. refl
+    | false ↦ λ t. let all = none-below xs t in let high : nat_lt (position_or_len p xs) (length xs) ≡ false = grind (arith, nat_tests) in absurd (cc (high, e))
+  ] refl
+
+  place-is : (xs : List A) (i : ℕ) → position p xs ≡ Some i → position_or_len p xs ≡ i
+  place-is xs i e = elim (nat_lt (position_or_len p xs) (length xs)) as (λ t. cond t (Some (position_or_len p xs)) None ≡ Some i → position_or_len p xs ≡ i) [
+    | true ↦ λ e. cc
+    | false ↦ λ e. absurd cc
+  ] e
+
+-- it stands where it was found
 pub found_at : (id : List ℕ) (tasks : List StoredTask) (place : ℕ) → position (is_called id) tasks ≡ Some place → slice_get tasks place ≡ task_of id tasks
 found_at id tasks place e = ap (slice_get tasks) (sym (place-is (is_called id) tasks place e)) ∙ sym (find_at (is_called id) tasks)
-  where
-    place-is : {A : Type 0} (p : A → Bool) (xs : List A) (i : ℕ) → position p xs ≡ Some i → position_or_len p xs ≡ i
-    place-is p xs i e = grind arith
 
-pub has_at : (id : List ℕ) (tasks : List StoredTask) (place : ℕ) → position (is_called id) tasks ≡ Some place → has_task id tasks ≡ true
-has_at id [] place e = absurd cc
-has_at id (task ∷ tasks) place e = ?
+pub has_found : (id : List ℕ) (tasks : List StoredTask) (place : ℕ) → position (is_called id) tasks ≡ Some place → has_task id tasks ≡ true
+has_found id tasks place e = some-found (is_called id) tasks place e
 
-pub none_at : (id : List ℕ) (tasks : List StoredTask) → position (is_called id) tasks ≡ None → has_task id tasks ≡ false
-none_at id tasks e = ?
+pub has_none : (id : List ℕ) (tasks : List StoredTask) → position (is_called id) tasks ≡ None → has_task id tasks ≡ false
+has_none id tasks e = none-found (is_called id) tasks e

@@ -1,7 +1,8 @@
 -- The scripts of tasks and lives, behind a record that changes a task.
 use Rattle.std.proofs.Common.{◌≡◌, ℕ, zero, suc, Bool, true, false, cond, List, [], ◌∷◌, ◌++◌, Option, None, Some}
-use Rattle.std.specs.Prelude.{IfSome, is_lt}
+use Rattle.std.specs.Prelude.{IfSome}
 use Rattle.std.specs.List.{AllByRecursion as Each, AllZip, insert, list_any, position_or_len}
+use Rattle.std.specs.Ordering.{is_lt}
 use Rattle.kap_base.specs.Maps.{byte_order}
 use Rattle.flow_core.proofs.EndLaws.{each_remove}
 use Rattle.store_records.specs.Held.{begun, end_life, ended, is_called, is_enabled, is_open_of, life_from, life_of, set_enabled, task_of, tasks_after}

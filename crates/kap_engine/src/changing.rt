@@ -1,6 +1,6 @@
 //! Tasks are defined, enabled, disabled and deleted.
 
-ghost use Rattle.std.specs.Prelude.{◌≡◌, ◌≤◌, ◌∷◌, ◌++◌, [], ℕ, false, true, length, slice_get, IfErr, IfOk, IsTrue, List, OnOk};
+ghost use Rattle.std.specs.Prelude.{◌≡◌, ◌≤◌, ◌∷◌, ◌++◌, [], ℕ, false, true, if◌then◌else◌, length, slice_get, IfErr, IfOk, IsTrue, List, OnOk};
 ghost use Rattle.kap_base.specs.Words.{HasRisen};
 ghost use Rattle.kap_base.specs.Texts.{is_task_id};
 ghost use Rattle.kap_base.specs.declared.limits.TheConstants.{SCRIPT_LIMIT};
@@ -9,7 +9,9 @@ ghost use Rattle.store_records.specs.Held.{MayFollow, begun, life_of};
 ghost use Rattle.store_records.specs.Histories.{end_of, held};
 ghost use Rattle.store_records.specs.Orders.{DefinesValid};
 ghost use Rattle.store_records.specs.declared.rec.Rec.{Rec};
+ghost use Rattle.store_records.specs.declared.task.Life.{Life};
 ghost use Rattle.tick_compile.specs.Tasks.{is_refusal};
+ghost use Rattle.engine_runs.specs.Scripts.{IsTaskOf};
 ghost use Rattle.engine_store.specs.Faults.{EngineCause};
 ghost use Rattle.kap_engine.specs.Changing.{AreNext, ChangesTask, DefinesScript, IsFailure, IsRefusal, IsWhyNoneDefined, IsWhyNoneEnabled, IsWhyNoneEnded, IsWhyNotPlanned, fault_at, stands_full_before_or_after};
 ghost use Rattle.kap_engine.specs.Engines.{IsEngine};
@@ -17,14 +19,14 @@ ghost use Rattle.kap_engine.specs.Engines.{IsEngine};
 use crate::engine::Engine;
 use engine_runs::NextLife;
 use engine_store::{EngineFault, compile_fault};
-use kap_base::{Duplicate, TASK_LIMIT, Text};
+use kap_base::{Duplicate, NoMemory, TASK_LIMIT, Text};
 use kap_io::{Disk, Part};
 use lambda_types::Patterns;
 use net_run::NumberingNode;
 use node_set::ScriptNode;
 use std::alloc::Global;
 use store_records::{Rec, Transitions, find_task, has_task};
-use tick_compile::{ScriptFault, compile};
+use tick_compile::{ScriptFault, Task, compile};
 
 /// What the fault of a script is that the record at this place of a log defined.
 fn fault_at(part: Part, offset: u64, fault: ScriptFault) -> EngineFault
@@ -63,6 +65,25 @@ impl<N: ScriptNode + NumberingNode + Send> Engine<N> {
             Err(fault) => return Err(fault_at(self.store.part(), task.define_at, fault)),
         };
         let next = self.run.plan_next(alloc, &task.id, made)?;
+        Ok(Some(next))
+    }
+
+    /// The life that begins where a task of this id is defined by a script; none where it isn't enabled.
+    fn plan_defined(
+        &self,
+        alloc: Global,
+        id: &Text,
+        enabled: bool,
+        task: Task,
+    ) -> Result<Option<NextLife<N>>, NoMemory>
+        ensures next { IfOk result (λ next. (life : Life) → life.task ≡ id.now → IsTaskOf life task
+            → AreNext N.Node N.planned (length self.now.run.names)
+            (if enabled then life ∷ [] else []) next) }
+    {
+        if !enabled {
+            return Ok(None);
+        }
+        let next = self.run.plan_next(alloc, id, task)?;
         Ok(Some(next))
     }
 
@@ -157,11 +178,7 @@ impl<N: ScriptNode + NumberingNode + Send> Engine<N> {
         if TASK_LIMIT <= self.store.tasks().len() {
             return Err(EngineFault::TooManyTasks);
         }
-        let next = if enabled {
-            Some(self.run.plan_next(alloc, id, task)?)
-        } else {
-            None
-        };
+        let next = self.plan_defined(alloc, id, enabled, task)?;
         let id = id.copy(alloc)?;
         let script = script.copy(alloc)?;
         let rec = Rec::Define {
