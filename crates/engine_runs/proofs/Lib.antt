@@ -4,6 +4,7 @@ pub mod LaterLaws
 pub mod PlaceLaws
 pub mod ScriptLaws
 pub mod GatherLaws
+pub mod RestedLaws
 pub mod TurnLaws
 pub mod TimeLaws
 pub mod RunLaws
@@ -12,3 +13,4 @@ pub mod HeldLaws
 pub mod OpenLaws
 pub mod RestoreLaws
 pub mod TellLaws
+pub mod ChangeLaws

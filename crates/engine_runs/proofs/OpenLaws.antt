@@ -129,13 +129,14 @@ numbers_later k n (life ∷ lives) (other ∷ others) h =
     ]
 
 module _ {P : Type 0} where
-  course-later : (k : ℕ) (life other : Life) (nodes : List (Placed P)) (points : List PointValue) (last : Option ℕ) → life.last ≡ last → length points ≡ k → IsLater k life other → course_of other nodes points ≡ course_of life nodes points
-  course-later k life other nodes points None e long h =
+  -- the course of a life on the points so far is what it was
+  pub course_later : (k : ℕ) (life other : Life) (nodes : List (Placed P)) (points : List PointValue) (last : Option ℕ) → life.last ≡ last → length points ≡ k → IsLater k life other → course_of other nodes points ≡ course_of life nodes points
+  course_later k life other nodes points None e long h =
       let on : IsOnward k other.last = subst (λ (l : Option ℕ). IsLastLater k l other.last) e h.last in
       ap (λ (f : ℕ). record { nodes = nodes; base = f - 1; points = drop (f - 1) (up_to other.last points) }) h.first
       ∙ ap (λ (ps : List PointValue). record { nodes = nodes; base = life.first - 1; points = drop (life.first - 1) ps }) (all_seen other.last points k (omega (arith, long)) on)
       ∙ sym (ap (λ (l : Option ℕ). record { nodes = nodes; base = life.first - 1; points = drop (life.first - 1) (up_to l points) }) e)
-  course-later k life other nodes points (Some l) e long h =
+  course_later k life other nodes points (Some l) e long h =
       let same : other.last ≡ Some l = subst (λ (m : Option ℕ). IsLastLater k m other.last) e h.last in
       ap (λ (f : ℕ). record { nodes = nodes; base = f - 1; points = drop (f - 1) (up_to other.last points) }) h.first
       ∙ ap (λ (m : Option ℕ). record { nodes = nodes; base = life.first - 1; points = drop (life.first - 1) (up_to m points) }) (same ∙ sym e)
@@ -146,7 +147,7 @@ module _ {P : Type 0} where
   courses_later k (life ∷ lives) [] graphs points long h = absurd h
   courses_later k (life ∷ lives) (other ∷ others) [] points long h = refl
   courses_later k (life ∷ lives) (other ∷ others) (nodes ∷ graphs) points long h =
-      let one = course-later k life other nodes points life.last refl long h.0 in
+      let one = course_later k life other nodes points life.last refl long h.0 in
       let rest = courses_later k lives others graphs points long h.1 in
       elim (is_open life) as (λ b. picked (b ∷ map is_open lives) (course_of other nodes points ∷ courses_of others graphs points) ≡ cond b (course_of life nodes points ∷ open_courses lives graphs points) (open_courses lives graphs points)) [
         | true ↦ rw (one, rest) refl
@@ -167,7 +168,7 @@ module _ {P : Type 0} where
     with-later k s (life ∷ lives) [] graphs points long h = absurd h
     with-later k s (life ∷ lives) (other ∷ others) [] points long h = refl
     with-later k s (life ∷ lives) (other ∷ others) (nodes ∷ graphs) points long h =
-        ap (λ (c : Course P). node_effects_with s (course_gives answer c) ++ course_effects_with answer s (courses_of others graphs points)) (course-later k life other nodes points life.last refl long h.0)
+        ap (λ (c : Course P). node_effects_with s (course_gives answer c) ++ course_effects_with answer s (courses_of others graphs points)) (course_later k life other nodes points life.last refl long h.0)
         ∙ ap (λ (es : List Effect). node_effects_with s (course_gives answer (course_of life nodes points)) ++ es) (with-later k s lives others graphs points long h.1)
 
     by-stamp : (n : ℕ) (some others : List (Course P)) → ((s : ℕ) → course_effects_with answer s some ≡ course_effects_with answer s others) → course_effects answer n some ≡ course_effects answer n others

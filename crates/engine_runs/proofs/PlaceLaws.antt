@@ -26,9 +26,10 @@ get-front [] ys i lt = absurd (omega (arith, lt))
 get-front (x ∷ xs) ys zero lt = refl
 get-front (x ∷ xs) ys (suc i) lt = get-front xs ys i (omega (arith, lt))
 
-get-last : {A : Type 0} (xs : List A) (x : A) → slice_get (xs ++ x ∷ []) (length xs) ≡ Some x
-get-last [] x = refl
-get-last (y ∷ xs) x = get-last xs x
+-- the last one stands behind the others
+pub get_last : {A : Type 0} (xs : List A) (x : A) → slice_get (xs ++ x ∷ []) (length xs) ≡ Some x
+get_last [] x = refl
+get_last (y ∷ xs) x = get_last xs x
 
 -- what holds of each holds of the one at a place
 pub each_at : {A : Type 0} (Q : A → Type 0) (xs : List A) (i : ℕ) (x : A) → Each Q xs → slice_get xs i ≡ Some x → Q x
@@ -115,7 +116,7 @@ name_stays names name (suc i) le =
 
 -- and the last one's are these
 pub name_new : (names : List TaskNames) (name : TaskNames) → task_of (names ++ name ∷ []) (length names + 1) ≡ Some name
-name_new names name = name_at (names ++ name ∷ []) (length names) ∙ get-last names name
+name_new names name = name_at (names ++ name ∷ []) (length names) ∙ get_last names name
 
 -- ---- tasks
 

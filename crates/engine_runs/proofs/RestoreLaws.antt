@@ -30,6 +30,7 @@ use Rattle.engine_runs.specs.Scripts.{AreTasksOf, graphs_from, life_nodes, names
 use Rattle.engine_runs.specs.Spans.{AreThere, IsAway, Spans, numbers_from, picked}
 use Rattle.engine_runs.proofs.LaterLaws.{open_goes}
 use Rattle.engine_runs.proofs.PlanLaws.{all_planned, same_picked}
+use Rattle.engine_runs.proofs.RestedLaws.{restored_rest}
 use Rattle.engine_runs.proofs.ScriptLaws.{courses_numbered, numbers_rise}
 
 module _ {P : Type 0} (planned : Planned P) where
@@ -113,6 +114,7 @@ module _ {N P S : Type 0} (g : Ghosts N P S) where
         let front = all_planned (length points) lives runs h.passed h.left h.split h.rest_is s.there s.away in
         let at : net.last.0 ≡ there.0 = ap (λ (t : Stamp). t.0) res.last in
         let nodes : map (graph_of g.spec) plans ≡ nodes_in (picked h.passed all) = h.graphs tasks are ∙ sym (nodes-picked planned 1 points h.passed lives tasks) in
+        let on = lives_are_restored g spelled plans there bytes net (picked h.passed all) res nodes (subst (λ (cs : List (Course P)). IsSnapshot g cs bytes) same snap) in
         let numbers : numbers_of net.lives ≡ picked h.passed (numbers_from 1 lives) = life-numbers there.0 res.loaded net.lives res.lives ∙ same-numbers plans res.loaded res.are.same ∙ h.numbers in
         record {
           runs = record {
@@ -126,10 +128,11 @@ module _ {N P S : Type 0} (g : Ghosts N P S) where
               none = res.gathered;
               last = omega (arith, at, low);
               ends = ends-picked planned 1 points h.passed lives tasks front.there;
-              lives = lives_are_restored g spelled plans there bytes net (picked h.passed all) res nodes (subst (λ (cs : List (Course P)). IsSnapshot g cs bytes) same snap);
+              lives = on;
               numbered = subst (λ (ns : List ℕ). AreNumberedBy g ns (picked h.passed all)) (sym numbers) (courses_numbered g planned sits 1 points h.passed lives tasks are);
               rise = subst (NumbersRise 0) (sym numbers) (numbers_rise 0 1 h.passed lives (omega arith));
             };
+            rested = restored_rest g plans there bytes net (picked h.passed all) res on;
             named = subst (Each (λ number. task_of names number ≡ task_of (names_from lives tasks) number)) (sym numbers) (h.named tasks are);
           };
           away = subst (λ (i : ℕ). Each (IsAway (length points) 0) (drop i lives)) h.long front.away;

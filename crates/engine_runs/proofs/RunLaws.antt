@@ -23,11 +23,12 @@ use Rattle.task_run.specs.Courses.{Course, grown, later_effects}
 use Rattle.tick_compile.specs.declared.tasks.Task.{Task}
 use Rattle.topic_core.specs.Topics.{StandsFor, Trans, event_of}
 use Rattle.topic_core.specs.declared.transition.Transition.{Transition}
-use Rattle.engine_runs.specs.Running.{HasRun, LivesRun, RunValue, courses_on, due_behind, life_events}
+use Rattle.engine_runs.specs.Running.{AreRested, HasRun, LivesRun, RunValue, courses_on, due_behind, life_events}
 use Rattle.engine_runs.specs.Scripts.{graphs_from, names_from}
 use Rattle.engine_runs.specs.Spans.{FirstsRise, IsAway, IsOnward, Spans, last_of, picked}
 use Rattle.engine_runs.proofs.LaterLaws.{effects_span, picked_grown}
 use Rattle.engine_runs.proofs.OpenLaws.{courses_open, numbers_open, spans_open}
+use Rattle.engine_runs.proofs.RestedLaws.{none_rest}
 use Rattle.engine_runs.proofs.TimeLaws.{no_times, times_more}
 use Rattle.engine_runs.proofs.TurnLaws.{lives_are_onward, lives_onward}
 use Rattle.engine_runs.proofs.SpanLaws.{away_at, away_later, away_none, each_to, spans_less, spans_part}
@@ -56,6 +57,7 @@ module _ {N P S : Type 0} (g : Ghosts N P S) (planned : Planned P) (lives : List
             numbered = subst (λ (ns : List ℕ). AreNumberedBy g ns []) (sym numbers) tt;
             rise = subst (NumbersRise 0) (sym numbers) tt;
           };
+          rested = none_rest g r.net none;
           named = subst (Each (λ number. task_of r.names number ≡ task_of (names_from lives tasks) number)) (sym numbers) tt;
         };
         away = subst (λ (i : ℕ). Each (IsAway 0 0) (drop i lives)) (sym (ap length names)) (each_to (λ (l : Life). 0 < l.first) (IsAway 0 0) lives (λ l (lt : 0 < l.first). inl (omega (arith, lt))) firsts);
@@ -75,7 +77,7 @@ module _ {N P S : Type 0} (g : Ghosts N P S) (planned : Planned P) (lives : List
   ran_less points m n r le h =
       let s = spans_less (length points) m n h.lives_run.runs lives le (spans_of points n r h) in
       record {
-        lives_run = record { runs = h.lives_run.runs; long = h.lives_run.long; there = s.there; numbers = h.lives_run.numbers; stands = h.lives_run.stands; named = h.lives_run.named };
+        lives_run = record { runs = h.lives_run.runs; long = h.lives_run.long; there = s.there; numbers = h.lives_run.numbers; stands = h.lives_run.stands; rested = h.lives_run.rested; named = h.lives_run.named };
         away = subst (λ (i : ℕ). Each (IsAway (length points) m) (drop i lives)) h.lives_run.long s.away;
         topics = h.topics;
         times = h.times;
@@ -102,10 +104,10 @@ module _ {N P S : Type 0} (g : Ghosts N P S) (planned : Planned P) (lives : List
     pub ran_on : (points new : List PointValue) (m n : ℕ) (es : List Effect) (r r' : RunValue N) → (h : Ran points n r) → length new + m ≤ n
         → es ≡ later_effects g.answer (length points) (length new) (map (grown new) (picked h.lives_run.runs (courses_on g planned lives tasks points)))
         → StandsAt g (length points + length new) (map (grown new) (picked h.lives_run.runs (courses_on g planned lives tasks points))) r'.net
-        → numbers_of r'.net.lives ≡ numbers_of r.net.lives → r'.names ≡ r.names → r'.points ≡ r.points + length new
+        → AreRested g r'.net → numbers_of r'.net.lives ≡ numbers_of r.net.lives → r'.names ≡ r.names → r'.points ≡ r.points + length new
         → ((events : List EventValue) → StandsFor events r.topics → StandsFor (events ++ events_of es) r'.topics)
         → times_fit (events_of es) ≡ true → Ran (points ++ new) m r'
-    ran_on points new m n es r r' h le is stands numbers names counts takes fits =
+    ran_on points new m n es r r' h le is stands rested numbers names counts takes fits =
         let k = length new in
         let few : k ≤ n = omega (arith, le) in
         let long : length (points ++ new) ≡ length points + k = length-append points new in
@@ -122,6 +124,7 @@ module _ {N P S : Type 0} (g : Ghosts N P S) (planned : Planned P) (lives : List
             numbers = numbers ∙ h.lives_run.numbers;
             stands = subst (λ (i : ℕ). StandsAt g i (picked h.lives_run.runs (courses_on g planned lives tasks (points ++ new))) r'.net) (sym long)
                 (subst (λ (cs : List (Course P)). StandsAt g (length points + k) cs r'.net) (sym courses) stands);
+            rested = rested;
             named = named-on r'.names (numbers_of r'.net.lives) names numbers;
           };
           away = subst (λ (i : ℕ). Each (IsAway (length (points ++ new)) m) (drop i lives)) (h.lives_run.long ∙ ap length (sym names)) t.away;
@@ -204,7 +207,7 @@ module _ {N P S : Type 0} (g : Ghosts N P S) (planned : Planned P) (lives : List
   open_runs points n r fit h =
       let s = spans_open (length points) n h.lives_run.runs lives fit (spans_of points 1 r h) in
       record {
-        lives_run = record { runs = h.lives_run.runs; long = h.lives_run.long; there = s.there; numbers = h.lives_run.numbers; stands = h.lives_run.stands; named = h.lives_run.named };
+        lives_run = record { runs = h.lives_run.runs; long = h.lives_run.long; there = s.there; numbers = h.lives_run.numbers; stands = h.lives_run.stands; rested = h.lives_run.rested; named = h.lives_run.named };
         away = subst (λ (i : ℕ). Each (IsAway (length points) n) (drop i lives)) h.lives_run.long s.away;
         topics = h.topics;
         times = h.times;

@@ -1,5 +1,5 @@
 -- What lives do with points is told.
-use Rattle.std.proofs.Common.{◌≡◌, ℕ, zero, suc, ◌+◌, ◌≤◌, List, [], ◌∷◌, ◌++◌, length, map, sym, ap, subst, ◌∙◌, append-nil, append_assoc, arith}
+use Rattle.std.proofs.Common.{◌≡◌, ℕ, zero, suc, ◌+◌, ◌≤◌, List, [], ◌∷◌, ◌++◌, length, map, refl, sym, ap, subst, ◌∙◌, append-nil, append_assoc, length-append, arith}
 use Rattle.std.specs.List.{AllByRecursion as Each}
 use Rattle.std.proofs.lemmas.List.Concat.{flat_map-append}
 use Rattle.kap_base.specs.Points.{PointValue}
@@ -99,3 +99,45 @@ module _ {N P S : Type 0} (g : Ghosts N P S) (stamped : (p : P) (before : List I
               ∙ ap (λ (l : List ℕ). text ++ l) (ap (λ (evs : List EventValue). text_behind names (life_events g planned lives tasks points) es ++ text_behind names evs fs) events ∙ sym (text_more names (life_events g planned lives tasks points) es fs));
           told_is = λ before at. ap (λ (ps : List PointValue). Trans (life_events g planned lives tasks ps)) same ∙ b.told_is before (a.told_is before at);
         }
+
+    -- ---- points, epoch after epoch
+
+    abbrev RanBy : List PointValue → ℕ → RunValue N → Type 0
+    RanBy = HasRun g planned lives tasks
+
+    -- of the points some have run, and what was done with them is told; these are left, and more come
+    pub record RanOn (points all rest : List PointValue) (more : ℕ) (text text' : List ℕ) (told told' : List Transition) (r : RunValue N) : Type 0 where
+      pub passed : List PointValue
+      pub split : all ≡ passed ++ rest
+      pub runs : RanBy (points ++ passed) (length rest + more) r
+      pub tells : Told points passed text text' told told'
+
+    pub on_none : (points all : List PointValue) (more : ℕ) (text : List ℕ) (told : List Transition) (r : RunValue N) → RanBy points (length all + more) r → RanOn points all all more text text told told r
+    on_none points all more text told r h = record {
+      passed = [];
+      split = refl;
+      runs = subst (λ (ps : List PointValue). RanBy ps (length all + more) r) (sym (append-nil points)) h;
+      tells = none_told points text told;
+    }
+
+    -- the next ones can run
+    pub on_next : (points all rest piece behind : List PointValue) (more : ℕ) (text text' : List ℕ) (told told' : List Transition) (r : RunValue N) → (s : RanOn points all rest more text text' told told' r) → rest ≡ piece ++ behind
+        → RanBy (points ++ s.passed) (length piece + (length behind + more)) r
+    on_next points all rest piece behind more text text' told told' r s cut =
+        let long : length rest ≡ length piece + length behind = ap length cut ∙ length-append piece behind in
+        let same : length rest + more ≡ length piece + (length behind + more) = omega (arith, long) in
+        subst (λ (n : ℕ). RanBy (points ++ s.passed) n r) same s.runs
+
+    pub on_then : (points all rest piece behind : List PointValue) (more : ℕ) (text text' text'' : List ℕ) (told told' told'' : List Transition) (r r' : RunValue N) → (s : RanOn points all rest more text text' told told' r) → rest ≡ piece ++ behind
+        → RanBy ((points ++ s.passed) ++ piece) (length behind + more) r' → Told (points ++ s.passed) piece text' text'' told' told'' → RanOn points all behind more text text'' told told'' r'
+    on_then points all rest piece behind more text text' text'' told told' told'' r r' s cut runs tells = record {
+      passed = s.passed ++ piece;
+      split = s.split ∙ ap (λ (l : List PointValue). s.passed ++ l) cut ∙ sym (append_assoc s.passed piece behind);
+      runs = subst (λ (ps : List PointValue). RanBy ps (length behind + more) r') (append_assoc points s.passed piece) runs;
+      tells = both_told points s.passed piece text text' text'' told told' told'' s.tells tells;
+    }
+
+    -- all have run
+    pub on_all : (points all rest : List PointValue) (more : ℕ) (text text' : List ℕ) (told told' : List Transition) (r : RunValue N) → (s : RanOn points all rest more text text' told told' r) → length rest ≤ 0 → s.passed ≡ all
+    on_all points all [] more text text' told told' r s none = sym (s.split ∙ append-nil s.passed)
+    on_all points all (p ∷ rest) more text text' told told' r s none = absurd (omega (arith, none))

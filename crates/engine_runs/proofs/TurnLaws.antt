@@ -20,11 +20,12 @@ use Rattle.task_run.specs.Graphs.{Placed}
 use Rattle.task_run.specs.Plans.{PlanValue}
 use Rattle.tick_compile.specs.Scripts.{Accepts}
 use Rattle.tick_compile.specs.declared.tasks.Task.{Task}
-use Rattle.engine_runs.specs.Running.{LivesRun, courses_on}
+use Rattle.engine_runs.specs.Running.{AreRested, LivesRun, courses_on}
 use Rattle.engine_runs.specs.Scripts.{AreTasksOf, IsTaskOf, life_names, life_nodes, names_from}
 use Rattle.engine_runs.specs.Spans.{AreThere, HasEnded, HasEndedBy, IsAway, IsOnward, IsOpenOver, last_of, numbers_from, picked}
 use Rattle.engine_runs.proofs.LaterLaws.{none_seen}
 use Rattle.engine_runs.proofs.PlaceLaws.{course_at, each_more, get_map, map_remove, name_at, name_new, name_stays, names_at, number_at, numbers_below, task_at}
+use Rattle.engine_runs.proofs.RestedLaws.{ended_rest}
 use Rattle.engine_runs.proofs.SpanLaws.{each_to, lasts_picked, picked_more, picked_without, there_more, there_onward, there_without, without, without_length}
 
 -- ---- one life, whose last stamp is looked at
@@ -54,6 +55,7 @@ module _ {N P S : Type 0} (g : Ghosts N P S) (planned : Planned P) (lives : List
         there = there_onward (length points) m n r.runs lives r.there now;
         numbers = r.numbers;
         stands = r.stands;
+        rested = r.rested;
         named = r.named;
       }
 
@@ -84,6 +86,7 @@ module _ {N P S : Type 0} (g : Ghosts N P S) (planned : Planned P) (lives : List
         numbers = numbers ∙ ap (λ (ns : List ℕ). remove ns e.place) r.numbers ∙ sym (picked_without r.runs (numbers_from 1 lives) e.place);
         stands = subst (λ (cs : List (Course P)). StandsAt g (length points) cs net') (sym (picked_without r.runs (courses_on g planned lives tasks points) e.place))
             (net_ended g (length points) number (picked r.runs (courses_on g planned lives tasks points)) net net' r.stands e rest none same unspent);
+        rested = ended_rest g number net net' e same r.rested;
         named = subst (Each (λ n. task_of names n ≡ task_of (names_from lives tasks) n)) (sym numbers) (each_remove (λ n. task_of names n ≡ task_of (names_from lives tasks) n) (numbers_of net.lives) e.place r.named);
       }
 
@@ -137,6 +140,7 @@ module _ {N P S : Type 0} (g : Ghosts N P S) (planned : Planned P) (lives : List
         there = there_more (length points) n r.runs lives life false r.there here ended;
         numbers = r.numbers ∙ sym (picked-pass r.runs (numbers_from 1 lives));
         stands = subst (λ (cs : List (Course P)). StandsAt g (length points) cs net) (sym (picked-pass r.runs (courses_on g planned lives tasks points))) r.stands;
+        rested = r.rested;
         named = names-stay names name net points n r;
       })
 
@@ -153,8 +157,8 @@ module _ {N P S : Type 0} (g : Ghosts N P S) (planned : Planned P) (lives : List
       → IsOpenOver (length points) n life → length points < life.first
       → numbers_of net'.lives ≡ numbers_of net.lives ++ (length names + 1) ∷ []
       → StandsAt g (length points) (picked r.runs (courses_on g planned lives tasks points) ++ begun (length points) (life_nodes planned (length names + 1) life task) ∷ []) net'
-      → more ≡ names ++ life_names life task ∷ [] → Run points n more net'
-  life_began points n names more net net' life task r at has opens above numbers stands is =
+      → AreRested g net' → more ≡ names ++ life_names life task ∷ [] → Run points n more net'
+  life_began points n names more net net' life task r at has opens above numbers stands rested is =
       let k = length points in
       let all = courses_on g planned lives tasks points in
       let i = length r.runs in
@@ -174,6 +178,7 @@ module _ {N P S : Type 0} (g : Ghosts N P S) (planned : Planned P) (lives : List
         there = there_more k n r.runs lives life true r.there here opens;
         numbers = numbers ∙ ap (λ (ns : List ℕ). ns ++ (length names + 1) ∷ []) r.numbers ∙ sym (picked_more r.runs (numbers_from 1 lives) (length names + 1) true seat);
         stands = subst (λ (cs : List (Course P)). StandsAt g k cs net') (sym (picked_more r.runs all (begun k nodes) true own)) stands;
+        rested = rested;
         named = subst (Each (λ m. task_of (names ++ life_names life task ∷ []) m ≡ task_of (names_from lives tasks) m)) (sym numbers)
             (each_more (λ m. task_of (names ++ life_names life task ∷ []) m ≡ task_of (names_from lives tasks) m) (numbers_of net.lives) (length names + 1) (names-stay names (life_names life task) net points n r)
             (name_new names (life_names life task) ∙ sym (name_at (names_from lives tasks) (length names) ∙ names_at lives tasks (length names) life task at has)));
@@ -211,15 +216,16 @@ module _ {N P S : Type 0} (g : Ghosts N P S) (planned : Planned P) (lives : List
       → ((i : ℕ) (courses : List (Course P)) (task : Task) → IsTaskOf life task → StandsAt g i courses net → Each (λ number. number ≤ length names) (numbers_of net.lives)
       → StandsAt g i (courses ++ begun i (life_nodes planned (length names + 1) life task) ∷ []) net')
       → ((task : Task) → IsTaskOf life task → more ≡ names ++ life_names life task ∷ [])
+      → (AreRested g net → AreRested g net')
       → LivesRun g planned lives tasks points 1 names net → LivesRun g planned lives tasks points 1 more net'
-  next_began one_task points k names more net net' life long are at away began on numbers stands named r =
+  next_began one_task points k names more net net' life long are at away began on numbers stands named rested r =
       let t = task_at lives tasks (length names) life are at in
       let first : k < life.first = next-begins k life away on in
       let here : length points < life.first = subst (λ (i : ℕ). i < life.first) long first in
       let opens : IsOpenOver (length points) 1 life = subst (λ (i : ℕ). IsOpenOver i 1 life) long (record { first = omega (arith, first); began = began; onward = on }) in
       life_began g planned lives tasks points 1 names more net net' life t.task r at t.at opens here numbers
       (stands (length points) (picked r.runs (courses_on g planned lives tasks points)) t.task t.accepted r.stands (numbers_within g planned lives tasks points 1 names net r))
-      (named t.task t.accepted)
+      (rested r.rested) (named t.task t.accepted)
 
 -- ---- numbers
 

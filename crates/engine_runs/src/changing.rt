@@ -16,7 +16,7 @@ use std::marker::Model;
 use std::thread::Threads;
 use store_records::Life;
 use task_run::LifePlan;
-use tick_compile::Task;
+use tick_compile::{Task, scripts_have_one_answer};
 use topic_core::Transition;
 
 /// The life that begins next: its names, and a plan that has its nodes in their first states.
@@ -55,7 +55,7 @@ impl<N: ScriptNode + NumberingNode + Send> EngineRun<N> {
     ghost use Rattle.flow_core.specs.Nets.{HasStreamsCarried};
     ghost use Rattle.std.specs.List.{AllByRecursion as Each};
     ghost use Rattle.engine_runs.specs.Running.{HasRun, Tells};
-    ghost use Rattle.engine_runs.specs.Scripts.{IsPlanned, IsTaskOf, graphs_from};
+    ghost use Rattle.engine_runs.specs.Scripts.{AreTasksOf, IsPlanned, IsTaskOf, graphs_from};
 
     /// Runs an epoch of points, at which no life begins or ends, and tells what they do: its text comes behind
     /// a text, and the transitions that it makes come behind others.
@@ -67,7 +67,8 @@ impl<N: ScriptNode + NumberingNode + Send> EngineRun<N> {
         text: &mut Bytes,
         told: &mut Vec<Transition>,
     ) -> Result<(), NoMemory>
-        requires { self.old.spent ≡ false }
+        requires unspent { self.old.spent ≡ false }
+        requires some { 0 < length points.now }
         ensures spent { self.new.spent ≡ is_err result }
         ensures runs { OnOk result ((lives : List Life) (tasks : List Task)
             (before : List PointValue) (more : ℕ)
@@ -159,7 +160,7 @@ impl<N: ScriptNode + NumberingNode + Send> EngineRun<N> {
         ensures spent { self.new.spent ≡ is_err result }
         ensures runs { OnOk result ((lives : List Life) (tasks : List Task)
             (before : List PointValue) (life : Life) (task : Task)
-            → IsTaskOf life task → life.first ≡ length before + 1 → life.last ≡ None
+            → AreTasksOf lives tasks → IsTaskOf life task → life.first ≡ length before + 1 → life.last ≡ None
             → IsPlanned N.planned N.spec N.state N.first (length self.old.names + 1) life next
             → IsPlan N.spec N.ports N.life N.number next.1
             → length self.old.names ≡ length lives → LivesFit (length before) lives
@@ -167,6 +168,7 @@ impl<N: ScriptNode + NumberingNode + Send> EngineRun<N> {
             → HasRun N.Node N.planned (lives ++ life ∷ []) (tasks ++ task ∷ []) before 1 self.new) }
         ensures names { OnOk result (length self.new.names ≡ length self.old.names + 1) }
     {
+        scripts_have_one_answer();
         self.spent = true;
         let NextLife { names, plan } = next;
         self.net.begin(alloc, plan, self.capacity)?;

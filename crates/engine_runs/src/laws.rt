@@ -15,7 +15,7 @@ ghost use Rattle.task_run.specs.Graphs.{Placed};
 ghost use Rattle.tick_compile.specs.declared.tasks.Task.{Task};
 ghost use Rattle.engine_runs.specs.Later.{AreLater};
 ghost use Rattle.engine_runs.specs.Running.{HasRun, RunValue};
-ghost use Rattle.engine_runs.specs.Scripts.{graphs_from};
+ghost use Rattle.engine_runs.specs.Scripts.{AreTasksOf, graphs_from};
 ghost use Rattle.engine_runs.specs.Spans.{FirstsRise, Spans, numbers_from, picked};
 
 use node_core::Node;
@@ -72,4 +72,14 @@ pub fn open_lives_run<N: ScriptNode>()
         → HasRun N.Node N.planned lives tasks points 1 r
         → StandsAt N.Node (length points)
         (open_courses lives (graphs_from N.planned 1 lives tasks) points) r.net }
+{}
+
+/// Lives that have run on points, and are seen later: those of them that ended since are still in the net, and
+/// those that began since are not yet. As these they have run on the same points, with the same effects; none
+/// was told of more points.
+pub fn lives_run_later<N: ScriptNode>()
+    ensures { (lives others : List Life) (tasks more : List Task) (points : List PointValue)
+        (n : ℕ) (r : RunValue N) → AreTasksOf lives tasks → AreLater (length points) lives others
+        → HasRun N.Node N.planned lives tasks points n r
+        → HasRun N.Node N.planned others (tasks ++ more) points 0 r }
 {}

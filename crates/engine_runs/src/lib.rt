@@ -14,5 +14,8 @@ mod turning;
 
 pub use changing::NextLife;
 pub use fault::{RunFault, fault_at};
-pub use laws::{effects_come_behind, lives_go_on_later, lives_lie_behind_records, open_lives_run};
+pub use laws::{
+    effects_come_behind, lives_go_on_later, lives_lie_behind_records, lives_run_later,
+    open_lives_run,
+};
 pub use runs::EngineRun;

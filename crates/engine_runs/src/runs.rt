@@ -64,7 +64,7 @@ impl<N: Node> Model for EngineRun<N> {
 }
 
 impl<N: ScriptNode + NumberingNode + Send> EngineRun<N> {
-    ghost use Rattle.std.specs.Prelude.{◌≡◌, ◌≢◌, ◌++◌, ◌<◌, ◌≤◌, true, false, [], Bool, Err, IfErr, IfOk, List, OnOk, is_err, length, map};
+    ghost use Rattle.std.specs.Prelude.{◌≡◌, ◌≢◌, ◌+◌, ◌++◌, ◌<◌, ◌≤◌, true, false, [], Bool, Err, IfErr, IfOk, List, OnOk, is_err, length, map};
     ghost use Rattle.std.specs.List.{AllByRecursion as Each};
     ghost use Rattle.kap_base.specs.Points.{PointValue};
     ghost use Rattle.barrier_snapshot.specs.Captures.{IsCapture};
@@ -115,6 +115,8 @@ impl<N: ScriptNode + NumberingNode + Send> EngineRun<N> {
             → HasRun N.Node N.planned lives.now tasks before 0 self.old
             → HasRun N.Node N.planned lives.now tasks before 1 self.new) }
         ensures topics { OnOk result (self.new.topics ≡ self.old.topics) }
+        ensures all { OnOk result (Each (λ life. life.first ≤ self.old.points + 1) lives.now
+            → length lives.now ≤ length self.new.names) }
         ensures why { IfErr result (IsWhyOne (P.refusals pats.old) (P.refusals pats.new)
             (P.refused pats.new) lives.now) }
         ensures kept { OnOk result (P.refusals pats.new ≡ P.refusals pats.old) }
@@ -161,7 +163,8 @@ impl<N: ScriptNode + NumberingNode + Send> EngineRun<N> {
         way: &Way<'_, R, G>,
         due: &mut Vec<Transition>,
     ) -> Result<(), NoMemory>
-        requires { self.old.spent ≡ false }
+        requires unspent { self.old.spent ≡ false }
+        requires some { 0 < length points.now }
         ensures spent { self.new.spent ≡ is_err result }
         ensures runs { OnOk result ((lives : List Life) (tasks : List Task)
             (before : List PointValue)

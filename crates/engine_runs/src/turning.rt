@@ -13,7 +13,7 @@ ghost use Rattle.store_records.specs.declared.task.Life.{Life};
 ghost use Rattle.task_run.specs.Courses.{Course, begun};
 ghost use Rattle.tick_compile.specs.declared.tasks.Task.{Task};
 ghost use Rattle.engine_runs.specs.Faults.{IsWhy, IsWhyOne};
-ghost use Rattle.engine_runs.specs.Running.{LivesRun};
+ghost use Rattle.engine_runs.specs.Running.{AreRested, LivesRun};
 ghost use Rattle.engine_runs.specs.Scripts.{AreTasksOf, IsTaskOf, life_names, life_nodes};
 ghost use Rattle.engine_runs.specs.Spans.{FirstsRise, IsAway};
 
@@ -86,6 +86,7 @@ fn begin_life<P: Patterns, N: ScriptNode>(
     ensures names { OnOk result ((task : Task) → IsTaskOf life.now task
         → names.new.items ≡ names.old.items ++ life_names life.now task ∷ []) }
     ensures long { OnOk result (length names.new.items ≡ length names.old.items + 1) }
+    ensures rested { OnOk result (AreRested N.Node net.old → AreRested N.Node net.new) }
     ensures why { IfErr result
         (IsWhy (P.refusals pats.old) (P.refusals pats.new) (P.refused pats.new) life.now) }
     ensures kept { OnOk result (P.refusals pats.new ≡ P.refusals pats.old) }
@@ -182,6 +183,8 @@ pub(crate) fn begin_lives<P: Patterns, N: ScriptNode>(
         → LivesRun N.Node N.planned lives.now tasks before 1 names.new.items net.new) }
     ensures away { OnOk result (FirstsRise lives.now
         → Each (IsAway points 1) (drop (length names.new.items) lives.now)) }
+    ensures all { OnOk result (Each (λ life. life.first ≤ points + 1) lives.now
+        → length lives.now ≤ length names.new.items) }
     ensures why { IfErr result (IsWhyOne (P.refusals pats.old) (P.refusals pats.new)
         (P.refused pats.new) lives.now) }
     ensures kept { OnOk result (P.refusals pats.new ≡ P.refusals pats.old) }

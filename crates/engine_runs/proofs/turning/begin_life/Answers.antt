@@ -7,6 +7,7 @@ use Rattle.std.specs.Prelude.{None}
 use Rattle.task_run.specs.Courses.{begun}
 use Rattle.tick_compile.specs.declared.tasks.Task.{Task}
 use Rattle.engine_runs.specs.Scripts.{life_names, life_nodes}
+use Rattle.engine_runs.proofs.RestedLaws.{begun_rest}
 use Rattle.engine_runs.proofs.TurnLaws.{begun_numbers, numbers_under}
 use Rattle.engine_runs.proofs.turning.begin_life.Goals as goal
 
@@ -29,3 +30,6 @@ pub returns-clause-names : goal.returns-clause-names
 returns-clause-names g c = λ task accepted.
     let p = c.in-Ok.ensures.planned in
     c.in_ok-push.ensures.items ∙ ap (λ (n : TaskNames). c.args.names.now.items ++ n ∷ []) (p.names_are ∙ ap (λ (t : Task). life_names c.args.life.now t) (c.scripts_have_one_answer.ensures.task None c.args.life.now.script p.task task p.accepted accepted))
+
+pub returns-clause-rested : goal.returns-clause-rested
+returns-clause-rested g c = begun_rest g.N.Node c.in-Ok.made.1 c.args.net.now c.begin.new.self c.in_ok-begin.ensures.begins c.in-Ok.ensures.planned.begins c.in_ok-begin.ensures.last
