@@ -1,8 +1,11 @@
 -- The lives of a store run on its points, piece by piece.
-use Rattle.std.proofs.Common.{◌≡◌, ℕ, suc, List, [], ◌∷◌, ◌++◌, length, drop, refl, sym, ap, subst, ◌∙◌, append-nil, append_assoc}
+use Rattle.std.proofs.Common.{◌≡◌, ℕ, suc, ◌+◌, ◌≤◌, Bool, List, [], ◌∷◌, ◌++◌, length, drop, refl, sym, ap, subst, ◌∙◌, append-nil, append_assoc, arith}
 use Rattle.std.specs.Prelude.{take}
+use Rattle.std.specs.List.{AllByRecursion as Each}
 use Rattle.std.proofs.lemmas.List.{drop_at, take-append-drop}
 use Rattle.kap_base.specs.Points.{PointValue}
+use Rattle.life_effects.proofs.FitLaws.{held_fits}
+use Rattle.life_effects.specs.Effects.{LifeFits}
 use Rattle.node_core.specs.declared.node.Node.{Ghosts}
 use Rattle.node_set.specs.Tasks.{Planned}
 use Rattle.store_records.specs.Histories.{held}
@@ -13,9 +16,10 @@ use Rattle.topic_core.specs.declared.transition.Transition.{Transition}
 use Rattle.topic_store.specs.Points.{IsBefore, PointsState}
 use Rattle.engine_runs.specs.Running.{HasRun, RunValue, due_behind}
 use Rattle.engine_runs.specs.Scripts.{AreTasksOf}
-use Rattle.engine_runs.specs.Spans.{FirstsRise}
+use Rattle.engine_runs.specs.Spans.{AreThere, FirstsRise}
 use Rattle.engine_runs.proofs.HeldLaws.{held_rise}
 use Rattle.engine_store.specs.Opening.{HasBegun, HasRunAll, HasRunOn, missing}
+use Rattle.engine_store.proofs.PassLaws.{each_to}
 
 none-first : (n : ℕ) (ps : List PointValue) → take (suc n) ps ≡ [] → ps ≡ []
 none-first n [] e = refl
@@ -23,6 +27,12 @@ none-first n (p ∷ ps) e = absurd cc
 
 none-left : (ps : List PointValue) → take 4096 ps ≡ [] → ps ≡ []
 none-left ps e = none-first 4095 ps e
+
+-- no more lives run than there are
+there-few : (k n : ℕ) (runs : List Bool) (lives : List Life) → AreThere k n runs lives → length runs ≤ length lives
+there-few k n [] lives h = omega arith
+there-few k n (b ∷ runs) [] h = absurd h
+there-few k n (b ∷ runs) (life ∷ lives) h = let rest = there-few k n runs lives h.1 in omega (arith, rest)
 
 -- a reader stands before some points
 pub record StandsBefore (rs : List Rec) (reader : PointsState) : Type 0 where
@@ -92,6 +102,20 @@ module _ {N P S : Type 0} (g : Ghosts N P S) (planned : Planned P) (rs : List Re
       runs = run-there (held rs).points 1 r' (turn tasks (held rs).points are-here rise-here (run-here (held rs).points 0 r h.runs));
       due_is = h.due_is;
     }
+
+    -- each life has its names then, since each has begun
+    pub all_named : (r r' : RunValue N) (due : List Transition) → (Each (λ (l : Life). l.first ≤ r.points + 1) lives → length lives ≤ length r'.names) → HasRunAll g planned rs tasks 0 r due → HasRunAll g planned rs tasks 1 r' due
+        → length r'.names ≡ length (held rs).lives
+    all_named r r' due all old new =
+        let count : r.points ≡ length (held rs).points = old.runs.count in
+        let began : Each (λ (l : Life). l.first ≤ r.points + 1) (held rs).lives =
+        each_to (LifeFits (length (held rs).points)) (λ (l : Life). l.first ≤ r.points + 1) (held rs).lives
+        (λ l (f : LifeFits (length (held rs).points) l). let low : l.first ≤ length (held rs).points + 1 = f.began in omega (arith, low, count)) (held_fits rs) in
+        let many : length lives ≤ length r'.names = all (subst (Each (λ (l : Life). l.first ≤ r.points + 1)) (sym same) began) in
+        let few : length new.runs.lives_run.runs ≤ length (held rs).lives = there-few (length (held rs).points) 1 new.runs.lives_run.runs (held rs).lives new.runs.lives_run.there in
+        let long : length new.runs.lives_run.runs ≡ length r'.names = new.runs.lives_run.long in
+        let sizes : length lives ≡ length (held rs).lives = ap length same in
+        omega (arith, many, few, long, sizes)
 
   -- no piece is left
   pub reading_done : (reader : PointsState) (r : RunValue N) (due : List Transition) (given : List PointValue) → (s : IsReading reader r due) → given ≡ take 4096 s.others → given ≡ [] → HasRunAll g planned rs tasks 0 r due

@@ -123,3 +123,40 @@ still_behind rs rs' pieces records s =
 abbrev pub last_before : (rs before : List Rec) (points trans : ℕ) (states : List ℕ) → IsBehind rs before points trans states → LastSnap rs
 last_before rs before points trans states b =
     record { before = before; points = points; trans = trans; states = states; behind = b.behind; split = b.split; none_behind = b.none_behind }
+
+-- where others were added of which none is a snapshot, too
+pub last_kept : (rs more : List Rec) → list_any is_snap more ≡ false → (s : LastSnap (rs ++ more)) → IsBehind rs s.before s.points s.trans s.states
+last_kept rs more none s = is-behind rs more s.before s.points s.trans s.states s.behind none s.split s.none_behind
+
+-- ---- another one behind all records
+
+-- a snapshot is this one
+pub record IsThisSnap (rs before : List Rec) (points there trans had : ℕ) (states held_states : List ℕ) : Type 0 where
+  pub records : before ≡ rs
+  pub points_are : there ≡ points
+  pub trans_are : had ≡ trans
+  pub states_are : held_states ≡ states
+
+same-snap : (points there trans had : ℕ) (states held_states : List ℕ) → kinds.Snap points trans states ≡ kinds.Snap there had held_states → IsThisSnap [] [] points there trans had states held_states
+same-snap points there trans had states held_states e = record { records = refl; points_are = cc; trans_are = cc; states_are = cc }
+
+is-this : (rs before : List Rec) (points there trans had : ℕ) (states held_states : List ℕ) (behind : List Rec) → list_any is_snap behind ≡ false
+    → rs ++ kinds.Snap points trans states ∷ [] ≡ before ++ kinds.Snap there had held_states ∷ behind → IsThisSnap rs before points there trans had states held_states
+is-this [] [] points there trans had states held_states behind none e =
+    same-snap points there trans had states held_states (first-same (kinds.Snap points trans states) (kinds.Snap there had held_states) [] behind e)
+is-this [] (b ∷ before) points there trans had states held_states behind none e =
+    absurd (true≢false (sym (any-behind before there had held_states behind) ∙ ap (list_any is_snap) (sym (rest-same (kinds.Snap points trans states) b [] (before ++ kinds.Snap there had held_states ∷ behind) e))))
+is-this (r ∷ rs) [] points there trans had states held_states behind none e =
+    absurd (true≢false (sym (any-behind rs points trans states []) ∙ ap (list_any is_snap) (rest-same r (kinds.Snap there had held_states) (rs ++ kinds.Snap points trans states ∷ []) behind e) ∙ none))
+is-this (r ∷ rs) (b ∷ before) points there trans had states held_states behind none e =
+    let rest = is-this rs before points there trans had states held_states behind none (rest-same r b (rs ++ kinds.Snap points trans states ∷ []) (before ++ kinds.Snap there had held_states ∷ behind) e) in
+    record {
+      records = ap (λ (x : Rec). x ∷ before) (sym (first-same r b (rs ++ kinds.Snap points trans states ∷ []) (before ++ kinds.Snap there had held_states ∷ behind) e)) ∙ ap (λ (l : List Rec). r ∷ l) rest.records;
+      points_are = rest.points_are;
+      trans_are = rest.trans_are;
+      states_are = rest.states_are;
+    }
+
+-- the last one of all is the one that was added
+pub last_added : (rs : List Rec) (points trans : ℕ) (states : List ℕ) (s : LastSnap (rs ++ kinds.Snap points trans states ∷ [])) → IsThisSnap rs s.before points s.points trans s.trans states s.states
+last_added rs points trans states s = is-this rs s.before points s.points trans s.trans states s.states s.behind s.none_behind s.split

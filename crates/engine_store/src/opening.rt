@@ -145,7 +145,7 @@ fn run_rest<
 }
 
 /// The lives of a store, run on all its points, and the transitions that aren't stored. Behind the last point
-/// those lives are gone that have ended, and those are there that begin.
+/// those lives are gone that have ended, and those are there that begin; each has its number.
 pub fn run_store<
     N: ScriptNode + NumberingNode + Send,
     D: Disk,
@@ -173,6 +173,11 @@ pub fn run_store<
         → AreTasksOf (held rs).lives tasks
         → IsConsistent N.Node (graphs_in N.Node N.planned rs tasks) rs
         → IfOk result (λ made. HasRunAll N.Node N.planned rs tasks 1 made.0 made.1.items) }
+    ensures numbered { IsTrue D.tells → (rs : List Rec) (tasks : List Task)
+        → IsOn rs (D.seen disk.old) (D.may_leave disk.old) store.now
+        → AreTasksOf (held rs).lives tasks
+        → IsConsistent N.Node (graphs_in N.Node N.planned rs tasks) rs
+        → IfOk result (λ made. length made.0.names ≡ length (held rs).lives) }
     ensures few { IfOk result (λ made. store.now.kept.transitions + length made.1.items < 2 ^ 64) }
     ensures why { IsTrue D.tells → (rs : List Rec)
         → IsOn rs (D.seen disk.old) (D.may_leave disk.old) store.now

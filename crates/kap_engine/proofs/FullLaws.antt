@@ -1,5 +1,5 @@
 -- A store that is right, and has all transitions, is so behind a record that changes a task.
-use Rattle.std.proofs.Common.{◌≡◌, ℕ, ◌+◌, ◌≤◌, Bool, true, false, ◌||◌, cond, List, [], ◌∷◌, ◌++◌, length, refl, sym, ap, subst, ◌∙◌, append-nil, length-append, arith, true≢false}
+use Rattle.std.proofs.Common.{◌≡◌, ℕ, ◌+◌, ◌≤◌, false, cond, List, [], ◌∷◌, ◌++◌, length, refl, sym, ap, subst, ◌∙◌, append-nil, length-append, arith}
 use Rattle.std.specs.List.{AllByRecursion as Each, list_any}
 use Rattle.kap_base.specs.Points.{PointValue}
 use Rattle.kap_base.specs.declared.items.Effect.{Effect}
@@ -29,7 +29,7 @@ use Rattle.engine_runs.proofs.HeldLaws.{held_later}
 use Rattle.engine_runs.proofs.OpenLaws.{effects_later}
 use Rattle.engine_store.specs.Asking.{AreScripts}
 use Rattle.engine_store.specs.Good.{IsFull, IsGood, graphs_in}
-use Rattle.engine_store.proofs.SnapLaws.{IsBehind, last_before}
+use Rattle.engine_store.proofs.SnapLaws.{last_before, last_kept}
 use Rattle.kap_engine.specs.Changing.{ChangesTask, DefinesScript}
 use Rattle.kap_engine.proofs.TaskLaws.{HasScript, LifeHasScript, are_for, begun_scripts, each_both, ended_scripts, ended_tasks, tasks_for, tasks_scripts, zip_both}
 
@@ -53,7 +53,7 @@ no-transitions (kinds.Batch db rp points) c = refl
 no-transitions (kinds.Trans ts) c = absurd c
 no-transitions (kinds.Snap points trans states) c = refl
 
-no-snap : (r : Rec) → ChangesTask r → is_snap r ≡ false
+no-snap : (r : Rec) → ChangesTask r → list_any is_snap (r ∷ []) ≡ false
 no-snap (kinds.Define id script enabled) c = refl
 no-snap (kinds.Enable id) c = refl
 no-snap (kinds.Disable id) c = refl
@@ -69,45 +69,6 @@ same_points rs r c =
 pub same_transitions : (rs : List Rec) (r : Rec) → ChangesTask r → (held (rs ++ r ∷ [])).transitions ≡ (held rs).transitions
 same_transitions rs r c =
     ap (λ (h : Held). h.transitions) (held_push rs r) ∙ ap (λ (ts : List Transition). (held rs).transitions ++ ts) (no-transitions r c) ∙ append-nil (held rs).transitions
-
--- ---- the last snapshot stays
-
-first-same : {A : Type 0} (x y : A) (xs ys : List A) → x ∷ xs ≡ y ∷ ys → x ≡ y
-first-same x y xs ys e = cc
-
-rest-same : {A : Type 0} (x y : A) (xs ys : List A) → x ∷ xs ≡ y ∷ ys → xs ≡ ys
-rest-same x y xs ys e = cc
-
-none-before : (xs : List Rec) (y : Rec) (ys : List Rec) → [] ≡ xs ++ y ∷ ys → ⊥
-none-before [] y ys e = absurd cc
-none-before (x ∷ xs) y ys e = absurd cc
-
-any-front : (xs ys : List Rec) → list_any is_snap (xs ++ ys) ≡ false → list_any is_snap xs ≡ false
-any-front [] ys e = refl
-any-front (x ∷ xs) ys e = by (is_snap x) (any-front xs ys) e
-  where
-    by : (b : Bool) → (list_any is_snap (xs ++ ys) ≡ false → list_any is_snap xs ≡ false) → (b || list_any is_snap (xs ++ ys)) ≡ false → (b || list_any is_snap xs) ≡ false
-    by true f e = absurd (true≢false e)
-    by false f e = f e
-
-snap-behind : (rs : List Rec) (r : Rec) (before : List Rec) (points trans : ℕ) (states : List ℕ) (behind : List Rec) → is_snap r ≡ false → list_any is_snap behind ≡ false
-    → rs ++ r ∷ [] ≡ before ++ kinds.Snap points trans states ∷ behind → IsBehind rs before points trans states
-snap-behind [] r [] points trans states behind other none split =
-    absurd (true≢false (sym (ap is_snap (first-same r (kinds.Snap points trans states) [] behind split)) ∙ other))
-snap-behind [] r (b ∷ before) points trans states behind other none split =
-    absurd (none-before before (kinds.Snap points trans states) behind (rest-same r b [] (before ++ kinds.Snap points trans states ∷ behind) split))
-snap-behind (x ∷ rs) r [] points trans states behind other none split = record {
-  behind = rs;
-  split = ap (λ (y : Rec). y ∷ rs) (first-same x (kinds.Snap points trans states) (rs ++ r ∷ []) behind split);
-  none_behind = any-front rs (r ∷ []) (ap (list_any is_snap) (rest-same x (kinds.Snap points trans states) (rs ++ r ∷ []) behind split) ∙ none);
-}
-snap-behind (x ∷ rs) r (b ∷ before) points trans states behind other none split =
-    let rest = snap-behind rs r before points trans states behind other none (rest-same x b (rs ++ r ∷ []) (before ++ kinds.Snap points trans states ∷ behind) split) in
-    record {
-      behind = rest.behind;
-      split = ap (λ (y : Rec). y ∷ rs) (first-same x b (rs ++ r ∷ []) (before ++ kinds.Snap points trans states ∷ behind) split) ∙ ap (λ (l : List Rec). b ∷ l) rest.split;
-      none_behind = rest.none_behind;
-    }
 
 -- ---- lives seen later
 
@@ -228,7 +189,7 @@ module _ {N P S : Type 0} (g : Ghosts N P S) (planned : Planned P) (rs : List Re
 
   pub same_snap : (s : LastSnap (rs ++ r ∷ [])) → IsSnapOf g (graphs_in g planned (rs ++ r ∷ []) (full.good.tasks ++ new_tasks)) (held s.before) s.trans s.states
   same_snap s =
-      let b = snap-behind rs r s.before s.points s.trans s.states s.behind (no-snap r changes) s.none_behind s.split in
+      let b = last_kept rs (r ∷ []) (no-snap r changes) s in
       let fewer : length (held s.before).lives ≤ length before.lives =
       later_long (length (held s.before).points) (held s.before).lives before.lives
       (subst (λ (all : List Rec). AreLater (length (held s.before).points) (held s.before).lives (held all).lives) (sym b.split) (held_later s.before (kinds.Snap s.points s.trans s.states ∷ b.behind))) in

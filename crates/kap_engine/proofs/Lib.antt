@@ -1,4 +1,10 @@
 pub mod MakeLaws
+pub mod LikeLaws
+pub mod BatchLaws
+pub mod ShotLaws
+pub mod DueLaws
+pub mod AddLaws
+pub mod WriteLaws
 pub mod TaskLaws
 pub mod FullLaws
 pub mod ChangeLaws

@@ -1,5 +1,5 @@
 -- What is made of a right store.
-use Rattle.std.proofs.Common.{◌≡◌, ℕ, ◌+◌, ◌<◌, ◌^◌, inl, inr, List, [], ◌∷◌, ◌++◌, length, map, refl, sym, ap, subst, ◌∙◌, length-append, arith}
+use Rattle.std.proofs.Common.{◌≡◌, ℕ, ◌+◌, ◌<◌, ◌^◌, false, inl, inr, List, [], ◌∷◌, ◌++◌, length, map, refl, sym, ap, subst, ◌∙◌, length-append, arith}
 use Rattle.std.specs.Prelude.{Err, IsErrOf, IsTrue}
 use Rattle.kap_io.specs.Disk.{Image}
 use Rattle.kap_io.specs.Moments.{Moments, Quiet, then_run, weaker}
@@ -9,6 +9,7 @@ use Rattle.node_set.specs.Tasks.{Planned}
 use Rattle.store_records.specs.Held.{are_next}
 use Rattle.store_records.specs.Histories.{held}
 use Rattle.store_records.specs.declared.rec.Rec.{Rec}
+use Rattle.store_records.specs.declared.task.Life.{Life}
 use Rattle.kap_base.specs.Events.{EventValue}
 use Rattle.topic_core.specs.Topics.{Trans, event_of}
 use Rattle.topic_core.specs.declared.transition.Transition.{Transition}
@@ -39,9 +40,9 @@ module _ {N P S : Type 0} (g : Ghosts N P S) (planned : Planned P) (rs : List Re
       due_next g planned rs good.tasks good.consistent 1 r due h again (omega (arith, count, few))
 
   -- and where they are, an engine is made
-  pub made_behind : (seen : Image) (images : Image → Type 0) (store : StoreState) (stored : List Transition) → IsOnBehind rs due seen images store
-      → IsEngineBehind g planned rs seen images (record { store = store; run = r; stored = stored })
-  made_behind seen images store stored b = record {
+  pub made_behind : (seen : Image) (images : Image → Type 0) (store : StoreState) (stored : List Transition) → length r.names ≡ length (held rs).lives → IsOnBehind rs due seen images store
+      → IsEngineBehind g planned rs seen images (record { store = store; run = r; stored = stored; spent = false })
+  made_behind seen images store stored named b = record {
     records = b.records;
     more = due;
     added = b.added;
@@ -49,6 +50,7 @@ module _ {N P S : Type 0} (g : Ghosts N P S) (planned : Planned P) (rs : List Re
       on = b.on;
       full = full_added g planned rs b.records due good b.added (due_are g planned rs good.tasks good.consistent 1 r due h);
       runs = runs_added g planned rs b.records due good.tasks r b.added h.runs;
+      numbered = named ∙ ap (λ (ls : List Life). length ls) (sym b.added.lives);
     };
   }
 

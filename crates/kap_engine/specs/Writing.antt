@@ -1,5 +1,5 @@
 -- What points that are written leave.
-use Rattle.std.specs.Prelude.{◌≡◌, ◌⊎◌, ℕ, ◌+◌, ◌-◌, ◌<◌, ◌≤◌, List, ◌∷◌, ◌++◌, Some, length}
+use Rattle.std.specs.Prelude.{◌≡◌, ◌⊎◌, ℕ, ◌+◌, ◌-◌, ◌<◌, ◌≤◌, List, ◌∷◌, ◌++◌, Option, Some, length}
 use Rattle.std.specs.Option.{option_map_or}
 use Rattle.kap_base.specs.Points.{PointValue}
 use Rattle.kap_base.specs.declared.items.Effect.{Effect}
@@ -18,16 +18,24 @@ use Rattle.store_records.specs.declared.rec.Rec.TheVariants as kinds
 use Rattle.store_records.specs.declared.task.Snapshot.{Snapshot}
 use Rattle.tick_compile.specs.declared.tasks.Task.{Task}
 use Rattle.topic_core.specs.declared.transition.Transition.{Transition}
-use Rattle.topic_store.specs.Stores.{Stands}
+use Rattle.topic_store.specs.Stores.{IsOn, Stands, StoreState}
 use Rattle.engine_runs.specs.Running.{life_events}
 use Rattle.engine_runs.specs.Scripts.{names_from}
-use Rattle.engine_store.specs.Good.{IsGood, graphs_in}
+use Rattle.engine_store.specs.Good.{IsFull, IsGood, graphs_in}
 use Rattle.kap_engine.specs.Engines.{EngineValue, IsEngine}
 use Rattle.kap_engine.specs.declared.TheConstants.{SNAP_POINTS}
 
--- how many points stood before the last snapshot; none where there is none
+-- how many points stood before a snapshot; none where there is none
+abbrev pub snapped_in : Option Snapshot → ℕ
+snapped_in snap = option_map_or (λ (s : Snapshot). s.points) snap 0
+
+-- how many stood before the last one of a store
 abbrev pub snapped : Held → ℕ
-snapped h = option_map_or (λ (snap : Snapshot). snap.points) h.snap 0
+snapped h = snapped_in h.snap
+
+-- the snapshot of what a store holds behind records, with these states
+abbrev pub snap_of : List Rec → List ℕ → Rec
+snap_of rs states = kinds.Snap (length (held rs).points) (length (held rs).transitions) states
 
 -- the last snapshot is one of all points
 pub record IsSnapped (h : Held) : Type 0 where
@@ -49,13 +57,30 @@ pub record HasNoPoints (before after : Held) : Type 0 where
   pub points : after.points ≡ before.points
   pub changes : after.changes ≡ before.changes
 
+-- a store holds these transitions more, and nothing else has changed but its last snapshot
+pub record HasTransitions (more : List Transition) (before after : Held) : Type 0 where
+  pub tasks : after.tasks ≡ before.tasks
+  pub lives : after.lives ≡ before.lives
+  pub points : after.points ≡ before.points
+  pub transitions : after.transitions ≡ before.transitions ++ more
+  pub changes : after.changes ≡ before.changes
+
+-- a snapshot with these states is longer than a log takes
+abbrev pub IsLong : List Rec → List ℕ → Type 0
+IsLong rs states = BODY_LIMIT < length (spell_record (snap_of rs states))
+
+-- the store has the snapshot with these states more, or that is longer than a log takes and it is as before
+pub data HasSnap (rs : List Rec) (states : List ℕ) (seen : Image) (images : Image → Type 0) (store : StoreState)
+    : Type 0 where
+  with_snap : IsOn (rs ++ snap_of rs states ∷ []) seen images store → HasSnap rs states seen images store
+  too_long : IsLong rs states → IsOn rs seen images store → HasSnap rs states seen images store
+
 module _ {N P S : Type 0} (g : Ghosts N P S) (planned : Planned P) where
   -- A snapshot of what a store holds is longer than a log takes.
   pub record IsSnapLong (rs : List Rec) (tasks : List Task) : Type 0 where
     pub states : List ℕ
     pub are : IsSnapshot g (open_courses (held rs).lives (graphs_in g planned rs tasks) (held rs).points) states
-    pub long : BODY_LIMIT
-        < length (spell_record (kinds.Snap (length (held rs).points) (length (held rs).transitions) states))
+    pub long : IsLong rs states
 
   -- Behind records a store keeps its last snapshot where it has few points behind it. Else it has a new one, of all
   -- points, unless that is too long.
@@ -63,6 +88,28 @@ module _ {N P S : Type 0} (g : Ghosts N P S) (planned : Planned P) where
     pub few : length (held rs').points - snapped (held rs) < SNAP_POINTS → (held rs').snap ≡ (held rs).snap
     pub many : SNAP_POINTS ≤ length (held rs').points - snapped (held rs)
         → IsSnapped (held rs') ⊎ (((held rs').snap ≡ (held rs).snap) × IsSnapLong rs' tasks)
+
+  -- Transitions were stored behind these records, and a snapshot where one was due: the store has all that are due.
+  pub record HasStored (rs : List Rec) (tasks : List Task) (more : List Transition) (seen : Image)
+      (images : Image → Type 0) (store : StoreState) : Type 0 where
+    pub records : List Rec
+    pub on : IsOn records seen images store
+    pub full : IsFull g planned records
+    pub same : full.good.tasks ≡ tasks
+    pub holds : HasTransitions more (held rs) (held records)
+    pub snapped_is : HasSnapped rs records tasks
+
+  -- while they are, the files stand for a right store with some of them
+  pub record StandsStoring (rs : List Rec) (files : Image) : Type 0 where
+    pub records : List Rec
+    pub stands : Stands records files
+    pub good : IsGood g planned records
+    pub some : List Transition
+    pub holds : HasTransitions some (held rs) (held records)
+
+  -- whatever stood there before
+  abbrev pub stands_storing : List Rec → Image → Image → Type 0
+  stands_storing rs old files = StandsStoring rs files
 
   -- The text tells of the effects that the lives of these tasks have on more points.
   pub record TellsOf (rs : List Rec) (tasks : List Task) (new : List PointValue) (text : List ℕ) : Type 0 where

@@ -5,6 +5,7 @@
 
 mod changing;
 mod engine;
+mod storing;
 mod writing;
 
 pub use engine::Engine;

@@ -1,29 +1,32 @@
 //! Points are written: stored, run, and their transitions stored.
 
-ghost use Rattle.std.specs.Prelude.{◌≡◌, ◌≤◌, ◌+◌, ◌++◌, ◌<◌, false, ℕ, length, IfErr, IfOk, IsErrOf, IsTrue, List, OnOk};
+ghost use Rattle.std.specs.Prelude.{◌≡◌, ◌⊎◌, ◌+◌, ◌++◌, ◌<◌, ◌^◌, [], false, ℕ, length, IfErr, IfOk, IsTrue, List, OnOk};
 ghost use Rattle.std.specs.List.{AllByRecursion as Each, list_all};
+ghost use Rattle.kap_base.specs.Points.{PointValue};
 ghost use Rattle.kap_io.specs.Moments.{Moments};
 ghost use Rattle.flow_core.specs.Nets.{HasStreamsCarried};
-ghost use Rattle.store_kept.specs.Keeping.{AreValid};
 ghost use Rattle.store_records.specs.Lines.{are_lines, is_of};
 ghost use Rattle.store_records.specs.declared.rec.Rec.{Rec};
+ghost use Rattle.store_records.specs.declared.task.Life.{Life};
+ghost use Rattle.tick_compile.specs.declared.tasks.Task.{Task};
+ghost use Rattle.engine_runs.specs.Running.{HasRun, Tells};
 ghost use Rattle.engine_store.specs.Faults.{EngineCause};
 ghost use Rattle.engine_store.specs.declared.fault.EngineFault.TheVariants.{DiskFault, NoMemory as no_memory};
 ghost use Rattle.kap_engine.specs.Engines.{IsEngine};
 ghost use Rattle.kap_engine.specs.Writing.{HasWritten, stands_writing};
 
-use crate::SNAP_POINTS;
 use crate::engine::Engine;
-use engine_runs::EngineRun;
-use engine_store::{EngineFault, add_transitions};
+use crate::storing::store_due;
+use engine_runs::{EngineRun, effects_come_behind, open_lives_run};
+use engine_store::EngineFault;
 use kap_base::{Bytes, NoMemory, Point, Points, Shared, Text};
 use kap_io::{Disk, Gate};
 use net_run::{NumberingNode, Way, Workers, few_points};
 use node_set::ScriptNode;
 use std::alloc::Global;
 use std::thread::Threads;
-use store_records::{Rec, Transitions};
-use topic_store::{Store, StoreFault};
+use topic_core::Transition;
+use topic_store::Store;
 
 /// Points, each with one owner.
 fn shared_points(alloc: Global, points: Points) -> Result<Vec<Shared<Point>>, NoMemory>
@@ -36,37 +39,38 @@ fn shared_points(alloc: Global, points: Points) -> Result<Vec<Shared<Point>>, No
     Ok(shared)
 }
 
-/// How many points stand behind the last snapshot of a store.
-fn unsnapped(store: &Store) -> u64 {
-    let (points, _) = store.last_snap().unwrap_or((0, 0));
-    store.count().saturating_sub(points)
-}
-
-/// Adds a snapshot of the lives of a store, which have run on all its points, where `SNAP_POINTS` of these or
-/// more stand behind the last one; but none whose record is longer than a log takes.
-fn add_snapshot<N: ScriptNode + NumberingNode + Send, D: Disk>(
+/// Runs the lives of a store on more points, at which none begins or ends: the text of what they do, and the
+/// transitions that these points make. With those that are stored these are fewer than 2^64.
+fn run_points<N: ScriptNode + NumberingNode + Send, R: Threads + Sync, G: Gate + Sync>(
     alloc: Global,
-    store: &mut Store,
-    run: &EngineRun<N>,
-    disk: &mut D,
-) -> Result<(), EngineFault> {
-    if unsnapped(store) < SNAP_POINTS {
-        return Ok(());
+    store: &Store,
+    run: &mut EngineRun<N>,
+    points: Points,
+    way: &Way<'_, R, G>,
+) -> Result<(Bytes, Vec<Transition>), NoMemory>
+    requires { run.old.spent ≡ false }
+    ensures unspent { OnOk result (run.new.spent ≡ false) }
+    ensures runs { OnOk result ((lives : List Life) (tasks : List Task)
+        (before : List PointValue) (more : ℕ)
+        → HasRun N.Node N.planned lives tasks before (length points + more) run.old
+        → HasRun N.Node N.planned lives tasks (before ++ points) more run.new) }
+    ensures tells { IfOk result (λ did. (lives : List Life) (tasks : List Task)
+        (before : List PointValue) (more : ℕ)
+        → HasRun N.Node N.planned lives tasks before (length points + more) run.old
+        → Tells N.Node N.planned lives tasks before points [] did.0 [] did.1.items) }
+    ensures few { IfOk result (λ did. store.now.kept.transitions + length did.1.items < 2 ^ 64) }
+    ensures names { OnOk result (run.new.names ≡ run.old.names) }
+    ensures streams { 0 < length points
+        → OnOk result (Each (HasStreamsCarried N.Node) run.new.net.lives) }
+{
+    let points = shared_points(alloc, points)?;
+    let mut text = Bytes::new(alloc);
+    let mut told = Vec::new(alloc);
+    run.run_on(alloc, &points, way, &mut text, &mut told)?;
+    if store.trans_count().checked_add(told.len() as u64).is_none() {
+        return Err(NoMemory);
     }
-    let Some(states) = run.snapshot(alloc)? else {
-        return Ok(());
-    };
-    let points = store.count();
-    let trans = store.trans_count();
-    let rec = Rec::Snap {
-        points,
-        trans,
-        states,
-    };
-    match store.add(disk, &rec) {
-        Ok(()) | Err(StoreFault::Long) => Ok(()),
-        Err(fault) => Err(EngineFault::from(fault)),
-    }
+    Ok((text, told))
 }
 
 impl<N: ScriptNode + NumberingNode + Send> Engine<N> {
@@ -107,20 +111,17 @@ impl<N: ScriptNode + NumberingNode + Send> Engine<N> {
         ensures faults { IfErr result (λ f. (f ≡ DiskFault) ⊎ (f ≡ no_memory)) }
         ensures cause { EngineCause (D.faults disk.old) (D.faults disk.new) result }
     {
+        effects_come_behind::<N>();
+        open_lives_run::<N>();
         if let Err(fault) = self.store.add_batch(disk, db, rp, points.as_slice()) {
             self.spent = self.store.spent();
             return Err(EngineFault::from(fault));
         }
         self.spent = true;
-        let mut text = Bytes::new(alloc);
-        let mut told = Vec::new(alloc);
-        let points = shared_points(alloc, points)?;
         let least = few_points(self.run.net().lives().len());
         let way = Way::Workers(Workers::new(rt, self.workers, gate, least));
-        self.run.run_on(alloc, &points, &way, &mut text, &mut told)?;
-        drop(points);
-        self.stored = add_transitions(alloc, &mut self.store, disk, told)?;
-        add_snapshot(alloc, &mut self.store, &self.run, disk)?;
+        let (text, told) = run_points(alloc, &self.store, &mut self.run, points, &way)?;
+        self.stored = store_due(alloc, &mut self.store, &self.run, disk, told)?;
         self.spent = false;
         Ok(text)
     }

@@ -6,7 +6,7 @@ use Rattle.topic_store.proofs.Quietly.{on_quietly}
 use Rattle.engine_store.specs.declared.fault.EngineFault.{EngineFault}
 use Rattle.engine_store.specs.declared.fault.EngineFault.TheVariants.{NotStore}
 use Rattle.engine_store.proofs.CauseLaws.{cause_later, cause_none, cause_other, cause_same, run_no_disk, same_fault, why_asked, why_later, why_run}
-use Rattle.engine_store.proofs.ReadLaws.{turned}
+use Rattle.engine_store.proofs.ReadLaws.{all_named, turned}
 use Rattle.engine_store.proofs.WhyLaws.{scripts_held}
 use Rattle.engine_store.proofs.opening.run_store.Goals as goal
 
@@ -99,6 +99,14 @@ returns-clause-runs g c = λ tells rs tasks on are consistent.
     let there = on_quietly g.D.Disk.seen g.D.Disk.moment g.D.Disk.may_leave g.D.Disk.left_since _ _ rs c.args.store.now (c.begin_run.ensures.quiet tells) on in
     turned g.N.Node g.N.ScriptNode.planned rs tasks c.lives-2.result.now (c.lives-2.ensures ∙ on.kept.keeps.lives) are c.run_rest.new.run c.turn.new.self c.in_ok-due.due.items
     c.in_default-turn.ensures.runs (c.in_ok-due.ensures.runs tells rs tasks there are (c.in_ok-run.ensures.begun tells rs tasks on are consistent))
+
+pub returns-clause-numbered : goal.returns-clause-numbered
+returns-clause-numbered g c = λ tells rs tasks on are consistent.
+    let there = on_quietly g.D.Disk.seen g.D.Disk.moment g.D.Disk.may_leave g.D.Disk.left_since _ _ rs c.args.store.now (c.begin_run.ensures.quiet tells) on in
+    let ran = c.in_ok-due.ensures.runs tells rs tasks there are (c.in_ok-run.ensures.begun tells rs tasks on are consistent) in
+    let same = c.lives-2.ensures ∙ on.kept.keeps.lives in
+    all_named g.N.Node g.N.ScriptNode.planned rs tasks c.lives-2.result.now same are c.run_rest.new.run c.turn.new.self c.in_ok-due.due.items c.in_default-turn.ensures.all ran
+    (turned g.N.Node g.N.ScriptNode.planned rs tasks c.lives-2.result.now same are c.run_rest.new.run c.turn.new.self c.in_ok-due.due.items c.in_default-turn.ensures.runs ran)
 
 pub returns-clause-quiet : goal.returns-clause-quiet
 returns-clause-quiet g c = λ tells.

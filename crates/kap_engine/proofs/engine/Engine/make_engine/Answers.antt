@@ -134,7 +134,8 @@ returns-clause-made g c = λ tells rs stands good.
     let behind = on_quietly g.D.Disk.seen g.D.Disk.moment g.D.Disk.may_leave g.D.Disk.left_since _ _ rs c.in_ok-store.store (c.run_store.ensures.quiet tells) on in
     let h = c.in_ok-run.ensures.runs tells rs good.tasks on good.are good.consistent in
     let next = may_store g.N.Node g.N.ScriptNode.planned rs good _ _ h c.transition_laws.ensures.again _ _ c.in_ok-store.store behind c.in_ok-run.ensures.few in
-    made_behind g.N.Node g.N.ScriptNode.planned rs good _ _ h _ _ c.add_transitions.new.store _ (c.in_ok-add_transitions.ensures.added tells rs behind next)
+    made_behind g.N.Node g.N.ScriptNode.planned rs good _ _ h _ _ c.add_transitions.new.store _
+    (c.in_ok-run.ensures.numbered tells rs good.tasks on good.are good.consistent) (c.in_ok-add_transitions.ensures.added tells rs behind next)
 
 pub returns-clause-any_moment : goal.returns-clause-any_moment
 returns-clause-any_moment g c = λ tells rs stands good.
