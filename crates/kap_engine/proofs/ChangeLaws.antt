@@ -146,7 +146,8 @@ module _ {N P S : Type 0} (g : Ghosts N P S) (planned : Planned P) where
 
   none-begins : (begun : ℕ) (lives : List Life) → AreNext g planned begun lives None → lives ≡ []
   none-begins begun [] are = refl
-  none-begins begun (life ∷ lives) are = absurd are
+  none-begins begun (life ∷ []) are = absurd are
+  none-begins begun (life ∷ other ∷ lives) are = absurd are
 
   -- what is promised of a life that begins
   abbrev pub BeginsAs : RunValue N → RunValue N → TaskNames × PlanValue N → Type 0

@@ -1,5 +1,5 @@
 -- A store that is right, and has all transitions, is so behind a record that changes a task.
-use Rattle.std.proofs.Common.{◌≡◌, ℕ, ◌+◌, ◌≤◌, false, cond, List, [], ◌∷◌, ◌++◌, length, refl, sym, ap, subst, ◌∙◌, append-nil, length-append, arith}
+use Rattle.std.proofs.Common.{◌≡◌, ℕ, ◌+◌, ◌≤◌, true, false, cond, List, [], ◌∷◌, ◌++◌, length, refl, sym, ap, subst, ◌∙◌, append-nil, length-append, arith}
 use Rattle.std.specs.List.{AllByRecursion as Each, list_any}
 use Rattle.kap_base.specs.Points.{PointValue}
 use Rattle.kap_base.specs.declared.items.Effect.{Effect}
