@@ -192,14 +192,14 @@ pub one_begins : {N P S : Type 0} (g : Ghosts N P S) (planned : Planned P) (one_
     → (AreRested g r.net → AreRested g r'.net)
     → r'.topics ≡ r.topics → r'.points ≡ r.points
     → HasRun g planned lives tasks points 1 r → HasRun g planned (lives ++ life ∷ []) (tasks ++ task ∷ []) points 1 r'
-one_begins g planned one_task lives tasks points life task r r' are own first open all numbers stands named rested topics count run =
+one_begins g planned one_task lives tasks points life task r r' are own first still all numbers stands named rested topics count run =
     let k = length points in
     let others = lives ++ life ∷ [] in
     let above : k < life.first = omega (arith, first) in
     let h : AreLater k lives others = all-stay k lives (life ∷ []) (above, tt) in
     let was = lives-later g planned lives others tasks (task ∷ []) are points h 1 1 r.names r.net run.lives_run (there-front k 1 run.lives_run.runs lives (life ∷ []) run.lives_run.there) in
     let at : slice_get others (length r.names) ≡ Some life = ap (slice_get others) all ∙ get_last lives life in
-    let on : IsOnward (k + 1) life.last = subst (IsOnward (k + 1)) (sym open) tt in
+    let on : IsOnward (k + 1) life.last = subst (IsOnward (k + 1)) (sym still) tt in
     let events = events-later g planned lives others tasks (task ∷ []) are points h in
     let long : length r'.names ≡ length r.names + 1 = ap length (named task own) ∙ length-append r.names (life_names life task ∷ []) in
     let more : length others ≡ length lives + 1 = length-append lives (life ∷ []) in

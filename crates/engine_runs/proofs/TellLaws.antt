@@ -73,71 +73,75 @@ module _ {N P S : Type 0} (g : Ghosts N P S) (stamped : (p : P) (before : List I
           told_is = λ before at. ap Trans (events_more g planned lives tasks stamped points new n es r h le is) ∙ tells (life_events g planned lives tasks points) before h.topics at;
         }
 
-    -- none are told of no points
-    pub none_told : (points : List PointValue) (text : List ℕ) (told : List Transition) → Told points [] text text told told
-    unfolding text_behind
-    none_told points text told = record {
-      effects = [];
-      more = ap (stored_effects g.answer lives (graphs_from planned 1 lives tasks)) (append-nil points) ∙ sym (append-nil _);
-      text_is = sym (append-nil text);
-      told_is = λ before at. ap (λ (ps : List PointValue). Trans (life_events g planned lives tasks ps)) (append-nil points) ∙ at;
-    }
+module _ {N P S : Type 0} (g : Ghosts N P S) (planned : Planned P) (lives : List Life) (tasks : List Task) where
+  abbrev ToldBy : List PointValue → List PointValue → List ℕ → List ℕ → List Transition → List Transition → Type 0
+  ToldBy = Tells g planned lives tasks
 
-    -- one behind the other
-    pub both_told : (points some more : List PointValue) (text text' text'' : List ℕ) (told told' told'' : List Transition) → Told points some text text' told told' → Told (points ++ some) more text' text'' told' told'' → Told points (some ++ more) text text'' told told''
-    both_told points some more text text' text'' told told' told'' a b =
-        let names = names_from lives tasks in
-        let es = a.effects in
-        let fs = b.effects in
-        let same : points ++ (some ++ more) ≡ (points ++ some) ++ more = sym (append_assoc points some more) in
-        let events : life_events g planned lives tasks (points ++ some) ≡ life_events g planned lives tasks points ++ events_of es =
-        ap events_of a.more ∙ flat_map-append (λ (e : Effect). event_in e.what) (stored_effects g.answer lives (graphs_from planned 1 lives tasks) points) es in
-        record {
-          effects = es ++ fs;
-          more = ap (stored_effects g.answer lives (graphs_from planned 1 lives tasks)) same ∙ b.more ∙ ap (λ (l : List Effect). l ++ fs) a.more ∙ append_assoc _ es fs;
-          text_is = b.text_is ∙ ap (λ (l : List ℕ). l ++ text_behind names (life_events g planned lives tasks (points ++ some)) fs) a.text_is ∙ append_assoc text _ _
-              ∙ ap (λ (l : List ℕ). text ++ l) (ap (λ (evs : List EventValue). text_behind names (life_events g planned lives tasks points) es ++ text_behind names evs fs) events ∙ sym (text_more names (life_events g planned lives tasks points) es fs));
-          told_is = λ before at. ap (λ (ps : List PointValue). Trans (life_events g planned lives tasks ps)) same ∙ b.told_is before (a.told_is before at);
-        }
+  -- none are told of no points
+  pub none_told : (points : List PointValue) (text : List ℕ) (told : List Transition) → ToldBy points [] text text told told
+  unfolding text_behind
+  none_told points text told = record {
+    effects = [];
+    more = ap (stored_effects g.answer lives (graphs_from planned 1 lives tasks)) (append-nil points) ∙ sym (append-nil _);
+    text_is = sym (append-nil text);
+    told_is = λ before at. ap (λ (ps : List PointValue). Trans (life_events g planned lives tasks ps)) (append-nil points) ∙ at;
+  }
 
-    -- ---- points, epoch after epoch
+  -- one behind the other
+  pub both_told : (points some more : List PointValue) (text text' text'' : List ℕ) (told told' told'' : List Transition) → ToldBy points some text text' told told' → ToldBy (points ++ some) more text' text'' told' told'' → ToldBy points (some ++ more) text text'' told told''
+  both_told points some more text text' text'' told told' told'' a b =
+      let names = names_from lives tasks in
+      let es = a.effects in
+      let fs = b.effects in
+      let same : points ++ (some ++ more) ≡ (points ++ some) ++ more = sym (append_assoc points some more) in
+      let events : life_events g planned lives tasks (points ++ some) ≡ life_events g planned lives tasks points ++ events_of es =
+      ap events_of a.more ∙ flat_map-append (λ (e : Effect). event_in e.what) (stored_effects g.answer lives (graphs_from planned 1 lives tasks) points) es in
+      record {
+        effects = es ++ fs;
+        more = ap (stored_effects g.answer lives (graphs_from planned 1 lives tasks)) same ∙ b.more ∙ ap (λ (l : List Effect). l ++ fs) a.more ∙ append_assoc _ es fs;
+        text_is = b.text_is ∙ ap (λ (l : List ℕ). l ++ text_behind names (life_events g planned lives tasks (points ++ some)) fs) a.text_is ∙ append_assoc text _ _
+            ∙ ap (λ (l : List ℕ). text ++ l) (ap (λ (evs : List EventValue). text_behind names (life_events g planned lives tasks points) es ++ text_behind names evs fs) events ∙ sym (text_more names (life_events g planned lives tasks points) es fs));
+        told_is = λ before at. ap (λ (ps : List PointValue). Trans (life_events g planned lives tasks ps)) same ∙ b.told_is before (a.told_is before at);
+      }
 
-    abbrev RanBy : List PointValue → ℕ → RunValue N → Type 0
-    RanBy = HasRun g planned lives tasks
+  -- ---- points, epoch after epoch
 
-    -- of the points some have run, and what was done with them is told; these are left, and more come
-    pub record RanOn (points all rest : List PointValue) (more : ℕ) (text text' : List ℕ) (told told' : List Transition) (r : RunValue N) : Type 0 where
-      pub passed : List PointValue
-      pub split : all ≡ passed ++ rest
-      pub runs : RanBy (points ++ passed) (length rest + more) r
-      pub tells : Told points passed text text' told told'
+  abbrev RanBy : List PointValue → ℕ → RunValue N → Type 0
+  RanBy = HasRun g planned lives tasks
 
-    pub on_none : (points all : List PointValue) (more : ℕ) (text : List ℕ) (told : List Transition) (r : RunValue N) → RanBy points (length all + more) r → RanOn points all all more text text told told r
-    on_none points all more text told r h = record {
-      passed = [];
-      split = refl;
-      runs = subst (λ (ps : List PointValue). RanBy ps (length all + more) r) (sym (append-nil points)) h;
-      tells = none_told points text told;
-    }
+  -- of the points some have run, and what was done with them is told; these are left, and more come
+  pub record RanOn (points all rest : List PointValue) (more : ℕ) (text text' : List ℕ) (told told' : List Transition) (r : RunValue N) : Type 0 where
+    pub passed : List PointValue
+    pub split : all ≡ passed ++ rest
+    pub runs : RanBy (points ++ passed) (length rest + more) r
+    pub tells : ToldBy points passed text text' told told'
 
-    -- the next ones can run
-    pub on_next : (points all rest piece behind : List PointValue) (more : ℕ) (text text' : List ℕ) (told told' : List Transition) (r : RunValue N) → (s : RanOn points all rest more text text' told told' r) → rest ≡ piece ++ behind
-        → RanBy (points ++ s.passed) (length piece + (length behind + more)) r
-    on_next points all rest piece behind more text text' told told' r s cut =
-        let long : length rest ≡ length piece + length behind = ap length cut ∙ length-append piece behind in
-        let same : length rest + more ≡ length piece + (length behind + more) = omega (arith, long) in
-        subst (λ (n : ℕ). RanBy (points ++ s.passed) n r) same s.runs
+  pub on_none : (points all : List PointValue) (more : ℕ) (text : List ℕ) (told : List Transition) (r : RunValue N) → RanBy points (length all + more) r → RanOn points all all more text text told told r
+  on_none points all more text told r h = record {
+    passed = [];
+    split = refl;
+    runs = subst (λ (ps : List PointValue). RanBy ps (length all + more) r) (sym (append-nil points)) h;
+    tells = none_told points text told;
+  }
 
-    pub on_then : (points all rest piece behind : List PointValue) (more : ℕ) (text text' text'' : List ℕ) (told told' told'' : List Transition) (r r' : RunValue N) → (s : RanOn points all rest more text text' told told' r) → rest ≡ piece ++ behind
-        → RanBy ((points ++ s.passed) ++ piece) (length behind + more) r' → Told (points ++ s.passed) piece text' text'' told' told'' → RanOn points all behind more text text'' told told'' r'
-    on_then points all rest piece behind more text text' text'' told told' told'' r r' s cut runs tells = record {
-      passed = s.passed ++ piece;
-      split = s.split ∙ ap (λ (l : List PointValue). s.passed ++ l) cut ∙ sym (append_assoc s.passed piece behind);
-      runs = subst (λ (ps : List PointValue). RanBy ps (length behind + more) r') (append_assoc points s.passed piece) runs;
-      tells = both_told points s.passed piece text text' text'' told told' told'' s.tells tells;
-    }
+  -- the next ones can run
+  pub on_next : (points all rest piece behind : List PointValue) (more : ℕ) (text text' : List ℕ) (told told' : List Transition) (r : RunValue N) → (s : RanOn points all rest more text text' told told' r) → rest ≡ piece ++ behind
+      → RanBy (points ++ s.passed) (length piece + (length behind + more)) r
+  on_next points all rest piece behind more text text' told told' r s cut =
+      let long : length rest ≡ length piece + length behind = ap length cut ∙ length-append piece behind in
+      let same : length rest + more ≡ length piece + (length behind + more) = omega (arith, long) in
+      subst (λ (n : ℕ). RanBy (points ++ s.passed) n r) same s.runs
 
-    -- all have run
-    pub on_all : (points all rest : List PointValue) (more : ℕ) (text text' : List ℕ) (told told' : List Transition) (r : RunValue N) → (s : RanOn points all rest more text text' told told' r) → length rest ≤ 0 → s.passed ≡ all
-    on_all points all [] more text text' told told' r s none = sym (s.split ∙ append-nil s.passed)
-    on_all points all (p ∷ rest) more text text' told told' r s none = absurd (omega (arith, none))
+  pub on_then : (points all rest piece behind : List PointValue) (more : ℕ) (text text' text'' : List ℕ) (told told' told'' : List Transition) (r r' : RunValue N) → (s : RanOn points all rest more text text' told told' r) → rest ≡ piece ++ behind
+      → RanBy ((points ++ s.passed) ++ piece) (length behind + more) r' → ToldBy (points ++ s.passed) piece text' text'' told' told'' → RanOn points all behind more text text'' told told'' r'
+  on_then points all rest piece behind more text text' text'' told told' told'' r r' s cut runs tells = record {
+    passed = s.passed ++ piece;
+    split = s.split ∙ ap (λ (l : List PointValue). s.passed ++ l) cut ∙ sym (append_assoc s.passed piece behind);
+    runs = subst (λ (ps : List PointValue). RanBy ps (length behind + more) r') (append_assoc points s.passed piece) runs;
+    tells = both_told points s.passed piece text text' text'' told told' told'' s.tells tells;
+  }
+
+  -- all have run
+  pub on_all : (points all rest : List PointValue) (more : ℕ) (text text' : List ℕ) (told told' : List Transition) (r : RunValue N) → (s : RanOn points all rest more text text' told told' r) → length rest ≤ 0 → s.passed ≡ all
+  on_all points all [] more text text' told told' r s none = sym (s.split ∙ append-nil s.passed)
+  on_all points all (p ∷ rest) more text text' told told' r s none = absurd (omega (arith, none))

@@ -146,8 +146,8 @@ impl<N: ScriptNode + NumberingNode + Send> EngineRun<N> {
         let Some(number) = next_number(self.names.len()) else {
             return Err(NoMemory);
         };
+        let TaskPlan { plan, names } = plan_task(alloc, id, number, task.graph)?;
         let id = id.copy(alloc)?;
-        let TaskPlan { plan, names } = plan_task(alloc, &id, number, task.graph)?;
         Ok(NextLife {
             names: TaskNames { id, nodes: names },
             plan,
