@@ -28,9 +28,9 @@ use Rattle.topic_core.specs.declared.transition.Transition.{Transition}
 use Rattle.topic_store.specs.Adding.{stands_before_or_after}
 use Rattle.topic_store.specs.Stores.{IsOn, StoreState}
 use Rattle.topic_store.proofs.Adding.{image_stands}
-use Rattle.engine_runs.specs.Later.{AreLater}
 use Rattle.engine_runs.specs.Running.{HasRun, RunValue}
 use Rattle.engine_runs.specs.Scripts.{AreTasksOf, IsPlanned, IsTaskOf}
+use Rattle.engine_runs.proofs.ChangeLaws.{run_later}
 use Rattle.engine_runs.proofs.PlaceLaws.{each_at}
 use Rattle.engine_runs.proofs.RunLaws.{ran_less}
 use Rattle.engine_store.specs.Good.{IsFull}
@@ -160,14 +160,6 @@ module _ {N P S : Type 0} (g : Ghosts N P S) (planned : Planned P) where
       → HasRun g planned lives tasks points 1 run
       → HasRun g planned (lives ++ life ∷ []) (tasks ++ task ∷ []) points 1 run'
 
-  -- and of lives that are seen later
-  abbrev pub SeenLater : Type 0
-  SeenLater =
-      (lives others : List Life) (tasks more : List Task) (points : List PointValue) (n : ℕ) (run : RunValue N)
-      → AreTasksOf lives tasks → AreLater (length points) lives others
-      → HasRun g planned lives tasks points n run
-      → HasRun g planned others (tasks ++ more) points 0 run
-
   module _ (rs : List Rec) (r : Rec) (changes : ChangesTask r) (defines : DefinesScript r) (full : IsFull g planned rs) where
     -- the lives have run behind the record, but those that it ends are there still
     abbrev pub HasTurned : RunValue N → Type 0
@@ -186,8 +178,9 @@ module _ {N P S : Type 0} (g : Ghosts N P S) (planned : Planned P) where
 
     module _ (run : RunValue N) (runs : HasRun g planned (held rs).lives full.good.tasks (held rs).points 1 run) (numbered : length run.names ≡ length (held rs).lives) where
       -- none begins
-      pub none_run : SeenLater → HasTurned run
-      none_run seen = seen (held rs).lives (held (rs ++ r ∷ [])).lives full.good.tasks (new_tasks g planned rs r changes defines full) (held rs).points 1 run full.good.are (later g planned rs r changes defines full) runs
+      pub none_run : HasTurned run
+      none_run =
+          run_later g planned (held rs).lives (held (rs ++ r ∷ [])).lives full.good.tasks (new_tasks g planned rs r changes defines full) full.good.are (held rs).points (later g planned rs r changes defines full) 1 run runs
 
       pub none_numbered : AreNext g planned (length run.names) (new_lives g planned rs r changes defines full) None → length run.names ≡ length (held (rs ++ r ∷ [])).lives
       none_numbered are =
