@@ -1,5 +1,5 @@
 -- Lives that rest behind their net's last barrier: how they come there, and what is captured of them.
-use Rattle.std.proofs.Common.{◌≡◌, ℕ, ◌+◌, ◌<◌, ◌≤◌, List, [], ◌∷◌, ◌++◌, length, refl, sym, ap, subst, ◌∙◌, inl, arith}
+use Rattle.std.proofs.Common.{◌≡◌, ℕ, ◌+◌, ◌<◌, ◌≤◌, List, [], ◌∷◌, ◌++◌, length, map, sym, ap, subst, inl, arith}
 use Rattle.std.specs.List.{AllByRecursion as Each, AllZip, remove}
 use Rattle.kap_base.specs.Points.{PointValue}
 use Rattle.kap_base.specs.declared.items.Item.{Item}
@@ -12,6 +12,7 @@ use Rattle.barrier_snapshot.specs.Passing.{StandAt}
 use Rattle.barrier_snapshot.specs.Restoring.{Restores}
 use Rattle.barrier_snapshot.specs.Resuming.{AreLoadedWith, HasReached, RestsBehind, StandsBehind, began_there}
 use Rattle.flow_cells.specs.declared.parts.CellParts.{CellParts}
+use Rattle.flow_cells.specs.declared.parts.InEdge.{InEdge}
 use Rattle.flow_core.proofs.EndLaws.{each_remove}
 use Rattle.flow_core.specs.LifeLoads.{acts_of}
 use Rattle.flow_core.specs.Making.{AreLivesBehind, Begins, Ends, IsLifeBehind}
@@ -22,9 +23,10 @@ use Rattle.net_epochs.specs.Epochs.{IsOnCourse}
 use Rattle.node_core.specs.Cut.{IsStamped}
 use Rattle.node_core.specs.Meaning.{Given, Input, fold, given}
 use Rattle.node_core.specs.declared.node.Node.{Ghosts}
-use Rattle.task_run.specs.Active.{AreAt, placed}
+use Rattle.task_run.specs.Active.{AreAt}
 use Rattle.task_run.specs.Courses.{Course, end_of, items_of}
-use Rattle.task_run.specs.Graphs.{node_gives}
+use Rattle.task_run.specs.Graphs.{lists_of, outs_of}
+use Rattle.task_run.specs.Merging.{merged}
 use Rattle.task_run.specs.Plans.{AreFirstNodes, PlanValue}
 use Rattle.engine_runs.specs.Running.{AreRested, HasRested, was_made, was_run}
 use Rattle.engine_runs.proofs.PlaceLaws.{each_more}
@@ -51,9 +53,9 @@ module _ {N P S : Type 0} (g : Ghosts N P S) where
   -- ---- lives that are on their courses
 
   -- inputs make the states of nodes that are where these points brought them
-  reached-at : (n : ℕ) (items : List Item) (earlier : List Given) (cells : List (CellParts N)) → AreAt g.answer g.first g.step n items earlier (acts_of g cells) → Each (HasReached g) cells
-  reached-at n items earlier [] at = tt
-  reached-at n items earlier (c ∷ cells) at = (record { inputs = _; is = at.0 }, reached-at n items _ cells at.1)
+  reached-at : (n : ℕ) (items : List Item) (cells : List (CellParts N)) (earlier : List Given) → AreAt g.answer g.first g.step n items earlier (acts_of g cells) → Each (HasReached g) cells
+  reached-at n items [] earlier at = tt
+  reached-at n items (c ∷ cells) earlier at = (record { inputs = merged n (lists_of items (outs_of earlier) (map (λ (e : InEdge). e.from) c.ins.items)); is = at.0 }, reached-at n items cells _ at.1)
 
   -- lives that were made behind a barrier, and are on their courses, rest there
   made-rested : (stamp : Stamp) (plans : List (PlanValue N)) (lives : List (NumberedLife N)) → AreLivesBehind g stamp.0 plans lives → Each (HasRested g stamp) lives
@@ -68,7 +70,7 @@ module _ {N P S : Type 0} (g : Ghosts N P S) where
   made-behind stamp (p ∷ plans) [] courses are on = absurd are
   made-behind stamp (p ∷ plans) (l ∷ lives) [] are on = absurd on
   made-behind stamp (p ∷ plans) (l ∷ lives) (c ∷ courses) are on = (
-    record { reached = reached-at (end_of c) (items_of c) [] l.life.cells on.0.at; passed = are.0.passed; clean = are.0.clean },
+    record { reached = reached-at (end_of c) (items_of c) l.life.cells [] on.0.at; passed = are.0.passed; clean = are.0.clean },
     made-behind stamp plans lives courses are.1 on.1,
   )
 

@@ -27,7 +27,6 @@ pub struct NextLife<N: Node> {
 }
 
 impl<N: Node> Model for NextLife<N> {
-    ghost use Rattle.std.specs.Prelude.{◌×◌};
     ghost use Rattle.std.specs.Coded.{codes};
     ghost use Rattle.effect_text.specs.declared.names.TaskNames.{TaskNames};
     ghost use Rattle.flow_core.specs.Making.{HasFewParents};

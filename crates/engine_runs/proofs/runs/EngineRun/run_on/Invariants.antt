@@ -6,7 +6,7 @@ use Rattle.store_records.specs.declared.task.Life.{Life}
 use Rattle.tick_compile.specs.declared.tasks.Task.{Task}
 use Rattle.engine_runs.specs.Running.{HasRun}
 use Rattle.engine_runs.proofs.TellLaws.{RanOn}
-use Rattle.engine_runs.proofs.changing.EngineRun.run_on.Given as goal
+use Rattle.engine_runs.proofs.runs.EngineRun.run_on.Given as goal
 
 -- some of the points have run, and what was done with them is told
 abbrev pub invariant-running : goal.invariant-running

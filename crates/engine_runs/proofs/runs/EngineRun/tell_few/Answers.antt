@@ -6,7 +6,7 @@ use Rattle.engine_runs.specs.Spans.{picked}
 use Rattle.engine_runs.proofs.RestedLaws.{run_rest}
 use Rattle.engine_runs.proofs.RunLaws.{ran_on}
 use Rattle.engine_runs.proofs.TellLaws.{epoch_told}
-use Rattle.engine_runs.proofs.changing.EngineRun.tell_few.Goals as goal
+use Rattle.engine_runs.proofs.runs.EngineRun.tell_few.Goals as goal
 
 pub returns-clause-runs : goal.returns-clause-runs
 returns-clause-runs g c = λ lives tasks before more h.
