@@ -1,5 +1,8 @@
 //! An engine, and its making.
 
+ghost use Rattle.std.specs.Prelude.{◌<◌, ◌≤◌};
+ghost use Rattle.node_workers.specs.declared.TheConstants.{WORKER_LIMIT};
+
 use edge_queue::CAPACITY_LIMIT;
 use engine_runs::EngineRun;
 use engine_store::{EngineFault, add_transitions, run_store};
