@@ -149,6 +149,12 @@ module _ {N P S : Type 0} (g : Ghosts N P S) (planned : Planned P) where
   none-begins begun (life ∷ []) are = absurd are
   none-begins begun (life ∷ other ∷ lives) are = absurd are
 
+  -- what is promised where those end that have
+  abbrev pub EndsAs : List Life → RunValue N → RunValue N → Type 0
+  EndsAs lives run run' =
+      (tasks : List Task) (points : List PointValue) → length run.names ≡ length lives
+      → HasRun g planned lives tasks points 0 run → HasRun g planned lives tasks points 1 run'
+
   -- what is promised of a life that begins
   abbrev pub BeginsAs : RunValue N → RunValue N → TaskNames × PlanValue N → Type 0
   BeginsAs run run' next =
@@ -231,6 +237,15 @@ module _ {N P S : Type 0} (g : Ghosts N P S) (planned : Planned P) where
           (sym (same_points rs r changes)) runs;
       numbered = numbered;
     }
+
+    pub turned_behind : (seen : Image) (images : Image → Type 0) (store : StoreState) (lives : List Life) (run run' : RunValue N) (stored : List Transition) (spent : Bool) → IsOn (rs ++ r ∷ []) seen images store → lives ≡ store.kept.lives
+        → EndsAs lives run run' → run'.names ≡ run.names → HasTurned run → length run.names ≡ length (held (rs ++ r ∷ [])).lives
+        → IsEngine g planned (rs ++ r ∷ []) seen images (record { store = store; run = run'; stored = stored; spent = spent })
+    turned_behind seen images store lives run run' stored spent on lives_is ends names turned numbered =
+        let here : EndsAs (held (rs ++ r ∷ [])).lives run run' = subst (λ (ls : List Life). EndsAs ls run run') (lives_is ∙ on.kept.keeps.lives) ends in
+        engine_behind seen images store run' stored spent on
+        (here (full.good.tasks ++ new_tasks g planned rs r changes defines full) (held rs).points numbered turned)
+        (ap (λ (ns : List TaskNames). length ns) names ∙ numbered)
 
     -- at each moment each image stands for the store without the record or with it
     pub full_moments : {D : Type 0} (moment : D → ℕ) (may_leave : D → Image → Type 0) (left_since : D → ℕ → Image → Type 0) (old new : D)
