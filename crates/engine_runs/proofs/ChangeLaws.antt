@@ -5,12 +5,18 @@ use Rattle.std.specs.List.{AllByRecursion as Each}
 use Rattle.std.proofs.lemmas.List.{drop_all}
 use Rattle.kap_base.specs.Points.{PointValue}
 use Rattle.kap_base.specs.Events.{EventValue}
+use Rattle.kap_base.specs.declared.items.Stamp.{Stamp}
+use Rattle.barrier_snapshot.proofs.SnapshotLaws.{lives_are_captured}
+use Rattle.barrier_snapshot.specs.Barriers.{IsCaptureAt, cells_in}
+use Rattle.barrier_snapshot.specs.Snapshots.{IsSnapshot}
 use Rattle.effect_text.specs.Lines.{events_of, task_of}
 use Rattle.effect_text.specs.declared.names.TaskNames.{TaskNames}
-use Rattle.flow_core.specs.Nets.{NetValue, numbers_of}
-use Rattle.life_effects.specs.Effects.{course_of, courses_of}
+use Rattle.flow_core.specs.Nets.{IsLifeIn, NetValue, numbers_of}
+use Rattle.life_effects.specs.Effects.{LivesFit, course_of, courses_of, open_courses}
 use Rattle.life_effects.specs.Times.{times_fit}
 use Rattle.net_epochs.specs.Epochs.{StandsAt}
+use Rattle.node_core.specs.Cut.{IsStamped}
+use Rattle.node_core.specs.Meaning.{Input, fold, given}
 use Rattle.node_core.specs.declared.node.Node.{Ghosts}
 use Rattle.node_set.specs.Tasks.{Planned, nodes_from}
 use Rattle.store_records.specs.declared.task.Life.{Life}
@@ -24,6 +30,8 @@ use Rattle.engine_runs.specs.Scripts.{AreTasksOf, IsTaskOf, graphs_from, life_na
 use Rattle.engine_runs.specs.Spans.{AreThere, HasEnded, IsAway, IsOnward, IsOpenOver, IsThere, numbers_from, picked}
 use Rattle.engine_runs.proofs.OpenLaws.{course_later, effects_later}
 use Rattle.engine_runs.proofs.PlaceLaws.{get_last, name_at, numbers_below}
+use Rattle.engine_runs.proofs.RestedLaws.{rested_there}
+use Rattle.engine_runs.proofs.RunLaws.{open_stands}
 use Rattle.engine_runs.proofs.SpanLaws.{each_drop, each_to, onward_less}
 use Rattle.engine_runs.proofs.TurnLaws.{next_began}
 
@@ -210,3 +218,13 @@ one_begins g planned one_task lives tasks points life task r r' are own first st
       times = ap (λ (es : List EventValue). times_fit (map event_of (Trans es))) events ∙ run.times;
       count = count ∙ run.count;
     }
+
+-- ---- a snapshot
+
+-- what is captured of lives that have run is a snapshot of the open ones
+pub open_snapshot : {N P S : Type 0} (g : Ghosts N P S) (planned : Planned P) (folds : (p : P) (xs : List Input) → (fold (g.step p) (g.first p) xs).given ≡ given (g.answer p) xs)
+    (stamped : (p : P) (before : List Input) (x : Input) → IsStamped (g.life p) (g.number p) x.1.stamp.0 (g.answer p before x)) (lives : List Life) (tasks : List Task) (points : List PointValue) (r : RunValue N) (there : Stamp) (bytes : List ℕ)
+    → r.net.last.0 ≡ there.0 → Each (IsLifeIn g) r.net.lives → IsCaptureAt g there (cells_in r.net.lives) bytes → LivesFit (length points) lives → HasRun g planned lives tasks points 1 r
+    → IsSnapshot g (open_courses lives (graphs_from planned 1 lives tasks) points) bytes
+open_snapshot g planned folds stamped lives tasks points r there bytes same kept capture fit run =
+    lives_are_captured g folds stamped there (open_courses lives (graphs_from planned 1 lives tasks) points) bytes r.net.lives (rested_there g r.net there same kept run.lives_run.rested) (open_stands g planned lives tasks points r fit run).lives capture

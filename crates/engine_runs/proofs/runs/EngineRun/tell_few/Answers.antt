@@ -1,4 +1,6 @@
-use Rattle.std.proofs.Common.{◌≡◌, ◌+◌, ◌≤◌, List, length, refl, sym, subst, ◌∙◌, arith}
+use Rattle.std.proofs.Common.{◌≡◌, ◌+◌, ◌≤◌, ◌++◌, List, ap, length, refl, sym, subst, ◌∙◌, arith}
+use Rattle.effect_text.specs.Lines.{text_behind}
+use Rattle.effect_text.specs.declared.names.TaskNames.{TaskNames}
 use Rattle.flow_core.specs.Nets.{numbers_of}
 use Rattle.net_epochs.proofs.StandLaws.{courses_rise}
 use Rattle.engine_runs.specs.Running.{HasRun, courses_on}
@@ -42,4 +44,4 @@ returns-clause-tells g c = λ lives tasks before more h.
     let met = g.met.N.Node g.world.𝓛 g.world.𝓜 g.world.𝓡 (λ s x. x, λ x. x, λ x. x, λ x. x) in
     let numbering = (g.met.N.NumberingNode g.world.𝓛 g.world.𝓜 g.world.𝓡 (λ s x. x, λ x. x, λ x. x, λ x. x)).numbers in
     epoch_told node met.stamped numbering planned lives tasks before new (length new + more) c.as_slice.result.now _ c.args.text.now c.tell_effects.new.text c.args.told.now.items c.tell_effects.new.told.items r (omega arith) es_is
-    c.in_ok-tell_effects.ensures.text c.in_ok-tell_effects.ensures.told
+    (λ events stands. c.in_ok-tell_effects.ensures.text events stands ∙ ap (λ (ns : List TaskNames). c.args.text.now ++ text_behind ns events c.as_slice.result.now) c.deref.ensures.value) c.in_ok-tell_effects.ensures.told
