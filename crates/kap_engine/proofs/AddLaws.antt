@@ -1,7 +1,10 @@
 -- What the faults of a store that adds a record are for an engine.
-use Rattle.std.proofs.Common.{◌≡◌, ◌⊎◌, inl, inr, ℕ, Bool, true, false, Err, refl, sym, subst, ◌∙◌, true≢false}
+use Rattle.std.proofs.Common.{◌≡◌, ◌⊎◌, ◌<◌, inl, inr, ℕ, length, Bool, true, false, Err, refl, sym, subst, ◌∙◌, true≢false}
 use Rattle.kap_io.specs.declared.disk.Part.{Part}
-use Rattle.topic_store.specs.Adding.{AddFault}
+use Rattle.gate_log.specs.declared.log.TheConstants.{BODY_LIMIT}
+use Rattle.store_records.specs.Records.{spell_record}
+use Rattle.store_records.specs.declared.rec.Rec.{Rec}
+use Rattle.topic_store.specs.Adding.{AddFault, IsLongOrNot}
 use Rattle.topic_store.specs.Stores.{StoreState}
 use Rattle.topic_store.specs.declared.fault.StoreFault.{StoreFault}
 use Rattle.topic_store.specs.declared.fault.StoreFault.TheVariants as stores
@@ -27,7 +30,15 @@ module _ {D : Type 0} (e : StoreFault) (old now : D) (was store : StoreState) (r
 
 -- where the store isn't spent, nothing has changed
 pub still_of : {D : Type 0} (e : StoreFault) (old now : D) (was store : StoreState) (rose : Type 0) (spent : Bool) → AddFault (Err e) old now was store rose → spent ≡ store.log.spent → spent ≡ false → now ≡ old
-still_of (stores.NotStore part offset) old now was store rose spent fault is no = absurd fault
-still_of stores.DiskFault old now was store rose spent fault is no = absurd (true≢false (sym fault.0 ∙ sym is ∙ no))
-still_of stores.Long old now was store rose spent fault is no = fault.0
-still_of stores.NoMemory old now was store rose spent fault is no = fault.0
+still_of (stores.NotStore part offset) old now was store rose spent fault is apart = absurd fault
+still_of stores.DiskFault old now was store rose spent fault is apart = absurd (true≢false (sym fault.0 ∙ sym is ∙ apart))
+still_of stores.Long old now was store rose spent fault is apart = fault.0
+still_of stores.NoMemory old now was store rose spent fault is apart = fault.0
+
+-- a record that is too long has a longer body than a log takes
+pub long_of : (r : Rec) (e : StoreFault) → e ≡ stores.Long → IsLongOrNot r (Err e) → BODY_LIMIT < length (spell_record r)
+long_of r e is long = subst (λ (x : StoreFault). IsLongOrNot r (Err x)) is long
+
+-- and changes nothing
+pub same_of : {D : Type 0} (e : StoreFault) (old now : D) (was store : StoreState) (rose : Type 0) → e ≡ stores.Long → AddFault (Err e) old now was store rose → (now ≡ old) × (store ≡ was)
+same_of e old now was store rose is fault = subst (λ (x : StoreFault). AddFault (Err x) old now was store rose) is fault

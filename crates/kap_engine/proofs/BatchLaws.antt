@@ -77,14 +77,16 @@ module _ {P : Type 0} (answer : P → Answer) where
       → (es : List Effect) × (stored_effects answer lives graphs (points ++ new) ≡ stored_effects answer lives graphs points ++ es)
 
 module _ {N P S : Type 0} (g : Ghosts N P S) (planned : Planned P) (rs rs' : List Rec) (new : List PointValue) (full : IsFull g planned rs) (b : HasBatch rs new rs') where
-  due-batch : due_on g planned (held rs').lives full.good.tasks (held rs').points ≡ due_on g planned (held rs).lives full.good.tasks ((held rs).points ++ new)
-  due-batch =
+  -- which are those of the points before and of these
+  pub due_batch : due_on g planned (held rs').lives full.good.tasks (held rs').points ≡ due_on g planned (held rs).lives full.good.tasks ((held rs).points ++ new)
+  due_batch =
       ap (λ (ls : List Life). due_on g planned ls full.good.tasks (held rs').points) b.has.lives
       ∙ ap (λ (ps : List PointValue). due_on g planned (held rs).lives full.good.tasks ps) b.has.points
 
   module _ (behind : ComeBehind g.answer) where
-    due-more : (more : List Transition) × (due_on g planned (held rs).lives full.good.tasks ((held rs).points ++ new) ≡ (held rs).transitions ++ more)
-    due-more =
+    -- they come behind those that are stored
+    pub due_more : (more : List Transition) × (due_on g planned (held rs).lives full.good.tasks ((held rs).points ++ new) ≡ (held rs).transitions ++ more)
+    due_more =
         let graphs = graphs_in g planned rs full.good.tasks in
         let effects = stored_effects g.answer (held rs).lives graphs (held rs).points in
         let old = life_events g planned (held rs).lives full.good.tasks (held rs).points in
@@ -100,8 +102,8 @@ module _ {N P S : Type 0} (g : Ghosts N P S) (planned : Planned P) (rs rs' : Lis
     -- the store is right
     abbrev pub batch_good : IsGood g planned rs'
     batch_good =
-        good_like g planned rs rs' full.good due-more.0 b.has.tasks b.has.lives
-        (due-batch ∙ due-more.1 ∙ ap (λ (l : List Transition). l ++ due-more.0) (sym b.transitions))
+        good_like g planned rs rs' full.good due_more.0 b.has.tasks b.has.lives
+        (due_batch ∙ due_more.1 ∙ ap (λ (l : List Transition). l ++ due_more.0) (sym b.transitions))
         (λ s. full.good.consistent.snap (last_before rs s.before s.points s.trans s.states (b.kept s)))
 
     -- with the batch or without it, the files stand for a right store
@@ -143,7 +145,7 @@ module _ {N P S : Type 0} (g : Ghosts N P S) (planned : Planned P) (rs rs' : Lis
       → Tells g planned (held rs).lives full.good.tasks (held rs).points new [] text [] due → HasRunAll g planned rs' full.good.tasks 1 r due
   ran_all r text due h t =
       let told : due_on g planned (held rs).lives full.good.tasks ((held rs).points ++ new) ≡ (held rs).transitions ++ due = t.told_is (held rs).transitions (full.all ∙ sym (append-nil (held rs).transitions)) in
-      let all : due_on g planned (held rs').lives full.good.tasks (held rs').points ≡ (held rs').transitions ++ due = due-batch ∙ told ∙ ap (λ (l : List Transition). l ++ due) (sym b.transitions) in
+      let all : due_on g planned (held rs').lives full.good.tasks (held rs').points ≡ (held rs').transitions ++ due = due_batch ∙ told ∙ ap (λ (l : List Transition). l ++ due) (sym b.transitions) in
       record {
         runs =
             subst (λ (ls : List Life). HasRun g planned ls full.good.tasks (held rs').points 1 r) (sym b.has.lives)

@@ -3,19 +3,23 @@ use Rattle.std.proofs.Common.{◌≡◌, ◌⊎◌, inl, inr, ⊎_elim, ℕ, ◌
 use Rattle.std.specs.Prelude.{Option, Some}
 use Rattle.kap_base.specs.Points.{PointValue}
 use Rattle.kap_io.specs.Disk.{Image}
+use Rattle.kap_io.specs.Moments.{Moments}
 use Rattle.barrier_snapshot.specs.Snapshots.{IsSnapshot}
 use Rattle.life_effects.specs.Effects.{open_courses}
 use Rattle.node_core.specs.declared.node.Node.{Ghosts}
 use Rattle.node_set.specs.Tasks.{Planned}
-use Rattle.store_kept.specs.Keeping.{Keeps, KeptValue}
 use Rattle.store_kept.proofs.Keeping.{held_push}
-use Rattle.store_records.specs.Held.{Held, open_from}
+use Rattle.gate_log.specs.declared.log.TheConstants.{BODY_LIMIT}
+use Rattle.store_records.specs.Held.{Held, MayFollow, open_from}
 use Rattle.store_records.specs.Histories.{end_of, held}
+use Rattle.store_records.specs.Records.{spell_record}
+use Rattle.store_records.specs.States.{AreStates}
 use Rattle.store_records.specs.declared.rec.Rec.{Rec}
 use Rattle.store_records.specs.declared.rec.Rec.TheVariants as kinds
 use Rattle.store_records.specs.declared.task.Life.{Life}
 use Rattle.store_records.specs.declared.task.Snapshot.{Snapshot}
 use Rattle.topic_core.specs.declared.transition.Transition.{Transition}
+use Rattle.topic_store.specs.Adding.{stands_before_or_after}
 use Rattle.topic_store.specs.Snapshots.{LastSnap}
 use Rattle.topic_store.specs.Stores.{IsOn, Stands, StoreState}
 use Rattle.topic_store.proofs.Adding.{image_stands}
@@ -31,10 +35,33 @@ use Rattle.kap_engine.proofs.LikeLaws.{good_like}
 
 -- ---- its record
 
--- the record that is added is the snapshot of what the store holds
-pub snap_is : (rs : List Rec) (points trans : ℕ) (states : List ℕ) → points ≡ length (held rs).points → trans ≡ length (held rs).transitions → kinds.Snap points trans states ≡ snap_of rs states
-snap_is rs points trans states p t =
-    ap (λ (n : ℕ). kinds.Snap n trans states) p ∙ ap (λ (n : ℕ). kinds.Snap (length (held rs).points) n states) t
+module _ (rs : List Rec) (points trans : ℕ) (states : List ℕ) (points_are : points ≡ length (held rs).points) (trans_are : trans ≡ length (held rs).transitions) where
+  -- the record that is added is the snapshot of what the store holds
+  snap-is : kinds.Snap points trans states ≡ snap_of rs states
+  snap-is = ap (λ (n : ℕ). kinds.Snap n trans states) points_are ∙ ap (λ (n : ℕ). kinds.Snap (length (held rs).points) n states) trans_are
+
+  -- it may follow
+  pub snap_may : AreStates states → MayFollow (held rs) (kinds.Snap points trans states)
+  snap_may form = record { points_are = points_are; trans_are = trans_are; states_are = form }
+
+  -- the store has it more
+  pub snap_more : (seen : Image) (images : Image → Type 0) (store : StoreState) → IsOn (rs ++ kinds.Snap points trans states ∷ []) seen images store → HasSnap rs states seen images store
+  snap_more seen images store on = with_snap (subst (λ (r : Rec). IsOn (rs ++ r ∷ []) seen images store) snap-is on)
+
+  -- or it is too long
+  pub snap_long : (seen : Image) (images : Image → Type 0) (store : StoreState) → BODY_LIMIT < length (spell_record (kinds.Snap points trans states)) → IsOn rs seen images store → HasSnap rs states seen images store
+  snap_long seen images store long on = too_long (subst (λ (r : Rec). BODY_LIMIT < length (spell_record r)) snap-is long) on
+
+  -- at each moment the files stand for the records with it or without it
+  pub snap_run : {D : Type 0} (moment : D → ℕ) (may_leave : D → Image → Type 0) (left_since : D → ℕ → Image → Type 0) (old now : D)
+      → Moments moment may_leave left_since old now (stands_before_or_after rs (kinds.Snap points trans states)) → Moments moment may_leave left_since old now (stands_before_or_after rs (snap_of rs states))
+  snap_run moment may_leave left_since old now run = subst (λ (r : Rec). Moments moment may_leave left_since old now (stands_before_or_after rs r)) snap-is run
+
+-- a store is on a disk as before where neither has changed
+pub on_same : {D : Type 0} (seen : D → Image) (may_leave : D → Image → Type 0) (old now : D) (rs : List Rec) (was store : StoreState) → now ≡ old → store ≡ was → IsOn rs (seen old) (may_leave old) was
+    → IsOn rs (seen now) (may_leave now) store
+on_same seen may_leave old now rs was store d s on =
+    subst (λ x. IsOn rs (seen x) (may_leave x) store) (sym d) (subst (λ (x : StoreState). IsOn rs (seen old) (may_leave old) x) (sym s) on)
 
 -- nothing but the last snapshot has changed
 pub none_more : (h : Held) → HasTransitions [] h h
@@ -66,19 +93,22 @@ snap_last rs states =
 
 module _ {N P S : Type 0} (g : Ghosts N P S) (planned : Planned P) (rs : List Rec) (full : IsFull g planned rs) (states : List ℕ)
     (are : IsSnapshot g (open_courses (held rs).lives (graphs_in g planned rs full.good.tasks) (held rs).points) states) where
-  snap-of-it : IsSnapOf g (graphs_in g planned rs full.good.tasks) (held rs) (length (held rs).transitions) states
-  snap-of-it = record { states_are = are; trans_are = ap length (sym full.all) }
+  -- it is one of the store
+  pub snap_of_it : IsSnapOf g (graphs_in g planned rs full.good.tasks) (held rs) (length (held rs).transitions) states
+  snap_of_it = record { states_are = are; trans_are = ap length (sym full.all) }
 
-  snap-right : (s : LastSnap (rs ++ snap_of rs states ∷ [])) → IsSnapOf g (graphs_in g planned rs full.good.tasks) (held s.before) s.trans s.states
-  snap-right s =
+  -- the last one is
+  pub snap_right : (s : LastSnap (rs ++ snap_of rs states ∷ [])) → IsSnapOf g (graphs_in g planned rs full.good.tasks) (held s.before) s.trans s.states
+  snap_right s =
       let t = last_added rs (length (held rs).points) (length (held rs).transitions) states s in
       let graphs = graphs_in g planned rs full.good.tasks in
       subst (λ (l : List Rec). IsSnapOf g graphs (held l) s.trans s.states) (sym t.records)
       (subst (λ (n : ℕ). IsSnapOf g graphs (held rs) n s.states) (sym t.trans_are)
-      (subst (λ (b : List ℕ). IsSnapOf g graphs (held rs) (length (held rs).transitions) b) (sym t.states_are) snap-of-it))
+      (subst (λ (b : List ℕ). IsSnapOf g graphs (held rs) (length (held rs).transitions) b) (sym t.states_are) snap_of_it))
 
-  due-snap : due_on g planned (held (rs ++ snap_of rs states ∷ [])).lives full.good.tasks (held (rs ++ snap_of rs states ∷ [])).points ≡ (held (rs ++ snap_of rs states ∷ [])).transitions
-  due-snap =
+  -- and no more transitions are due
+  pub due_snap : due_on g planned (held (rs ++ snap_of rs states ∷ [])).lives full.good.tasks (held (rs ++ snap_of rs states ∷ [])).points ≡ (held (rs ++ snap_of rs states ∷ [])).transitions
+  due_snap =
       let h = snap_held rs states in
       ap (λ (ls : List Life). due_on g planned ls full.good.tasks (held (rs ++ snap_of rs states ∷ [])).points) h.lives
       ∙ ap (λ (ps : List PointValue). due_on g planned (held rs).lives full.good.tasks ps) h.points
@@ -90,9 +120,9 @@ module _ {N P S : Type 0} (g : Ghosts N P S) (planned : Planned P) (rs : List Re
   snap_full = record {
     good =
         good_like g planned rs (rs ++ snap_of rs states ∷ []) full.good [] (snap_held rs states).tasks (snap_held rs states).lives
-        (due-snap ∙ sym (append-nil (held (rs ++ snap_of rs states ∷ [])).transitions))
-        snap-right;
-    all = due-snap;
+        (due_snap ∙ sym (append-nil (held (rs ++ snap_of rs states ∷ [])).transitions))
+        snap_right;
+    all = due_snap;
   }
 
   -- with it or without it, the files stand for a right store

@@ -62,12 +62,11 @@ impl<N: Node> Model for Engine<N> {
 }
 
 impl<N: ScriptNode + NumberingNode + Send> Engine<N> {
-    ghost use Rattle.std.specs.Prelude.{◌≡◌, ◌<◌, ◌≤◌, ℕ, [], false, IfOk, IsErrOf, IsTrue, List};
+    ghost use Rattle.std.specs.Prelude.{◌≡◌, ℕ, [], false, IfOk, IsErrOf, IsTrue, List};
     ghost use Rattle.kap_base.specs.Words.{HasRisen};
     ghost use Rattle.kap_io.specs.Moments.{Moments, Quiet};
     ghost use Rattle.kap_io.specs.declared.disk.Part.{Part};
     ghost use Rattle.edge_queue.specs.declared.TheConstants.{CAPACITY_LIMIT};
-    ghost use Rattle.node_workers.specs.declared.TheConstants.{WORKER_LIMIT};
     ghost use Rattle.store_kept.specs.Keeping.{AreValid};
     ghost use Rattle.store_records.specs.declared.rec.Rec.{Rec};
     ghost use Rattle.topic_store.specs.Stores.{Stands};
