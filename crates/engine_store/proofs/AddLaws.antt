@@ -1,6 +1,7 @@
 -- Transitions that are added, one record behind the other.
-use Rattle.std.proofs.Common.{◌≡◌, ◌⊎◌, inl, inr, ℕ, ◌+◌, ◌<◌, ◌≤◌, Bool, true, false, ◌&&◌, List, [], ◌∷◌, ◌++◌, length, map, min, refl, sym, ap, subst, ◌∙◌, append-nil, append_assoc, length-append, ⊎_elim, arith}
+use Rattle.std.proofs.Common.{◌≡◌, ◌⊎◌, inl, inr, ℕ, ◌+◌, ◌<◌, ◌≤◌, Bool, true, false, ◌&&◌, List, [], ◌∷◌, ◌++◌, length, map, min, Result, Ok, Err, true≢false, if◌then◌else◌, refl, sym, ap, subst, ◌∙◌, append-nil, append_assoc, length-append, ⊎_elim, arith}
 use Rattle.std.specs.Prelude.{IsTrue, drop, take}
+use Rattle.std.specs.Result.{is_err, is_ok}
 use Rattle.std.specs.List.{AllByRecursion as Each}
 use Rattle.std.proofs.lemmas.List.{length-take, map-append, take-append-drop}
 use Rattle.kap_base.proofs.TestLaws.{first_of, second_of}
@@ -159,6 +160,11 @@ module _ (rs : List Rec) (due rest piece behind : List Transition) (seen : Image
     added = added_then rs a.records s.records a.passed s.some a.added (a.over rest-some) s.added;
     stands = s.stands;
   }
+
+-- what came behind others, where that didn't fail, is there
+pub came_behind : {T E : Type 0} (result : Result T E) (old more new : List Transition) → new ≡ (if is_ok result then old ++ more else old) → is_err result ≡ false → new ≡ old ++ more
+came_behind (Ok x) old more new e fine = e
+came_behind (Err x) old more new e fine = absurd (true≢false fine)
 
 -- where nothing was added yet
 pub none_yet : (rs : List Rec) (due : List Transition) (seen : Image) (images : Image → Type 0) (store : StoreState) → IsOn rs seen images store → (files : Image) → images files → StandsWithSome rs due files
