@@ -34,7 +34,7 @@ use Rattle.engine_runs.proofs.ChangeLaws.{run_later}
 use Rattle.engine_runs.proofs.PlaceLaws.{each_at}
 use Rattle.engine_runs.proofs.RunLaws.{ran_less}
 use Rattle.engine_store.specs.Good.{IsFull}
-use Rattle.kap_engine.specs.Changing.{AreNext, ChangesTask, DefinesScript, IsNext, stands_full_before_or_after}
+use Rattle.kap_engine.specs.Changing.{AreNext, BeginsAs, ChangesTask, DefinesScript, HasBegun, IsNext, stands_full_before_or_after}
 use Rattle.kap_engine.specs.Engines.{IsEngine}
 use Rattle.kap_engine.proofs.FullLaws.{full_behind, later, lives_are, new_lives, new_scripts, new_tasks, old_lives, same_points}
 use Rattle.kap_engine.proofs.TaskLaws.{LifeHasScript, ended_tasks, tasks_for}
@@ -155,17 +155,6 @@ module _ {N P S : Type 0} (g : Ghosts N P S) (planned : Planned P) where
       (tasks : List Task) (points : List PointValue) → length run.names ≡ length lives
       → HasRun g planned lives tasks points 0 run → HasRun g planned lives tasks points 1 run'
 
-  -- what is promised of a life that begins
-  abbrev pub BeginsAs : RunValue N → RunValue N → TaskNames × PlanValue N → Type 0
-  BeginsAs run run' next =
-      (lives : List Life) (tasks : List Task) (points : List PointValue) (life : Life) (task : Task)
-      → AreTasksOf lives tasks → IsTaskOf life task → life.first ≡ length points + 1 → life.last ≡ None
-      → IsPlanned planned g.spec g.state g.first (length run.names + 1) life next
-      → IsPlan g.spec g.ports g.life g.number next.1
-      → length run.names ≡ length lives → LivesFit (length points) lives
-      → HasRun g planned lives tasks points 1 run
-      → HasRun g planned (lives ++ life ∷ []) (tasks ++ task ∷ []) points 1 run'
-
   module _ (rs : List Rec) (r : Rec) (changes : ChangesTask r) (defines : DefinesScript r) (full : IsFull g planned rs) where
     -- the lives have run behind the record, but those that it ends are there still
     abbrev pub HasTurned : RunValue N → Type 0
@@ -212,7 +201,7 @@ module _ {N P S : Type 0} (g : Ghosts N P S) (planned : Planned P) where
             ∙ ap (λ (ls : List Life). ls ++ new_lives g planned rs r changes defines full) old-same
             ∙ ap (λ (ls : List Life). (held rs).lives ++ ls) one.is
 
-        pub one_run : (run' : RunValue N) → BeginsAs run run' next → HasTurned run'
+        pub one_run : (run' : RunValue N) → BeginsAs g planned run run' next → HasTurned run'
         one_run run' begins =
             let h = begins (held rs).lives full.good.tasks (held rs).points one.life one.task full.good.are one.accepted one.new.first one.new.last one.planned_is.planned_is one.planned_is.plan numbered (held_fits rs) runs in
             ran_less g planned (held (rs ++ r ∷ [])).lives (full.good.tasks ++ new_tasks g planned rs r changes defines full) (held rs).points 0 1 run' (omega arith)
@@ -223,6 +212,12 @@ module _ {N P S : Type 0} (g : Ghosts N P S) (planned : Planned P) where
         one_numbered names is =
             let long : length (new_lives g planned rs r changes defines full) ≡ 1 = ap length one.is in
             omega (arith, numbered, all-long, long, is)
+
+      -- either way
+      pub begun_turned : (run' : RunValue N) (next : Option (TaskNames × PlanValue N)) → HasBegun g planned run run' next → AreNext g planned (length run.names) (new_lives g planned rs r changes defines full) next
+          → HasTurned run' × (length run'.names ≡ length (held (rs ++ r ∷ [])).lives)
+      begun_turned run' None same are = (subst HasTurned (sym same) none_run, ap (λ (v : RunValue N). length v.names) same ∙ none_numbered are)
+      begun_turned run' (Some next) begins are = (one_run next are run' begins.0, one_numbered next are (length run'.names) begins.1)
 
     -- and where the others have ended, the engine stands
     pub engine_behind : (seen : Image) (images : Image → Type 0) (store : StoreState) (run : RunValue N) (stored : List Transition) (spent : Bool) → IsOn (rs ++ r ∷ []) seen images store

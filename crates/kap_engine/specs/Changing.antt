@@ -2,8 +2,10 @@
 use Rattle.std.specs.Prelude.{◌≡◌, ◌⊎◌, ℕ, ◌+◌, ◌≤◌, ⊤, true, false, List, [], ◌∷◌, ◌++◌, Option, None, Some, length}
 use Rattle.kap_io.specs.Disk.{Image}
 use Rattle.kap_io.specs.declared.disk.Part.{Part}
+use Rattle.kap_base.specs.Points.{PointValue}
 use Rattle.kap_base.specs.declared.limits.TheConstants.{TASK_LIMIT}
 use Rattle.effect_text.specs.declared.names.TaskNames.{TaskNames}
+use Rattle.life_effects.specs.Effects.{LivesFit}
 use Rattle.node_core.specs.declared.node.Node.{Ghosts}
 use Rattle.node_set.specs.Tasks.{Planned}
 use Rattle.store_records.specs.Held.{has_task, task_of}
@@ -16,9 +18,11 @@ use Rattle.tick_compile.specs.Scripts.{Refuses}
 use Rattle.tick_compile.specs.Tasks.{refusal_in}
 use Rattle.tick_compile.specs.declared.script_fault.ScriptFault.{ScriptFault}
 use Rattle.tick_compile.specs.declared.script_fault.ScriptFault.TheVariants as scripts
+use Rattle.tick_compile.specs.declared.tasks.Task.{Task}
 use Rattle.topic_store.specs.Stores.{Stands}
 use Rattle.engine_runs.specs.Faults.{IsRefused}
-use Rattle.engine_runs.specs.Scripts.{IsPlanned}
+use Rattle.engine_runs.specs.Running.{HasRun, RunValue}
+use Rattle.engine_runs.specs.Scripts.{AreTasksOf, IsPlanned, IsTaskOf}
 use Rattle.engine_store.specs.Asking.{IsScript}
 use Rattle.engine_store.specs.Good.{IsFull}
 use Rattle.engine_store.specs.declared.fault.EngineFault.{EngineFault}
@@ -46,6 +50,22 @@ module _ {N P S : Type 0} (g : Ghosts N P S) (planned : Planned P) where
   AreNext begun [] None = ⊤
   AreNext begun (life ∷ []) (Some next) = IsNext begun life next
   AreNext begun lives next = ⊥
+
+  -- behind lives that have run on all points so far the life has begun that was planned
+  abbrev pub BeginsAs : RunValue N → RunValue N → TaskNames × PlanValue N → Type 0
+  BeginsAs run run' next =
+      (lives : List Life) (tasks : List Task) (points : List PointValue) (life : Life) (task : Task)
+      → AreTasksOf lives tasks → IsTaskOf life task → life.first ≡ length points + 1 → life.last ≡ None
+      → IsPlanned planned g.spec g.state g.first (length run.names + 1) life next
+      → IsPlan g.spec g.ports g.life g.number next.1
+      → length run.names ≡ length lives → LivesFit (length points) lives
+      → HasRun g planned lives tasks points 1 run
+      → HasRun g planned (lives ++ life ∷ []) (tasks ++ task ∷ []) points 1 run'
+
+  -- the life that was planned has begun, and has its names; where none was, nothing has changed
+  abbrev pub HasBegun : RunValue N → RunValue N → Option (TaskNames × PlanValue N) → Type 0
+  HasBegun run run' None = run' ≡ run
+  HasBegun run run' (Some next) = BeginsAs run run' next × (length run'.names ≡ length run.names + 1)
 
 -- ---- records that change tasks
 

@@ -13,11 +13,11 @@ ghost use Rattle.store_records.specs.declared.task.Life.{Life};
 ghost use Rattle.tick_compile.specs.Tasks.{is_refusal};
 ghost use Rattle.engine_runs.specs.Scripts.{IsTaskOf};
 ghost use Rattle.engine_store.specs.Faults.{EngineCause};
-ghost use Rattle.kap_engine.specs.Changing.{AreNext, ChangesTask, DefinesScript, IsFailure, IsRefusal, IsWhyNoneDefined, IsWhyNoneEnabled, IsWhyNoneEnded, IsWhyNotPlanned, fault_at, stands_full_before_or_after};
+ghost use Rattle.kap_engine.specs.Changing.{AreNext, ChangesTask, DefinesScript, HasBegun, IsFailure, IsRefusal, IsWhyNoneDefined, IsWhyNoneEnabled, IsWhyNoneEnded, IsWhyNotPlanned, fault_at, stands_full_before_or_after};
 ghost use Rattle.kap_engine.specs.Engines.{IsEngine};
 
 use crate::engine::Engine;
-use engine_runs::NextLife;
+use engine_runs::{EngineRun, NextLife};
 use engine_store::{EngineFault, compile_fault};
 use kap_base::{Duplicate, NoMemory, TASK_LIMIT, Text};
 use kap_io::{Disk, Part};
@@ -35,6 +35,22 @@ fn fault_at(part: Part, offset: u64, fault: ScriptFault) -> EngineFault
     match fault {
         ScriptFault::NoMemory => EngineFault::NoMemory,
         _ => EngineFault::NotStore { part, offset },
+    }
+}
+
+/// The life begins that was planned, where one was.
+fn begin_planned<N: ScriptNode + NumberingNode + Send>(
+    alloc: Global,
+    run: &mut EngineRun<N>,
+    next: Option<NextLife<N>>,
+) -> Result<(), NoMemory>
+    requires { run.old.spent ≡ false }
+    ensures unspent { OnOk result (run.new.spent ≡ false) }
+    ensures begun { OnOk result (HasBegun N.Node N.planned run.old run.new next) }
+{
+    match next {
+        Some(next) => run.begin_next(alloc, next),
+        None => Ok(()),
     }
 }
 
@@ -123,9 +139,7 @@ impl<N: ScriptNode + NumberingNode + Send> Engine<N> {
         }
         self.spent = true;
         self.stored = Transitions::new(alloc);
-        if let Some(next) = next {
-            self.run.begin_next(alloc, next)?;
-        }
+        begin_planned(alloc, &mut self.run, next)?;
         self.run.end_lives(self.store.lives());
         self.spent = false;
         Ok(())
