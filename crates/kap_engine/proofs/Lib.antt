@@ -5,3 +5,7 @@ pub mod ShotLaws
 pub mod DueLaws
 pub mod AddLaws
 pub mod WriteLaws
+pub mod TaskLaws
+pub mod FullLaws
+pub mod ChangeLaws
+pub mod RefusalLaws

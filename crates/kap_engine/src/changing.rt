@@ -1,27 +1,58 @@
 //! Tasks are defined, enabled, disabled and deleted.
 
-ghost use Rattle.std.specs.Prelude.{◌≡◌, ◌≤◌, ◌∷◌, ◌++◌, [], false, true, length, IfErr, IsTrue, List, OnOk};
+ghost use Rattle.std.specs.Prelude.{◌≡◌, ◌≤◌, ◌∷◌, ◌++◌, [], ℕ, false, true, if◌then◌else◌, length, slice_get, IfErr, IfOk, IsTrue, List, OnOk};
 ghost use Rattle.kap_base.specs.Words.{HasRisen};
 ghost use Rattle.kap_base.specs.Texts.{is_task_id};
 ghost use Rattle.kap_base.specs.declared.limits.TheConstants.{SCRIPT_LIMIT};
 ghost use Rattle.kap_io.specs.Moments.{Moments};
+ghost use Rattle.store_records.specs.Held.{MayFollow, begun, life_of};
+ghost use Rattle.store_records.specs.Histories.{end_of, held};
+ghost use Rattle.store_records.specs.Orders.{DefinesValid};
 ghost use Rattle.store_records.specs.declared.rec.Rec.{Rec};
+ghost use Rattle.store_records.specs.declared.task.Life.{Life};
 ghost use Rattle.tick_compile.specs.Tasks.{is_refusal};
+ghost use Rattle.engine_runs.specs.Scripts.{IsTaskOf};
 ghost use Rattle.engine_store.specs.Faults.{EngineCause};
-ghost use Rattle.kap_engine.specs.Changing.{IsRefusal, IsWhyNoneDefined, IsWhyNoneEnabled, IsWhyNoneEnded, stands_full_before_or_after};
+ghost use Rattle.kap_engine.specs.Changing.{AreNext, ChangesTask, DefinesScript, HasBegun, IsFailure, IsRefusal, IsWhyNoneDefined, IsWhyNoneEnabled, IsWhyNoneEnded, IsWhyNotPlanned, fault_at, stands_full_before_or_after};
 ghost use Rattle.kap_engine.specs.Engines.{IsEngine};
 
 use crate::engine::Engine;
-use engine_runs::NextLife;
+use engine_runs::{EngineRun, NextLife};
 use engine_store::{EngineFault, compile_fault};
-use kap_base::{Duplicate, TASK_LIMIT, Text};
-use kap_io::Disk;
+use kap_base::{Duplicate, NoMemory, TASK_LIMIT, Text};
+use kap_io::{Disk, Part};
 use lambda_types::Patterns;
 use net_run::NumberingNode;
 use node_set::ScriptNode;
 use std::alloc::Global;
 use store_records::{Rec, Transitions, find_task, has_task};
-use tick_compile::{ScriptFault, compile};
+use tick_compile::{ScriptFault, Task, compile};
+
+/// What the fault of a script is that the record at this place of a log defined.
+fn fault_at(part: Part, offset: u64, fault: ScriptFault) -> EngineFault
+    ensures { result ≡ fault_at part offset fault }
+{
+    match fault {
+        ScriptFault::NoMemory => EngineFault::NoMemory,
+        _ => EngineFault::NotStore { part, offset },
+    }
+}
+
+/// The life begins that was planned, where one was.
+fn begin_planned<N: ScriptNode + NumberingNode + Send>(
+    alloc: Global,
+    run: &mut EngineRun<N>,
+    next: Option<NextLife<N>>,
+) -> Result<(), NoMemory>
+    requires { run.old.spent ≡ false }
+    ensures unspent { OnOk result (run.new.spent ≡ false) }
+    ensures begun { OnOk result (HasBegun N.Node N.planned run.old run.new next) }
+{
+    match next {
+        Some(next) => run.begin_next(alloc, next),
+        None => Ok(()),
+    }
+}
 
 impl<N: ScriptNode + NumberingNode + Send> Engine<N> {
     /// The life that begins where the task at this place is enabled; none where it is enabled already.
@@ -30,40 +61,85 @@ impl<N: ScriptNode + NumberingNode + Send> Engine<N> {
         alloc: Global,
         place: usize,
         pats: &mut P,
-    ) -> Result<Option<NextLife<N>>, EngineFault> {
+    ) -> Result<Option<NextLife<N>>, EngineFault>
+        requires unspent { self.now.spent ≡ false }
+        ensures next { IfOk result (λ next. (n : ℕ) → AreNext N.Node N.planned
+            (length self.now.run.names)
+            (life_of n (slice_get self.now.store.kept.tasks place)) next) }
+        ensures why { IfErr result
+            (IsWhyNotPlanned (P.refusals pats.old) (P.refusals pats.new) (P.refused pats.new)
+            self.now.store.log.part (slice_get self.now.store.kept.tasks place)) }
+    {
         let Some(task) = self.store.tasks().get(place) else {
             return Ok(None);
         };
         if task.enabled {
             return Ok(None);
         }
-        match compile(alloc, task.script.bytes(), pats) {
-            Ok(made) => Ok(Some(self.run.plan_next(alloc, &task.id, made)?)),
-            Err(ScriptFault::NoMemory) => Err(EngineFault::NoMemory),
-            Err(_) => Err(EngineFault::NotStore {
-                part: self.store.part(),
-                offset: task.define_at,
-            }),
-        }
+        let made = match compile(alloc, task.script.bytes(), pats) {
+            Ok(made) => made,
+            Err(fault) => return Err(fault_at(self.store.part(), task.define_at, fault)),
+        };
+        let next = self.run.plan_next(alloc, &task.id, made)?;
+        Ok(Some(next))
     }
 
-    /// Adds a record to the store, and begins the life that was planned for it.
+    /// The life that begins where a task of this id is defined by a script; none where it isn't enabled.
+    fn plan_defined(
+        &self,
+        alloc: Global,
+        id: &Text,
+        enabled: bool,
+        task: Task,
+    ) -> Result<Option<NextLife<N>>, NoMemory>
+        ensures next { IfOk result (λ next. (life : Life) → life.task ≡ id.now → IsTaskOf life task
+            → AreNext N.Node N.planned (length self.now.run.names)
+            (if enabled then life ∷ [] else []) next) }
+    {
+        if !enabled {
+            return Ok(None);
+        }
+        let next = self.run.plan_next(alloc, id, task)?;
+        Ok(Some(next))
+    }
+
+    /// Adds a record that changes a task to the store, begins the life that was planned for it, and ends the
+    /// one that ends with it.
     fn add_change<D: Disk>(
         &mut self,
         alloc: Global,
         disk: &mut D,
         rec: &Rec,
         next: Option<NextLife<N>>,
-    ) -> Result<(), EngineFault> {
+    ) -> Result<(), EngineFault>
+        requires unspent { self.old.spent ≡ false }
+        requires changes { ChangesTask rec.now }
+        requires valid { DefinesValid rec.now }
+        ensures unspent { OnOk result (self.new.spent ≡ false) }
+        ensures changed { IsTrue D.tells → (rs : List Rec)
+            → IsEngine N.Node N.planned rs (D.seen disk.old) (D.may_leave disk.old) self.old
+            → MayFollow (held rs) rec.now → DefinesScript rec.now
+            → AreNext N.Node N.planned (length self.old.run.names)
+            (begun (length (held rs).points) (end_of rs) rec.now (held rs).tasks) next
+            → OnOk result (IsEngine N.Node N.planned (rs ++ rec.now ∷ [])
+            (D.seen disk.new) (D.may_leave disk.new) self.new) }
+        ensures any_moment { IsTrue D.tells → (rs : List Rec)
+            → IsEngine N.Node N.planned rs (D.seen disk.old) (D.may_leave disk.old) self.old
+            → MayFollow (held rs) rec.now → DefinesScript rec.now
+            → Moments D.moment D.may_leave D.left_since disk.old disk.new
+            (stands_full_before_or_after N.Node N.planned rs rec.now) }
+        ensures stored { OnOk result (self.new.stored ≡ []) }
+        ensures failed { IfErr result IsFailure }
+        ensures quiet { IfErr result (λ f. self.new.spent ≡ false → disk.new ≡ disk.old) }
+        ensures cause { EngineCause (D.faults disk.old) (D.faults disk.new) result }
+    {
         if let Err(fault) = self.store.add(disk, rec) {
             self.spent = self.store.spent();
             return Err(EngineFault::from(fault));
         }
         self.spent = true;
         self.stored = Transitions::new(alloc);
-        if let Some(next) = next {
-            self.run.begin_next(alloc, next)?;
-        }
+        begin_planned(alloc, &mut self.run, next)?;
         self.run.end_lives(self.store.lives());
         self.spent = false;
         Ok(())
@@ -116,11 +192,7 @@ impl<N: ScriptNode + NumberingNode + Send> Engine<N> {
         if TASK_LIMIT <= self.store.tasks().len() {
             return Err(EngineFault::TooManyTasks);
         }
-        let next = if enabled {
-            Some(self.run.plan_next(alloc, id, task)?)
-        } else {
-            None
-        };
+        let next = self.plan_defined(alloc, id, enabled, task)?;
         let id = id.copy(alloc)?;
         let script = script.copy(alloc)?;
         let rec = Rec::Define {
