@@ -188,6 +188,7 @@ tells_place g planned before after refused files part offset (statuses.NotStore 
     by (inl (no_lives rs stands named why)) = absurd (no_store_apart files part offset rs none stands)
     by (inr others) = absurd (no_store_apart files part offset others.asked.records none others.asked.stands)
 tells_place g planned before after refused files part offset statuses.Exists none h = absurd h
+tells_place g planned before after refused files part offset statuses.NoTask none h = absurd h
 tells_place g planned before after refused files part offset statuses.TooManyTasks none h = absurd h
 tells_place g planned before after refused files part offset statuses.TooLong none h = absurd h
 tells_place g planned before after refused files part offset statuses.NoMemory none h = inr (inl refl)
@@ -227,6 +228,7 @@ no_pattern (statuses.Line n fault) ends e = ends
 no_pattern (statuses.Truncated n) ends e = ends
 no_pattern (statuses.NotStore part offset) ends e = absurd cc
 no_pattern statuses.Exists ends e = ends
+no_pattern statuses.NoTask ends e = ends
 no_pattern statuses.TooManyTasks ends e = ends
 no_pattern statuses.TooLong ends e = ends
 no_pattern statuses.NoMemory ends e = absurd cc

@@ -31,6 +31,7 @@ ghost use Rattle.kap_server.specs.declared.words.Listing.{Listing};
 ghost use Rattle.store_records.specs.declared.rec.Rec.{Rec};
 ghost use Rattle.topic_store.specs.Stores.{IsNoStore, Stands};
 
+use crate::changing::{change, define};
 use crate::checking::check;
 use crate::generating::{write_recording, write_summary};
 use crate::listing::list;
@@ -41,6 +42,7 @@ use crate::replaying::replay;
 use crate::status::Status;
 use crate::ways::way_of;
 use crate::words::{Request, request_in};
+use crate::writing::write;
 use flow_core::Net;
 use kap_base::TASK_LIMIT;
 use kap_io::{Disk, Gate, Sink, Source};
@@ -314,6 +316,15 @@ pub fn command<
         Some(Request::Init) => init(alloc, disk),
         Some(Request::Show(listing)) => list::<K, D, P, N, G, R>(
             rt, alloc, listing, out, disk, pats, gate,
+        ),
+        Some(Request::Define { id }) => define::<S, D, P, N, G, R>(
+            rt, alloc, id, input, disk, pats, gate,
+        ),
+        Some(Request::Change { change: what, id }) => change::<D, P, N, G, R>(
+            rt, alloc, what, id, disk, pats, gate,
+        ),
+        Some(Request::Write { options, db, rp }) => write(
+            rt, alloc, options, db, rp, now, input, out, disk, pats, gate, ran,
         ),
     }
 }
