@@ -1,5 +1,5 @@
 -- The words of a command line.
-use Rattle.std.specs.Prelude.{ℕ, ◌≤◌, ⊤, Bool, true, false, not, ◌&&◌, ◌==◌, List, [], ◌∷◌, length, map, nat_le, slice_index, Option, Some, None, codes, string_bytes, if◌then◌else◌}
+use Rattle.std.specs.Prelude.{◌≡◌, ℕ, ◌≤◌, ⊤, Bool, true, false, not, ◌&&◌, ◌==◌, List, [], ◌∷◌, length, map, nat_le, slice_index, Option, Some, None, codes, string_bytes, if◌then◌else◌, IsTrue}
 use Rattle.std.specs.Option.{option_and_then, option_map}
 use Rattle.std.specs.Str.{bytes_eq}
 use Rattle.kap_base.specs.Texts.{has_line_feed, hyphen, is_task_id}
@@ -200,8 +200,8 @@ runs_net (Some (Define id)) = false
 runs_net (Some (ChangeTask change id)) = false
 runs_net (Some (Write options db rp)) = true
 
--- the options that a request gives are within their limits, and a number of points is one that a sample recording can
--- have
+-- the options that a request gives are within their limits, a number of points is one that a sample recording can have,
+-- a task that is to be defined has an id, and a database and a policy are on one line
 abbrev pub IsWithinLimits : LentRequest → Type 0
 IsWithinLimits lent.Check = ⊤
 IsWithinLimits (lent.Replay options words) = AreWithinLimits options
@@ -209,6 +209,7 @@ IsWithinLimits (lent.Generate count) = count ≤ SAMPLE_LIMIT
 IsWithinLimits (lent.Summarize count words) = count ≤ SAMPLE_LIMIT
 IsWithinLimits lent.Init = ⊤
 IsWithinLimits (lent.Show listing) = ⊤
-IsWithinLimits (lent.Define id) = ⊤
+IsWithinLimits (lent.Define id) = IsTrue (is_task_id id.now)
 IsWithinLimits (lent.Change change id) = ⊤
-IsWithinLimits (lent.Write options db rp) = AreWriteLimits options
+IsWithinLimits (lent.Write options db rp) =
+    AreWriteLimits options × (has_line_feed db.now ≡ false) × (has_line_feed rp.now ≡ false)

@@ -1,5 +1,22 @@
 //! The commands that define, enable, disable and delete tasks.
 
+ghost use Rattle.std.specs.Prelude.{◌≡◌, ◌⊎◌, ◌≤◌, ◌∷◌, ◌++◌, [], false, true, length, IfErr, IfOk, IsTrue, List, OnOk};
+ghost use Rattle.kap_base.specs.Words.{HasRisen};
+ghost use Rattle.kap_base.specs.Texts.{is_task_id};
+ghost use Rattle.kap_base.specs.declared.limits.TheConstants.{SCRIPT_LIMIT};
+ghost use Rattle.kap_io.specs.Moments.{Moments, Quiet};
+ghost use Rattle.recording_file.specs.Reading.{HasEnded};
+ghost use Rattle.store_records.specs.declared.rec.Rec.{Rec};
+ghost use Rattle.topic_store.specs.Stores.{Stands};
+ghost use Rattle.engine_store.specs.Asking.{IsScript};
+ghost use Rattle.engine_store.specs.Faults.{EngineCause};
+ghost use Rattle.engine_store.specs.Good.{IsGood};
+ghost use Rattle.kap_engine.specs.Changing.{IsRefusal, IsWhyNoneEnabled, stands_full_before_or_after};
+ghost use Rattle.kap_engine.specs.Engines.{IsEngine};
+ghost use Rattle.kap_server.specs.Changing.{Changes, DefinedTo, Defines, EndsChange, EndsDefinition, EndsReading, IsScriptFault, IsTaskScript, is_early, OpensBehind, OpensToChange, ReadsScript, record_of, stays_or_changed};
+ghost use Rattle.kap_server.specs.ReadingIn.{IsAll};
+ghost use Rattle.kap_server.specs.Readying.{is_pattern_refused};
+
 use crate::inputs::read_all;
 use crate::options::{capacity_of, no_options, workers_of};
 use crate::status::Status;
@@ -15,7 +32,14 @@ use std::thread::Threads;
 use tick_compile::compile;
 
 /// The text of a script of a task.
-fn script_of<P: Patterns>(alloc: Global, bytes: &[u8], pats: &mut P) -> Result<Text, Status> {
+fn script_of<P: Patterns>(alloc: Global, bytes: &[u8], pats: &mut P) -> Result<Text, Status>
+    requires { length bytes.now ≤ SCRIPT_LIMIT }
+    ensures script { IfOk result (λ text. (text ≡ bytes.now) × IsScript bytes.now) }
+    ensures fault { IfErr result (IsScriptFault (P.refused pats.new) bytes.now) }
+    ensures kept { OnOk result (P.refusals pats.new ≡ P.refusals pats.old) }
+    ensures rose { IfErr result (λ s. is_pattern_refused s ≡ true
+        → HasRisen (P.refusals pats.old) (P.refusals pats.new)) }
+{
     if let Err(fault) = compile(alloc, bytes, pats) {
         return Err(Status::from(fault));
     }
@@ -31,7 +55,18 @@ fn read_script<S: Source, P: Patterns>(
     alloc: Global,
     input: &mut S,
     pats: &mut P,
-) -> Result<Text, Status> {
+) -> Result<Text, Status>
+    ensures script { IfOk result (λ text. IsTaskScript text × IsAll (S.left input.old) text) }
+    ensures ended { OnOk result (HasEnded (S.left input.old) (S.left input.new)) }
+    ensures fault { IfErr result (ReadsScript (P.refused pats.new)
+        (S.left input.old) (S.left input.new)) }
+    ensures early { IfErr result EndsReading }
+    ensures kept { OnOk result (P.refusals pats.new ≡ P.refusals pats.old) }
+    ensures rose { IfErr result (λ s. is_pattern_refused s ≡ true
+        → HasRisen (P.refusals pats.old) (P.refusals pats.new)) }
+    ensures read_fault { IfErr result (λ s. s ≡ Status.ReadFault
+        → HasRisen (S.faults input.old) (S.faults input.new)) }
+{
     let bytes = read_all(alloc, SCRIPT_LIMIT, input)?;
     script_of(alloc, bytes.as_slice(), pats)
 }
@@ -87,7 +122,23 @@ fn make_change<D: Disk, P: Patterns, N: ScriptNode + NumberingNode + Send>(
     engine: &mut Engine<N>,
     disk: &mut D,
     pats: &mut P,
-) -> Result<(), EngineFault> {
+) -> Result<(), EngineFault>
+    requires unspent { engine.old.spent ≡ false }
+    ensures changed { IsTrue D.tells → (rs : List Rec)
+        → IsEngine N.Node N.planned rs (D.seen disk.old) (D.may_leave disk.old) engine.old
+        → OnOk result (IsEngine N.Node N.planned (rs ++ record_of change id.now ∷ [])
+        (D.seen disk.new) (D.may_leave disk.new) engine.new) }
+    ensures any_moment { IsTrue D.tells → (rs : List Rec)
+        → IsEngine N.Node N.planned rs (D.seen disk.old) (D.may_leave disk.old) engine.old
+        → Moments D.moment D.may_leave D.left_since disk.old disk.new
+        (stands_full_before_or_after N.Node N.planned rs (record_of change id.now)) }
+    ensures why { IfErr result
+        (IsWhyNoneEnabled (P.refusals pats.old) (P.refusals pats.new) (P.refused pats.new)
+        engine.old.store.log.part id.now engine.old.store.kept.tasks) }
+    ensures still { IfErr result (λ f. IsRefusal f
+        → (engine.new ≡ engine.old) × (disk.new ≡ disk.old)) }
+    ensures cause { EngineCause (D.faults disk.old) (D.faults disk.new) result }
+{
     match change {
         Change::Enable => engine.enable(alloc, disk, id, pats),
         Change::Disable => engine.disable(alloc, disk, id),

@@ -1,8 +1,8 @@
 //! The words of a command line.
 
-ghost use Rattle.std.specs.Prelude.{◌≡◌, IfSome, map, string_bytes};
+ghost use Rattle.std.specs.Prelude.{◌≡◌, IfSome, IsTrue, map, string_bytes};
 ghost use Rattle.std.specs.Option.{option_map};
-ghost use Rattle.kap_base.specs.Texts.{has_line_feed};
+ghost use Rattle.kap_base.specs.Texts.{has_line_feed, is_task_id};
 ghost use Rattle.kap_server.specs.Options.{AreWithinLimits, AreWriteLimits};
 ghost use Rattle.kap_server.specs.Words.{IsWithinLimits, are_pairs, change_in, change_request, define_request, gen_request, id_in, is_database, is_option, replay_request, request_alone, request_in, request_of, request_of_pairs, write_request, write_to};
 
@@ -168,7 +168,8 @@ fn request_alone<'a>(request: Request<'a>, words: &[String]) -> Option<Request<'
 
 /// The id of a task, where it is the only word. No word that begins as an option does is one here.
 fn id_in(words: &[String]) -> Option<&str>
-    ensures { option_map (λ id. id.now) result ≡ id_in (map string_bytes words.now) }
+    ensures id { option_map (λ id. id.now) result ≡ id_in (map string_bytes words.now) }
+    ensures valid { IfSome result (λ id. IsTrue (is_task_id id.now)) }
 {
     let (id, rest) = words.split_first()?;
     if !rest.is_empty() || is_option(id.as_bytes()) || !is_task_id(id.as_bytes()) {

@@ -9,7 +9,7 @@ use Rattle.kap_server.proofs.ListLaws.{behind_quietly, engine_ends, good_then_qu
 use Rattle.kap_server.proofs.listing.list.Goals as goal
 
 pub returns-in-Err-clause-rose : goal.returns-in-Err-clause-rose
-returns-in-Err-clause-rose g c = λ tells rs good stands part offset e. c.in-Err.ensures.rose tells rs stands good part offset (place_of_opening c.in-Err.fault part offset (sym c.from.ensures ∙ e))
+returns-in-Err-clause-rose g c = λ tells rs good stands part offset e. c.in-Err.ensures.rose tells rs stands good part offset (place_of_opening c.in-Err.fault part offset c.in-Err.ensures.faults (sym c.from.ensures ∙ e))
 
 pub returns-in-Err-clause-opened : goal.returns-in-Err-clause-opened
 returns-in-Err-clause-opened g c = λ tells.
@@ -18,7 +18,7 @@ returns-in-Err-clause-opened g c = λ tells.
     let refused = g.P.Patterns.refused c.make_engine.new.pats in
     let files = g.D.Disk.seen c.args.disk.now in
     subst (λ (s : Status). Opens g.N.Node g.N.ScriptNode.planned before after refused files s) (sym c.from.ensures)
-    (opens_none g.N.Node g.N.ScriptNode.planned before after refused files c.in-Err.fault (c.in-Err.ensures.refused tells))
+    (opens_none g.N.Node g.N.ScriptNode.planned before after refused files c.in-Err.fault c.in-Err.ensures.faults (c.in-Err.ensures.refused tells))
 
 pub returns-in-Err-clause-any_moment : goal.returns-in-Err-clause-any_moment
 returns-in-Err-clause-any_moment g c = λ tells rs good stands. c.make_engine.ensures.any_moment tells rs stands good
@@ -120,7 +120,7 @@ returns-clause-left g c = λ tells part offset e.
     (sym c.from-in-Err-write_list.ensures ∙ e))
 
 pub returns-in-Err-clause-ends : goal.returns-in-Err-clause-ends
-returns-in-Err-clause-ends g c = subst IsOfList (sym c.from.ensures) (engine_ends c.in-Err.fault)
+returns-in-Err-clause-ends g c = subst IsOfList (sym c.from.ensures) (engine_ends c.in-Err.fault c.in-Err.ensures.faults)
 
 pub returns-clause-ends : goal.returns-clause-ends
 returns-clause-ends g c = subst IsOfList (sym c.from-in-Err-write_list.ensures) (list_ends c.in-Err-write_list.fault)
