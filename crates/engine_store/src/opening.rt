@@ -186,6 +186,7 @@ pub fn run_store<
         → Quiet D.seen D.moment D.may_leave D.left_since disk.old disk.new }
     ensures faults { IfErr result IsOfOpening }
     ensures cause { EngineCause (D.faults disk.old) (D.faults disk.new) result }
+    ensures kept { OnOk result (P.refusals pats.new ≡ P.refusals pats.old) }
 {
     if let Err(fault) = ask_scripts(alloc, store.tasks(), store.lives(), pats) {
         return Err(run_fault(store.part(), 0, fault));

@@ -59,7 +59,7 @@ impl<N: Node> Model for Engine<N> {
 }
 
 impl<N: ScriptNode + NumberingNode + Send> Engine<N> {
-    ghost use Rattle.std.specs.Prelude.{◌≡◌, ◌<◌, ◌≤◌, ℕ, [], false, IfErr, IfOk, IsErrOf, IsTrue, List};
+    ghost use Rattle.std.specs.Prelude.{◌≡◌, ◌<◌, ◌≤◌, ℕ, [], false, IfErr, IfOk, IsErrOf, IsTrue, List, OnOk};
     ghost use Rattle.kap_base.specs.Words.{HasRisen};
     ghost use Rattle.kap_io.specs.Moments.{Moments, Quiet};
     ghost use Rattle.kap_io.specs.declared.disk.Part.{Part};
@@ -116,6 +116,7 @@ impl<N: ScriptNode + NumberingNode + Send> Engine<N> {
         ensures stored { IfOk result (λ engine. engine.stored ≡ []) }
         ensures faults { IfErr result IsOfOpening }
         ensures cause { EngineCause (D.faults disk.old) (D.faults disk.new) result }
+        ensures kept { OnOk result (P.refusals pats.new ≡ P.refusals pats.old) }
     {
         transition_laws();
         scripts_have_one_answer();
