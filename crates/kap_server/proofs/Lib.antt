@@ -11,3 +11,5 @@ pub mod RunLaws
 pub mod ListLaws
 pub mod GenLaws
 pub mod NetLaws
+pub mod ChangeLaws
+pub mod WriteLaws

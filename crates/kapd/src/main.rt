@@ -127,13 +127,13 @@ The exit status, and what standard error says behind `kapd: `:
 
 BYTE is a byte of the script, counted from 0; of a Graph fault it is the node's
 number. Exists: an id was given to two tasks, a task of the store has it, or
-init found a store's head in the folder. Not a store: the folder has no head of a store (head at 0: no init
-was done there, or the head was damaged, and init would then empty the logs), or
-a log is none at this offset, or the record there defines a task by a script
-that is none, or it is the last snapshot, and has states of other nodes. Disk
-fault: PLACE isn't there, is no folder, or its files can't be read or written;
-or another process uses the store, which a second line says then: `kapd: another
-process uses the store`.
+init found a store's head in the folder. Not a store: the folder has no head of
+a store (head at 0: no init was done there, or the head was damaged, and init
+would then empty the logs), or a log is none at this offset, or the record there
+defines a task by a script that is none, or it is the last snapshot, and has
+states of other nodes. Disk fault: PLACE isn't there, is no folder, or its files
+can't be read or written; or another process uses the store, which a second line
+says then: `kapd: another process uses the store`.
 
   kapd --help        prints this
   kapd --version     prints the version
