@@ -53,14 +53,14 @@ none-written w text = (0, omega arith, Appends-nil w)
 -- ---- what is listed
 
 -- lives have the tasks of their scripts, and no others
-tasks-same : (one : (refused : Option Refusal) (text : List ℕ) (a b : Task) → Accepts refused text a → Accepts refused text b → a ≡ b) (lives : List Life) (xs bs : List Task) → AreTasksOf lives xs → AreTasksOf lives bs → xs ≡ bs
-tasks-same one [] [] [] a b = refl
-tasks-same one [] [] (t ∷ bs) a b = absurd b
-tasks-same one [] (t ∷ xs) bs a b = absurd a
-tasks-same one (l ∷ lives) [] bs a b = absurd a
-tasks-same one (l ∷ lives) (t ∷ xs) [] a b = absurd b
-tasks-same one (l ∷ lives) (t ∷ xs) (u ∷ bs) a b =
-    ap (λ (x : Task). x ∷ xs) (one None l.script t u a.0 b.0) ∙ ap (λ (l : List Task). u ∷ l) (tasks-same one lives xs bs a.1 b.1)
+pub tasks_same : (one : (refused : Option Refusal) (text : List ℕ) (a b : Task) → Accepts refused text a → Accepts refused text b → a ≡ b) (lives : List Life) (xs bs : List Task) → AreTasksOf lives xs → AreTasksOf lives bs → xs ≡ bs
+tasks_same one [] [] [] a b = refl
+tasks_same one [] [] (t ∷ bs) a b = absurd b
+tasks_same one [] (t ∷ xs) bs a b = absurd a
+tasks_same one (l ∷ lives) [] bs a b = absurd a
+tasks_same one (l ∷ lives) (t ∷ xs) [] a b = absurd b
+tasks_same one (l ∷ lives) (t ∷ xs) (u ∷ bs) a b =
+    ap (λ (x : Task). x ∷ xs) (one None l.script t u a.0 b.0) ∙ ap (λ (l : List Task). u ∷ l) (tasks_same one lives xs bs a.1 b.1)
 
 -- the list is that of a store that holds as much
 list-same : (listing : Listing) (a b : Held) → a.tasks ≡ b.tasks → a.points ≡ b.points → a.transitions ≡ b.transitions → list_text listing a ≡ list_text listing b
@@ -75,7 +75,7 @@ module _ {N P S : Type 0} (g : Ghosts N P S) (planned : Planned P) (one : (refus
   all-there : all_transitions g planned rs good ≡ (held made.records).transitions
   all-there =
       let new = made.engine.full.good in
-      let same : good.tasks ≡ new.tasks = tasks-same one (held rs).lives good.tasks new.tasks good.are (subst (λ (ls : List Life). AreTasksOf ls new.tasks) made.added.lives new.are) in
+      let same : good.tasks ≡ new.tasks = tasks_same one (held rs).lives good.tasks new.tasks good.are (subst (λ (ls : List Life). AreTasksOf ls new.tasks) made.added.lives new.are) in
       ap (λ (ts : List Task). due_of g.answer (graphs_in g planned rs ts) (held rs)) same
       ∙ sym (due_same g planned rs made.records made.more new.tasks made.added)
       ∙ made.engine.full.all

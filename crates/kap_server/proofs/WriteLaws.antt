@@ -1,10 +1,12 @@
 -- What stands after points were written to a store.
-use Rattle.std.proofs.Common.{◌≡◌, ℕ, ◌+◌, ◌<◌, Bool, true, false, List, [], ◌∷◌, ◌++◌, length, Option, None, Some, Ok, Err, inl, inr, refl, sym, ap, subst, ◌∙◌, arith}
+use Rattle.std.proofs.Common.{◌≡◌, ℕ, ◌+◌, ◌-◌, ◌<◌, ◌≤◌, Bool, true, false, List, [], ◌∷◌, ◌++◌, length, Option, None, Some, Ok, Err, inl, inr, refl, sym, ap, subst, ◌∙◌, arith}
 use Rattle.std.specs.Prelude.{◌⊎◌, ◌&&◌, bytes_eq, not, ◌==◌, Result}
 use Rattle.std.specs.List.{list_all}
+use Rattle.std.specs.Option.{option_map_or}
 use Rattle.std.specs.Cmp.Lexicographic.{bytes_decides}
 use Rattle.std.proofs.lemmas.List.Append.{append_assoc}
 use Rattle.kap_base.specs.Points.{PointValue}
+use Rattle.kap_base.specs.declared.items.Effect.{Effect}
 use Rattle.kap_base.specs.Words.{◌>>=◌}
 use Rattle.kap_base.proofs.TestLaws.{both}
 use Rattle.kap_io.specs.Disk.{Image}
@@ -16,17 +18,31 @@ use Rattle.line_points.specs.declared.fault.LineFault.{LineFault}
 use Rattle.line_points.specs.declared.fault.BodyFault.{BodyFault}
 use Rattle.line_points.specs.declared.mode.Mode.{Mode}
 use Rattle.line_points.proofs.WholeLaws.{line_spelled}
+use Rattle.effect_text.specs.Lines.{text_behind}
+use Rattle.lambda_types.specs.Faults.{Refusal}
+use Rattle.life_effects.specs.Effects.{stored_effects}
+use Rattle.node_core.specs.Meaning.{Answer}
 use Rattle.node_core.specs.declared.node.Node.{Ghosts}
 use Rattle.node_set.specs.Tasks.{Planned}
 use Rattle.store_records.specs.Histories.{held}
 use Rattle.store_records.specs.Lines.{is_of}
 use Rattle.store_records.specs.declared.rec.Rec.{Rec}
+use Rattle.store_records.specs.declared.task.Life.{Life}
+use Rattle.store_records.specs.declared.task.Snapshot.{Snapshot}
+use Rattle.tick_compile.specs.Scripts.{Accepts}
+use Rattle.tick_compile.specs.declared.tasks.Task.{Task}
 use Rattle.topic_core.specs.declared.transition.Transition.{Transition}
+use Rattle.topic_store.proofs.Adding.{image_stands}
+use Rattle.topic_store.proofs.Found.{seen_stands}
+use Rattle.engine_runs.specs.Running.{life_events}
+use Rattle.engine_runs.specs.Scripts.{AreTasksOf, graphs_from, names_from}
 use Rattle.engine_store.specs.Adding.{HasAdded}
-use Rattle.engine_store.specs.Good.{StandsGood, stays_or_good}
+use Rattle.engine_store.specs.Good.{IsGood, StandsGood, stays_or_good}
 use Rattle.kap_engine.specs.Engines.{EngineValue, IsEngineBehind}
-use Rattle.kap_engine.specs.Writing.{HasNoPoints, HasPoints, StandsWriting, stands_writing}
-use Rattle.kap_server.specs.Writing.{stays_or_writing}
+use Rattle.kap_engine.specs.Writing.{HasNoPoints, HasPoints, HasSnapped, HasWritten, IsSnapLong, IsSnapped, StandsWriting, TellsOf, stands_writing}
+use Rattle.kap_engine.specs.declared.TheConstants.{SNAP_POINTS}
+use Rattle.kap_server.proofs.ListLaws.{tasks_same}
+use Rattle.kap_server.specs.Writing.{LeavesWritten, stays_or_writing}
 
 -- ---- the points of lines
 
@@ -124,3 +140,58 @@ module _ {N P S : Type 0} (g : Ghosts N P S) (planned : Planned P) (rs : List Re
   opened_then_written seen moment may_leave left_since old mid last engine made opened written = then_run moment may_leave left_since old mid last _ _ _ opened written
       (λ a b was how. opened-writes a b how)
       (λ a b c was how left stands. inr (writes_behind made.records made.more made.added c stands))
+
+-- ---- what is left
+
+option_points : Option Snapshot → ℕ
+option_points snap = option_map_or (λ (snap : Snapshot). snap.points) snap 0
+
+-- what the lives did is told of a store that holds as much
+more-of : {P : Type 0} (answer : P → Answer) (planned : Planned P) (tasks : List Task) (new : List PointValue) (effects : List Effect) (lives other : List Life) (points more : List PointValue) → other ≡ lives → more ≡ points
+    → stored_effects answer other (graphs_from planned 1 other tasks) (more ++ new) ≡ stored_effects answer other (graphs_from planned 1 other tasks) more ++ effects
+    → stored_effects answer lives (graphs_from planned 1 lives tasks) (points ++ new) ≡ stored_effects answer lives (graphs_from planned 1 lives tasks) points ++ effects
+more-of answer planned tasks new effects lives other points more same-lives same-points e =
+    subst (λ (ls : List Life). stored_effects answer ls (graphs_from planned 1 ls tasks) (points ++ new) ≡ stored_effects answer ls (graphs_from planned 1 ls tasks) points ++ effects) same-lives
+    (subst (λ (ps : List PointValue). stored_effects answer other (graphs_from planned 1 other tasks) (ps ++ new) ≡ stored_effects answer other (graphs_from planned 1 other tasks) ps ++ effects) same-points e)
+
+module _ {N P S : Type 0} (g : Ghosts N P S) (planned : Planned P) (one : (refused : Option Refusal) (text : List ℕ) (a b : Task) → Accepts refused text a → Accepts refused text b → a ≡ b) (rs : List Rec) (good : IsGood g planned rs)
+    (seen-before : Image) (images-before : Image → Type 0) (before : EngineValue N) (made : IsEngineBehind g planned rs seen-before images-before before) (new : List PointValue) where
+  -- the tasks of the lives are those of the engine's
+  same-tasks : made.engine.full.good.tasks ≡ good.tasks
+  same-tasks =
+      let found = made.engine.full.good in
+      sym (tasks_same one (held rs).lives good.tasks found.tasks good.are (subst (λ (ls : List Life). AreTasksOf ls found.tasks) made.added.lives found.are))
+
+  snapped-behind : (rs' : List Rec) (tasks : List Task) → HasSnapped g planned made.records rs' tasks → HasSnapped g planned rs rs' tasks
+  snapped-behind rs' tasks h = record {
+    few = λ lt. h.few (subst (λ (s : Option Snapshot). length (held rs').points - option_points s < SNAP_POINTS) (sym made.added.snap) lt) ∙ made.added.snap;
+    many =
+        λ le. kept (h.many (subst (λ (s : Option Snapshot). SNAP_POINTS ≤ length (held rs').points - option_points s) (sym made.added.snap) le));
+  }
+    where
+      kept : IsSnapped (held rs') ⊎ (((held rs').snap ≡ (held made.records).snap) × IsSnapLong g planned rs' tasks) → IsSnapped (held rs') ⊎ (((held rs').snap ≡ (held rs).snap) × IsSnapLong g planned rs' tasks)
+      kept (inl is) = inl is
+      kept (inr old) = inr (old.0 ∙ made.added.snap, old.1)
+
+  tells-behind : (tasks : List Task) (text : List ℕ) → TellsOf g planned made.records tasks new text → TellsOf g planned rs tasks new text
+  tells-behind tasks text t = record {
+    effects = t.effects;
+    more = more-of g.answer planned tasks new t.effects (held rs).lives (held made.records).lives (held rs).points (held made.records).points made.added.lives made.added.points t.more;
+    text_is =
+        t.text_is
+        ∙ ap (λ (ls : List Life). text_behind (names_from ls tasks) (life_events g planned ls tasks (held made.records).points) t.effects) made.added.lives
+        ∙ ap (λ (ps : List PointValue). text_behind (names_from (held rs).lives tasks) (life_events g planned (held rs).lives tasks ps) t.effects) made.added.points;
+  }
+
+  -- behind an opening the points are there, and what they make
+  pub leaves_written : (seen : Image) (images : Image → Type 0) (after : EngineValue N) (text : List ℕ) → HasWritten g planned made.records made.engine.full.good.tasks new seen images after text
+      → LeavesWritten g planned rs good.tasks new seen images text
+  leaves_written seen images after text w = record {
+    records = w.records;
+    full = w.engine.full;
+    points = points_behind g planned rs new made.records made.more made.added w.records w.points;
+    snapped = subst (λ (ts : List Task). HasSnapped g planned rs w.records ts) same-tasks (snapped-behind w.records made.engine.full.good.tasks w.snapped_is);
+    reads = seen_stands seen images w.records after.store w.engine.on;
+    leaves = image_stands w.records seen images after.store w.engine.on;
+    tells = subst (λ (ts : List Task). TellsOf g planned rs ts new text) same-tasks (tells-behind made.engine.full.good.tasks text w.tells);
+  }

@@ -22,7 +22,7 @@ returns-else-are_too_many-clause-usage g c =
 pub returns-else-are_too_many-clause-too_many : goal.returns-else-are_too_many-clause-too_many
 returns-else-are_too_many-clause-too_many g c =
     let asked = rw (c.in-Some-Replay.is, c.in-Some-Replay.field-0-is) at c.request_in.ensures.request in
-    record {
+    λ defines. record {
       only = λ e. absurd (ran_not_many _ _ _ _ _ c.replay_pairs.result _ _ _ _ c.replay_pairs.ensures.ran e);
       always = λ asks. absurd (few_to_replay _ _ _ (sym asked) (sym c.are_too_many.ensures ∙ c.if-are_too_many.false) asks);
     }
@@ -58,13 +58,13 @@ returns-else-are_too_many-2-clause-usage g c =
 pub returns-else-are_too_many-2-clause-too_many : goal.returns-else-are_too_many-2-clause-too_many
 returns-else-are_too_many-2-clause-too_many g c =
     let asked = rw (c.in-Some-Summarize.is, c.in-Some-Summarize.field-0-is) at c.request_in.ensures.request in
-    record {
+    λ defines. record {
       only = λ e. absurd ((summed_not _ _ (g.P.Patterns.refused c.write_summary.new.pats) _ _ c.write_summary.result (g.K.Sink.written c.args.out.now) (g.K.Sink.written c.write_summary.new.out) c.write_summary.ensures.summed).1 e);
       always = λ asks. absurd (few_to_summarize _ _ _ (sym asked) (sym c.are_too_many-in-Some-Summarize.ensures ∙ c.if-are_too_many-2.false) asks);
     }
 
 pub returns-else-are_too_many-2-clause-nothing : goal.returns-else-are_too_many-2-clause-nothing
-returns-else-are_too_many-2-clause-nothing g c = λ e. absurd (summed_tells _ _ (g.P.Patterns.refused c.write_summary.new.pats) _ _ c.write_summary.result (g.K.Sink.written c.args.out.now) (g.K.Sink.written c.write_summary.new.out) c.write_summary.ensures.summed e)
+returns-else-are_too_many-2-clause-nothing g c = λ defines e. absurd (summed_tells _ _ (g.P.Patterns.refused c.write_summary.new.pats) _ _ c.write_summary.result (g.K.Sink.written c.args.out.now) (g.K.Sink.written c.write_summary.new.out) c.write_summary.ensures.summed e)
 
 pub returns-else-are_too_many-2-clause-summed : goal.returns-else-are_too_many-2-clause-summed
 returns-else-are_too_many-2-clause-summed g c =
@@ -126,13 +126,13 @@ returns-in-Some-Show-clause-usage g c =
 pub returns-in-Some-Show-clause-too_many : goal.returns-in-Some-Show-clause-too_many
 returns-in-Some-Show-clause-too_many g c =
     let asked = rw (c.in-Some-Show.is, c.in-Some-Show.field-0-is) at c.request_in.ensures.request in
-    record {
+    λ defines. record {
       only = λ e. absurd (never c.list.result statuses.TooManyTasks c.list.ensures.ends (λ x. x) e);
       always = λ many. absurd (show_not_many c.in-Some-Show.listing _ asked many);
     }
 
 pub returns-in-Some-Show-clause-nothing : goal.returns-in-Some-Show-clause-nothing
-returns-in-Some-Show-clause-nothing g c = ⊎_elim
+returns-in-Some-Show-clause-nothing g c = λ defines. ⊎_elim
     (λ e. absurd (never c.list.result statuses.Usage c.list.ensures.ends (λ x. x) e))
     (λ e. absurd (never c.list.result statuses.TooManyTasks c.list.ensures.ends (λ x. x) e))
 
