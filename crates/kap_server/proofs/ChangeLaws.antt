@@ -1,6 +1,6 @@
 -- What stands after a task of a store was defined, or changed.
 use Rattle.std.proofs.Common.{◌≡◌, ℕ, ◌<◌, Bool, true, false, List, [], ◌∷◌, ◌++◌, length, Option, None, Some, inl, inr, refl, sym, ap, subst, cond, ◌∙◌, arith}
-use Rattle.std.specs.Prelude.{◌⊎◌, ◌≤◌, not, ◌&&◌, nat_le, nat_lt}
+use Rattle.std.specs.Prelude.{◌⊎◌, ◌≤◌, not, ◌&&◌, nat_le, nat_lt, IfSome}
 use Rattle.std.specs.List.{AllByRecursion as Each}
 use Rattle.std.proofs.lemmas.Bool.Decides.{nat_tests}
 use Rattle.kap_base.specs.Texts.{is_task_id}
@@ -38,11 +38,17 @@ use Rattle.kap_server.specs.declared.words.Change.{Change}
 use Rattle.kap_server.specs.declared.words.Change.TheVariants.{Enable, Disable, Delete}
 use Rattle.kap_server.specs.Changing.{ChangedTo, DefinedTo, LeavesChanged, record_of, stays_or_changed}
 use Rattle.kap_server.specs.Listing.{LeavesFull}
+use Rattle.kap_server.specs.ReadingIn.{IsAll}
 use Rattle.kap_server.specs.Statuses.{status_of_engine, status_of_script}
 
 -- each text that one script answers is refused for no fault
 abbrev pub Apart : Type 0
 Apart = (refused : Option Refusal) (text : List ℕ) (task : Task) (fault : ScriptFault) → Accepts refused text task → Refuses refused text fault → ⊥
+
+-- what holds of all that the input gave holds of what was left of it, where it tells that
+pub told_of : (Q : List ℕ → Type 0) (s : Option (List ℕ)) (text : List ℕ) → IsAll s text → Q text → IfSome s Q
+told_of Q None text all q = tt
+told_of Q (Some input) text all q = subst Q (sym all) q
 
 -- ---- the last record
 
