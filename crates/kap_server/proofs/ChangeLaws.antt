@@ -77,8 +77,7 @@ less n m e = grind (arith, nat_tests)
 pub task_new : (id script : List ℕ) (enabled : Bool) (h : Held) → MayFollow h (kinds.Define id script enabled) → (has_task id h.tasks ≡ false) × (length h.tasks < TASK_LIMIT)
 task_new id script enabled h may =
     let room = nat_lt (length h.tasks) TASK_LIMIT && nat_le (length script) SCRIPT_LIMIT in
-    let behind = second_of (is_task_id id) (not (has_task id h.tasks) && room) may in
-    (
+    let behind = second_of (is_task_id id) (not (has_task id h.tasks) && room) may in (
       not-true (has_task id h.tasks) (first_of (not (has_task id h.tasks)) room behind),
       less (length h.tasks) TASK_LIMIT (first_of (nat_lt (length h.tasks) TASK_LIMIT) (nat_le (length script) SCRIPT_LIMIT) (second_of (not (has_task id h.tasks)) room behind)),
     )
