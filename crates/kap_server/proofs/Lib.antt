@@ -13,3 +13,4 @@ pub mod GenLaws
 pub mod NetLaws
 pub mod ChangeLaws
 pub mod WriteLaws
+pub mod ExportLaws

@@ -16,3 +16,5 @@ pub mod Writing
 pub mod Command
 pub mod Generating
 pub mod Nets
+-- what the alerts of a store have to do with a replay
+pub mod Exporting

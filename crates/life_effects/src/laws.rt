@@ -1,11 +1,12 @@
 //! Laws of what the lives of a store have done, and no code.
 
 ghost use Rattle.std.specs.Prelude.{◌≡◌, ◌+◌, ◌<◌, ◌^◌, ℕ, [], ◌∷◌, ◌++◌, drop, true, IsTrue, List, Some, length, map, slice_get};
-ghost use Rattle.std.specs.List.{AllByRecursion as Each, remove};
+ghost use Rattle.std.specs.List.{AllByRecursion as Each, AllZip, remove};
 ghost use Rattle.kap_base.specs.Points.{PointValue};
 ghost use Rattle.kap_base.specs.declared.items.Effect.{Effect};
 ghost use Rattle.kap_base.specs.Events.{EventValue};
 ghost use Rattle.task_run.specs.Graphs.{Placed};
+ghost use Rattle.task_run.specs.Lives.{effects_of};
 ghost use Rattle.topic_core.specs.Topics.{Trans};
 ghost use Rattle.topic_core.specs.declared.transition.Transition.{Transition};
 ghost use Rattle.task_run.specs.Courses.{begun, end_of, grown, later_effects};
@@ -15,6 +16,8 @@ ghost use Rattle.store_records.specs.declared.rec.Rec.{Rec};
 ghost use Rattle.store_records.specs.declared.task.Life.{Life};
 ghost use Rattle.store_records.specs.declared.task.StoredTask.{StoredTask};
 ghost use Rattle.life_effects.specs.Effects.{Fares, LivesFit, courses_of, ending_from, open_courses, stored_effects};
+ghost use Rattle.life_effects.specs.OpenAlone.{AreOpenAlone, of_open};
+ghost use Rattle.life_effects.specs.Renumbered.{AreAlike, whats};
 ghost use Rattle.life_effects.specs.Times.{times_fit};
 
 use node_core::Node;
@@ -83,4 +86,20 @@ pub fn transitions_go_on()
         ≡ Trans es ++ drop (length (Trans es)) (Trans (es ++ fs)) }
     ensures next { (es : List EventValue) (p q : List Transition) → Trans es ≡ p ++ q
         → length (Trans es) < 2 ^ 64 → times_fit es ≡ true → IsTrue (are_next p q) }
+{}
+
+/// Where the open lives of a store began before its first point, and no other life has seen a point, the lives
+/// have done what the open ones do that run side by side on all points.
+pub fn open_lives_are_all<N: Node>()
+    ensures { (points : List PointValue) (lives : List Life) (graphs : List (List (Placed N.Spec)))
+        → AreOpenAlone points lives → stored_effects N.answer lives graphs points
+        ≡ effects_of N.answer (of_open lives graphs) points }
+{}
+
+/// What lives tell that run side by side is the same under any numbers: where their nodes say the same, stamped
+/// by the number of one life or of another.
+pub fn lives_tell_alike<N: Node>()
+    ensures { (points : List PointValue) (some others : List (List (Placed N.Spec)))
+        → AllZip (AreAlike N.answer) some others
+        → whats (effects_of N.answer some points) ≡ whats (effects_of N.answer others points) }
 {}

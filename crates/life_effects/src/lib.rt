@@ -3,4 +3,6 @@
 
 mod laws;
 
-pub use laws::{open_lives_come_and_go, stores_go_on, transitions_go_on};
+pub use laws::{
+    lives_tell_alike, open_lives_are_all, open_lives_come_and_go, stores_go_on, transitions_go_on,
+};

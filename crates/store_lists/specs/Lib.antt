@@ -4,3 +4,5 @@ pub mod Lists
 pub mod Writing
 -- why they aren't written whole
 pub mod Faults
+-- points whose records are read again
+pub mod Exports
