@@ -209,13 +209,14 @@ tells_place g planned before after refused files part offset statuses.ReadFault 
 tells_place g planned before after refused files part offset statuses.WriteFault none h = absurd (no_store_apart files part offset h.records none h.stands)
 tells_place g planned before after refused files part offset statuses.DiskFault none h = inr (inr refl)
 
-same-listing : (a b : Listing) → Some (Show a) ≡ Some (Show b) → a ≡ b
-same-listing a b e = cc
+-- the listing is the one that is asked for
+pub same_listing : (a b : Listing) → Some (Show a) ≡ Some (Show b) → a ≡ b
+same_listing a b e = cc
 
--- the list is the one that is asked for
+-- and so is what is written
 pub shows_asked : {N P S : Type 0} (g : Ghosts N P S) (planned : Planned P) (rs : List Rec) (good : IsGood g planned rs) (a b : Listing) (result : Status) (w v : Option (List ℕ)) → Some (Show a) ≡ Some (Show b)
     → Shows (list_text a (held_whole g planned rs good)) result w v → Shows (list_text b (held_whole g planned rs good)) result w v
-shows_asked g planned rs good a b result w v same h = subst (λ (l : Listing). Shows (list_text l (held_whole g planned rs good)) result w v) (same-listing a b same) h
+shows_asked g planned rs good a b result w v same h = subst (λ (l : Listing). Shows (list_text l (held_whole g planned rs good)) result w v) (same_listing a b same) h
 
 -- ---- how it ends, on any disk
 

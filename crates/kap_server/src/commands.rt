@@ -17,6 +17,7 @@ ghost use Rattle.kap_server.specs.Changing.{Changes, Defines, EndsReading, Opens
 ghost use Rattle.kap_server.specs.Checking.{Checked, ChecksTo};
 ghost use Rattle.kap_server.specs.Command.{AsksForTooMany, AsksToChange, AsksToCheck, AsksToDefine, AsksToGenerate, AsksToInit, AsksToReplay, AsksToShow, AsksToSummarize, AsksToWrite};
 ghost use Rattle.kap_server.specs.Command.{ExactlyWhere, IsUnlessDiskFailed, IsUnlessFailed, changes_store, defines};
+ghost use Rattle.kap_server.specs.Exporting.{IsExportable, SayInEachLife, TellsAsReplay};
 ghost use Rattle.kap_server.specs.Generating.{Summed, WritesText};
 ghost use Rattle.kap_server.specs.Listing.{AreOthers, LeavesFull, Opens, Shows, held_whole, list_text};
 ghost use Rattle.kap_server.specs.Making.{HasHead, Made};
@@ -33,6 +34,7 @@ ghost use Rattle.kap_server.specs.declared.options.WriteOptions.{WriteOptions};
 ghost use Rattle.kap_server.specs.declared.status.Status.{Status};
 ghost use Rattle.kap_server.specs.declared.words.Change.{Change};
 ghost use Rattle.kap_server.specs.declared.words.Listing.{Listing};
+ghost use Rattle.store_records.specs.Histories.{held};
 ghost use Rattle.store_records.specs.declared.rec.Rec.{Rec};
 ghost use Rattle.topic_store.specs.Stores.{IsNoStore, Stands};
 
@@ -255,6 +257,13 @@ pub fn command<
         → AsksToShow (map string_bytes words.now) listing → IsTrue D.tells
         → Stands rs (D.seen disk.old)
         → Shows (list_text listing (held_whole N.Node N.planned rs good)) result
+        (K.written out.old) (K.written out.new) }
+    // Of `alerts` of one whose `export` a replay may take they are those of this replay, for the pairs of its
+    // open lives, without the lines of logged points, where nodes say the same in each life.
+    ensures exported { (rs : List Rec) (good : IsGood N.Node N.planned rs)
+        → AsksToShow (map string_bytes words.now) Listing.Alerts → IsTrue D.tells
+        → Stands rs (D.seen disk.old) → SayInEachLife N.answer N.planned
+        → IsExportable (held rs) → TellsAsReplay N.answer N.planned (held rs) good.tasks result
         (K.written out.old) (K.written out.new) }
     // It tells no place there, unless a pattern was refused.
     ensures unrefused { (listing : Listing) (rs : List Rec) (part : Part) (offset : ℕ)
