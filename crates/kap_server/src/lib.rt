@@ -21,6 +21,9 @@ mod words;
 mod writing;
 
 pub use commands::command;
-pub use laws::{limits_of_commands, pairs_have_one_meaning, texts_check_in_one_way};
+pub use laws::{
+    alerts_are_those_of_a_replay, limits_of_commands, nodes_say_the_same, pairs_have_one_meaning,
+    texts_check_in_one_way,
+};
 pub use status::Status;
 pub use texts::status_text;
