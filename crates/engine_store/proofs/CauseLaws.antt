@@ -16,7 +16,7 @@ use Rattle.engine_runs.specs.Faults.{IsRefusedOne, IsWhyOne}
 use Rattle.engine_runs.specs.declared.fault.RunFault.{RunFault}
 use Rattle.engine_runs.specs.declared.fault.RunFault.TheVariants as runs
 use Rattle.engine_store.specs.Asking.{AreScripts, IsFirstRefused, IsWhyFirst}
-use Rattle.engine_store.specs.Faults.{EngineCause, HasOtherStates, IsWhyNone, run_fault, store_fault}
+use Rattle.engine_store.specs.Faults.{EngineCause, HasOtherStates, IsOfOpening, IsWhyNone, run_fault, store_fault}
 use Rattle.engine_store.specs.declared.fault.EngineFault.{EngineFault}
 use Rattle.engine_store.specs.declared.fault.EngineFault.TheVariants.{DiskFault, NotStore}
 use Rattle.engine_store.proofs.WhyLaws.{first_of_one}
@@ -127,3 +127,20 @@ module _ {N P S : Type 0} (g : Ghosts N P S) (planned : Planned P) (before after
   -- a later count began as this one
   pub why_later : (there part : Part) (mid offset : ℕ) → mid ≡ before → (part ≡ there) × IsWhyNone g planned mid after refused rs offset → (part ≡ there) × IsWhyNone g planned before after refused rs offset
   why_later there part mid offset kept why = (why.0, subst (λ (n : ℕ). IsWhyNone g planned n after refused rs offset) kept why.1)
+
+-- ---- the faults of an opening
+
+pub store_of_opening : (e : StoreFault) → IsOfOpening (store_fault e)
+store_of_opening (stores.NotStore part offset) = tt
+store_of_opening stores.DiskFault = tt
+store_of_opening stores.Long = tt
+store_of_opening stores.NoMemory = tt
+
+pub run_of_opening : (part : Part) (snap : ℕ) (fault : RunFault) → IsOfOpening (run_fault part snap fault)
+run_of_opening part snap (runs.Script at) = tt
+run_of_opening part snap runs.States = tt
+run_of_opening part snap runs.NoMemory = tt
+
+-- a fault that is one of the store
+pub opening_of : (e : StoreFault) (f : EngineFault) → f ≡ store_fault e → IsOfOpening f
+opening_of e f is = subst IsOfOpening (sym is) (store_of_opening e)

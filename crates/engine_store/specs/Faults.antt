@@ -1,5 +1,5 @@
 -- Why no engine is made.
-use Rattle.std.specs.Prelude.{◌≡◌, ◌⊎◌, ℕ, ◌≤◌, false, List, Result, map, IsErrOf}
+use Rattle.std.specs.Prelude.{◌≡◌, ◌⊎◌, ℕ, ◌≤◌, ⊤, false, List, Result, map, IsErrOf}
 use Rattle.std.specs.List.{list_any}
 use Rattle.kap_base.specs.Words.{HasRisen}
 use Rattle.kap_io.specs.Disk.{Image}
@@ -43,6 +43,13 @@ run_fault part snap runs.NoMemory = NoMemory
 abbrev pub compile_fault : ScriptFault → EngineFault
 compile_fault scripts.NoMemory = NoMemory
 compile_fault fault = Script fault
+
+-- a store isn't opened for one of these
+abbrev pub IsOfOpening : EngineFault → Type 0
+IsOfOpening (NotStore part offset) = ⊤
+IsOfOpening DiskFault = ⊤
+IsOfOpening NoMemory = ⊤
+IsOfOpening fault = ⊥
 
 -- what a call answers: a fault of the disk only where its count rose
 pub record EngineCause {T : Type 0} (before now : ℕ) (result : Result T EngineFault) : Type 0 where

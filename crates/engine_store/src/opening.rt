@@ -1,6 +1,6 @@
 //! The lives of a store run on its points, from its last snapshot on or from the first point.
 
-ghost use Rattle.std.specs.Prelude.{◌≡◌, ◌<◌, ◌≤◌, ◌+◌, ◌^◌, ℕ, false, length, IfOk, IsErrOf, IsTrue, List, OnOk};
+ghost use Rattle.std.specs.Prelude.{◌≡◌, ◌<◌, ◌≤◌, ◌+◌, ◌^◌, ℕ, false, length, IfErr, IfOk, IsErrOf, IsTrue, List, OnOk};
 ghost use Rattle.kap_io.specs.Moments.{Quiet};
 ghost use Rattle.kap_io.specs.declared.disk.Part.{Part};
 ghost use Rattle.edge_queue.specs.declared.TheConstants.{CAPACITY_LIMIT};
@@ -12,7 +12,7 @@ ghost use Rattle.topic_store.specs.Stores.{IsOn};
 ghost use Rattle.engine_runs.specs.Scripts.{AreTasksOf};
 ghost use Rattle.engine_runs.specs.Whole.{IsConsistent};
 ghost use Rattle.engine_store.specs.Asking.{AreScripts};
-ghost use Rattle.engine_store.specs.Faults.{EngineCause, HasStates, IsAsked, IsWhyNone};
+ghost use Rattle.engine_store.specs.Faults.{EngineCause, HasStates, IsAsked, IsOfOpening, IsWhyNone};
 ghost use Rattle.engine_store.specs.declared.fault.EngineFault.TheVariants.{NotStore};
 ghost use Rattle.engine_store.specs.Good.{graphs_in};
 ghost use Rattle.engine_store.specs.Opening.{HasBegun, HasRunAll};
@@ -59,6 +59,7 @@ fn begin_run<N: ScriptNode + NumberingNode + Send, D: Disk, P: Patterns>(
         (P.refused pats.new) rs offset }
     ensures quiet { IsTrue D.tells
         → Quiet D.seen D.moment D.may_leave D.left_since disk.old disk.new }
+    ensures faults { IfErr result IsOfOpening }
     ensures cause { EngineCause (D.faults disk.old) (D.faults disk.new) result }
     ensures kept { OnOk result (P.refusals pats.new ≡ P.refusals pats.old) }
 {
@@ -116,6 +117,7 @@ fn run_rest<
         (P.refused pats.new) rs offset }
     ensures quiet { IsTrue D.tells
         → Quiet D.seen D.moment D.may_leave D.left_since disk.old disk.new }
+    ensures faults { IfErr result IsOfOpening }
     ensures cause { EngineCause (D.faults disk.old) (D.faults disk.new) result }
     ensures kept { OnOk result (P.refusals pats.new ≡ P.refusals pats.old) }
 {
@@ -187,7 +189,9 @@ pub fn run_store<
         (P.refused pats.new) rs offset }
     ensures quiet { IsTrue D.tells
         → Quiet D.seen D.moment D.may_leave D.left_since disk.old disk.new }
+    ensures faults { IfErr result IsOfOpening }
     ensures cause { EngineCause (D.faults disk.old) (D.faults disk.new) result }
+    ensures kept { OnOk result (P.refusals pats.new ≡ P.refusals pats.old) }
 {
     if let Err(fault) = ask_scripts(alloc, store.tasks(), store.lives(), pats) {
         return Err(run_fault(store.part(), 0, fault));

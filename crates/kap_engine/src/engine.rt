@@ -62,7 +62,7 @@ impl<N: Node> Model for Engine<N> {
 }
 
 impl<N: ScriptNode + NumberingNode + Send> Engine<N> {
-    ghost use Rattle.std.specs.Prelude.{◌≡◌, ℕ, [], false, IfOk, IsErrOf, IsTrue, List};
+    ghost use Rattle.std.specs.Prelude.{◌≡◌, ℕ, [], false, IfErr, IfOk, IsErrOf, IsTrue, List, OnOk};
     ghost use Rattle.kap_base.specs.Words.{HasRisen};
     ghost use Rattle.kap_io.specs.Moments.{Moments, Quiet};
     ghost use Rattle.kap_io.specs.declared.disk.Part.{Part};
@@ -71,7 +71,7 @@ impl<N: ScriptNode + NumberingNode + Send> Engine<N> {
     ghost use Rattle.store_records.specs.declared.rec.Rec.{Rec};
     ghost use Rattle.topic_store.specs.Stores.{Stands};
     ghost use Rattle.kap_engine.specs.Engines.{IsEngineBehind};
-    ghost use Rattle.engine_store.specs.Faults.{EngineCause, IsAsked, IsNoGood};
+    ghost use Rattle.engine_store.specs.Faults.{EngineCause, IsAsked, IsNoGood, IsOfOpening};
     ghost use Rattle.engine_store.specs.Good.{IsFull, IsGood, stays_or_good};
 
     /// Opens the store on a disk, restores the lives of its tasks from its last snapshot, runs them on the
@@ -116,7 +116,9 @@ impl<N: ScriptNode + NumberingNode + Send> Engine<N> {
         ensures usable { IfOk result (λ engine. engine.store.log.spent ≡ false) }
         ensures valid { IfOk result (λ engine. AreValid engine.store.kept) }
         ensures stored { IfOk result (λ engine. engine.stored ≡ []) }
+        ensures faults { IfErr result IsOfOpening }
         ensures cause { EngineCause (D.faults disk.old) (D.faults disk.new) result }
+        ensures kept { OnOk result (P.refusals pats.new ≡ P.refusals pats.old) }
     {
         transition_laws();
         scripts_have_one_answer();

@@ -1,5 +1,5 @@
 -- What the alerts of a store have to do with a replay of what it exports.
-use Rattle.std.proofs.Common.{◌≡◌, ◌⊎◌, ℕ, suc, ◌+◌, ◌≤◌, ◌||◌, inl, inr, arith, Bool, true, false, List, [], ◌∷◌, ◌++◌, length, map, drop, refl, sym, ap, subst, ◌∙◌, append-nil, append_assoc}
+use Rattle.std.proofs.Common.{◌≡◌, ◌⊎◌, ℕ, suc, ◌+◌, ◌≤◌, ◌||◌, inl, inr, arith, Bool, true, false, List, [], ◌∷◌, ◌++◌, Option, length, map, drop, refl, sym, ap, subst, ◌∙◌, append-nil, append_assoc}
 use Rattle.std.specs.Prelude.{if◌then◌else◌, filter, flat_map}
 use Rattle.std.specs.List.{AllZip}
 use Rattle.std.specs.Cmp.Lexicographic.{bytes_decides}
@@ -22,6 +22,8 @@ use Rattle.life_effects.specs.OpenAlone.{AreOpenAlone, of_open}
 use Rattle.life_effects.specs.Renumbered.{AreAlike, SaysAlike, whats}
 use Rattle.node_core.specs.Meaning.{Answer}
 use Rattle.node_set.specs.Tasks.{Planned, nodes_from}
+use Rattle.recording_file.specs.Recording.{Recording}
+use Rattle.store_lists.specs.Lists.{points_text, transitions_text}
 use Rattle.store_records.specs.Held.{Held, is_enabled, is_open, is_open_of}
 use Rattle.store_records.specs.Orders.{AreValidLives, HasOpenLives, IsInOrder, IsValid}
 use Rattle.store_records.specs.declared.task.Life.{Life}
@@ -33,10 +35,12 @@ use Rattle.topic_core.specs.Print.{transition_line}
 use Rattle.topic_core.specs.Topics.{Trans, changes, numbered}
 use Rattle.topic_core.specs.declared.transition.Transition.{Transition}
 use Rattle.engine_runs.specs.Scripts.{AreTasksOf, IsTaskOf, graphs_from}
-use Rattle.kap_server.specs.Exporting.{SayInEachLife, alert_text, event_effects, is_event, open_pairs, pair_of}
-use Rattle.kap_server.specs.Pairs.{AreTasks, is_among}
+use Rattle.kap_server.specs.Exporting.{SayInEachLife, TellsAsReplay, alert_text, event_effects, is_event, open_pairs, pair_of}
+use Rattle.kap_server.specs.Listing.{Shows}
+use Rattle.kap_server.specs.Pairs.{AreTasks, is_among, task_names}
 use Rattle.kap_server.specs.Runs.{lives_from}
 use Rattle.kap_server.specs.Words.{Pair}
+use Rattle.kap_server.specs.declared.status.Status.{Status}
 
 -- ---- the lines of alerts are those of transitions
 
@@ -215,3 +219,15 @@ open-one h one id = most (is_enabled id h.tasks) (one id)
 -- so are those of a store
 pub pairs_of_store : {h : Held} → IsInOrder h → (tasks : List Task) → AreTasksOf h.lives tasks → AreTasks [] (open_pairs h.lives) (of_open h.lives tasks)
 pairs_of_store {h} order tasks are = pairs-are h.lives tasks [] are order.lives (record { one = open-one h order.one_open; none = λ id among. absurd cc })
+
+-- ---- what `alerts` writes of a store that a replay may take
+
+pub tells_as_replay : {P : Type 0} (answer : P → Answer) (planned : Planned P) (h : Held) (tasks : List Task) (ts : List Transition) (result : Status) (w v : Option (List ℕ))
+    → ((names : List TaskNames) → transitions_text ts ≡ alert_text names (effects_of answer (lives_from planned 1 (open_pairs h.lives) (of_open h.lives tasks)) h.points))
+    → AreTasks [] (open_pairs h.lives) (of_open h.lives tasks) → Recording (points_text h.points) h.points
+    → Shows (transitions_text ts) result w v → TellsAsReplay answer planned h tasks result w v
+tells_as_replay answer planned h tasks ts result w v told pairs read shown = record {
+  pairs = pairs;
+  read = read;
+  alerts = subst (λ (text : List ℕ). Shows text result w v) (told (task_names (open_pairs h.lives) (of_open h.lives tasks))) shown;
+}

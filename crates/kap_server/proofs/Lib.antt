@@ -11,4 +11,6 @@ pub mod RunLaws
 pub mod ListLaws
 pub mod GenLaws
 pub mod NetLaws
+pub mod ChangeLaws
+pub mod WriteLaws
 pub mod ExportLaws

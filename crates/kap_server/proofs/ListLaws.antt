@@ -27,7 +27,7 @@ use Rattle.engine_runs.specs.Running.{life_events}
 use Rattle.engine_runs.specs.Scripts.{AreTasksOf}
 use Rattle.engine_runs.specs.Whole.{due_of}
 use Rattle.kap_engine.specs.Engines.{EngineValue, IsEngineBehind}
-use Rattle.engine_store.specs.Faults.{IsNoGood, no_lives, no_store}
+use Rattle.engine_store.specs.Faults.{IsNoGood, IsOfOpening, no_lives, no_store}
 use Rattle.engine_store.specs.Good.{IsGood, graphs_in, stays_or_good}
 use Rattle.engine_store.proofs.GoodLaws.{due_same}
 use Rattle.engine_store.specs.declared.fault.EngineFault.{EngineFault}
@@ -53,14 +53,14 @@ none-written w text = (0, omega arith, Appends-nil w)
 -- ---- what is listed
 
 -- lives have the tasks of their scripts, and no others
-tasks-same : (one : (refused : Option Refusal) (text : List ℕ) (a b : Task) → Accepts refused text a → Accepts refused text b → a ≡ b) (lives : List Life) (xs bs : List Task) → AreTasksOf lives xs → AreTasksOf lives bs → xs ≡ bs
-tasks-same one [] [] [] a b = refl
-tasks-same one [] [] (t ∷ bs) a b = absurd b
-tasks-same one [] (t ∷ xs) bs a b = absurd a
-tasks-same one (l ∷ lives) [] bs a b = absurd a
-tasks-same one (l ∷ lives) (t ∷ xs) [] a b = absurd b
-tasks-same one (l ∷ lives) (t ∷ xs) (u ∷ bs) a b =
-    ap (λ (x : Task). x ∷ xs) (one None l.script t u a.0 b.0) ∙ ap (λ (l : List Task). u ∷ l) (tasks-same one lives xs bs a.1 b.1)
+pub tasks_same : (one : (refused : Option Refusal) (text : List ℕ) (a b : Task) → Accepts refused text a → Accepts refused text b → a ≡ b) (lives : List Life) (xs bs : List Task) → AreTasksOf lives xs → AreTasksOf lives bs → xs ≡ bs
+tasks_same one [] [] [] a b = refl
+tasks_same one [] [] (t ∷ bs) a b = absurd b
+tasks_same one [] (t ∷ xs) bs a b = absurd a
+tasks_same one (l ∷ lives) [] bs a b = absurd a
+tasks_same one (l ∷ lives) (t ∷ xs) [] a b = absurd b
+tasks_same one (l ∷ lives) (t ∷ xs) (u ∷ bs) a b =
+    ap (λ (x : Task). x ∷ xs) (one None l.script t u a.0 b.0) ∙ ap (λ (l : List Task). u ∷ l) (tasks_same one lives xs bs a.1 b.1)
 
 -- the list is that of a store that holds as much
 list-same : (listing : Listing) (a b : Held) → a.tasks ≡ b.tasks → a.points ≡ b.points → a.transitions ≡ b.transitions → list_text listing a ≡ list_text listing b
@@ -75,7 +75,7 @@ module _ {N P S : Type 0} (g : Ghosts N P S) (planned : Planned P) (one : (refus
   all-there : all_transitions g planned rs good ≡ (held made.records).transitions
   all-there =
       let new = made.engine.full.good in
-      let same : good.tasks ≡ new.tasks = tasks-same one (held rs).lives good.tasks new.tasks good.are (subst (λ (ls : List Life). AreTasksOf ls new.tasks) made.added.lives new.are) in
+      let same : good.tasks ≡ new.tasks = tasks_same one (held rs).lives good.tasks new.tasks good.are (subst (λ (ls : List Life). AreTasksOf ls new.tasks) made.added.lives new.are) in
       ap (λ (ts : List Task). due_of g.answer (graphs_in g planned rs ts) (held rs)) same
       ∙ sym (due_same g planned rs made.records made.more new.tasks made.added)
       ∙ made.engine.full.all
@@ -112,6 +112,7 @@ behind_quietly g planned rs engine seen moment may_leave left_since old new quie
     on = on_quietly seen moment may_leave left_since old new made.records engine.store quiet made.engine.on;
     full = made.engine.full;
     runs = made.engine.runs;
+    numbered = made.engine.numbered;
   };
 }
 
@@ -133,10 +134,14 @@ shows_fault lists.WriteFault text w v h = h
 shows_fault lists.NoMemory text w v h = h
 
 -- the store wasn't opened
-pub shows_none : (fault : EngineFault) (text : List ℕ) (w : Option (List ℕ)) → Shows text (status_of_engine fault) w w
-shows_none (engines.NotStore part offset) text w = keeps_same w
-shows_none engines.DiskFault text w = none-written w text
-shows_none engines.NoMemory text w = none-written w text
+pub shows_none : (fault : EngineFault) (text : List ℕ) (w : Option (List ℕ)) → IsOfOpening fault → Shows text (status_of_engine fault) w w
+shows_none (engines.Script fault) text w may = absurd may
+shows_none engines.NoTask text w may = absurd may
+shows_none engines.Exists text w may = absurd may
+shows_none engines.TooManyTasks text w may = absurd may
+shows_none (engines.NotStore part offset) text w may = keeps_same w
+shows_none engines.DiskFault text w may = none-written w text
+shows_none engines.NoMemory text w may = none-written w text
 
 -- a list that was written tells no place
 pub no_place : (fault : ListFault) (part : Part) (offset : ℕ) (text : List ℕ) (w v : Option (List ℕ)) → Lists {T = Unit {0}} (Err fault) text w v → status_of_list fault ≡ statuses.NotStore part offset → ⊥
@@ -146,11 +151,15 @@ no_place lists.WriteFault part offset text w v h e = absurd cc
 no_place lists.NoMemory part offset text w v h e = absurd cc
 
 -- why it wasn't
-pub opens_none : {N P S T : Type 0} (g : Ghosts N P S) (planned : Planned P) (before after : ℕ) (refused : List ℕ) (files : Image) (fault : EngineFault)
+pub opens_none : {N P S T : Type 0} (g : Ghosts N P S) (planned : Planned P) (before after : ℕ) (refused : List ℕ) (files : Image) (fault : EngineFault) → IsOfOpening fault
     → ((part : Part) (offset : ℕ) → IsErrOf {T = T} (Err fault) (engines.NotStore part offset) → IsNoGood g planned before after refused files part offset) → Opens g planned before after refused files (status_of_engine fault)
-opens_none g planned before after refused files (engines.NotStore part offset) why = inl (why part offset refl)
-opens_none g planned before after refused files engines.DiskFault why = tt
-opens_none g planned before after refused files engines.NoMemory why = tt
+opens_none g planned before after refused files (engines.Script fault) may why = absurd may
+opens_none g planned before after refused files engines.NoTask may why = absurd may
+opens_none g planned before after refused files engines.Exists may why = absurd may
+opens_none g planned before after refused files engines.TooManyTasks may why = absurd may
+opens_none g planned before after refused files (engines.NotStore part offset) may why = inl (why part offset refl)
+opens_none g planned before after refused files engines.DiskFault may why = tt
+opens_none g planned before after refused files engines.NoMemory may why = tt
 
 -- it was, and the list has a fault
 pub opens_asked : {N P S : Type 0} (g : Ghosts N P S) (planned : Planned P) (before after : ℕ) (refused : List ℕ) (files : Image) (fault : ListFault) (asked : AreAsked g planned files)
@@ -166,10 +175,14 @@ pub others_listed : {N P S : Type 0} (g : Ghosts N P S) (planned : Planned P) (f
 others_listed g planned files fault asked part offset listed e = record { asked = asked; wrong = λ good. let l = listed good in no_place fault part offset l.0 l.1 l.2 l.3 e }
 
 -- the place that a status tells is that of the opening's fault
-pub place_of_opening : {T : Type 0} (fault : EngineFault) (part : Part) (offset : ℕ) → status_of_engine fault ≡ statuses.NotStore part offset → IsErrOf {T = T} (Err fault) (engines.NotStore part offset)
-place_of_opening (engines.NotStore there at) part offset e = cc
-place_of_opening engines.DiskFault part offset e = absurd cc
-place_of_opening engines.NoMemory part offset e = absurd cc
+pub place_of_opening : {T : Type 0} (fault : EngineFault) (part : Part) (offset : ℕ) → IsOfOpening fault → status_of_engine fault ≡ statuses.NotStore part offset → IsErrOf {T = T} (Err fault) (engines.NotStore part offset)
+place_of_opening (engines.Script fault) part offset may e = absurd may
+place_of_opening engines.NoTask part offset may e = absurd may
+place_of_opening engines.Exists part offset may e = absurd may
+place_of_opening engines.TooManyTasks part offset may e = absurd may
+place_of_opening (engines.NotStore there at) part offset may e = cc
+place_of_opening engines.DiskFault part offset may e = absurd cc
+place_of_opening engines.NoMemory part offset may e = absurd cc
 
 -- where the files stand for no store, the place is told
 pub tells_place : {N P S : Type 0} (g : Ghosts N P S) (planned : Planned P) (before after : ℕ) (refused : List ℕ) (files : Image) (part : Part) (offset : ℕ) (result : Status)
@@ -188,6 +201,7 @@ tells_place g planned before after refused files part offset (statuses.NotStore 
     by (inl (no_lives rs stands named why)) = absurd (no_store_apart files part offset rs none stands)
     by (inr others) = absurd (no_store_apart files part offset others.asked.records none others.asked.stands)
 tells_place g planned before after refused files part offset statuses.Exists none h = absurd h
+tells_place g planned before after refused files part offset statuses.NoTask none h = absurd h
 tells_place g planned before after refused files part offset statuses.TooManyTasks none h = absurd h
 tells_place g planned before after refused files part offset statuses.TooLong none h = absurd h
 tells_place g planned before after refused files part offset statuses.NoMemory none h = inr (inl refl)
@@ -195,20 +209,25 @@ tells_place g planned before after refused files part offset statuses.ReadFault 
 tells_place g planned before after refused files part offset statuses.WriteFault none h = absurd (no_store_apart files part offset h.records none h.stands)
 tells_place g planned before after refused files part offset statuses.DiskFault none h = inr (inr refl)
 
-same-listing : (a b : Listing) → Some (Show a) ≡ Some (Show b) → a ≡ b
-same-listing a b e = cc
+-- the listing is the one that is asked for
+pub same_listing : (a b : Listing) → Some (Show a) ≡ Some (Show b) → a ≡ b
+same_listing a b e = cc
 
--- the list is the one that is asked for
+-- and so is what is written
 pub shows_asked : {N P S : Type 0} (g : Ghosts N P S) (planned : Planned P) (rs : List Rec) (good : IsGood g planned rs) (a b : Listing) (result : Status) (w v : Option (List ℕ)) → Some (Show a) ≡ Some (Show b)
     → Shows (list_text a (held_whole g planned rs good)) result w v → Shows (list_text b (held_whole g planned rs good)) result w v
-shows_asked g planned rs good a b result w v same h = subst (λ (l : Listing). Shows (list_text l (held_whole g planned rs good)) result w v) (same-listing a b same) h
+shows_asked g planned rs good a b result w v same h = subst (λ (l : Listing). Shows (list_text l (held_whole g planned rs good)) result w v) (same_listing a b same) h
 
 -- ---- how it ends, on any disk
 
-pub engine_ends : (fault : EngineFault) → IsOfList (status_of_engine fault)
-engine_ends (engines.NotStore part offset) = tt
-engine_ends engines.DiskFault = tt
-engine_ends engines.NoMemory = tt
+pub engine_ends : (fault : EngineFault) → IsOfOpening fault → IsOfList (status_of_engine fault)
+engine_ends (engines.Script fault) may = absurd may
+engine_ends engines.NoTask may = absurd may
+engine_ends engines.Exists may = absurd may
+engine_ends engines.TooManyTasks may = absurd may
+engine_ends (engines.NotStore part offset) may = tt
+engine_ends engines.DiskFault may = tt
+engine_ends engines.NoMemory may = tt
 
 pub list_ends : (fault : ListFault) → IsOfList (status_of_list fault)
 list_ends (lists.NotStore part offset) = tt
@@ -227,6 +246,7 @@ no_pattern (statuses.Line n fault) ends e = ends
 no_pattern (statuses.Truncated n) ends e = ends
 no_pattern (statuses.NotStore part offset) ends e = absurd cc
 no_pattern statuses.Exists ends e = ends
+no_pattern statuses.NoTask ends e = ends
 no_pattern statuses.TooManyTasks ends e = ends
 no_pattern statuses.TooLong ends e = ends
 no_pattern statuses.NoMemory ends e = absurd cc

@@ -200,6 +200,7 @@ told_status text rest (statuses.Line n fault) bytes t w v h = inl (ap status_at 
 told_status text rest (statuses.Truncated n) bytes t w v h = inl (ap status_at (sym h.0))
 told_status text rest (statuses.NotStore part offset) bytes t w v h = absurd h
 told_status text rest statuses.Exists bytes t w v h = absurd h
+told_status text rest statuses.NoTask bytes t w v h = absurd h
 told_status text rest statuses.TooManyTasks bytes t w v h = absurd h
 told_status text rest statuses.TooLong bytes t w v h = inl (ap status_at (sym h.0))
 told_status text rest statuses.NoMemory bytes t w v h = inr (inl refl)

@@ -6,8 +6,9 @@ use Rattle.std.proofs.Math.Seq.{take-length}
 use Rattle.std.proofs.lemmas.List.{length-drop}
 use Rattle.std.proofs.lemmas.Bool.Decides.{nat_tests}
 use Rattle.kap_server.specs.declared.options.ReplayOptions.{ReplayOptions}
-use Rattle.kap_server.specs.Options.{with_counts, with_value}
-use Rattle.kap_server.specs.Words.{are_pairs, is_option, pairs_of, replay_request}
+use Rattle.kap_server.specs.declared.options.WriteOptions.{WriteOptions}
+use Rattle.kap_server.specs.Options.{with_counts, with_value, with_write_value}
+use Rattle.kap_server.specs.Words.{are_pairs, is_option, pairs_of, replay_request, write_request}
 
 -- ---- how many pairs words are
 
@@ -73,3 +74,7 @@ module _ (options more : ReplayOptions) (word value : List ℕ) (words : List (L
   -- another option with its value does
   pub value_first : bytes_eq word (codes "--counts") ≡ false → with_value options word value ≡ Some more → replay_request options (word ∷ value ∷ words) ≡ replay_request more words
   value_first flag given = rw (is, flag, given) refl
+
+-- an option of a write with its value stands in front
+pub write_first : (options more : WriteOptions) (word value : List ℕ) (words : List (List ℕ)) → is_option word ≡ true → with_write_value options word value ≡ Some more → write_request options (word ∷ value ∷ words) ≡ write_request more words
+write_first options more word value words is given = rw (is, given) refl

@@ -10,7 +10,7 @@ use Rattle.tick_compile.specs.Scripts.{Accepts, Parses, Refuses}
 use Rattle.tick_compile.specs.Tasks.{refusal_in}
 use Rattle.tick_compile.specs.declared.tasks.Task.{Task}
 use Rattle.kap_server.specs.declared.status.Status.{Status}
-use Rattle.kap_server.specs.declared.status.Status.TheVariants.{Ok, Usage, Script, Line, Truncated, NotStore, Exists, TooManyTasks, TooLong, NoMemory, ReadFault, WriteFault, DiskFault}
+use Rattle.kap_server.specs.declared.status.Status.TheVariants.{Ok, Usage, Script, Line, Truncated, NotStore, NoTask, Exists, TooManyTasks, TooLong, NoMemory, ReadFault, WriteFault, DiskFault}
 use Rattle.kap_server.specs.ReadingIn.{IsShort, IsLong, ReadsFew}
 
 -- the text is a task's script, and its canonical form is this
@@ -43,6 +43,7 @@ Checked refused (Line n fault) s t w v = ⊥
 Checked refused (Truncated n) s t w v = ⊥
 Checked refused (NotStore part offset) s t w v = ⊥
 Checked refused Exists s t w v = ⊥
+Checked refused NoTask s t w v = ⊥
 Checked refused TooManyTasks s t w v = ⊥
 Checked refused TooLong s t w v = IsLong s × Keeps w v
 Checked refused NoMemory s t w v = Keeps w v

@@ -1,11 +1,13 @@
 -- What a command answers, and when.
-use Rattle.std.specs.Prelude.{◌≡◌, ◌⊎◌, ℕ, ◌<◌, ◌≤◌, List, length, Some}
+use Rattle.std.specs.Prelude.{◌≡◌, ◌⊎◌, ℕ, ◌<◌, ◌≤◌, Bool, true, false, List, length, Option, None, Some}
 use Rattle.kap_base.specs.declared.limits.TheConstants.{TASK_LIMIT}
 use Rattle.kap_server.specs.declared.options.ReplayOptions.{ReplayOptions}
 use Rattle.kap_server.specs.declared.status.Status.{Status}
 use Rattle.kap_server.specs.declared.status.Status.TheVariants.{NoMemory, ReadFault, WriteFault, DiskFault}
 use Rattle.kap_server.specs.declared.words.Listing.{Listing}
-use Rattle.kap_server.specs.Words.{Check, Generate, Init, Pair, Replay, Show, Summarize, request_in}
+use Rattle.kap_server.specs.declared.options.WriteOptions.{WriteOptions}
+use Rattle.kap_server.specs.declared.words.Change.{Change}
+use Rattle.kap_server.specs.Words.{ChangeTask, Check, Define, Generate, Init, Pair, Replay, Request, Show, Summarize, Write, request_in}
 
 -- this status comes exactly where the fact holds, but for want of memory
 pub record ExactlyWhere (result status : Status) (fact : Type 0) : Type 0 where
@@ -55,6 +57,32 @@ AsksToInit words = request_in words ≡ Some Init
 -- the words ask for this list of what a store holds
 abbrev pub AsksToShow : List (List ℕ) → Listing → Type 0
 AsksToShow words listing = request_in words ≡ Some (Show listing)
+
+-- the words ask for the definition of a task with this id
+abbrev pub AsksToDefine : List (List ℕ) → List ℕ → Type 0
+AsksToDefine words id = request_in words ≡ Some (Define id)
+
+-- the words ask for this change of a task with this id
+abbrev pub AsksToChange : List (List ℕ) → Change → List ℕ → Type 0
+AsksToChange words change id = request_in words ≡ Some (ChangeTask change id)
+
+-- the words ask to write points to this database and policy, so as these options say
+abbrev pub AsksToWrite : List (List ℕ) → WriteOptions → List ℕ → List ℕ → Type 0
+AsksToWrite words options db rp = request_in words ≡ Some (Write options db rp)
+
+-- a command that defines a task
+abbrev pub defines : Option Request → Bool
+defines None = false
+defines (Some (Define id)) = true
+defines (Some other) = false
+
+-- a command that opens a store to change it
+abbrev pub changes_store : Option Request → Bool
+changes_store None = false
+changes_store (Some (Define id)) = true
+changes_store (Some (ChangeTask change id)) = true
+changes_store (Some (Write options db rp)) = true
+changes_store (Some other) = false
 
 -- the answer is this status, unless memory ran out or a device failed
 abbrev pub IsUnlessFailed : Status → Status → Type 0

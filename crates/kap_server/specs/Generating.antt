@@ -8,7 +8,7 @@ use Rattle.sample_points.specs.Samples.{samples}
 use Rattle.sample_replay.specs.Summaries.{summary}
 use Rattle.tick_compile.specs.declared.tasks.Task.{Task}
 use Rattle.kap_server.specs.declared.status.Status.{Status}
-use Rattle.kap_server.specs.declared.status.Status.TheVariants.{Ok, Usage, Script, Line, Truncated, NotStore, Exists, TooManyTasks, TooLong, NoMemory, ReadFault, WriteFault, DiskFault}
+use Rattle.kap_server.specs.declared.status.Status.TheVariants.{Ok, Usage, Script, Line, Truncated, NotStore, NoTask, Exists, TooManyTasks, TooLong, NoMemory, ReadFault, WriteFault, DiskFault}
 use Rattle.kap_server.specs.Pairs.{AreTasks, task_names}
 use Rattle.kap_server.specs.Runs.{RanOut, RefusesPairs, lives_from}
 use Rattle.kap_server.specs.Words.{Pair}
@@ -23,6 +23,7 @@ WritesText text (Line n fault) w v = ⊥
 WritesText text (Truncated n) w v = ⊥
 WritesText text (NotStore part offset) w v = ⊥
 WritesText text Exists w v = ⊥
+WritesText text NoTask w v = ⊥
 WritesText text TooManyTasks w v = ⊥
 WritesText text TooLong w v = ⊥
 WritesText text NoMemory w v = AppendsPrefix w v text

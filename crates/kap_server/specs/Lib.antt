@@ -11,6 +11,8 @@ pub mod Runs
 pub mod Readying
 pub mod Making
 pub mod Listing
+pub mod Changing
+pub mod Writing
 pub mod Command
 pub mod Generating
 pub mod Nets

@@ -17,7 +17,7 @@ use Rattle.engine_store.specs.Faults.{IsAsked, IsNoGood}
 use Rattle.engine_store.specs.Good.{IsFull, IsGood, graphs_in}
 use Rattle.store_lists.specs.Lists.{points_text, tasks_text, topics_text, transitions_text}
 use Rattle.kap_server.specs.declared.status.Status.{Status}
-use Rattle.kap_server.specs.declared.status.Status.TheVariants.{Ok, Usage, Script, Line, Truncated, NotStore, Exists, TooManyTasks, TooLong, NoMemory, ReadFault, WriteFault, DiskFault}
+use Rattle.kap_server.specs.declared.status.Status.TheVariants.{Ok, Usage, Script, Line, Truncated, NotStore, NoTask, Exists, TooManyTasks, TooLong, NoMemory, ReadFault, WriteFault, DiskFault}
 use Rattle.kap_server.specs.declared.words.Listing.{Listing}
 use Rattle.kap_server.specs.declared.words.Listing.TheVariants.{Tasks, Topics, Alerts, Export}
 
@@ -38,6 +38,7 @@ Shows text (Line n fault) w v = ⊥
 Shows text (Truncated n) w v = ⊥
 Shows text (NotStore part offset) w v = Keeps w v
 Shows text Exists w v = ⊥
+Shows text NoTask w v = ⊥
 Shows text TooManyTasks w v = ⊥
 Shows text TooLong w v = ⊥
 Shows text NoMemory w v = AppendsPrefix w v text

@@ -1,11 +1,14 @@
--- The options of a replay.
+-- The options of a replay, and of a write.
 use Rattle.std.specs.Prelude.{ℕ, ◌<◌, ◌≤◌, ◌^◌, Bool, true, false, not, ◌&&◌, ◌==◌, List, length, slice_index, Option, Some, None, IfSome, is_some, unwrap_or, codes, min, max, nat_le, nat_lt, if◌then◌else◌}
 use Rattle.std.specs.Str.{bytes_eq}
 use Rattle.std.specs.Str.Parse.{digits_value}
 use Rattle.edge_queue.specs.declared.TheConstants.{CAPACITY_LIMIT}
+use Rattle.line_points.specs.declared.mode.Unit.{Unit}
+use Rattle.line_points.specs.declared.mode.Unit.TheVariants.{Ns, Us, Ms, S, M, H}
 use Rattle.node_workers.specs.declared.TheConstants.{WORKER_LIMIT}
 use Rattle.lambda_fns.specs.Numbers.{are_digits}
 use Rattle.kap_server.specs.declared.options.ReplayOptions.{ReplayOptions}
+use Rattle.kap_server.specs.declared.options.WriteOptions.{WriteOptions}
 use Rattle.kap_server.specs.declared.options.TheConstants.{CAPACITY, WORKERS}
 
 -- ---- numbers
@@ -105,3 +108,49 @@ workers_for tasks = max 1 (min tasks WORKERS)
 -- how many workers move it: as many as are given, or so many
 abbrev pub workers_of : ReplayOptions → ℕ → ℕ
 workers_of options tasks = unwrap_or options.workers (workers_for tasks)
+
+-- ---- options of a write
+
+-- none is given
+abbrev pub no_write_options : WriteOptions
+no_write_options = record { running = no_options; unit = None }
+
+-- what times count: nanoseconds, where no unit is given
+abbrev pub unit_of : WriteOptions → Unit
+unit_of options = unwrap_or options.unit Ns
+
+-- the unit of this name: nanoseconds, microseconds, milliseconds, seconds, minutes or hours
+abbrev pub unit_named : List ℕ → Option Unit
+unit_named name =
+    if bytes_eq name (codes "ns") then Some Ns else
+    if bytes_eq name (codes "n") then Some Ns else
+    if bytes_eq name (codes "u") then Some Us else
+    if bytes_eq name (codes "ms") then Some Ms else
+    if bytes_eq name (codes "s") then Some S else
+    if bytes_eq name (codes "m") then Some M else
+    if bytes_eq name (codes "h") then Some H else None
+
+-- with these workers and edges, if there are any
+abbrev pub with_running : WriteOptions → Option ReplayOptions → Option WriteOptions
+with_running options None = None
+with_running options (Some running) = Some (record { running = running; unit = options.unit })
+
+-- with this unit, if there is one
+abbrev pub set_unit : WriteOptions → Option Unit → Option WriteOptions
+set_unit options None = None
+set_unit options (Some unit) = Some (record { running = options.running; unit = Some unit })
+
+-- with `--precision` and this value, which names a unit, where it wasn't given before
+abbrev pub with_unit : WriteOptions → List ℕ → Option WriteOptions
+with_unit options value = if is_some options.unit then None else set_unit options (unit_named value)
+
+-- with the option of this name and this value, where it is one of a write and wasn't given before
+abbrev pub with_write_value : WriteOptions → List ℕ → List ℕ → Option WriteOptions
+with_write_value options name value =
+    if bytes_eq name (codes "--workers") then with_running options (with_workers options.running value) else
+    if bytes_eq name (codes "--capacity") then with_running options (with_capacity options.running value) else
+    if bytes_eq name (codes "--precision") then with_unit options value else None
+
+-- its number of workers, and the room of its edges, are such as may be
+abbrev pub AreWriteLimits : WriteOptions → Type 0
+AreWriteLimits options = AreWithinLimits options.running

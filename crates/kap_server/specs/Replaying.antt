@@ -8,7 +8,7 @@ use Rattle.recording_file.specs.declared.fault.RecFault.TheVariants as faults
 use Rattle.recording_file.specs.Reading.{ReaderState, HasRead, BeginsWith}
 use Rattle.recording_file.specs.Recording.{Stop, Ended, Faulty, Undecided, reading_of, reading_so_far}
 use Rattle.kap_server.specs.declared.status.Status.{Status}
-use Rattle.kap_server.specs.declared.status.Status.TheVariants.{Ok, Usage, Script, Line, Truncated, NotStore, Exists, TooManyTasks, TooLong, NoMemory, ReadFault, WriteFault, DiskFault}
+use Rattle.kap_server.specs.declared.status.Status.TheVariants.{Ok, Usage, Script, Line, Truncated, NotStore, NoTask, Exists, TooManyTasks, TooLong, NoMemory, ReadFault, WriteFault, DiskFault}
 
 -- a text of points
 abbrev pub TextOf : Type 0
@@ -52,6 +52,7 @@ Replayed text rest (Line n fault) s t w v = Writes text s w v (Faulty (faults.Li
 Replayed text rest (Truncated n) s t w v = Writes text s w v (Faulty (faults.Truncated n))
 Replayed text rest (NotStore part offset) s t w v = ⊥
 Replayed text rest Exists s t w v = ⊥
+Replayed text rest NoTask s t w v = ⊥
 Replayed text rest TooManyTasks s t w v = ⊥
 Replayed text rest TooLong s t w v = Writes text s w v (Faulty faults.Long)
 Replayed text rest NoMemory s t w v = WritesPrefix text rest s w v

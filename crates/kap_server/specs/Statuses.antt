@@ -2,11 +2,14 @@
 use Rattle.std.specs.Prelude.{ℕ, List, [], ◌++◌, codes}
 use Rattle.std.specs.Fmt.{decimal}
 use Rattle.line_points.specs.FaultText.{fault_line}
+use Rattle.line_points.specs.declared.fault.BodyFault.{BodyFault}
+use Rattle.line_points.specs.declared.fault.LineFault.{LineFault}
+use Rattle.line_points.specs.declared.fault.LineFault.TheVariants as lines
 use Rattle.recording_file.specs.Recording.{Stop, Ended, Faulty, Undecided}
 use Rattle.recording_file.specs.declared.fault.RecFault.{RecFault}
 use Rattle.recording_file.specs.declared.fault.RecFault.TheVariants as faults
 use Rattle.kap_server.specs.declared.status.Status.{Status}
-use Rattle.kap_server.specs.declared.status.Status.TheVariants.{Ok, Usage, Script, Line, Truncated, NotStore, Exists, TooManyTasks, TooLong, NoMemory, ReadFault, WriteFault, DiskFault}
+use Rattle.kap_server.specs.declared.status.Status.TheVariants.{Ok, Usage, Script, Line, Truncated, NotStore, NoTask, Exists, TooManyTasks, TooLong, NoMemory, ReadFault, WriteFault, DiskFault}
 use Rattle.tick_compile.specs.declared.script_fault.ScriptFault.{ScriptFault}
 use Rattle.tick_compile.specs.declared.script_fault.ScriptFault.TheVariants as scripts
 use Rattle.tick_compile.specs.Texts.{text_of_fault}
@@ -27,6 +30,7 @@ number_of (Script fault) = 3
 number_of (Line n fault) = 4
 number_of (Truncated n) = 5
 number_of (NotStore part offset) = 6
+number_of NoTask = 7
 number_of Exists = 8
 number_of TooManyTasks = 9
 number_of TooLong = 10
@@ -55,8 +59,21 @@ status_of_store stores.DiskFault = DiskFault
 status_of_store stores.Long = TooLong
 status_of_store stores.NoMemory = NoMemory
 
+-- the status of a line's fault
+abbrev pub status_of_line : ℕ → LineFault → Status
+status_of_line n lines.NoMemory = NoMemory
+status_of_line n fault = Line n fault
+
+-- the status of the first fault of lines that are to be written
+abbrev pub status_of_body : BodyFault → Status
+status_of_body f = status_of_line f.line f.fault
+
 -- the status of an engine's fault
 abbrev pub status_of_engine : EngineFault → Status
+status_of_engine (engines.Script fault) = status_of_script fault
+status_of_engine engines.NoTask = NoTask
+status_of_engine engines.Exists = Exists
+status_of_engine engines.TooManyTasks = TooManyTasks
 status_of_engine (engines.NotStore part offset) = NotStore part offset
 status_of_engine engines.DiskFault = DiskFault
 status_of_engine engines.NoMemory = NoMemory
@@ -82,6 +99,7 @@ text_of_status (Script fault) = text_of_fault fault
 text_of_status (Line n fault) = fault_line (record { line = n; fault = fault })
 text_of_status (Truncated n) = codes "truncated at line " ++ decimal n
 text_of_status (NotStore part offset) = codes "not a store: " ++ part_name part ++ codes " at " ++ decimal offset
+text_of_status NoTask = codes "no task"
 text_of_status Exists = codes "exists"
 text_of_status TooManyTasks = codes "too many tasks"
 text_of_status TooLong = codes "too long"

@@ -1,15 +1,19 @@
 -- The words of a command line.
-use Rattle.std.specs.Prelude.{ℕ, ◌≤◌, ⊤, Bool, true, false, not, ◌&&◌, ◌==◌, List, [], ◌∷◌, map, slice_index, Option, Some, None, codes, string_bytes, if◌then◌else◌}
-use Rattle.std.specs.Option.{option_and_then}
+use Rattle.std.specs.Prelude.{◌≡◌, ℕ, ◌≤◌, ⊤, Bool, true, false, not, ◌&&◌, ◌==◌, List, [], ◌∷◌, length, map, nat_le, slice_index, Option, Some, None, codes, string_bytes, if◌then◌else◌, IsTrue}
+use Rattle.std.specs.Option.{option_and_then, option_map}
 use Rattle.std.specs.Str.{bytes_eq}
-use Rattle.kap_base.specs.Texts.{hyphen, is_task_id}
+use Rattle.kap_base.specs.Texts.{has_line_feed, hyphen, is_task_id}
+use Rattle.line_points.specs.declared.line.TheConstants.{LINE_LIMIT}
 use Rattle.sample_points.specs.declared.samples.TheConstants.{SAMPLE_LIMIT}
 use Rattle.kap_server.specs.declared.options.ReplayOptions.{ReplayOptions}
+use Rattle.kap_server.specs.declared.options.WriteOptions.{WriteOptions}
+use Rattle.kap_server.specs.declared.words.Change.{Change}
+use Rattle.kap_server.specs.declared.words.Change.TheVariants.{Enable, Disable, Delete}
 use Rattle.kap_server.specs.declared.words.Listing.{Listing}
 use Rattle.kap_server.specs.declared.words.Listing.TheVariants.{Tasks, Topics, Alerts, Export}
 use Rattle.kap_server.specs.declared.words.Request.{Request as LentRequest}
 use Rattle.kap_server.specs.declared.words.Request.TheVariants as lent
-use Rattle.kap_server.specs.Options.{AreWithinLimits, no_options, number_within, with_counts, with_value}
+use Rattle.kap_server.specs.Options.{AreWithinLimits, AreWriteLimits, no_options, no_write_options, number_within, with_counts, with_value, with_write_value}
 
 -- the id of a task, and its script
 pub record Pair : Type 0 where
@@ -18,7 +22,7 @@ pub record Pair : Type 0 where
 
 -- what the words of a command line ask for: to check a script; to replay a recording for these tasks, so as options
 -- say; to write the sample recording of so many points, or the summary of its replay for these tasks; to make a store;
--- or to list what one holds
+-- to list what one holds; to define a task by a script; to change a task; or to write points to a database and policy
 pub data Request : Type 0 where
   Check : Request
   Replay : (options : ReplayOptions) (pairs : List Pair) → Request
@@ -26,6 +30,9 @@ pub data Request : Type 0 where
   Summarize : (count : ℕ) (pairs : List Pair) → Request
   Init : Request
   Show : (listing : Listing) → Request
+  Define : (id : List ℕ) → Request
+  ChangeTask : (change : Change) (id : List ℕ) → Request
+  Write : (options : WriteOptions) (db rp : List ℕ) → Request
 
 -- words two by two
 abbrev pub pairs_of : List (List ℕ) → List Pair
@@ -41,6 +48,9 @@ request_of (lent.Generate count) = Generate count
 request_of (lent.Summarize count words) = Summarize count (pairs_of (map string_bytes words.now))
 request_of lent.Init = Init
 request_of (lent.Show listing) = Show listing
+request_of (lent.Define id) = Define id.now
+request_of (lent.Change change id) = ChangeTask change id.now
+request_of (lent.Write options db rp) = Write options db.now rp.now
 
 -- the word begins with `--`, as options do
 abbrev pub is_option : List ℕ → Bool
@@ -83,6 +93,47 @@ abbrev pub request_alone : Request → List (List ℕ) → Option Request
 request_alone request [] = Some request
 request_alone request (word ∷ words) = None
 
+-- the id of a task, where it is the only word; no word that begins as an option does
+abbrev pub id_in : List (List ℕ) → Option (List ℕ)
+id_in [] = None
+id_in (id ∷ []) = if is_task_id id && not (is_option id) then Some id else None
+id_in (id ∷ word ∷ words) = None
+
+-- `ID`
+abbrev pub define_request : List (List ℕ) → Option Request
+define_request words = option_map Define (id_in words)
+
+-- the same for a task that is there
+abbrev pub change_request : Change → List (List ℕ) → Option Request
+change_request change words = option_map (ChangeTask change) (id_in words)
+
+-- a word that can be a database, or a policy
+abbrev pub is_database : List ℕ → Bool
+is_database word = nat_le (length word) LINE_LIMIT && not (has_line_feed word)
+
+-- to write points to this database and policy, where no words stand behind them
+abbrev pub write_to : WriteOptions → List ℕ → List ℕ → List (List ℕ) → Option Request
+write_to options db rp [] = if is_database db && is_database rp then Some (Write options db rp) else None
+write_to options db rp (word ∷ words) = None
+
+-- `DB RP`, behind further options with their values, each at most once. No database is a word that begins as an option
+-- does.
+abbrev pub write_request : WriteOptions → List (List ℕ) → Option Request
+write_request options [] = None
+write_request options (word ∷ []) = None
+write_request options (word ∷ value ∷ words) =
+    if not (is_option word) then write_to options word value words
+    else option_and_then (λ o. write_request o words) (with_write_value options word value)
+
+-- the request of a command that changes a store
+abbrev pub change_in : List ℕ → List (List ℕ) → Option Request
+change_in command words =
+    if bytes_eq command (codes "define") then define_request words else
+    if bytes_eq command (codes "enable") then change_request Enable words else
+    if bytes_eq command (codes "disable") then change_request Disable words else
+    if bytes_eq command (codes "delete") then change_request Delete words else
+    if bytes_eq command (codes "write") then write_request no_write_options words else None
+
 -- what the words ask for, if they are those of a command
 abbrev pub request_in : List (List ℕ) → Option Request
 request_in [] = None
@@ -94,7 +145,8 @@ request_in (command ∷ words) =
     if bytes_eq command (codes "tasks") then request_alone (Show Tasks) words else
     if bytes_eq command (codes "topics") then request_alone (Show Topics) words else
     if bytes_eq command (codes "alerts") then request_alone (Show Alerts) words else
-    if bytes_eq command (codes "export") then request_alone (Show Export) words else None
+    if bytes_eq command (codes "export") then request_alone (Show Export) words else
+    change_in command words
 
 -- a command that reads the input
 abbrev pub reads_input : Option Request → Bool
@@ -105,6 +157,9 @@ reads_input (Some (Generate n)) = false
 reads_input (Some (Summarize n pairs)) = false
 reads_input (Some Init) = false
 reads_input (Some (Show listing)) = false
+reads_input (Some (Define id)) = true
+reads_input (Some (ChangeTask change id)) = false
+reads_input (Some (Write options db rp)) = true
 
 -- a command that writes to the output
 abbrev pub writes_output : Option Request → Bool
@@ -115,6 +170,9 @@ writes_output (Some (Generate n)) = true
 writes_output (Some (Summarize n pairs)) = true
 writes_output (Some Init) = false
 writes_output (Some (Show listing)) = true
+writes_output (Some (Define id)) = false
+writes_output (Some (ChangeTask change id)) = false
+writes_output (Some (Write options db rp)) = true
 
 -- a command that uses the disk
 abbrev pub uses_disk : Option Request → Bool
@@ -125,6 +183,9 @@ uses_disk (Some (Generate n)) = false
 uses_disk (Some (Summarize n pairs)) = false
 uses_disk (Some Init) = true
 uses_disk (Some (Show listing)) = true
+uses_disk (Some (Define id)) = true
+uses_disk (Some (ChangeTask change id)) = true
+uses_disk (Some (Write options db rp)) = true
 
 -- a command that has points go through a net
 abbrev pub runs_net : Option Request → Bool
@@ -135,9 +196,12 @@ runs_net (Some (Generate n)) = false
 runs_net (Some (Summarize n pairs)) = true
 runs_net (Some Init) = false
 runs_net (Some (Show listing)) = false
+runs_net (Some (Define id)) = false
+runs_net (Some (ChangeTask change id)) = false
+runs_net (Some (Write options db rp)) = true
 
--- the options that a request gives are within their limits, and a number of points is one that a sample recording can
--- have
+-- the options that a request gives are within their limits, a number of points is one that a sample recording can have,
+-- a task that is to be defined has an id, and a database and a policy are on one line
 abbrev pub IsWithinLimits : LentRequest → Type 0
 IsWithinLimits lent.Check = ⊤
 IsWithinLimits (lent.Replay options words) = AreWithinLimits options
@@ -145,3 +209,7 @@ IsWithinLimits (lent.Generate count) = count ≤ SAMPLE_LIMIT
 IsWithinLimits (lent.Summarize count words) = count ≤ SAMPLE_LIMIT
 IsWithinLimits lent.Init = ⊤
 IsWithinLimits (lent.Show listing) = ⊤
+IsWithinLimits (lent.Define id) = IsTrue (is_task_id id.now)
+IsWithinLimits (lent.Change change id) = ⊤
+IsWithinLimits (lent.Write options db rp) =
+    AreWriteLimits options × (has_line_feed db.now ≡ false) × (has_line_feed rp.now ≡ false)

@@ -1,25 +1,22 @@
 //! The command `check`.
 
-ghost use Rattle.std.specs.Prelude.{◌≡◌, ◌≢◌, ◌⊎◌, ◌≤◌, true, None, Some, Err, IfErr, IfOk, OnOk, length};
+ghost use Rattle.std.specs.Prelude.{◌≡◌, ◌≢◌, ◌≤◌, true, None, Some, IfErr, IfOk, OnOk, length};
 ghost use Rattle.kap_base.specs.Words.{HasRisen};
 ghost use Rattle.recording_file.specs.Reading.{HasEnded};
 ghost use Rattle.kap_base.specs.declared.limits.TheConstants.{SCRIPT_LIMIT};
 ghost use Rattle.tick_compile.specs.Scripts.{Refuses};
 ghost use Rattle.tick_compile.specs.Tasks.{is_refusal, refusal_in};
 ghost use Rattle.kap_server.specs.Checking.{Checked, HasForm};
-ghost use Rattle.kap_server.specs.ReadingIn.{IsAll, IsLong, IsShort, ReadsFew};
 ghost use Rattle.kap_server.specs.Readying.{is_pattern_refused};
 
+use crate::inputs::read_all;
 use crate::status::Status;
-use kap_base::{Bytes, SCRIPT_LIMIT, Text};
+use kap_base::{SCRIPT_LIMIT, Text};
 use kap_io::{Failed, Sink, Source, write_all};
 use lambda_types::Patterns;
 use std::alloc::Global;
 use tick_compile::{ScriptFault, compile_tree, read_tree};
 use tick_print::print;
-
-/// How many bytes are asked of the input at once.
-const PIECE: usize = 4_096;
 
 /// The canonical form of the script of a text, where it is a task's. The text is read once.
 #[tactic(auto, using(tick_compile::proofs::ScriptLaws::tree_ok, tick_compile::proofs::ScriptLaws::tree_err))]
@@ -36,38 +33,6 @@ fn form_of<P: Patterns>(alloc: Global, bytes: &[u8], pats: &mut P) -> Result<Tex
     compile_tree(alloc, &tree, pats)?;
     let form = print(alloc, &tree)?;
     Ok(form)
-}
-
-/// Reads all that the input gives, where that is no more than a script may have.
-fn read_script<S: Source>(alloc: Global, input: &mut S) -> Result<Bytes, Status>
-    ensures all { IfOk result (λ text. IsShort text × IsAll (S.left input.old) text) }
-    ensures ended { IfOk result (λ text. HasEnded (S.left input.old) (S.left input.new)) }
-    ensures err { IfErr result (λ s. (s ≡ Status.TooLong)
-        ⊎ ((s ≡ Status.ReadFault) ⊎ (s ≡ Status.NoMemory))) }
-    ensures long { result ≡ Err Status.TooLong → IsLong (S.left input.old) }
-    ensures few { result ≡ Err Status.ReadFault → ReadsFew (S.left input.old) (S.left input.new) }
-    ensures rose { result ≡ Err Status.ReadFault
-        → HasRisen (S.faults input.old) (S.faults input.new) }
-    ensures later { S.faults input.old ≤ S.faults input.new }
-{
-    let mut piece = [0; PIECE];
-    let mut text = Bytes::new(alloc);
-    'reading: loop {
-        let count = match input.read(&mut piece) {
-            Ok(count) => count,
-            Err(Failed) => return Err(Status::ReadFault),
-        };
-        if count == 0 {
-            return Ok(text);
-        }
-        if SCRIPT_LIMIT - text.len() < count {
-            return Err(Status::TooLong);
-        }
-        let (front, _) = piece.split_at(count);
-        if text.append(front).is_err() {
-            return Err(Status::NoMemory);
-        }
-    }
 }
 
 /// Writes the canonical form of the script of a text.
@@ -106,7 +71,7 @@ pub(crate) fn check<S: Source, K: Sink, P: Patterns>(
     ensures rose { is_pattern_refused result ≡ true
         → HasRisen (P.refusals pats.old) (P.refusals pats.new) }
 {
-    match read_script(alloc, input) {
+    match read_all(alloc, SCRIPT_LIMIT, input) {
         Ok(text) => write_form(alloc, text.as_slice(), out, pats),
         Err(status) => status,
     }

@@ -12,25 +12,33 @@ ghost use Rattle.recording_file.specs.Recording.{reading_of};
 ghost use Rattle.sample_points.specs.Samples.{sample_text};
 ghost use Rattle.tick_compile.specs.declared.tasks.Task.{Task};
 ghost use Rattle.engine_store.specs.Good.{IsFull, IsGood, stays_or_good};
+ghost use Rattle.line_points.specs.declared.mode.Mode.{Mode};
+ghost use Rattle.kap_server.specs.Changing.{Changes, Defines, EndsReading, OpensBehind, OpensToChange, ReadsScript, is_early, record_of};
 ghost use Rattle.kap_server.specs.Checking.{Checked, ChecksTo};
-ghost use Rattle.kap_server.specs.Command.{AsksForTooMany, AsksToCheck, AsksToGenerate, AsksToInit, AsksToReplay, AsksToShow, AsksToSummarize};
-ghost use Rattle.kap_server.specs.Command.{ExactlyWhere, IsUnlessDiskFailed, IsUnlessFailed};
+ghost use Rattle.kap_server.specs.Command.{AsksForTooMany, AsksToChange, AsksToCheck, AsksToDefine, AsksToGenerate, AsksToInit, AsksToReplay, AsksToShow, AsksToSummarize, AsksToWrite};
+ghost use Rattle.kap_server.specs.Command.{ExactlyWhere, IsUnlessDiskFailed, IsUnlessFailed, changes_store, defines};
+ghost use Rattle.kap_server.specs.Exporting.{IsExportable, SayInEachLife, TellsAsReplay};
 ghost use Rattle.kap_server.specs.Generating.{Summed, WritesText};
 ghost use Rattle.kap_server.specs.Listing.{AreOthers, LeavesFull, Opens, Shows, held_whole, list_text};
 ghost use Rattle.kap_server.specs.Making.{HasHead, Made};
 ghost use Rattle.kap_server.specs.Nets.{HoldsNetOfSamples, HoldsNetOfTasks};
-ghost use Rattle.kap_server.specs.Options.{AreWithinLimits};
+ghost use Rattle.kap_server.specs.Options.{AreWithinLimits, unit_of};
 ghost use Rattle.kap_server.specs.Pairs.{AreNoTasks, AreTasks};
 ghost use Rattle.kap_server.specs.Readying.{is_pattern_refused};
 ghost use Rattle.kap_server.specs.Runs.{Ran, refusal_of};
 ghost use Rattle.kap_server.specs.Statuses.{status_at};
 ghost use Rattle.kap_server.specs.Words.{Pair, pairs_of, reads_input, request_in, runs_net, uses_disk, writes_output};
+ghost use Rattle.kap_server.specs.Writing.{ReadsLines, Writes};
 ghost use Rattle.kap_server.specs.declared.options.ReplayOptions.{ReplayOptions};
+ghost use Rattle.kap_server.specs.declared.options.WriteOptions.{WriteOptions};
 ghost use Rattle.kap_server.specs.declared.status.Status.{Status};
+ghost use Rattle.kap_server.specs.declared.words.Change.{Change};
 ghost use Rattle.kap_server.specs.declared.words.Listing.{Listing};
+ghost use Rattle.store_records.specs.Histories.{held};
 ghost use Rattle.store_records.specs.declared.rec.Rec.{Rec};
 ghost use Rattle.topic_store.specs.Stores.{IsNoStore, Stands};
 
+use crate::changing::{change, define};
 use crate::checking::check;
 use crate::generating::{write_recording, write_summary};
 use crate::listing::list;
@@ -41,6 +49,7 @@ use crate::replaying::replay;
 use crate::status::Status;
 use crate::ways::way_of;
 use crate::words::{Request, request_in};
+use crate::writing::write;
 use flow_core::Net;
 use kap_base::TASK_LIMIT;
 use kap_io::{Disk, Gate, Sink, Source};
@@ -133,8 +142,19 @@ fn replay_pairs<
 ///   greatest level of its ids, and behind it a line `id LEVEL ID` for each of these, in byte order; the lines
 ///   of all transitions; or the recording of all points. At most 4 workers move the net. A disk that holds
 ///   no right store is left as it is, and the place is told.
+/// - `define ID`: it reads a script from the input, and defines a task by it, which isn't enabled, in the store
+///   on the disk. A store has at most 64 tasks, and each has an id of its own.
+/// - `enable ID`, `disable ID`, `delete ID`: a life of the task begins, unless it is enabled; or its life ends.
+/// - `write [--workers W] [--capacity C] [--precision P] DB RP`: it reads lines of the line protocol from the
+///   input, at most 8,388,608 bytes, stores their points in this database and policy as one, runs the lives of
+///   the tasks that are enabled on them, stores their transitions, and then writes the lines of what the lives
+///   did. A time counts nanoseconds, or what P says: one of `ns`, `n`, `u`, `ms`, `s`, `m` and `h`. A line
+///   without one has the time of now.
 ///
-/// `now` is the time of now, in nanoseconds from 1970-01-01T00:00:00Z on; no command uses it yet. `rt` makes
+/// Those five read and check the whole input before they open the store, as the lists do; what the opening
+/// stores isn't written.
+///
+/// `now` is the time of now, in nanoseconds from 1970-01-01T00:00:00Z on. `rt` makes
 /// the threads of workers, and each of them passes `gate` before each of its turns. `ran` is None; at Ok of a
 /// replay, and of a `gen` for tasks, it is the net through which the points went.
 pub fn command<
@@ -162,11 +182,13 @@ pub fn command<
     // Usage exactly where the words aren't those of a command.
     ensures usage { ExactlyWhere result Status.Usage
         (request_in (map string_bytes words.now) ≡ None) }
-    // TooManyTasks exactly where they ask for a replay, or a summary, for more than 64 tasks.
-    ensures too_many { ExactlyWhere result Status.TooManyTasks
-        (AsksForTooMany (map string_bytes words.now)) }
+    // But for a definition, TooManyTasks exactly where they ask for a replay, or a summary, for more than 64
+    // tasks.
+    ensures too_many { defines (request_in (map string_bytes words.now)) ≡ false
+        → ExactlyWhere result Status.TooManyTasks (AsksForTooMany (map string_bytes words.now)) }
     // After these nothing was read or written.
-    ensures nothing { (result ≡ Status.Usage) ⊎ (result ≡ Status.TooManyTasks)
+    ensures nothing { defines (request_in (map string_bytes words.now)) ≡ false
+        → (result ≡ Status.Usage) ⊎ (result ≡ Status.TooManyTasks)
         → Keeps (S.left input.old) (S.left input.new)
         × Keeps (K.written out.old) (K.written out.new) }
     // Of a check the canonical form of the script is written, as the status says.
@@ -236,6 +258,13 @@ pub fn command<
         → Stands rs (D.seen disk.old)
         → Shows (list_text listing (held_whole N.Node N.planned rs good)) result
         (K.written out.old) (K.written out.new) }
+    // Of `alerts` of one whose `export` a replay may take they are those of this replay, for the pairs of its
+    // open lives, without the lines of logged points, where nodes say the same in each life.
+    ensures exported { (rs : List Rec) (good : IsGood N.Node N.planned rs)
+        → AsksToShow (map string_bytes words.now) Listing.Alerts → IsTrue D.tells
+        → Stands rs (D.seen disk.old) → SayInEachLife N.answer N.planned
+        → IsExportable (held rs) → TellsAsReplay N.answer N.planned (held rs) good.tasks result
+        (K.written out.old) (K.written out.new) }
     // It tells no place there, unless a pattern was refused.
     ensures unrefused { (listing : Listing) (rs : List Rec) (part : Part) (offset : ℕ)
         → AsksToShow (map string_bytes words.now) listing → IsTrue D.tells
@@ -274,6 +303,74 @@ pub fn command<
         → AsksToShow (map string_bytes words.now) listing → IsTrue D.tells
         → Stands rs (D.seen disk.old) → IsFull N.Node N.planned rs
         → Quiet D.seen D.moment D.may_leave D.left_since disk.old disk.new }
+    // Of a definition: what of the input was read, as the status says.
+    ensures script { (id : List ℕ) → AsksToDefine (map string_bytes words.now) id
+        → ReadsScript (P.refused pats.new) (S.left input.old) (S.left input.new) result }
+    // Behind it, in a right store, a task of this id is defined by the script, disabled, where none had the
+    // id and fewer than 64 were there; else the status says which of both. At each moment each image that a
+    // crash may leave is as it was, or stands for the right store with a few of the transitions that are due
+    // more, or with all and the task; at Ok each has it.
+    ensures defined { (id : List ℕ) (rs : List Rec)
+        → AsksToDefine (map string_bytes words.now) id → IsTrue D.tells
+        → Stands rs (D.seen disk.old) → IsGood N.Node N.planned rs
+        → (EndsReading result × (disk.new ≡ disk.old))
+        ⊎ Defines N.Node N.planned D.seen D.moment D.may_leave D.left_since rs id
+        (S.left input.old) (P.refusals pats.old) (P.refusals pats.new) disk.old disk.new result }
+    // Of a change of a task of a right store: at Ok a task had the id and is enabled, disabled or gone; at
+    // NoTask none had it. At each moment it is so with each image.
+    ensures changed { (change : Change) (id : List ℕ) (rs : List Rec)
+        → AsksToChange (map string_bytes words.now) change id → IsTrue D.tells
+        → Stands rs (D.seen disk.old) → IsGood N.Node N.planned rs
+        → Changes N.Node N.planned D.seen D.moment D.may_leave D.left_since rs id
+        (record_of change id) (P.refusals pats.old) (P.refusals pats.new)
+        disk.old disk.new result }
+    // Of a write: what of the input was read, as the status says.
+    ensures lines { (options : WriteOptions) (db rp : List ℕ)
+        → AsksToWrite (map string_bytes words.now) options db rp
+        → ReadsLines db rp (Mode.Live (unit_of options) now)
+        (S.left input.old) (S.left input.new) result }
+    // In a right store the points of its lines are written, with all transitions that they make, and the text
+    // of what the lives did is written behind that, as the status says, however many workers move the net and
+    // whatever its capacity; at Ok there is the net. At each moment each image is as it was, or stands for a
+    // right store with all of the points or none.
+    ensures written { (options : WriteOptions) (db rp : List ℕ) (rs : List Rec)
+        (good : IsGood N.Node N.planned rs)
+        → AsksToWrite (map string_bytes words.now) options db rp → IsTrue D.tells
+        → Stands rs (D.seen disk.old)
+        → (EndsReading result × (disk.new ≡ disk.old) × (out.new ≡ out.old))
+        ⊎ Writes N.Node N.planned D.seen D.moment D.may_leave D.left_since db rp
+        (Mode.Live (unit_of options) now) rs good (S.left input.old)
+        (K.written out.old) (K.written out.new) (P.refusals pats.old) (P.refusals pats.new)
+        disk.old disk.new ran.new result }
+    // A refused script, recording or line changes nothing on the disk.
+    ensures unopened { reads_input (request_in (map string_bytes words.now)) ≡ true
+        → is_early result ≡ true → disk.new ≡ disk.old }
+    // Of a change of a task: at Ok and NoTask the files stood for a store whose scripts are those of tasks,
+    // and whose last snapshot is one of their nodes; where a place is told, they are no such store there, and
+    // then nothing changed, or one that isn't right, or the script of the task was refused.
+    ensures change_opened { (change : Change) (id : List ℕ)
+        → AsksToChange (map string_bytes words.now) change id → IsTrue D.tells
+        → OpensToChange N.Node N.planned (P.refusals pats.old) (P.refusals pats.new)
+        (P.refused pats.new) (Quiet D.seen D.moment D.may_leave D.left_since disk.old disk.new)
+        (D.seen disk.old) id result }
+    // The same of a definition, and of a write, behind what they read.
+    ensures define_opened { (id : List ℕ)
+        → AsksToDefine (map string_bytes words.now) id → IsTrue D.tells
+        → OpensBehind N.Node N.planned (P.refusals pats.old) (P.refusals pats.new)
+        (P.refused pats.new) (Quiet D.seen D.moment D.may_leave D.left_since disk.old disk.new)
+        (D.seen disk.old) result }
+    ensures write_opened { (options : WriteOptions) (db rp : List ℕ)
+        → AsksToWrite (map string_bytes words.now) options db rp → IsTrue D.tells
+        → OpensBehind N.Node N.planned (P.refusals pats.old) (P.refusals pats.new)
+        (P.refused pats.new) (Quiet D.seen D.moment D.may_leave D.left_since disk.old disk.new)
+        (D.seen disk.old) result }
+    // Where the files stand for no store, the place is told, unless what was read was refused first, memory
+    // ran out or the disk failed.
+    ensures nowhere { (part : Part) (offset : ℕ)
+        → changes_store (request_in (map string_bytes words.now)) ≡ true → IsTrue D.tells
+        → IsNoStore (D.seen disk.old) part offset
+        → ((reads_input (request_in (map string_bytes words.now)) ≡ true) × EndsReading result)
+        ⊎ IsUnlessDiskFailed result (Status.NotStore part offset) }
     // Commands that don't use the input, the output or the disk leave it alone.
     ensures unread { reads_input (request_in (map string_bytes words.now)) ≡ false
         → input.new ≡ input.old }
@@ -314,6 +411,15 @@ pub fn command<
         Some(Request::Init) => init(alloc, disk),
         Some(Request::Show(listing)) => list::<K, D, P, N, G, R>(
             rt, alloc, listing, out, disk, pats, gate,
+        ),
+        Some(Request::Define { id }) => define::<S, D, P, N, G, R>(
+            rt, alloc, id, input, disk, pats, gate,
+        ),
+        Some(Request::Change { change: what, id }) => change::<D, P, N, G, R>(
+            rt, alloc, what, id, disk, pats, gate,
+        ),
+        Some(Request::Write { options, db, rp }) => write(
+            rt, alloc, options, db, rp, now, input, out, disk, pats, gate, ran,
         ),
     }
 }

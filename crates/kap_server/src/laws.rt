@@ -31,7 +31,8 @@ ghost use Rattle.kap_server.specs.Words.{Pair};
 ghost use Rattle.kap_server.specs.declared.options.TheConstants.{CAPACITY, WORKERS};
 ghost use Rattle.kap_server.specs.declared.status.Status.{Status};
 
-use node_set::ScriptNode;
+use node_core::Node;
+use node_set::{AnyNode, ScriptNode, nodes_answer_by_kind};
 use store_records::held_laws;
 
 /// Whichever pattern is refused, if any, a text is checked to one status.
@@ -87,4 +88,11 @@ pub fn alerts_are_those_of_a_replay<N: ScriptNode>()
         → AreTasks [] (open_pairs (held rs).lives) (of_open (held rs).lives tasks) }
 {
     held_laws();
+}
+
+/// The nodes that scripts make say the same in each life of a task.
+pub fn nodes_say_the_same()
+    ensures { SayInEachLife ⟦<AnyNode as Node>⟧.answer ⟦<AnyNode as ScriptNode>⟧.planned }
+{
+    nodes_answer_by_kind();
 }

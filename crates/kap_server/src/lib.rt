@@ -1,9 +1,11 @@
 //! The commands of `kapd`: what they answer, what they write and when.
 #![tactic(auto)]
 
+mod changing;
 mod checking;
 mod commands;
 mod generating;
+mod inputs;
 mod laws;
 mod listing;
 mod making;
@@ -16,8 +18,12 @@ mod telling;
 mod texts;
 mod ways;
 mod words;
+mod writing;
 
 pub use commands::command;
-pub use laws::{limits_of_commands, pairs_have_one_meaning, texts_check_in_one_way};
+pub use laws::{
+    alerts_are_those_of_a_replay, limits_of_commands, nodes_say_the_same, pairs_have_one_meaning,
+    texts_check_in_one_way,
+};
 pub use status::Status;
 pub use texts::status_text;

@@ -11,8 +11,10 @@ ghost use Rattle.topic_core.specs.Topics.{topics_after};
 ghost use Rattle.topic_store.specs.Stores.{IsOn, Stands};
 ghost use Rattle.store_lists.specs.Writing.{ListCause, Lists};
 ghost use Rattle.engine_store.specs.Good.{IsFull, IsGood, stays_or_good};
+ghost use Rattle.kap_server.specs.Exporting.{IsExportable, SayInEachLife, TellsAsReplay};
 ghost use Rattle.kap_server.specs.Listing.{AreOthers, IsOfList, LeavesFull, Opens, Shows, held_whole, list_text};
 
+use crate::laws::alerts_are_those_of_a_replay;
 use crate::options::{capacity_of, no_options, workers_of};
 use crate::status::Status;
 use crate::words::Listing;
@@ -24,7 +26,9 @@ use net_run::NumberingNode;
 use node_set::ScriptNode;
 use std::alloc::Global;
 use std::thread::Threads;
-use store_lists::{ListFault, write_points, write_tasks, write_topics, write_transitions};
+use store_lists::{
+    ListFault, exports_are_read_again, write_points, write_tasks, write_topics, write_transitions,
+};
 use tick_compile::scripts_have_one_answer;
 use topic_core::kept_laws;
 
@@ -76,6 +80,11 @@ pub(crate) fn list<
         → Stands rs (D.seen disk.old)
         → Shows (list_text listing (held_whole N.Node N.planned rs good)) result
         (K.written out.old) (K.written out.new) }
+    ensures exported { IsTrue D.tells → (rs : List Rec) (good : IsGood N.Node N.planned rs)
+        → Stands rs (D.seen disk.old) → listing ≡ Listing.Alerts
+        → SayInEachLife N.answer N.planned → IsExportable (held rs)
+        → TellsAsReplay N.answer N.planned (held rs) good.tasks result
+        (K.written out.old) (K.written out.new) }
     ensures rose { IsTrue D.tells → (rs : List Rec) → IsGood N.Node N.planned rs
         → Stands rs (D.seen disk.old) → (part : Part) (offset : ℕ)
         → result ≡ Status.NotStore part offset
@@ -103,6 +112,8 @@ pub(crate) fn list<
 {
     kept_laws();
     scripts_have_one_answer();
+    exports_are_read_again();
+    alerts_are_those_of_a_replay::<N>();
     let options = no_options();
     let workers = workers_of(options, TASK_LIMIT);
     let capacity = capacity_of(options);

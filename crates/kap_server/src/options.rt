@@ -1,11 +1,12 @@
-//! The options of a replay.
+//! The options of a replay, and of a write.
 
 ghost use Rattle.std.specs.Prelude.{◌≡◌, ◌==◌, ◌<◌, ◌≤◌, IfSome, slice_index};
 ghost use Rattle.edge_queue.specs.declared.TheConstants.{CAPACITY_LIMIT};
 ghost use Rattle.node_workers.specs.declared.TheConstants.{WORKER_LIMIT};
-ghost use Rattle.kap_server.specs.Options.{AreWithinLimits, capacity_of, has_leading_zero, no_options, number_in, number_within, with_capacity, with_counts, with_schedule, with_value, with_workers, workers_for, workers_of};
+ghost use Rattle.kap_server.specs.Options.{AreWithinLimits, AreWriteLimits, capacity_of, has_leading_zero, no_options, no_write_options, number_in, number_within, with_capacity, with_counts, with_running, with_schedule, with_unit, with_value, with_workers, with_write_value, unit_named, unit_of, workers_for, workers_of};
 
 use edge_queue::CAPACITY_LIMIT;
+use line_points::Unit;
 use node_workers::WORKER_LIMIT;
 
 /// For how many messages each edge of a net has room, where no option says it.
@@ -25,6 +26,15 @@ pub(crate) struct ReplayOptions {
     pub schedule: Option<u32>,
     /// For how many messages each edge of a net is to have room, where that is given.
     pub capacity: Option<u32>,
+}
+
+/// How points are to be written.
+#[derive(Clone, Copy)]
+pub(crate) struct WriteOptions {
+    /// How many workers move the net, and how much room its edges have.
+    pub running: ReplayOptions,
+    /// What the times of the points count, where that is given.
+    pub unit: Option<Unit>,
 }
 
 /// No options.
@@ -190,6 +200,93 @@ pub(crate) fn with_value(options: ReplayOptions, name: &str, value: &str) -> Opt
         with_schedule(options, value)
     } else if name == "--capacity" {
         with_capacity(options, value)
+    } else {
+        None
+    }
+}
+
+/// No options of a write.
+pub(crate) fn no_write_options() -> WriteOptions
+    ensures options { result ≡ no_write_options }
+    ensures limits { AreWriteLimits result }
+{
+    WriteOptions {
+        running: no_options(),
+        unit: None,
+    }
+}
+
+/// What times count: nanoseconds, where no option says it.
+pub(crate) fn unit_of(options: WriteOptions) -> Unit
+    ensures { result ≡ unit_of options }
+{
+    options.unit.unwrap_or(Unit::Ns)
+}
+
+/// The unit of this name (InfluxDB 1.8: the write endpoint).
+fn unit_named(name: &str) -> Option<Unit>
+    ensures { result ≡ unit_named name.now }
+{
+    if name == "ns" {
+        Some(Unit::Ns)
+    } else if name == "n" {
+        Some(Unit::Ns)
+    } else if name == "u" {
+        Some(Unit::Us)
+    } else if name == "ms" {
+        Some(Unit::Ms)
+    } else if name == "s" {
+        Some(Unit::S)
+    } else if name == "m" {
+        Some(Unit::M)
+    } else if name == "h" {
+        Some(Unit::H)
+    } else {
+        None
+    }
+}
+
+/// With these options of workers and edges, if there are any.
+fn with_running(options: WriteOptions, running: Option<ReplayOptions>) -> Option<WriteOptions>
+    ensures options { result ≡ with_running options running }
+    ensures limits { IfSome running AreWithinLimits → IfSome result AreWriteLimits }
+{
+    Some(WriteOptions {
+        running: running?,
+        unit: options.unit,
+    })
+}
+
+/// With `--precision` and this value, where it wasn't given before.
+fn with_unit(options: WriteOptions, value: &str) -> Option<WriteOptions>
+    ensures options { result ≡ with_unit options value.now }
+    ensures limits { AreWriteLimits options → IfSome result AreWriteLimits }
+{
+    if options.unit.is_some() {
+        return None;
+    }
+    let unit = unit_named(value)?;
+    Some(WriteOptions {
+        running: options.running,
+        unit: Some(unit),
+    })
+}
+
+/// With the option of a write of this name and this value, where it is one and wasn't given before.
+pub(crate) fn with_write_value(
+    options: WriteOptions,
+    name: &str,
+    value: &str,
+) -> Option<WriteOptions>
+    ensures options { result ≡ with_write_value options name.now value.now }
+    ensures limits { AreWriteLimits options → IfSome result AreWriteLimits }
+{
+    if name == "--workers" {
+        with_running(options, with_workers(options.running, value))
+    } else if name == "--capacity" {
+        with_running(options, with_capacity(options.running, value))
+    } else if name == "--precision" {
+        with_unit(options, value)
     } else {
         None
     }

@@ -1,12 +1,12 @@
 //! How a command ended.
 
 ghost use Rattle.std.specs.Prelude.{◌≡◌};
-ghost use Rattle.kap_server.specs.Statuses.{status_of, status_of_engine, status_of_list, status_of_script, status_of_store};
+ghost use Rattle.kap_server.specs.Statuses.{status_of, status_of_body, status_of_engine, status_of_list, status_of_script, status_of_store};
 
 use kap_base::NoMemory;
 use kap_engine::EngineFault;
 use kap_io::Part;
-use line_points::LineFault;
+use line_points::{BodyFault, LineFault};
 use recording_file::RecFault;
 use store_lists::ListFault;
 use tick_compile::ScriptFault;
@@ -21,8 +21,8 @@ pub enum Status {
     Usage,
     /// A script isn't one of a task: its first fault.
     Script { fault: ScriptFault },
-    /// This line of the recording, numbered from 1, is the first that is no database, no policy or no line of
-    /// the line protocol.
+    /// This line of the recording, or of the lines that are to be written, numbered from 1, is the first that
+    /// is no database, no policy or no line of the line protocol.
     Line { line: u64, fault: LineFault },
     /// The recording ends inside a group of three lines: this line is missing.
     Truncated { line: u64 },
@@ -31,11 +31,15 @@ pub enum Status {
     /// there; else that of the first record whose script is none of a task, or of the last snapshot, whose
     /// states aren't those of tasks.
     NotStore { part: Part, offset: u64 },
-    /// A task's id was given before; or a store is to be made, and one is there.
+    /// No task of the store has the id.
+    NoTask,
+    /// A task's id was given before, or is that of a task of the store; or a store is to be made, and one is
+    /// there.
     Exists,
-    /// There are more than 64 tasks.
+    /// There are more than 64 tasks, or another one is to be defined in a store of 64.
     TooManyTasks,
-    /// The recording has more than 1,073,741,824 bytes, or a script more than 65,536.
+    /// The recording has more than 1,073,741,824 bytes, a script more than 65,536, or the lines that are to be
+    /// written more than 8,388,608.
     TooLong,
     /// Memory ran out.
     NoMemory,
@@ -61,6 +65,7 @@ impl Status {
             Status::Line { .. } => 4,
             Status::Truncated { .. } => 5,
             Status::NotStore { .. } => 6,
+            Status::NoTask => 7,
             Status::Exists => 8,
             Status::TooManyTasks => 9,
             Status::TooLong => 10,
@@ -97,6 +102,18 @@ impl From<ScriptFault> for Status {
     }
 }
 
+impl From<BodyFault> for Status {
+    ghost from_gives = { λ f s. s ≡ status_of_body f };
+
+    fn from(fault: BodyFault) -> Self {
+        let BodyFault { line, fault } = fault;
+        match fault {
+            LineFault::NoMemory => Status::NoMemory,
+            _ => Status::Line { line, fault },
+        }
+    }
+}
+
 impl From<StoreFault> for Status {
     ghost from_gives = { λ f s. s ≡ status_of_store f };
 
@@ -115,6 +132,10 @@ impl From<EngineFault> for Status {
 
     fn from(fault: EngineFault) -> Self {
         match fault {
+            EngineFault::Script(fault) => Status::from(fault),
+            EngineFault::NoTask => Status::NoTask,
+            EngineFault::Exists => Status::Exists,
+            EngineFault::TooManyTasks => Status::TooManyTasks,
             EngineFault::NotStore { part, offset } => Status::NotStore { part, offset },
             EngineFault::DiskFault => Status::DiskFault,
             EngineFault::NoMemory => Status::NoMemory,

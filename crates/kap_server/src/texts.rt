@@ -69,6 +69,7 @@ pub fn status_text(alloc: Global, status: &Status) -> Result<Bytes, NoMemory>
         ),
         Status::Truncated { line } => truncated_text(alloc, *line),
         Status::NotStore { part, offset } => no_store_text(alloc, *part, *offset),
+        Status::NoTask => copy_of(alloc, b"no task"),
         Status::Exists => copy_of(alloc, b"exists"),
         Status::TooManyTasks => copy_of(alloc, b"too many tasks"),
         Status::TooLong => copy_of(alloc, b"too long"),

@@ -1,12 +1,17 @@
 //! The words of a command line.
 
-ghost use Rattle.std.specs.Prelude.{◌≡◌, IfSome, map, string_bytes};
+ghost use Rattle.std.specs.Prelude.{◌≡◌, IfSome, IsTrue, map, string_bytes};
 ghost use Rattle.std.specs.Option.{option_map};
-ghost use Rattle.kap_server.specs.Options.{AreWithinLimits};
-ghost use Rattle.kap_server.specs.Words.{IsWithinLimits, are_pairs, gen_request, is_option, replay_request, request_alone, request_in, request_of, request_of_pairs};
+ghost use Rattle.kap_base.specs.Texts.{has_line_feed, is_task_id};
+ghost use Rattle.kap_server.specs.Options.{AreWithinLimits, AreWriteLimits};
+ghost use Rattle.kap_server.specs.Words.{IsWithinLimits, are_pairs, change_in, change_request, define_request, gen_request, id_in, is_database, is_option, replay_request, request_alone, request_in, request_of, request_of_pairs, write_request, write_to};
 
-use crate::options::{ReplayOptions, no_options, number_within, with_counts, with_value};
+use crate::options::{
+    ReplayOptions, WriteOptions, no_options, no_write_options, number_within, with_counts,
+    with_value, with_write_value,
+};
 use kap_base::is_task_id;
+use line_points::LINE_LIMIT;
 use sample_points::SAMPLE_LIMIT;
 
 /// A list of what a store holds.
@@ -20,6 +25,17 @@ pub(crate) enum Listing {
     Alerts,
     /// Its points.
     Export,
+}
+
+/// A change of a task that a store has.
+#[derive(Clone, Copy)]
+pub(crate) enum Change {
+    /// It is enabled.
+    Enable,
+    /// It is disabled.
+    Disable,
+    /// It is deleted.
+    Delete,
 }
 
 /// What the words of a command line ask for.
@@ -46,6 +62,21 @@ pub(crate) enum Request<'a> {
     Init,
     /// To list what a store holds.
     Show(Listing),
+    /// To define a task with this id by the script that the input gives.
+    Define {
+        id: &'a str,
+    },
+    /// To change the task with this id.
+    Change {
+        change: Change,
+        id: &'a str,
+    },
+    /// To write the points of the lines that the input gives, to this database and policy.
+    Write {
+        options: WriteOptions,
+        db: &'a str,
+        rp: &'a str,
+    },
 }
 
 fn is_option(word: &[u8]) -> bool
@@ -135,6 +166,105 @@ fn request_alone<'a>(request: Request<'a>, words: &[String]) -> Option<Request<'
     }
 }
 
+/// The id of a task, where it is the only word. No word that begins as an option does is one here.
+fn id_in(words: &[String]) -> Option<&str>
+    ensures id { option_map (λ id. id.now) result ≡ id_in (map string_bytes words.now) }
+    ensures valid { IfSome result (λ id. IsTrue (is_task_id id.now)) }
+{
+    let (id, rest) = words.split_first()?;
+    if !rest.is_empty() || is_option(id.as_bytes()) || !is_task_id(id.as_bytes()) {
+        return None;
+    }
+    Some(id.as_str())
+}
+
+/// To define the task that is the only word.
+fn define_request(words: &[String]) -> Option<Request<'_>>
+    ensures request { option_map request_of result ≡ define_request (map string_bytes words.now) }
+    ensures limits { IfSome result IsWithinLimits }
+{
+    let id = id_in(words)?;
+    Some(Request::Define { id })
+}
+
+/// To change it.
+fn change_request(change: Change, words: &[String]) -> Option<Request<'_>>
+    ensures request { option_map request_of result
+        ≡ change_request change (map string_bytes words.now) }
+    ensures limits { IfSome result IsWithinLimits }
+{
+    let id = id_in(words)?;
+    Some(Request::Change { change, id })
+}
+
+fn has_line_feed(word: &[u8]) -> bool
+    ensures { result ≡ has_line_feed word.now }
+{
+    word.iter().any(|b| *b == b'\n')
+}
+
+/// Whether a word can be a database, or a policy.
+fn is_database(word: &[u8]) -> bool
+    ensures { result ≡ is_database word.now }
+{
+    word.len() <= LINE_LIMIT && !has_line_feed(word)
+}
+
+/// To write points to this database and policy, where no words stand behind them.
+fn write_to<'a>(
+    options: WriteOptions,
+    db: &'a str,
+    rp: &'a str,
+    words: &[String],
+) -> Option<Request<'a>>
+    ensures request { option_map request_of result
+        ≡ write_to options db.now rp.now (map string_bytes words.now) }
+    ensures limits { AreWriteLimits options → IfSome result IsWithinLimits }
+{
+    if !words.is_empty() || !is_database(db.as_bytes()) || !is_database(rp.as_bytes()) {
+        return None;
+    }
+    Some(Request::Write { options, db, rp })
+}
+
+/// The same behind further options, each at most once.
+fn write_request(options: WriteOptions, words: &[String]) -> Option<Request<'_>>
+    ensures request { option_map request_of result
+        ≡ write_request options (map string_bytes words.now) }
+    ensures limits { AreWriteLimits options → IfSome result IsWithinLimits }
+{
+    let (word, rest) = words.split_first()?;
+    let (value, behind) = rest.split_first()?;
+    if !is_option(word.as_bytes()) {
+        return write_to(options, word.as_str(), value.as_str(), behind);
+    }
+    write_request(
+        with_write_value(options, word.as_str(), value.as_str())?,
+        behind,
+    )
+}
+
+/// The request of a command that changes a store.
+fn change_in<'a>(command: &str, words: &'a [String]) -> Option<Request<'a>>
+    ensures request { option_map request_of result
+        ≡ change_in command.now (map string_bytes words.now) }
+    ensures limits { IfSome result IsWithinLimits }
+{
+    if command == "define" {
+        define_request(words)
+    } else if command == "enable" {
+        change_request(Change::Enable, words)
+    } else if command == "disable" {
+        change_request(Change::Disable, words)
+    } else if command == "delete" {
+        change_request(Change::Delete, words)
+    } else if command == "write" {
+        write_request(no_write_options(), words)
+    } else {
+        None
+    }
+}
+
 /// What the words of the command line ask for.
 pub(crate) fn request_in(words: &[String]) -> Option<Request<'_>>
     ensures request { option_map request_of result ≡ request_in (map string_bytes words.now) }
@@ -158,6 +288,6 @@ pub(crate) fn request_in(words: &[String]) -> Option<Request<'_>>
     } else if command.as_str() == "export" {
         request_alone(Request::Show(Listing::Export), rest)
     } else {
-        None
+        change_in(command.as_str(), rest)
     }
 }

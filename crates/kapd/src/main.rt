@@ -1,7 +1,7 @@
 //! `kapd - check` prints the canonical form of the script on standard input, and `kapd - replay ID SCRIPT`
 //! replays the recording there by the task of the script, and writes what it does to standard output. `kapd
 //! PLACE init` makes a store in the folder PLACE; `kapd PLACE tasks`, `topics`, `alerts` and `export` list what
-//! the store there holds.
+//! the store there holds, and `define`, `enable`, `disable`, `delete` and `write` change it.
 #![tactic(auto)]
 
 mod places;
@@ -54,9 +54,17 @@ end. `check`, `replay` and `gen` don't look at it. Commands:
                LEVEL ID` for each of these
   alerts       writes the lines of all changes of level
   export       writes a recording of all points
+  define ID    reads a script from standard input, and defines a task by it in
+               the store in the folder; it isn't enabled
+  enable ID, disable ID, delete ID
+               an enabled task sees the points that are written from then on
+  write [OPTION].. DB RP
+               reads points in line protocol from standard input, stores them
+               under a database and a policy, and writes what the enabled tasks
+               do at them
 
-These four open the store in the folder, and first store the changes of level
-that a stop left out.
+But for init these open the store in the folder, and first store the changes of
+level that a stop left out.
 
 Options of replay, in any order before the first ID, each at most once:
 
@@ -67,6 +75,12 @@ Options of replay, in any order before the first ID, each at most once:
                65536; else 64)
   --schedule N runs the nodes in one thread and no workers, in the order that N
                (0 to 4294967295) gives
+
+write takes --workers and --capacity, and before DB
+
+  --precision P has a time of a line count nanoseconds (ns or n, also where it
+               isn't given), microseconds (u), milliseconds (ms), seconds (s),
+               minutes (m) or hours (h); a line without one has the time of now
 
 The output is the same for each W, C and N.
 
@@ -103,23 +117,23 @@ point has is no fault: what asks for it says nothing.
 
 The exit status, and what standard error says behind `kapd: `:
 
-  0   (nothing: all was done)          9   too many tasks
-  2   usage                            10  too long
-  3   script: FAULT at BYTE            70  no memory
-  4   line N: FAULT                    71  read fault
-  5   truncated at line N              72  write fault
-  6   not a store: FILE at OFFSET      73  disk fault
-  8   exists
+  0   (nothing: all was done)          8   exists
+  2   usage                            9   too many tasks
+  3   script: FAULT at BYTE            10  too long
+  4   line N: FAULT                    70  no memory
+  5   truncated at line N              71  read fault
+  6   not a store: FILE at OFFSET      72  write fault
+  7   no task                          73  disk fault
 
 BYTE is a byte of the script, counted from 0; of a Graph fault it is the node's
-number. Exists: an id was given to two tasks, or init found a store's head in
-the folder. Not a store: the folder has no head of a store (head at 0: no init
-was done there, or the head was damaged, and init would then empty the logs), or
-a log is none at this offset, or the record there defines a task by a script
-that is none, or it is the last snapshot, and has states of other nodes. Disk
-fault: PLACE isn't there, is no folder, or its files can't be read or written;
-or another process uses the store, which a second line says then: `kapd: another
-process uses the store`.
+number. Exists: an id was given to two tasks, a task of the store has it, or
+init found a store's head in the folder. Not a store: the folder has no head of
+a store (head at 0: no init was done there, or the head was damaged, and init
+would then empty the logs), or a log is none at this offset, or the record there
+defines a task by a script that is none, or it is the last snapshot, and has
+states of other nodes. Disk fault: PLACE isn't there, is no folder, or its files
+can't be read or written; or another process uses the store, which a second line
+says then: `kapd: another process uses the store`.
 
   kapd --help        prints this
   kapd --version     prints the version

@@ -1,10 +1,11 @@
 use Rattle.std.proofs.Common.{sym, ◌∙◌, ⊎_elim}
 use Rattle.kap_server.proofs.CheckLaws.{check_answers}
 use Rattle.kap_server.proofs.GenLaws.{few_to_replay, few_to_summarize, summary_not_none, summed_as_asked, summed_not, summed_tells}
-use Rattle.kap_server.proofs.ListLaws.{never, no_pattern, show_not_many, show_not_none, shows_asked, tells_place}
+use Rattle.kap_server.proofs.ListLaws.{never, no_pattern, same_listing, show_not_many, show_not_none, shows_asked, tells_place}
 use Rattle.kap_server.proofs.NetLaws.{net_as_asked, samples_as_asked}
 use Rattle.kap_server.proofs.RunLaws.{not_none, ran_as_asked, ran_not_disk, ran_not_many, ran_not_usage, ran_refused, ran_status}
 use Rattle.kap_server.specs.declared.status.Status.TheVariants as statuses
+use Rattle.kap_server.specs.declared.words.Listing.TheVariants.{Alerts}
 use Rattle.kap_server.proofs.commands.command.Goals as goal
 
 pub returns-in-Some-Check-clause-check_status : goal.returns-in-Some-Check-clause-check_status
@@ -22,7 +23,7 @@ returns-else-are_too_many-clause-usage g c =
 pub returns-else-are_too_many-clause-too_many : goal.returns-else-are_too_many-clause-too_many
 returns-else-are_too_many-clause-too_many g c =
     let asked = rw (c.in-Some-Replay.is, c.in-Some-Replay.field-0-is) at c.request_in.ensures.request in
-    record {
+    λ defines. record {
       only = λ e. absurd (ran_not_many _ _ _ _ _ c.replay_pairs.result _ _ _ _ c.replay_pairs.ensures.ran e);
       always = λ asks. absurd (few_to_replay _ _ _ (sym asked) (sym c.are_too_many.ensures ∙ c.if-are_too_many.false) asks);
     }
@@ -58,13 +59,13 @@ returns-else-are_too_many-2-clause-usage g c =
 pub returns-else-are_too_many-2-clause-too_many : goal.returns-else-are_too_many-2-clause-too_many
 returns-else-are_too_many-2-clause-too_many g c =
     let asked = rw (c.in-Some-Summarize.is, c.in-Some-Summarize.field-0-is) at c.request_in.ensures.request in
-    record {
+    λ defines. record {
       only = λ e. absurd ((summed_not _ _ (g.P.Patterns.refused c.write_summary.new.pats) _ _ c.write_summary.result (g.K.Sink.written c.args.out.now) (g.K.Sink.written c.write_summary.new.out) c.write_summary.ensures.summed).1 e);
       always = λ asks. absurd (few_to_summarize _ _ _ (sym asked) (sym c.are_too_many-in-Some-Summarize.ensures ∙ c.if-are_too_many-2.false) asks);
     }
 
 pub returns-else-are_too_many-2-clause-nothing : goal.returns-else-are_too_many-2-clause-nothing
-returns-else-are_too_many-2-clause-nothing g c = λ e. absurd (summed_tells _ _ (g.P.Patterns.refused c.write_summary.new.pats) _ _ c.write_summary.result (g.K.Sink.written c.args.out.now) (g.K.Sink.written c.write_summary.new.out) c.write_summary.ensures.summed e)
+returns-else-are_too_many-2-clause-nothing g c = λ defines e. absurd (summed_tells _ _ (g.P.Patterns.refused c.write_summary.new.pats) _ _ c.write_summary.result (g.K.Sink.written c.args.out.now) (g.K.Sink.written c.write_summary.new.out) c.write_summary.ensures.summed e)
 
 pub returns-else-are_too_many-2-clause-summed : goal.returns-else-are_too_many-2-clause-summed
 returns-else-are_too_many-2-clause-summed g c =
@@ -81,6 +82,11 @@ pub returns-in-Some-Show-clause-shown : goal.returns-in-Some-Show-clause-shown
 returns-in-Some-Show-clause-shown g c = λ listing rs good asks tells stands.
     let asked = rw (c.in-Some-Show.is, c.in-Some-Show.field-0-is) at c.request_in.ensures.request in
     shows_asked g.N.Node g.N.ScriptNode.planned rs good c.in-Some-Show.listing listing c.list.result (g.K.Sink.written c.args.out.now) (g.K.Sink.written c.list.new.out) (asked ∙ asks) (c.list.ensures.shown tells rs good stands)
+
+pub returns-in-Some-Show-clause-exported : goal.returns-in-Some-Show-clause-exported
+returns-in-Some-Show-clause-exported g c = λ rs good asks tells stands say export.
+    let asked = rw (c.in-Some-Show.is, c.in-Some-Show.field-0-is) at c.request_in.ensures.request in
+    c.list.ensures.exported tells rs good stands (same_listing c.in-Some-Show.listing Alerts (asked ∙ asks)) say export
 
 pub returns-in-Some-Show-clause-unrefused : goal.returns-in-Some-Show-clause-unrefused
 returns-in-Some-Show-clause-unrefused g c = λ listing rs part offset asks tells stands good e. c.list.ensures.rose tells rs good stands part offset e
@@ -126,13 +132,13 @@ returns-in-Some-Show-clause-usage g c =
 pub returns-in-Some-Show-clause-too_many : goal.returns-in-Some-Show-clause-too_many
 returns-in-Some-Show-clause-too_many g c =
     let asked = rw (c.in-Some-Show.is, c.in-Some-Show.field-0-is) at c.request_in.ensures.request in
-    record {
+    λ defines. record {
       only = λ e. absurd (never c.list.result statuses.TooManyTasks c.list.ensures.ends (λ x. x) e);
       always = λ many. absurd (show_not_many c.in-Some-Show.listing _ asked many);
     }
 
 pub returns-in-Some-Show-clause-nothing : goal.returns-in-Some-Show-clause-nothing
-returns-in-Some-Show-clause-nothing g c = ⊎_elim
+returns-in-Some-Show-clause-nothing g c = λ defines. ⊎_elim
     (λ e. absurd (never c.list.result statuses.Usage c.list.ensures.ends (λ x. x) e))
     (λ e. absurd (never c.list.result statuses.TooManyTasks c.list.ensures.ends (λ x. x) e))
 

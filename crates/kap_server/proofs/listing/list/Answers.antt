@@ -2,14 +2,17 @@ use Rattle.std.proofs.Common.{inr, Err, Ok, List, ℕ, sym, subst, ◌∙◌}
 use Rattle.kap_io.specs.Moments.{quiet_then}
 use Rattle.store_records.specs.Histories.{held}
 use Rattle.store_lists.specs.Writing.{Lists}
-use Rattle.kap_server.specs.Listing.{AreAsked, IsOfList, Opens, Shows, held_whole, list_text}
+use Rattle.kap_server.specs.Listing.{AreAsked, IsOfList, Opens, Shows, all_transitions, held_whole, list_text}
 use Rattle.kap_server.specs.declared.status.Status.{Status}
 use Rattle.kap_server.specs.declared.status.Status.TheVariants as statuses
-use Rattle.kap_server.proofs.ListLaws.{behind_quietly, engine_ends, good_then_quiet, leaves_full, list_ends, list_whole, no_place, opens_asked, opens_none, others_listed, place_of_opening, shows_fault, topics_whole}
+use Rattle.kap_server.specs.declared.words.Listing.{Listing}
+use Rattle.kap_server.specs.declared.words.Listing.TheVariants.{Alerts}
+use Rattle.kap_server.proofs.ExportLaws.{tells_as_replay}
+use Rattle.kap_server.proofs.ListLaws.{behind_quietly, engine_ends, good_then_quiet, leaves_full, list_ends, list_whole, no_place, opens_asked, opens_none, others_listed, place_of_opening, shows_fault, shows_none, topics_whole}
 use Rattle.kap_server.proofs.listing.list.Goals as goal
 
 pub returns-in-Err-clause-rose : goal.returns-in-Err-clause-rose
-returns-in-Err-clause-rose g c = λ tells rs good stands part offset e. c.in-Err.ensures.rose tells rs stands good part offset (place_of_opening c.in-Err.fault part offset (sym c.from.ensures ∙ e))
+returns-in-Err-clause-rose g c = λ tells rs good stands part offset e. c.in-Err.ensures.rose tells rs stands good part offset (place_of_opening c.in-Err.fault part offset c.in-Err.ensures.faults (sym c.from.ensures ∙ e))
 
 pub returns-in-Err-clause-opened : goal.returns-in-Err-clause-opened
 returns-in-Err-clause-opened g c = λ tells.
@@ -18,7 +21,7 @@ returns-in-Err-clause-opened g c = λ tells.
     let refused = g.P.Patterns.refused c.make_engine.new.pats in
     let files = g.D.Disk.seen c.args.disk.now in
     subst (λ (s : Status). Opens g.N.Node g.N.ScriptNode.planned before after refused files s) (sym c.from.ensures)
-    (opens_none g.N.Node g.N.ScriptNode.planned before after refused files c.in-Err.fault (c.in-Err.ensures.refused tells))
+    (opens_none g.N.Node g.N.ScriptNode.planned before after refused files c.in-Err.fault c.in-Err.ensures.faults (c.in-Err.ensures.refused tells))
 
 pub returns-in-Err-clause-any_moment : goal.returns-in-Err-clause-any_moment
 returns-in-Err-clause-any_moment g c = λ tells rs good stands. c.make_engine.ensures.any_moment tells rs stands good
@@ -120,7 +123,39 @@ returns-clause-left g c = λ tells part offset e.
     (sym c.from-in-Err-write_list.ensures ∙ e))
 
 pub returns-in-Err-clause-ends : goal.returns-in-Err-clause-ends
-returns-in-Err-clause-ends g c = subst IsOfList (sym c.from.ensures) (engine_ends c.in-Err.fault)
+returns-in-Err-clause-ends g c = subst IsOfList (sym c.from.ensures) (engine_ends c.in-Err.fault c.in-Err.ensures.faults)
 
 pub returns-clause-ends : goal.returns-clause-ends
 returns-clause-ends g c = subst IsOfList (sym c.from-in-Err-write_list.ensures) (list_ends c.in-Err-write_list.fault)
+
+-- ---- the alerts of a store that a replay may take
+
+pub returns-in-Err-clause-exported : goal.returns-in-Err-clause-exported
+returns-in-Err-clause-exported g c = λ tells rs good stands is say export.
+    let text = list_text Alerts (held_whole g.N.Node g.N.ScriptNode.planned rs good) in
+    let w = g.K.Sink.written c.args.out.now in
+    tells_as_replay g.N.Node.answer g.N.ScriptNode.planned (held rs) good.tasks (all_transitions g.N.Node g.N.ScriptNode.planned rs good) c.from.result w w
+    (λ names. c.alerts_are_those_of_a_replay.ensures.told say names (held rs).points (held rs).lives good.tasks export.alone)
+    (c.alerts_are_those_of_a_replay.ensures.pairs rs good.tasks stands.stored.follow good.are)
+    (c.exports_are_read_again.ensures rs stands.stored.follow export.lines export.fits)
+    (subst (λ (s : Status). Shows text s w w) (sym c.from.ensures) (shows_none c.in-Err.fault text w c.in-Err.ensures.faults))
+
+pub returns-in-Ok-write_list-clause-exported : goal.returns-in-Ok-write_list-clause-exported
+returns-in-Ok-write_list-clause-exported g c = λ tells rs good stands is say export.
+    let w = g.K.Sink.written c.args.out.now in
+    let v = g.K.Sink.written c.write_list.new.out in
+    tells_as_replay g.N.Node.answer g.N.ScriptNode.planned (held rs) good.tasks (all_transitions g.N.Node g.N.ScriptNode.planned rs good) statuses.Ok w v
+    (λ names. c.alerts_are_those_of_a_replay.ensures.told say names (held rs).points (held rs).lives good.tasks export.alone)
+    (c.alerts_are_those_of_a_replay.ensures.pairs rs good.tasks stands.stored.follow good.are)
+    (c.exports_are_read_again.ensures rs stands.stored.follow export.lines export.fits)
+    (subst (λ (listing : Listing). Shows (list_text listing (held_whole g.N.Node g.N.ScriptNode.planned rs good)) statuses.Ok w v) is (returns-in-Ok-write_list-clause-shown g c tells rs good stands))
+
+pub returns-clause-exported : goal.returns-clause-exported
+returns-clause-exported g c = λ tells rs good stands is say export.
+    let w = g.K.Sink.written c.args.out.now in
+    let v = g.K.Sink.written c.write_list.new.out in
+    tells_as_replay g.N.Node.answer g.N.ScriptNode.planned (held rs) good.tasks (all_transitions g.N.Node g.N.ScriptNode.planned rs good) c.from-in-Err-write_list.result w v
+    (λ names. c.alerts_are_those_of_a_replay.ensures.told say names (held rs).points (held rs).lives good.tasks export.alone)
+    (c.alerts_are_those_of_a_replay.ensures.pairs rs good.tasks stands.stored.follow good.are)
+    (c.exports_are_read_again.ensures rs stands.stored.follow export.lines export.fits)
+    (subst (λ (listing : Listing). Shows (list_text listing (held_whole g.N.Node g.N.ScriptNode.planned rs good)) c.from-in-Err-write_list.result w v) is (returns-clause-shown g c tells rs good stands))
