@@ -34,4 +34,3 @@ returns-clause-next g c = λ n.
           (c.in_ok-next.ensures.planned (life_from n task) refl accepts);
       plan = c.in_ok-next.ensures.plan;
     })
-
