@@ -284,6 +284,9 @@ fault_early refused text statuses.ReadFault why = absurd why
 fault_early refused text statuses.WriteFault why = absurd why
 fault_early refused text statuses.DiskFault why = absurd why
 
+pub never_early : (s status : Status) → EndsReading s → (EndsReading status → ⊥) → s ≡ status → ⊥
+never_early s status ends none e = none (subst EndsReading e ends)
+
 -- it couldn't be read, or is too long
 module _ (status : Status) (ends : (status ≡ statuses.TooLong) ⊎ ((status ≡ statuses.ReadFault) ⊎ (status ≡ statuses.NoMemory))) where
   pub unread_reads : (refused : List ℕ) (s t : Option (List ℕ)) → (status ≡ statuses.TooLong → IsLong s) → (status ≡ statuses.ReadFault → ReadsFew s t) → ReadsScript refused s t status

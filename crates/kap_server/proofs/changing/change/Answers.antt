@@ -1,4 +1,5 @@
 use Rattle.std.proofs.Common.{◌≡◌, ℕ, List, sym, subst}
+use Rattle.kap_io.specs.Moments.{Quiet}
 use Rattle.store_records.specs.Histories.{held}
 use Rattle.store_records.specs.declared.task.StoredTask.{StoredTask}
 use Rattle.topic_store.specs.Stores.{IsNamed}
@@ -25,8 +26,9 @@ returns-in-Err-clause-changed g c = λ tells rs stands good.
 pub returns-in-Err-clause-opened : goal.returns-in-Err-clause-opened
 returns-in-Err-clause-opened g c = λ tells.
     let count = g.P.Patterns.refusals c.args.pats.now in
+    let still = Quiet g.D.Disk.seen g.D.Disk.moment g.D.Disk.may_leave g.D.Disk.left_since c.args.disk.now c.args.disk.now in
     let files = g.D.Disk.seen c.args.disk.now in
-    subst (λ (s : Status). OpensToChange g.N.Node g.N.ScriptNode.planned count count (g.P.Patterns.refused c.args.pats.now) _ files files c.args.id.now s) (sym c.from.ensures) tt
+    subst (λ (s : Status). OpensToChange g.N.Node g.N.ScriptNode.planned count count (g.P.Patterns.refused c.args.pats.now) still files files c.args.id.now s) (sym c.from.ensures) tt
 
 -- ---- the store isn't opened
 
@@ -52,10 +54,11 @@ returns-in-Err-make_engine-clause-opened g c = λ tells.
     let before = g.P.Patterns.refusals c.args.pats.now in
     let after = g.P.Patterns.refusals c.make_engine.new.pats in
     let refused = g.P.Patterns.refused c.make_engine.new.pats in
+    let still = Quiet g.D.Disk.seen g.D.Disk.moment g.D.Disk.may_leave g.D.Disk.left_since c.args.disk.now c.make_engine.new.disk in
     let files = g.D.Disk.seen c.args.disk.now in
     let now = g.D.Disk.seen c.make_engine.new.disk in
-    subst (λ (s : Status). OpensToChange g.N.Node g.N.ScriptNode.planned before after refused _ files now c.args.id.now s) (sym c.from-in-Err-make_engine.ensures)
-    (change_none g.N.Node g.N.ScriptNode.planned before after refused _ files now c.args.id.now c.in-Err-make_engine.fault c.in-Err-make_engine.ensures.faults
+    subst (λ (s : Status). OpensToChange g.N.Node g.N.ScriptNode.planned before after refused still files now c.args.id.now s) (sym c.from-in-Err-make_engine.ensures)
+    (change_none g.N.Node g.N.ScriptNode.planned before after refused still files now c.args.id.now c.in-Err-make_engine.fault c.in-Err-make_engine.ensures.faults
     (λ part offset e. (c.in-Err-make_engine.ensures.refused tells part offset e, c.in-Err-make_engine.ensures.still tells part offset e)))
 
 -- ---- the task is changed
@@ -122,15 +125,16 @@ returns-clause-opened g c = λ tells.
     let before = g.P.Patterns.refusals c.args.pats.now in
     let after = g.P.Patterns.refusals c.make_change.new.pats in
     let refused = g.P.Patterns.refused c.make_change.new.pats in
+    let still = Quiet g.D.Disk.seen g.D.Disk.moment g.D.Disk.may_leave g.D.Disk.left_since c.args.disk.now c.make_change.new.disk in
     let files = g.D.Disk.seen c.args.disk.now in
     let mid-seen = g.D.Disk.seen c.make_engine.new.disk in
     let mid-images = g.D.Disk.may_leave c.make_engine.new.disk in
     let now = g.D.Disk.seen c.make_change.new.disk in
     let engine = c.in-Ok-make_engine.engine in
     let why = subst (λ (n : ℕ). IsWhyNoneEnabled n after refused engine.store.log.part c.in-Ok.id engine.store.kept.tasks c.in-Err-make_change.fault) c.in-Ok-make_engine.ensures.kept c.in-Err-make_change.ensures.why in
-    subst (λ (i : List ℕ). OpensToChange g.N.Node g.N.ScriptNode.planned before after refused _ files now i c.from-in-Err-make_change.result) c.in-Ok.ensures.text
-    (subst (λ (s : Status). OpensToChange g.N.Node g.N.ScriptNode.planned before after refused _ files now c.in-Ok.id s) (sym c.from-in-Err-make_change.ensures)
-    (change_asked g.N.Node g.N.ScriptNode.planned before after refused _ files now c.in-Ok.id engine.store.log.part engine.store.kept.tasks c.in-Err-make_change.fault why (record { records = opened.0; stands = opened.1; asked = opened.2 })
+    subst (λ (i : List ℕ). OpensToChange g.N.Node g.N.ScriptNode.planned before after refused still files now i c.from-in-Err-make_change.result) c.in-Ok.ensures.text
+    (subst (λ (s : Status). OpensToChange g.N.Node g.N.ScriptNode.planned before after refused still files now c.in-Ok.id s) (sym c.from-in-Err-make_change.ensures)
+    (change_asked g.N.Node g.N.ScriptNode.planned before after refused still files now c.in-Ok.id engine.store.log.part engine.store.kept.tasks c.in-Err-make_change.fault why (record { records = opened.0; stands = opened.1; asked = opened.2 })
     (λ refusal good. let made = c.in-Ok-make_engine.ensures.made tells opened.0 opened.1 good in (
       subst (λ d. IsNamed (g.D.Disk.seen d) engine.store.log.part) (sym (c.in-Err-make_change.ensures.still refusal).1) (named_now g.N.Node g.N.ScriptNode.planned opened.0 mid-seen mid-images engine made),
       kept_tasks g.N.Node g.N.ScriptNode.planned opened.0 mid-seen mid-images engine made,

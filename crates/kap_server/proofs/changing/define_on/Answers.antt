@@ -1,5 +1,6 @@
 use Rattle.std.proofs.Common.{◌≡◌, ℕ, List, false, true, sym, subst}
 use Rattle.kap_base.specs.Words.{HasRisen}
+use Rattle.kap_io.specs.Moments.{Quiet}
 use Rattle.store_records.specs.declared.rec.Rec.TheVariants as kinds
 use Rattle.store_records.specs.declared.task.StoredTask.{StoredTask}
 use Rattle.kap_engine.specs.Changing.{IsWhyNoneDefined}
@@ -37,9 +38,10 @@ returns-in-Err-clause-opened g c = λ tells.
     let before = g.P.Patterns.refusals c.args.pats.now in
     let after = g.P.Patterns.refusals c.make_engine.new.pats in
     let refused = g.P.Patterns.refused c.make_engine.new.pats in
+    let still = Quiet g.D.Disk.seen g.D.Disk.moment g.D.Disk.may_leave g.D.Disk.left_since c.args.disk.now c.make_engine.new.disk in
     let files = g.D.Disk.seen c.args.disk.now in
-    subst (λ (s : Status). OpensBehind g.N.Node g.N.ScriptNode.planned before after refused _ files s) (sym c.from.ensures)
-    (behind_none g.N.Node g.N.ScriptNode.planned before after refused _ files c.in-Err.fault c.in-Err.ensures.faults (λ part offset e. (c.in-Err.ensures.refused tells part offset e, c.in-Err.ensures.still tells part offset e)))
+    subst (λ (s : Status). OpensBehind g.N.Node g.N.ScriptNode.planned before after refused still files s) (sym c.from.ensures)
+    (behind_none g.N.Node g.N.ScriptNode.planned before after refused still files c.in-Err.fault c.in-Err.ensures.faults (λ part offset e. (c.in-Err.ensures.refused tells part offset e, c.in-Err.ensures.still tells part offset e)))
 
 pub returns-in-Err-clause-rose : goal.returns-in-Err-clause-rose
 returns-in-Err-clause-rose g c = λ told.
@@ -102,9 +104,10 @@ returns-clause-opened g c = λ tells.
     let before = g.P.Patterns.refusals c.args.pats.now in
     let after = g.P.Patterns.refusals c.define.new.pats in
     let refused = g.P.Patterns.refused c.define.new.pats in
+    let still = Quiet g.D.Disk.seen g.D.Disk.moment g.D.Disk.may_leave g.D.Disk.left_since c.args.disk.now c.define.new.disk in
     let files = g.D.Disk.seen c.args.disk.now in
-    subst (λ (s : Status). OpensBehind g.N.Node g.N.ScriptNode.planned before after refused _ files s) (sym c.from-in-Err-define.ensures)
-    (behind_asked g.N.Node g.N.ScriptNode.planned before after refused _ files refused c.args.id.now c.args.script.now c.in-Ok.engine.store.kept.tasks c.in-Err-define.fault c.in-Err-define.ensures.why
+    subst (λ (s : Status). OpensBehind g.N.Node g.N.ScriptNode.planned before after refused still files s) (sym c.from-in-Err-define.ensures)
+    (behind_asked g.N.Node g.N.ScriptNode.planned before after refused still files refused c.args.id.now c.args.script.now c.in-Ok.engine.store.kept.tasks c.in-Err-define.fault c.in-Err-define.ensures.why
     (record { records = opened.0; stands = opened.1; asked = opened.2 }))
 
 pub returns-clause-rose : goal.returns-clause-rose
