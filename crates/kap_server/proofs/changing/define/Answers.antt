@@ -28,13 +28,13 @@ returns-in-Err-clause-disk_fault g c = λ e. absurd (never_early c.in-Err.status
 -- ---- it is
 
 pub define_on-requires-clause-id : goal.define_on-requires-clause-id
-define_on-requires-clause-id g c κs = subst (λ (i : List ℕ). is_task_id i ≡ true) (sym c.in-Ok-from_str.ensures.text) c.requires.id
+define_on-requires-clause-id g c κs within = subst (λ (i : List ℕ). is_task_id i ≡ true) (sym c.in-Ok-from_str.ensures.text) c.requires.id
 
 pub define_on-requires-clause-short : goal.define_on-requires-clause-short
-define_on-requires-clause-short g c κs = c.in-Ok.ensures.script.0.0
+define_on-requires-clause-short g c κs within = c.in-Ok.ensures.script.0.0
 
 pub define_on-requires-clause-script : goal.define_on-requires-clause-script
-define_on-requires-clause-script g c κs = c.in-Ok.ensures.script.0.1
+define_on-requires-clause-script g c κs within = c.in-Ok.ensures.script.0.1
 
 pub returns-in-Ok-from_str-clause-script : goal.returns-in-Ok-from_str-clause-script
 returns-in-Ok-from_str-clause-script g c =

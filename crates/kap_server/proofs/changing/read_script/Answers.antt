@@ -12,4 +12,4 @@ returns-clause-fault g c =
     let t = g.S.Source.left c.read_all.new.input in
     let text = c.in_ok-bytes.bytes in
     IfErr-weaker c.script_of.result (IsScriptFault refused text) (ReadsScript refused s t)
-    (λ status why. fault_reads refused text s t status c.in_ok-bytes.ensures.all.1 c.in_ok-bytes.ensures.all.0 why) (rw c.as_slice.ensures.value at c.script_of.ensures.fault)
+    (λ status why. fault_reads refused text s t status c.in_ok-bytes.ensures.all.1 c.in_ok-bytes.ensures.all.0 why) (rw c.as_slice.ensures at c.script_of.ensures.fault)
