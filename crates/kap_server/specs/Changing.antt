@@ -7,7 +7,7 @@ use Rattle.kap_io.specs.Moments.{Moments}
 use Rattle.lambda_types.specs.Faults.{Refusal}
 use Rattle.node_core.specs.declared.node.Node.{Ghosts}
 use Rattle.node_set.specs.Tasks.{Planned}
-use Rattle.store_records.specs.Held.{has_task}
+use Rattle.store_records.specs.Held.{has_task, task_of}
 use Rattle.store_records.specs.Histories.{held}
 use Rattle.store_records.specs.declared.rec.Rec.{Rec}
 use Rattle.store_records.specs.declared.rec.Rec.TheVariants as kinds
@@ -19,14 +19,14 @@ use Rattle.topic_store.specs.Stores.{IsNamed, Stands}
 use Rattle.engine_store.specs.Adding.{HasAdded}
 use Rattle.engine_store.specs.Asking.{IsScript}
 use Rattle.engine_store.specs.Faults.{IsNoGood}
-use Rattle.engine_store.specs.Good.{IsFull, stays_or_good}
+use Rattle.engine_store.specs.Good.{IsFull, IsGood, stays_or_good}
 use Rattle.kap_engine.specs.Changing.{IsRefusedAgain}
 use Rattle.kap_io.specs.declared.disk.Part.{Part}
 use Rattle.kap_server.specs.declared.status.Status.{Status}
 use Rattle.kap_server.specs.declared.status.Status.TheVariants.{Ok, Usage, Script, Line, Truncated, NotStore, NoTask, Exists, TooManyTasks, TooLong, NoMemory, ReadFault, WriteFault, DiskFault}
 use Rattle.kap_server.specs.declared.words.Change.{Change}
 use Rattle.kap_server.specs.declared.words.Change.TheVariants.{Enable, Disable, Delete}
-use Rattle.kap_server.specs.Listing.{AreAsked, AreOthers, LeavesFull}
+use Rattle.kap_server.specs.Listing.{AreAsked, LeavesFull}
 use Rattle.kap_server.specs.ReadingIn.{IsAll, IsLong, IsShort, ReadsFew}
 
 -- the record that a change of a task with this id is
@@ -200,24 +200,24 @@ module _ {N P S : Type 0} (g : Ghosts N P S) (planned : Planned P) where
   -- ---- any files
 
   module _ (before after : ℕ) (refused : List ℕ) where
-    -- The files stand for a store whose scripts are those of tasks, but the script of the task with this id, which isn't
-    -- enabled, is refused in the call.
-    pub record IsRefusedThere (files : Image) (id : List ℕ) (part : Part) (offset : ℕ) : Type 0 where
+    -- The files stand for a store whose scripts are those of tasks. Where it is right, the script of the task with this id,
+    -- which isn't enabled, is refused in the call, and the place is that of its record in the log; `now` are the files
+    -- behind the call. Where it isn't, somebody else wrote it, and what is told of it isn't known.
+    pub record IsRefusedThere (files now : Image) (id : List ℕ) (part : Part) (offset : ℕ) : Type 0 where
       pub asked : AreAsked g planned files
-      pub named : IsNamed files part
-      pub again : IsRefusedAgain before after refused id (held asked.records).tasks offset
+      pub again : IsGood g planned asked.records → IsNamed now part
+          × IsRefusedAgain before after refused (task_of id (held asked.records).tasks) offset
 
-    -- By the status, of the files that were opened to change a task: a place is told where they are no right store, and
+    -- By the status, of the files that were opened to change a task: a place is told where they are no such store, and
     -- then nothing changed, or where the task's script is refused.
-    abbrev pub OpensToChange : Type 0 → Image → List ℕ → Status → Type 0
-    OpensToChange still files id Ok = AreAsked g planned files
-    OpensToChange still files id NoTask = AreAsked g planned files
-    OpensToChange still files id (NotStore part offset) =
-        (IsNoGood g planned before after refused files part offset × still)
-        ⊎ (AreOthers g planned files ⊎ IsRefusedThere files id part offset)
-    OpensToChange still files id NoMemory = ⊤
-    OpensToChange still files id DiskFault = ⊤
-    OpensToChange still files id other = ⊥
+    abbrev pub OpensToChange : Type 0 → Image → Image → List ℕ → Status → Type 0
+    OpensToChange still files now id Ok = AreAsked g planned files
+    OpensToChange still files now id NoTask = AreAsked g planned files
+    OpensToChange still files now id (NotStore part offset) =
+        (IsNoGood g planned before after refused files part offset × still) ⊎ IsRefusedThere files now id part offset
+    OpensToChange still files now id NoMemory = ⊤
+    OpensToChange still files now id DiskFault = ⊤
+    OpensToChange still files now id other = ⊥
 
     -- The same where something was read first.
     abbrev pub OpensBehind : Type 0 → Image → Status → Type 0

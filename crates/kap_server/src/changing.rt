@@ -29,7 +29,7 @@ use net_run::NumberingNode;
 use node_set::ScriptNode;
 use std::alloc::Global;
 use std::thread::Threads;
-use tick_compile::compile;
+use tick_compile::{compile, scripts_have_one_answer};
 
 /// The text of a script of a task.
 fn script_of<P: Patterns>(alloc: Global, bytes: &[u8], pats: &mut P) -> Result<Text, Status>
@@ -78,7 +78,29 @@ fn define_on<
     N: ScriptNode + NumberingNode + Send,
     G: Gate + Sync,
     R: Threads + Sync,
->(rt: &R, alloc: Global, id: &Text, script: &Text, disk: &mut D, pats: &mut P, gate: &G) -> Status {
+>(rt: &R, alloc: Global, id: &Text, script: &Text, disk: &mut D, pats: &mut P, gate: &G) -> Status
+    requires id { IsTrue (is_task_id id.now) }
+    requires short { length script.now ≤ SCRIPT_LIMIT }
+    requires script { IsScript script.now }
+    ensures ends { EndsDefinition (P.refused pats.new) script.now result }
+    ensures defined { IsTrue D.tells → (rs : List Rec) → Stands rs (D.seen disk.old)
+        → IsGood N.Node N.planned rs → DefinedTo N.Node N.planned rs id.now
+        (Rec.Define id.now script.now false) (P.refusals pats.old) (P.refusals pats.new)
+        (D.seen disk.new) (D.may_leave disk.new) result }
+    ensures any_moment { IsTrue D.tells → (rs : List Rec) → Stands rs (D.seen disk.old)
+        → IsGood N.Node N.planned rs
+        → Moments D.moment D.may_leave D.left_since disk.old disk.new
+        (stays_or_changed N.Node N.planned rs (Rec.Define id.now script.now false)) }
+    ensures opened { IsTrue D.tells → OpensBehind N.Node N.planned (P.refusals pats.old)
+        (P.refusals pats.new) (P.refused pats.new)
+        (Quiet D.seen D.moment D.may_leave D.left_since disk.old disk.new)
+        (D.seen disk.old) result }
+    ensures rose { is_pattern_refused result ≡ true
+        → HasRisen (P.refusals pats.old) (P.refusals pats.new) }
+    ensures disk_fault { result ≡ Status.DiskFault
+        → HasRisen (D.faults disk.old) (D.faults disk.new) }
+{
+    scripts_have_one_answer();
     let options = no_options();
     let workers = workers_of(options, TASK_LIMIT);
     let capacity = capacity_of(options);
@@ -103,7 +125,26 @@ pub(crate) fn define<
     N: ScriptNode + NumberingNode + Send,
     G: Gate + Sync,
     R: Threads + Sync,
->(rt: &R, alloc: Global, id: &str, input: &mut S, disk: &mut D, pats: &mut P, gate: &G) -> Status {
+>(rt: &R, alloc: Global, id: &str, input: &mut S, disk: &mut D, pats: &mut P, gate: &G) -> Status
+    requires id { IsTrue (is_task_id id.now) }
+    ensures script { ReadsScript (P.refused pats.new) (S.left input.old) (S.left input.new) result }
+    ensures defined { IsTrue D.tells → (rs : List Rec) → Stands rs (D.seen disk.old)
+        → IsGood N.Node N.planned rs → (EndsReading result × (disk.new ≡ disk.old))
+        ⊎ Defines N.Node N.planned D.seen D.moment D.may_leave D.left_since rs id.now
+        (S.left input.old) (P.refusals pats.old) (P.refusals pats.new) disk.old disk.new result }
+    ensures unopened { is_early result ≡ true → disk.new ≡ disk.old }
+    ensures opened { IsTrue D.tells → OpensBehind N.Node N.planned (P.refusals pats.old)
+        (P.refusals pats.new) (P.refused pats.new)
+        (Quiet D.seen D.moment D.may_leave D.left_since disk.old disk.new)
+        (D.seen disk.old) result }
+    ensures read { result ≡ Status.Ok → HasEnded (S.left input.old) (S.left input.new) }
+    ensures read_fault { result ≡ Status.ReadFault
+        → HasRisen (S.faults input.old) (S.faults input.new) }
+    ensures disk_fault { result ≡ Status.DiskFault
+        → HasRisen (D.faults disk.old) (D.faults disk.new) }
+    ensures rose { is_pattern_refused result ≡ true
+        → HasRisen (P.refusals pats.old) (P.refusals pats.new) }
+{
     let script = match read_script(alloc, input, pats) {
         Ok(script) => script,
         Err(status) => return status,
@@ -153,7 +194,21 @@ pub(crate) fn change<
     N: ScriptNode + NumberingNode + Send,
     G: Gate + Sync,
     R: Threads + Sync,
->(rt: &R, alloc: Global, change: Change, id: &str, disk: &mut D, pats: &mut P, gate: &G) -> Status {
+>(rt: &R, alloc: Global, change: Change, id: &str, disk: &mut D, pats: &mut P, gate: &G) -> Status
+    ensures ends { EndsChange result }
+    ensures changed { IsTrue D.tells → (rs : List Rec) → Stands rs (D.seen disk.old)
+        → IsGood N.Node N.planned rs
+        → Changes N.Node N.planned D.seen D.moment D.may_leave D.left_since rs id.now
+        (record_of change id.now) (P.refusals pats.old) (P.refusals pats.new)
+        disk.old disk.new result }
+    ensures opened { IsTrue D.tells → OpensToChange N.Node N.planned (P.refusals pats.old)
+        (P.refusals pats.new) (P.refused pats.new)
+        (Quiet D.seen D.moment D.may_leave D.left_since disk.old disk.new)
+        (D.seen disk.old) (D.seen disk.new) id.now result }
+    ensures disk_fault { result ≡ Status.DiskFault
+        → HasRisen (D.faults disk.old) (D.faults disk.new) }
+{
+    scripts_have_one_answer();
     let options = no_options();
     let workers = workers_of(options, TASK_LIMIT);
     let capacity = capacity_of(options);

@@ -347,12 +347,12 @@ pub fn command<
         → is_early result ≡ true → disk.new ≡ disk.old }
     // Of a change of a task: at Ok and NoTask the files stood for a store whose scripts are those of tasks,
     // and whose last snapshot is one of their nodes; where a place is told, they are no such store there, and
-    // then nothing changed, or one that isn't right, or the script of the task was refused.
+    // then nothing changed, or they are one, and if it is right the script of the task was refused.
     ensures change_opened { (change : Change) (id : List ℕ)
         → AsksToChange (map string_bytes words.now) change id → IsTrue D.tells
         → OpensToChange N.Node N.planned (P.refusals pats.old) (P.refusals pats.new)
         (P.refused pats.new) (Quiet D.seen D.moment D.may_leave D.left_since disk.old disk.new)
-        (D.seen disk.old) id result }
+        (D.seen disk.old) (D.seen disk.new) id result }
     // The same of a definition, and of a write, behind what they read.
     ensures define_opened { (id : List ℕ)
         → AsksToDefine (map string_bytes words.now) id → IsTrue D.tells
