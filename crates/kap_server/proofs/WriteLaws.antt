@@ -1,5 +1,5 @@
 -- What stands after points were written to a store.
-use Rattle.std.proofs.Common.{◌≡◌, ℕ, ◌+◌, ◌<◌, Bool, true, false, List, [], ◌∷◌, ◌++◌, length, Option, None, Some, Ok, Err, IsUtf8, inl, inr, refl, sym, ap, subst, ◌∙◌, append_assoc}
+use Rattle.std.proofs.Common.{◌≡◌, ℕ, ◌+◌, ◌<◌, true, false, List, [], ◌∷◌, ◌++◌, length, Option, None, Some, Ok, Err, IsUtf8, inl, inr, refl, sym, ap, subst, ◌∙◌, append_assoc}
 use Rattle.std.specs.Prelude.{◌≢◌, ◌⊎◌, ◌&&◌, bytes_eq, not, ◌==◌, IsErrOf, Result}
 use Rattle.std.specs.List.{AllByRecursion as Each, list_all}
 use Rattle.std.specs.Cmp.Lexicographic.{bytes_decides}
@@ -51,7 +51,7 @@ use Rattle.kap_server.specs.Changing.{EndsReading, OpensBehind, is_early}
 use Rattle.kap_server.specs.Listing.{AreAsked}
 use Rattle.kap_server.specs.ReadingIn.{IsAll, IsBeyond, IsWithin, ReadsWithin}
 use Rattle.kap_server.specs.Statuses.{status_of_body, status_of_engine, status_of_line}
-use Rattle.kap_server.specs.Writing.{AreOfBody, EndsWriting, HasPointsIn, HoldsWritten, LeavesWritten, ReadsLines, Wrote, WrotePrefix, WrittenTo, stays_or_writing}
+use Rattle.kap_server.specs.Writing.{AreOfBody, EndsWriting, HasPointsIn, LeavesWritten, ReadsLines, Wrote, WrittenTo, stays_or_writing}
 use Rattle.kap_server.specs.declared.status.Status.{Status}
 use Rattle.kap_server.specs.declared.status.Status.TheVariants as statuses
 use Rattle.kap_server.specs.declared.writing.TheConstants.{BODY_LIMIT}
