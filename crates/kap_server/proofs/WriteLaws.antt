@@ -19,7 +19,6 @@ use Rattle.line_points.specs.Grammar.{IsOf}
 use Rattle.line_points.specs.Line.{line_of}
 use Rattle.line_points.specs.declared.fault.BodyFault.{BodyFault}
 use Rattle.line_points.specs.declared.fault.LineFault.{LineFault}
-use Rattle.line_points.specs.declared.fault.LineFault.TheVariants as lines
 use Rattle.line_points.specs.declared.mode.Mode.{Mode}
 use Rattle.line_points.proofs.WholeLaws.{line_spelled}
 use Rattle.effect_text.specs.Lines.{text_behind}
@@ -47,15 +46,13 @@ use Rattle.engine_store.specs.declared.fault.EngineFault.TheVariants as engines
 use Rattle.kap_engine.specs.Engines.{EngineValue, IsEngineBehind}
 use Rattle.kap_engine.specs.Writing.{HasNoPoints, HasPoints, HasSnapped, HasWritten, StandsWriting, TellsOf, stands_writing}
 use Rattle.kap_engine.proofs.ShotLaws.{snapped_same}
-use Rattle.kap_server.specs.Changing.{EndsReading, OpensBehind, is_early}
+use Rattle.kap_server.specs.Changing.{EndsReading, OpensBehind}
 use Rattle.kap_server.specs.Listing.{AreAsked}
-use Rattle.kap_server.specs.ReadingIn.{IsAll, IsBeyond, IsWithin, ReadsWithin}
-use Rattle.kap_server.specs.Statuses.{status_of_body, status_of_engine, status_of_line}
-use Rattle.kap_server.specs.Writing.{AreOfBody, EndsWriting, HasPointsIn, LeavesWritten, ReadsLines, Wrote, WrittenTo, stays_or_writing}
+use Rattle.kap_server.specs.ReadingIn.{IsAll}
+use Rattle.kap_server.specs.Statuses.{status_of_engine}
+use Rattle.kap_server.specs.Writing.{AreOfBody, EndsWriting, LeavesWritten, Wrote, WrittenTo, stays_or_writing}
 use Rattle.kap_server.specs.declared.status.Status.{Status}
 use Rattle.kap_server.specs.declared.status.Status.TheVariants as statuses
-use Rattle.kap_server.specs.declared.writing.TheConstants.{BODY_LIMIT}
-use Rattle.kap_server.proofs.ChangeLaws.{told_of}
 use Rattle.kap_server.proofs.ListLaws.{tasks_same}
 use Rattle.kap_server.proofs.RunLaws.{keeps_same}
 
@@ -98,112 +95,14 @@ names_are_lines db rp one other utf8 too = both (is_line db) (is_line rp) (line-
 
 -- ---- how the input was read
 
--- what a status isn't, by what holds of it
-pub apart_by : (Q : Status → Type 0) (s status : Status) → Q s → (Q status → ⊥) → s ≡ status → ⊥
-apart_by Q s status has none e = none (subst Q e has)
-
--- a line's fault is that of memory, or is told with the line
-line-status : (n : ℕ) (fault : LineFault) → ((fault ≡ lines.NoMemory) × (status_of_line n fault ≡ statuses.NoMemory)) ⊎ ((fault ≢ lines.NoMemory) × (status_of_line n fault ≡ statuses.Line n fault))
-line-status n lines.Measurement = inr ((λ e. absurd cc), refl)
-line-status n lines.Tag = inr ((λ e. absurd cc), refl)
-line-status n lines.NoField = inr ((λ e. absurd cc), refl)
-line-status n lines.Field = inr ((λ e. absurd cc), refl)
-line-status n lines.FloatField = inr ((λ e. absurd cc), refl)
-line-status n lines.UnsignedField = inr ((λ e. absurd cc), refl)
-line-status n lines.Time = inr ((λ e. absurd cc), refl)
-line-status n lines.TimeRange = inr ((λ e. absurd cc), refl)
-line-status n lines.NoTime = inr ((λ e. absurd cc), refl)
-line-status n lines.Long = inr ((λ e. absurd cc), refl)
-line-status n lines.NotUtf8 = inr ((λ e. absurd cc), refl)
-line-status n lines.NoMemory = inl (refl, refl)
-
-pub body_early : (fault : BodyFault) → EndsReading (status_of_body fault)
-body_early fault = by (line-status fault.line fault.fault)
-  where
-    by : ((fault.fault ≡ lines.NoMemory) × (status_of_body fault ≡ statuses.NoMemory)) ⊎ ((fault.fault ≢ lines.NoMemory) × (status_of_body fault ≡ statuses.Line fault.line fault.fault)) → EndsReading (status_of_body fault)
-    by (inl out) = subst EndsReading (sym out.1) tt
-    by (inr told) = subst EndsReading (sym told.1) tt
-
-pub body_no_read_fault : (fault : BodyFault) → status_of_body fault ≡ statuses.ReadFault → ⊥
-body_no_read_fault fault e = by (line-status fault.line fault.fault)
-  where
-    by : ((fault.fault ≡ lines.NoMemory) × (status_of_body fault ≡ statuses.NoMemory)) ⊎ ((fault.fault ≢ lines.NoMemory) × (status_of_body fault ≡ statuses.Line fault.line fault.fault)) → ⊥
-    by (inl out) = let same : statuses.NoMemory ≡ statuses.ReadFault = sym out.1 ∙ e in absurd cc
-    by (inr told) = let same : statuses.Line fault.line fault.fault ≡ statuses.ReadFault = sym told.1 ∙ e in absurd cc
-
--- the faults of reading all of the input
-abbrev pub FailsReading : Status → Type 0
-FailsReading s = (s ≡ statuses.TooLong) ⊎ ((s ≡ statuses.ReadFault) ⊎ (s ≡ statuses.NoMemory))
-
-pub fails_early : (s : Status) → FailsReading s → EndsReading s
-fails_early s (inl e) = subst EndsReading (sym e) tt
-fails_early s (inr (inl e)) = subst EndsReading (sym e) tt
-fails_early s (inr (inr e)) = subst EndsReading (sym e) tt
-
 -- this is all that the input gave, and these are the points of its lines
 abbrev pub HasRead : List ℕ → List ℕ → Mode → Option (List ℕ) → List PointValue → Type 0
 HasRead db rp mode s points = (body : List ℕ) × IsAll s body × AreOfBody db rp mode body points
 
-module _ (db rp : List ℕ) (mode : Mode) (s t : Option (List ℕ)) where
-  -- it couldn't be read, or had too many bytes
-  pub reading_fault : (fault : Status) → FailsReading fault → (fault ≡ statuses.TooLong → IsBeyond BODY_LIMIT s) → (fault ≡ statuses.ReadFault → ReadsWithin BODY_LIMIT s t) → ReadsLines db rp mode s t fault
-  reading_fault fault (inl e) long few = subst (ReadsLines db rp mode s t) (sym e) (long e)
-  reading_fault fault (inr (inl e)) long few = subst (ReadsLines db rp mode s t) (sym e) (few e)
-  reading_fault fault (inr (inr e)) long few = subst (ReadsLines db rp mode s t) (sym e) tt
-
-  -- a line of it is faulty
-  pub body_fault : (body : List ℕ) (fault : BodyFault) → IsWithin BODY_LIMIT body → IsAll s body → (fault.fault ≢ lines.NoMemory → body_of db rp mode body ≡ Err fault) → ReadsLines db rp mode s t (status_of_body fault)
-  body_fault body fault short all why = by (line-status fault.line fault.fault)
-    where
-      by : ((fault.fault ≡ lines.NoMemory) × (status_of_body fault ≡ statuses.NoMemory)) ⊎ ((fault.fault ≢ lines.NoMemory) × (status_of_body fault ≡ statuses.Line fault.line fault.fault)) → ReadsLines db rp mode s t (status_of_body fault)
-      by (inl out) = subst (ReadsLines db rp mode s t) (sym out.1) tt
-      by (inr told) =
-          subst (ReadsLines db rp mode s t) (sym told.1)
-          (told_of (λ text. IsWithin BODY_LIMIT text × (body_of db rp mode text ≡ Err (record { line = fault.line; fault = fault.fault }))) s body all (short, why told.0))
-
-  -- each of its lines was read, and what came then wasn't for its sake
-  pub lines_read : (points : List PointValue) (status : Status) → HasRead db rp mode s points → EndsWriting status → ReadsLines db rp mode s t status
-  lines_read points statuses.Ok read ends = told_of (HasPointsIn db rp mode) s read.0 read.1 (points, read.2)
-  lines_read points statuses.Usage read ends = absurd ends
-  lines_read points (statuses.Script fault) read ends = absurd ends
-  lines_read points (statuses.Line n fault) read ends = absurd ends
-  lines_read points (statuses.Truncated n) read ends = absurd ends
-  lines_read points (statuses.NotStore part offset) read ends = told_of (HasPointsIn db rp mode) s read.0 read.1 (points, read.2)
-  lines_read points statuses.NoTask read ends = absurd ends
-  lines_read points statuses.Exists read ends = absurd ends
-  lines_read points statuses.TooManyTasks read ends = absurd ends
-  lines_read points statuses.TooLong read ends = absurd ends
-  lines_read points statuses.NoMemory read ends = tt
-  lines_read points statuses.ReadFault read ends = absurd ends
-  lines_read points statuses.WriteFault read ends = told_of (HasPointsIn db rp mode) s read.0 read.1 (points, read.2)
-  lines_read points statuses.DiskFault read ends = told_of (HasPointsIn db rp mode) s read.0 read.1 (points, read.2)
-
 -- the same words ask for the same
-module _ (db db' rp rp' : List ℕ) (mode mode' : Mode) (db_is : db' ≡ db) (rp_is : rp' ≡ rp) (mode_is : mode' ≡ mode) (s t : Option (List ℕ)) where
-  asked : (Q : List ℕ → List ℕ → Mode → Type 0) → Q db' rp' mode' → Q db rp mode
-  asked Q q = subst (λ (x : List ℕ). Q x rp mode) db_is (subst (λ (y : List ℕ). Q db' y mode) rp_is (subst (λ (m : Mode). Q db' rp' m) mode_is q))
-
-  pub read_as_asked : (points : List PointValue) → HasRead db' rp' mode' s points → HasRead db rp mode s points
-  read_as_asked points read = asked (λ d r m. HasRead d r m s points) read
-
-  pub lines_as_asked : (status : Status) → ReadsLines db' rp' mode' s t status → ReadsLines db rp mode s t status
-  lines_as_asked status reads = asked (λ d r m. ReadsLines d r m s t status) reads
-
-pub not_early : (status : Status) → EndsWriting status → is_early status ≡ true → ⊥
-not_early statuses.Ok ends e = absurd cc
-not_early statuses.Usage ends e = ends
-not_early (statuses.Script fault) ends e = ends
-not_early (statuses.Line n fault) ends e = ends
-not_early (statuses.Truncated n) ends e = ends
-not_early (statuses.NotStore part offset) ends e = absurd cc
-not_early statuses.NoTask ends e = ends
-not_early statuses.Exists ends e = ends
-not_early statuses.TooManyTasks ends e = ends
-not_early statuses.TooLong ends e = ends
-not_early statuses.NoMemory ends e = absurd cc
-not_early statuses.ReadFault ends e = ends
-not_early statuses.WriteFault ends e = absurd cc
-not_early statuses.DiskFault ends e = absurd cc
+pub read_as_asked : (db db' rp rp' : List ℕ) (mode mode' : Mode) → db' ≡ db → rp' ≡ rp → mode' ≡ mode → (s : Option (List ℕ)) (points : List PointValue) → HasRead db' rp' mode' s points → HasRead db rp mode s points
+read_as_asked db db' rp rp' mode mode' db_is rp_is mode_is s points read =
+    subst (λ (x : List ℕ). HasRead x rp mode s points) db_is (subst (λ (y : List ℕ). HasRead db' y mode s points) rp_is (subst (λ (m : Mode). HasRead db' rp' m s points) mode_is read))
 
 -- ---- images
 
