@@ -81,8 +81,8 @@ returns-in-Ok-write-clause-disk_fault g c = λ e. absurd (out_no_disk c.hand_out
 
 -- ---- they weren't
 
-pub returns-clause-ends : goal.returns-clause-ends
-returns-clause-ends g c = λ tells rs good stands.
+pub returns-in-Err-write-clause-ends : goal.returns-in-Err-write-clause-ends
+returns-in-Err-write-clause-ends g c = λ tells rs good stands.
     let before = g.P.Patterns.refusals c.args.pats.now in
     let after = g.P.Patterns.refusals c.make_engine.new.pats in
     let seen = g.D.Disk.seen c.write.new.disk in
@@ -91,14 +91,14 @@ returns-clause-ends g c = λ tells rs good stands.
     subst (λ (s : Status). WrittenTo g.N.Node g.N.ScriptNode.planned rs good c.args.points before after seen images w w c.args.ran.now s) (sym c.from-in-Err-write.ensures)
     (none_written g.N.Node g.N.ScriptNode.planned rs good c.args.points before after seen images w c.args.ran.now c.in-Err-write.fault c.in-Err-write.ensures.faults)
 
-pub returns-clause-any_moment : goal.returns-clause-any_moment
-returns-clause-any_moment g c = λ tells rs good stands.
+pub returns-in-Err-write-clause-any_moment : goal.returns-in-Err-write-clause-any_moment
+returns-in-Err-write-clause-any_moment g c = λ tells rs good stands.
     let made = c.in-Ok.ensures.made tells rs stands good in
     opened_then_written g.N.Node g.N.ScriptNode.planned rs c.args.points g.D.Disk.seen g.D.Disk.moment g.D.Disk.may_leave g.D.Disk.left_since _ _ _ c.in-Ok.engine made
     (c.make_engine.ensures.any_moment tells rs stands good) (c.write.ensures.any_moment tells made.records made.engine)
 
-pub returns-clause-opened : goal.returns-clause-opened
-returns-clause-opened g c = λ tells.
+pub returns-in-Err-write-clause-opened : goal.returns-in-Err-write-clause-opened
+returns-in-Err-write-clause-opened g c = λ tells.
     let before = g.P.Patterns.refusals c.args.pats.now in
     let after = g.P.Patterns.refusals c.make_engine.new.pats in
     let refused = g.P.Patterns.refused c.make_engine.new.pats in
@@ -107,13 +107,13 @@ returns-clause-opened g c = λ tells.
     subst (λ (s : Status). OpensBehind g.N.Node g.N.ScriptNode.planned before after refused still files s) (sym c.from-in-Err-write.ensures)
     (opens_unwritten g.N.Node g.N.ScriptNode.planned before after refused still files c.in-Err-write.fault c.in-Err-write.ensures.faults)
 
-pub returns-clause-status : goal.returns-clause-status
-returns-clause-status g c = subst EndsWriting (sym c.from-in-Err-write.ensures) (fault_ends c.in-Err-write.fault (fault_of_opening c.in-Err-write.fault c.in-Err-write.ensures.faults))
+pub returns-in-Err-write-clause-status : goal.returns-in-Err-write-clause-status
+returns-in-Err-write-clause-status g c = subst EndsWriting (sym c.from-in-Err-write.ensures) (fault_ends c.in-Err-write.fault (fault_of_opening c.in-Err-write.fault c.in-Err-write.ensures.faults))
 
-pub returns-clause-write_fault : goal.returns-clause-write_fault
-returns-clause-write_fault g c = λ e. absurd (no_write_fault c.in-Err-write.fault (fault_of_opening c.in-Err-write.fault c.in-Err-write.ensures.faults) (sym c.from-in-Err-write.ensures ∙ e))
+pub returns-in-Err-write-clause-write_fault : goal.returns-in-Err-write-clause-write_fault
+returns-in-Err-write-clause-write_fault g c = λ e. absurd (no_write_fault c.in-Err-write.fault (fault_of_opening c.in-Err-write.fault c.in-Err-write.ensures.faults) (sym c.from-in-Err-write.ensures ∙ e))
 
-pub returns-clause-disk_fault : goal.returns-clause-disk_fault
-returns-clause-disk_fault g c = λ e.
+pub returns-in-Err-write-clause-disk_fault : goal.returns-in-Err-write-clause-disk_fault
+returns-in-Err-write-clause-disk_fault g c = λ e.
     risen_later _ _ _ c.make_engine.ensures.cause.later
     (c.in-Err-write.ensures.cause.failed (disk_of_opening c.in-Err-write.fault (fault_of_opening c.in-Err-write.fault c.in-Err-write.ensures.faults) (sym c.from-in-Err-write.ensures ∙ e)))
