@@ -46,11 +46,10 @@ use Rattle.engine_store.specs.declared.fault.EngineFault.TheVariants as engines
 use Rattle.kap_engine.specs.Engines.{EngineValue, IsEngineBehind}
 use Rattle.kap_engine.specs.Writing.{HasNoPoints, HasPoints, HasSnapped, HasWritten, StandsWriting, TellsOf, stands_writing}
 use Rattle.kap_engine.proofs.ShotLaws.{snapped_same}
-use Rattle.kap_server.specs.Changing.{EndsReading, OpensBehind}
-use Rattle.kap_server.specs.Listing.{AreAsked}
+use Rattle.kap_server.specs.Changing.{OpensBehind}
 use Rattle.kap_server.specs.ReadingIn.{IsAll}
 use Rattle.kap_server.specs.Statuses.{status_of_engine}
-use Rattle.kap_server.specs.Writing.{AreOfBody, EndsWriting, LeavesWritten, Wrote, WrittenTo, stays_or_writing}
+use Rattle.kap_server.specs.Writing.{AreOfBody, LeavesWritten, Wrote, WrittenTo, stays_or_writing}
 use Rattle.kap_server.specs.declared.status.Status.{Status}
 use Rattle.kap_server.specs.declared.status.Status.TheVariants as statuses
 use Rattle.kap_server.proofs.ListLaws.{tasks_same}
@@ -236,101 +235,27 @@ module _ {N P S : Type 0} (g : Ghosts N P S) (planned : Planned P) (rs : List Re
         let p = part (λ same. let wrong : statuses.WriteFault ≡ statuses.Ok = sym e ∙ same in absurd cc) in
         subst (WrittenTo g planned rs good new low high seen images w v last) (sym e) (record { text = text; leaves = there; written = p.0 })
 
--- ---- how it ends
+-- ---- no store was opened
 
--- the faults of a write are faults of an opening
-pub fault_of_opening : (fault : EngineFault) → (fault ≡ engines.DiskFault) ⊎ (fault ≡ engines.NoMemory) → IsOfOpening fault
-fault_of_opening fault (inl e) = subst IsOfOpening (sym e) tt
-fault_of_opening fault (inr e) = subst IsOfOpening (sym e) tt
+module _ {N P S T : Type 0} (g : Ghosts N P S) (planned : Planned P) (before after : ℕ) where
+  -- then nothing was written, and a place is told only where a pattern was refused
+  pub none_opened : (rs : List Rec) (good : IsGood g planned rs) (new : List PointValue) (seen : Image) (images : Image → Type 0) (w : Option (List ℕ)) (ran : Option (NetValue N)) (fault : EngineFault) → IsOfOpening fault
+      → ((part : Part) (offset : ℕ) → IsErrOf {T = T} (Err fault) (engines.NotStore part offset) → HasRisen before after) → WrittenTo g planned rs good new before after seen images w w ran (status_of_engine fault)
+  none_opened rs good new seen images w ran (engines.Script fault) may rose = absurd may
+  none_opened rs good new seen images w ran engines.NoTask may rose = absurd may
+  none_opened rs good new seen images w ran engines.Exists may rose = absurd may
+  none_opened rs good new seen images w ran engines.TooManyTasks may rose = absurd may
+  none_opened rs good new seen images w ran (engines.NotStore part offset) may rose = (rose part offset refl, keeps_same w)
+  none_opened rs good new seen images w ran engines.DiskFault may rose = keeps_same w
+  none_opened rs good new seen images w ran engines.NoMemory may rose = keeps_same w
 
-pub fault_ends : (fault : EngineFault) → IsOfOpening fault → EndsWriting (status_of_engine fault)
-fault_ends (engines.Script fault) may = absurd may
-fault_ends engines.NoTask may = absurd may
-fault_ends engines.Exists may = absurd may
-fault_ends engines.TooManyTasks may = absurd may
-fault_ends (engines.NotStore part offset) may = tt
-fault_ends engines.DiskFault may = tt
-fault_ends engines.NoMemory may = tt
-
-pub no_write_fault : (fault : EngineFault) → IsOfOpening fault → status_of_engine fault ≡ statuses.WriteFault → ⊥
-no_write_fault (engines.Script fault) may e = may
-no_write_fault engines.NoTask may e = may
-no_write_fault engines.Exists may e = may
-no_write_fault engines.TooManyTasks may e = may
-no_write_fault (engines.NotStore part offset) may e = absurd cc
-no_write_fault engines.DiskFault may e = absurd cc
-no_write_fault engines.NoMemory may e = absurd cc
-
--- the status of a fault of the disk is that of no other fault
-pub disk_of_opening : {T : Type 0} (fault : EngineFault) → IsOfOpening fault → status_of_engine fault ≡ statuses.DiskFault → IsErrOf {T = T} (Err fault) engines.DiskFault
-disk_of_opening (engines.Script fault) may e = absurd may
-disk_of_opening engines.NoTask may e = absurd may
-disk_of_opening engines.Exists may e = absurd may
-disk_of_opening engines.TooManyTasks may e = absurd may
-disk_of_opening (engines.NotStore part offset) may e = absurd cc
-disk_of_opening engines.DiskFault may e = refl
-disk_of_opening engines.NoMemory may e = absurd cc
-
--- all or a prefix of the text was written
-pub out_ends : (result : Status) → (result ≡ statuses.Ok) ⊎ (result ≡ statuses.WriteFault) → EndsWriting result
-out_ends result (inl e) = subst EndsWriting (sym e) tt
-out_ends result (inr e) = subst EndsWriting (sym e) tt
-
-pub out_no_disk : (result : Status) → (result ≡ statuses.Ok) ⊎ (result ≡ statuses.WriteFault) → result ≡ statuses.DiskFault → ⊥
-out_no_disk result (inl e) same = let wrong : statuses.Ok ≡ statuses.DiskFault = sym e ∙ same in absurd cc
-out_no_disk result (inr e) same = let wrong : statuses.WriteFault ≡ statuses.DiskFault = sym e ∙ same in absurd cc
-
-module _ {N P S : Type 0} (g : Ghosts N P S) (planned : Planned P) (rs : List Rec) (good : IsGood g planned rs) (new : List PointValue) (before after : ℕ) (seen : Image) (images : Image → Type 0) (w : Option (List ℕ)) (ran : Option (NetValue N)) where
-  -- no store was opened
-  pub none_opened : {T : Type 0} (fault : EngineFault) → IsOfOpening fault → ((part : Part) (offset : ℕ) → IsErrOf {T = T} (Err fault) (engines.NotStore part offset) → HasRisen before after)
-      → WrittenTo g planned rs good new before after seen images w w ran (status_of_engine fault)
-  none_opened (engines.Script fault) may rose = absurd may
-  none_opened engines.NoTask may rose = absurd may
-  none_opened engines.Exists may rose = absurd may
-  none_opened engines.TooManyTasks may rose = absurd may
-  none_opened (engines.NotStore part offset) may rose = (rose part offset refl, keeps_same w)
-  none_opened engines.DiskFault may rose = keeps_same w
-  none_opened engines.NoMemory may rose = keeps_same w
-
-  -- one was, and the points weren't written
-  pub none_written : (fault : EngineFault) → (fault ≡ engines.DiskFault) ⊎ (fault ≡ engines.NoMemory) → WrittenTo g planned rs good new before after seen images w w ran (status_of_engine fault)
-  none_written fault (inl e) = subst (λ (f : EngineFault). WrittenTo g planned rs good new before after seen images w w ran (status_of_engine f)) (sym e) (keeps_same w)
-  none_written fault (inr e) = subst (λ (f : EngineFault). WrittenTo g planned rs good new before after seen images w w ran (status_of_engine f)) (sym e) (keeps_same w)
-
--- ---- which files were opened
-
-module _ {N P S : Type 0} (g : Ghosts N P S) (planned : Planned P) (before after : ℕ) (refused : List ℕ) (still : Type 0) (files : Image) where
-  pub opens_none_behind : {T : Type 0} (fault : EngineFault) → IsOfOpening fault → ((part : Part) (offset : ℕ) → IsErrOf {T = T} (Err fault) (engines.NotStore part offset) → IsNoGood g planned before after refused files part offset × still)
-      → OpensBehind g planned before after refused still files (status_of_engine fault)
-  opens_none_behind (engines.Script fault) may why = absurd may
-  opens_none_behind engines.NoTask may why = absurd may
-  opens_none_behind engines.Exists may why = absurd may
-  opens_none_behind engines.TooManyTasks may why = absurd may
-  opens_none_behind (engines.NotStore part offset) may why = why part offset refl
-  opens_none_behind engines.DiskFault may why = tt
-  opens_none_behind engines.NoMemory may why = tt
-
-  pub opens_unwritten : (fault : EngineFault) → (fault ≡ engines.DiskFault) ⊎ (fault ≡ engines.NoMemory) → OpensBehind g planned before after refused still files (status_of_engine fault)
-  opens_unwritten fault (inl e) = subst (λ (f : EngineFault). OpensBehind g planned before after refused still files (status_of_engine f)) (sym e) tt
-  opens_unwritten fault (inr e) = subst (λ (f : EngineFault). OpensBehind g planned before after refused still files (status_of_engine f)) (sym e) tt
-
-  pub opens_written : (result : Status) → (result ≡ statuses.Ok) ⊎ (result ≡ statuses.WriteFault) → AreAsked g planned files → OpensBehind g planned before after refused still files result
-  opens_written result (inl e) asked = subst (OpensBehind g planned before after refused still files) (sym e) asked
-  opens_written result (inr e) asked = subst (OpensBehind g planned before after refused still files) (sym e) asked
-
-  -- the input was refused first
-  pub opens_early : (status : Status) → EndsReading status → OpensBehind g planned before after refused still files status
-  opens_early statuses.Ok early = absurd early
-  opens_early statuses.Usage early = absurd early
-  opens_early (statuses.Script fault) early = tt
-  opens_early (statuses.Line n fault) early = tt
-  opens_early (statuses.Truncated n) early = absurd early
-  opens_early (statuses.NotStore part offset) early = absurd early
-  opens_early statuses.NoTask early = absurd early
-  opens_early statuses.Exists early = absurd early
-  opens_early statuses.TooManyTasks early = absurd early
-  opens_early statuses.TooLong early = tt
-  opens_early statuses.NoMemory early = tt
-  opens_early statuses.ReadFault early = tt
-  opens_early statuses.WriteFault early = absurd early
-  opens_early statuses.DiskFault early = absurd early
+  -- and why it wasn't
+  pub opens_none_behind : (refused : List ℕ) (still : Type 0) (files : Image) (fault : EngineFault) → IsOfOpening fault
+      → ((part : Part) (offset : ℕ) → IsErrOf {T = T} (Err fault) (engines.NotStore part offset) → IsNoGood g planned before after refused files part offset × still) → OpensBehind g planned before after refused still files (status_of_engine fault)
+  opens_none_behind refused still files (engines.Script fault) may why = absurd may
+  opens_none_behind refused still files engines.NoTask may why = absurd may
+  opens_none_behind refused still files engines.Exists may why = absurd may
+  opens_none_behind refused still files engines.TooManyTasks may why = absurd may
+  opens_none_behind refused still files (engines.NotStore part offset) may why = why part offset refl
+  opens_none_behind refused still files engines.DiskFault may why = tt
+  opens_none_behind refused still files engines.NoMemory may why = tt

@@ -1,11 +1,9 @@
-use Rattle.std.proofs.Common.{sym, subst, ◌∙◌}
-use Rattle.engine_store.proofs.CauseLaws.{risen_later}
+use Rattle.std.proofs.Common.{sym, subst}
 use Rattle.kap_server.specs.Changing.{OpensBehind}
-use Rattle.kap_server.specs.Listing.{AreAsked}
-use Rattle.kap_server.specs.Writing.{EndsWriting, WrittenTo}
+use Rattle.kap_server.specs.Writing.{WrittenTo}
 use Rattle.kap_server.specs.declared.status.Status.{Status}
 use Rattle.kap_io.specs.Moments.{Quiet}
-use Rattle.kap_server.proofs.WriteLaws.{disk_of_opening, fault_ends, fault_of_opening, no_write_fault, none_opened, none_written, opened_then_written, opened_to_write, opens_none_behind, opens_unwritten, opens_written, out_ends, out_no_disk, written_out}
+use Rattle.kap_server.proofs.WriteLaws.{none_opened, opened_then_written, opened_to_write, opens_none_behind, written_out}
 use Rattle.kap_server.proofs.writing.write_on.Goals as goal
 
 -- ---- no store was opened
@@ -18,7 +16,7 @@ returns-in-Err-clause-ends g c = λ tells rs good stands.
     let images = g.D.Disk.may_leave c.make_engine.new.disk in
     let w = g.K.Sink.written c.args.out.now in
     subst (λ (s : Status). WrittenTo g.N.Node g.N.ScriptNode.planned rs good c.args.points before after seen images w w c.args.ran.now s) (sym c.from.ensures)
-    (none_opened g.N.Node g.N.ScriptNode.planned rs good c.args.points before after seen images w c.args.ran.now c.in-Err.fault c.in-Err.ensures.faults (c.in-Err.ensures.rose tells rs stands good))
+    (none_opened g.N.Node g.N.ScriptNode.planned before after rs good c.args.points seen images w c.args.ran.now c.in-Err.fault c.in-Err.ensures.faults (c.in-Err.ensures.rose tells rs stands good))
 
 pub returns-in-Err-clause-any_moment : goal.returns-in-Err-clause-any_moment
 returns-in-Err-clause-any_moment g c = λ tells rs good stands.
@@ -34,15 +32,6 @@ returns-in-Err-clause-opened g c = λ tells.
     subst (λ (s : Status). OpensBehind g.N.Node g.N.ScriptNode.planned before after refused still files s) (sym c.from.ensures)
     (opens_none_behind g.N.Node g.N.ScriptNode.planned before after refused still files c.in-Err.fault c.in-Err.ensures.faults
     (λ part offset is. (c.in-Err.ensures.refused tells part offset is, c.in-Err.ensures.still tells part offset is)))
-
-pub returns-in-Err-clause-status : goal.returns-in-Err-clause-status
-returns-in-Err-clause-status g c = subst EndsWriting (sym c.from.ensures) (fault_ends c.in-Err.fault c.in-Err.ensures.faults)
-
-pub returns-in-Err-clause-write_fault : goal.returns-in-Err-clause-write_fault
-returns-in-Err-clause-write_fault g c = λ e. absurd (no_write_fault c.in-Err.fault c.in-Err.ensures.faults (sym c.from.ensures ∙ e))
-
-pub returns-in-Err-clause-disk_fault : goal.returns-in-Err-clause-disk_fault
-returns-in-Err-clause-disk_fault g c = λ e. c.in-Err.ensures.cause.failed (disk_of_opening c.in-Err.fault c.in-Err.ensures.faults (sym c.from.ensures ∙ e))
 
 -- ---- the points were written
 
@@ -62,58 +51,10 @@ returns-in-Ok-write-clause-any_moment g c = λ tells rs good stands.
     opened_then_written g.N.Node g.N.ScriptNode.planned rs c.args.points g.D.Disk.seen g.D.Disk.moment g.D.Disk.may_leave g.D.Disk.left_since _ _ _ c.in-Ok.engine made
     (c.make_engine.ensures.any_moment tells rs stands good) (c.write.ensures.any_moment tells made.records made.engine)
 
-pub returns-in-Ok-write-clause-opened : goal.returns-in-Ok-write-clause-opened
-returns-in-Ok-write-clause-opened g c = λ tells.
-    let opened = c.in-Ok.ensures.opened tells in
-    let before = g.P.Patterns.refusals c.args.pats.now in
-    let after = g.P.Patterns.refusals c.make_engine.new.pats in
-    let refused = g.P.Patterns.refused c.make_engine.new.pats in
-    let still = Quiet g.D.Disk.seen g.D.Disk.moment g.D.Disk.may_leave g.D.Disk.left_since c.args.disk.now c.write.new.disk in
-    let files = g.D.Disk.seen c.args.disk.now in
-    let asked : AreAsked g.N.Node g.N.ScriptNode.planned files = record { records = opened.0; stands = opened.1; asked = opened.2 } in
-    opens_written g.N.Node g.N.ScriptNode.planned before after refused still files c.hand_out.result c.hand_out.ensures.status asked
-
-pub returns-in-Ok-write-clause-status : goal.returns-in-Ok-write-clause-status
-returns-in-Ok-write-clause-status g c = out_ends c.hand_out.result c.hand_out.ensures.status
-
-pub returns-in-Ok-write-clause-disk_fault : goal.returns-in-Ok-write-clause-disk_fault
-returns-in-Ok-write-clause-disk_fault g c = λ e. absurd (out_no_disk c.hand_out.result c.hand_out.ensures.status e)
-
 -- ---- they weren't
-
-pub returns-in-Err-write-clause-ends : goal.returns-in-Err-write-clause-ends
-returns-in-Err-write-clause-ends g c = λ tells rs good stands.
-    let before = g.P.Patterns.refusals c.args.pats.now in
-    let after = g.P.Patterns.refusals c.make_engine.new.pats in
-    let seen = g.D.Disk.seen c.write.new.disk in
-    let images = g.D.Disk.may_leave c.write.new.disk in
-    let w = g.K.Sink.written c.args.out.now in
-    subst (λ (s : Status). WrittenTo g.N.Node g.N.ScriptNode.planned rs good c.args.points before after seen images w w c.args.ran.now s) (sym c.from-in-Err-write.ensures)
-    (none_written g.N.Node g.N.ScriptNode.planned rs good c.args.points before after seen images w c.args.ran.now c.in-Err-write.fault c.in-Err-write.ensures.faults)
 
 pub returns-in-Err-write-clause-any_moment : goal.returns-in-Err-write-clause-any_moment
 returns-in-Err-write-clause-any_moment g c = λ tells rs good stands.
     let made = c.in-Ok.ensures.made tells rs stands good in
     opened_then_written g.N.Node g.N.ScriptNode.planned rs c.args.points g.D.Disk.seen g.D.Disk.moment g.D.Disk.may_leave g.D.Disk.left_since _ _ _ c.in-Ok.engine made
     (c.make_engine.ensures.any_moment tells rs stands good) (c.write.ensures.any_moment tells made.records made.engine)
-
-pub returns-in-Err-write-clause-opened : goal.returns-in-Err-write-clause-opened
-returns-in-Err-write-clause-opened g c = λ tells.
-    let before = g.P.Patterns.refusals c.args.pats.now in
-    let after = g.P.Patterns.refusals c.make_engine.new.pats in
-    let refused = g.P.Patterns.refused c.make_engine.new.pats in
-    let still = Quiet g.D.Disk.seen g.D.Disk.moment g.D.Disk.may_leave g.D.Disk.left_since c.args.disk.now c.write.new.disk in
-    let files = g.D.Disk.seen c.args.disk.now in
-    subst (λ (s : Status). OpensBehind g.N.Node g.N.ScriptNode.planned before after refused still files s) (sym c.from-in-Err-write.ensures)
-    (opens_unwritten g.N.Node g.N.ScriptNode.planned before after refused still files c.in-Err-write.fault c.in-Err-write.ensures.faults)
-
-pub returns-in-Err-write-clause-status : goal.returns-in-Err-write-clause-status
-returns-in-Err-write-clause-status g c = subst EndsWriting (sym c.from-in-Err-write.ensures) (fault_ends c.in-Err-write.fault (fault_of_opening c.in-Err-write.fault c.in-Err-write.ensures.faults))
-
-pub returns-in-Err-write-clause-write_fault : goal.returns-in-Err-write-clause-write_fault
-returns-in-Err-write-clause-write_fault g c = λ e. absurd (no_write_fault c.in-Err-write.fault (fault_of_opening c.in-Err-write.fault c.in-Err-write.ensures.faults) (sym c.from-in-Err-write.ensures ∙ e))
-
-pub returns-in-Err-write-clause-disk_fault : goal.returns-in-Err-write-clause-disk_fault
-returns-in-Err-write-clause-disk_fault g c = λ e.
-    risen_later _ _ _ c.make_engine.ensures.cause.later
-    (c.in-Err-write.ensures.cause.failed (disk_of_opening c.in-Err-write.fault (fault_of_opening c.in-Err-write.fault c.in-Err-write.ensures.faults) (sym c.from-in-Err-write.ensures ∙ e)))
