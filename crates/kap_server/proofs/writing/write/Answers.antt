@@ -13,7 +13,7 @@ mode-same : (unit asked : Unit) (now : ℤ) → unit ≡ asked → SFits w64 now
 mode-same unit asked now is fits = ap (λ (u : Unit). Live u (to_z w64 (of_z w64 now))) is ∙ ap (λ (t : ℤ). Live asked t) (to_z-of_z w64 now fits)
 
 pub write_on-requires-clause-lines : goal.write_on-requires-clause-lines
-write_on-requires-clause-lines g c =
+write_on-requires-clause-lines g c κs within =
     let one = c.in-Ok.ensures.one in
     let other = c.in-Ok.ensures.other in
     names_are_lines _ _ (rw one.0 c.requires.db) (rw other.0 c.requires.rp) one.1 other.1
