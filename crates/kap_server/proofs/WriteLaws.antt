@@ -1,48 +1,59 @@
 -- What stands after points were written to a store.
-use Rattle.std.proofs.Common.{◌≡◌, ℕ, ◌+◌, ◌-◌, ◌<◌, ◌≤◌, Bool, true, false, List, [], ◌∷◌, ◌++◌, length, Option, None, Some, Ok, Err, inl, inr, refl, sym, ap, subst, ◌∙◌, arith}
-use Rattle.std.specs.Prelude.{◌⊎◌, ◌&&◌, bytes_eq, not, ◌==◌, Result}
-use Rattle.std.specs.List.{list_all}
-use Rattle.std.specs.Option.{option_map_or}
+use Rattle.std.proofs.Common.{◌≡◌, ℕ, ◌+◌, ◌<◌, true, false, List, [], ◌∷◌, ◌++◌, length, Option, None, Some, Ok, Err, IsUtf8, inl, inr, refl, sym, ap, subst, ◌∙◌, append_assoc}
+use Rattle.std.specs.Prelude.{◌≢◌, ◌⊎◌, ◌&&◌, bytes_eq, not, ◌==◌, IsErrOf, Result}
+use Rattle.std.specs.List.{AllByRecursion as Each, list_all}
 use Rattle.std.specs.Cmp.Lexicographic.{bytes_decides}
-use Rattle.std.proofs.lemmas.List.Append.{append_assoc}
+use Rattle.std.specs.Io.KnownBytes.{Appends}
 use Rattle.kap_base.specs.Points.{PointValue}
+use Rattle.kap_base.specs.Texts.{has_line_feed, is_line}
+use Rattle.kap_base.specs.Words.{HasRisen, ◌>>=◌}
 use Rattle.kap_base.specs.declared.items.Effect.{Effect}
-use Rattle.kap_base.specs.Words.{◌>>=◌}
-use Rattle.kap_base.proofs.TestLaws.{both}
+use Rattle.kap_base.proofs.TestLaws.{bind_ok, both, not_false, ok_is}
+use Rattle.kap_base.proofs.TextLaws.{text_is_utf8}
 use Rattle.kap_io.specs.Disk.{Image}
 use Rattle.kap_io.specs.Moments.{Moments, then_run, weaker}
+use Rattle.kap_io.specs.Pieces.{AppendsPrefix}
+use Rattle.kap_io.specs.declared.disk.Part.{Part}
 use Rattle.line_points.specs.Body.{at_line, before_more, body_lines, body_of, points_of}
 use Rattle.line_points.specs.Grammar.{IsOf}
 use Rattle.line_points.specs.Line.{line_of}
-use Rattle.line_points.specs.declared.fault.LineFault.{LineFault}
 use Rattle.line_points.specs.declared.fault.BodyFault.{BodyFault}
+use Rattle.line_points.specs.declared.fault.LineFault.{LineFault}
 use Rattle.line_points.specs.declared.mode.Mode.{Mode}
 use Rattle.line_points.proofs.WholeLaws.{line_spelled}
 use Rattle.effect_text.specs.Lines.{text_behind}
-use Rattle.lambda_types.specs.Faults.{Refusal}
+use Rattle.flow_core.specs.Nets.{HasStreamsCarried, NetValue}
 use Rattle.life_effects.specs.Effects.{stored_effects}
 use Rattle.node_core.specs.Meaning.{Answer}
 use Rattle.node_core.specs.declared.node.Node.{Ghosts}
 use Rattle.node_set.specs.Tasks.{Planned}
 use Rattle.store_records.specs.Histories.{held}
-use Rattle.store_records.specs.Lines.{is_of}
+use Rattle.store_records.specs.Lines.{are_lines, is_of}
 use Rattle.store_records.specs.declared.rec.Rec.{Rec}
 use Rattle.store_records.specs.declared.task.Life.{Life}
-use Rattle.store_records.specs.declared.task.Snapshot.{Snapshot}
-use Rattle.tick_compile.specs.Scripts.{Accepts}
 use Rattle.tick_compile.specs.declared.tasks.Task.{Task}
+use Rattle.tick_compile.proofs.ScriptLaws.{one_task}
 use Rattle.topic_core.specs.declared.transition.Transition.{Transition}
 use Rattle.topic_store.proofs.Adding.{image_stands}
 use Rattle.topic_store.proofs.Found.{seen_stands}
 use Rattle.engine_runs.specs.Running.{life_events}
 use Rattle.engine_runs.specs.Scripts.{AreTasksOf, graphs_from, names_from}
 use Rattle.engine_store.specs.Adding.{HasAdded}
+use Rattle.engine_store.specs.Faults.{IsNoGood, IsOfOpening}
 use Rattle.engine_store.specs.Good.{IsGood, StandsGood, stays_or_good}
+use Rattle.engine_store.specs.declared.fault.EngineFault.{EngineFault}
+use Rattle.engine_store.specs.declared.fault.EngineFault.TheVariants as engines
 use Rattle.kap_engine.specs.Engines.{EngineValue, IsEngineBehind}
-use Rattle.kap_engine.specs.Writing.{HasNoPoints, HasPoints, HasSnapped, HasWritten, IsSnapLong, IsSnapped, StandsWriting, TellsOf, stands_writing}
-use Rattle.kap_engine.specs.declared.TheConstants.{SNAP_POINTS}
+use Rattle.kap_engine.specs.Writing.{HasNoPoints, HasPoints, HasSnapped, HasWritten, StandsWriting, TellsOf, stands_writing}
+use Rattle.kap_engine.proofs.ShotLaws.{snapped_same}
+use Rattle.kap_server.specs.Changing.{OpensBehind}
+use Rattle.kap_server.specs.ReadingIn.{IsAll}
+use Rattle.kap_server.specs.Statuses.{status_of_engine}
+use Rattle.kap_server.specs.Writing.{AreOfBody, LeavesWritten, Wrote, WrittenTo, stays_or_writing}
+use Rattle.kap_server.specs.declared.status.Status.{Status}
+use Rattle.kap_server.specs.declared.status.Status.TheVariants as statuses
 use Rattle.kap_server.proofs.ListLaws.{tasks_same}
-use Rattle.kap_server.specs.Writing.{LeavesWritten, stays_or_writing}
+use Rattle.kap_server.proofs.RunLaws.{keeps_same}
 
 -- ---- the points of lines
 
@@ -52,26 +63,45 @@ of-point db rp p is =
     (both (bytes_eq p.rp rp) (length p.dims == 0 && not p.by_name) ((bytes_decides p.rp rp).1 is.rp)
     (both (length p.dims == 0) (not p.by_name) (ap (λ (l : List (List ℕ)). length l == 0) is.dims) (ap not is.by_name)))
 
--- the points that lines have are of the database and policy
+of-more : (db rp : List ℕ) (mode : Mode) (line : List ℕ) (point : Option PointValue) (rest : List PointValue) → line_of db rp mode line ≡ Ok point → list_all (is_of db rp) rest ≡ true
+    → list_all (is_of db rp) (before_more point rest) ≡ true
+of-more db rp mode line None rest is all = all
+of-more db rp mode line (Some p) rest is all = both (is_of db rp p) (list_all (is_of db rp) rest) (of-point db rp p (line_spelled db rp mode line p is).is_of) all
+
+line-ok : (n : ℕ) (read : Result (Option PointValue) LineFault) (point : Option PointValue) → at_line n read ≡ Ok point → read ≡ Ok point
+line-ok n (Ok p) point e = cc
+line-ok n (Err fault) point e = absurd cc
+
 of-lines : (db rp : List ℕ) (mode : Mode) (n : ℕ) (lines : List (List ℕ)) (points : List PointValue) → points_of db rp mode n lines ≡ Ok points → list_all (is_of db rp) points ≡ true
 unfolding points_of
 of-lines db rp mode n [] points e = let none : [] ≡ points = cc in subst (λ (l : List PointValue). list_all (is_of db rp) l ≡ true) none refl
-of-lines db rp mode n (line ∷ lines) points e = by (line_of db rp mode line) (points_of db rp mode (n + 1) lines) refl refl e
-  where
-    joined : (point : Option PointValue) (rest : List PointValue) → line_of db rp mode line ≡ Ok point → list_all (is_of db rp) rest ≡ true → list_all (is_of db rp) (before_more point rest) ≡ true
-    joined None rest is all = all
-    joined (Some p) rest is all = both (is_of db rp p) (list_all (is_of db rp) rest) (of-point db rp p (line_spelled db rp mode line p is).is_of) all
+of-lines db rp mode n (line ∷ lines) points e =
+    let one = bind_ok (at_line n (line_of db rp mode line)) (λ point. points_of db rp mode (n + 1) lines >>= λ points. Ok (before_more point points)) points e in
+    let more = bind_ok (points_of db rp mode (n + 1) lines) (λ points. Ok (before_more one.0 points)) points one.2 in
+    subst (λ (l : List PointValue). list_all (is_of db rp) l ≡ true) (ok_is {E = BodyFault} (before_more one.0 more.0) points more.2)
+    (of-more db rp mode line one.0 more.0 (line-ok n (line_of db rp mode line) one.0 one.1) (of-lines db rp mode (n + 1) lines more.0 more.1))
 
-    by : (read : Result (Option PointValue) LineFault) (rest : Result (List PointValue) BodyFault) → line_of db rp mode line ≡ read → points_of db rp mode (n + 1) lines ≡ rest
-        → (at_line n read >>= λ point. rest >>= λ points. Ok (before_more point points)) ≡ Ok points → list_all (is_of db rp) points ≡ true
-    by (Ok point) (Ok rest) is more e =
-        let same : before_more point rest ≡ points = cc in
-        subst (λ (l : List PointValue). list_all (is_of db rp) l ≡ true) same (joined point rest is (of-lines db rp mode (n + 1) lines rest more))
-    by (Ok point) (Err f) is more e = absurd cc
-    by (Err f) rest is more e = absurd cc
-
+-- the points that lines have are of the database and policy
 pub points_are_of : (db rp : List ℕ) (mode : Mode) (body : List ℕ) (points : List PointValue) → body_of db rp mode body ≡ Ok points → list_all (is_of db rp) points ≡ true
 points_are_of db rp mode body points e = of-lines db rp mode 1 (body_lines body) points e
+
+line-is : (text : List ℕ) → has_line_feed text ≡ false → IsUtf8 text → is_line text ≡ true
+line-is text none utf8 = both (not (has_line_feed text)) _ (not_false (has_line_feed text) none) (text_is_utf8 text utf8)
+
+-- two texts without a line feed are names of points that are stored
+pub names_are_lines : (db rp : List ℕ) → has_line_feed db ≡ false → has_line_feed rp ≡ false → IsUtf8 db → IsUtf8 rp → are_lines (db, rp) ≡ true
+names_are_lines db rp one other utf8 too = both (is_line db) (is_line rp) (line-is db one utf8) (line-is rp other too)
+
+-- ---- how the input was read
+
+-- this is all that the input gave, and these are the points of its lines
+abbrev pub HasRead : List ℕ → List ℕ → Mode → Option (List ℕ) → List PointValue → Type 0
+HasRead db rp mode s points = (body : List ℕ) × IsAll s body × AreOfBody db rp mode body points
+
+-- the same words ask for the same
+pub read_as_asked : (db db' rp rp' : List ℕ) (mode mode' : Mode) → db' ≡ db → rp' ≡ rp → mode' ≡ mode → (s : Option (List ℕ)) (points : List PointValue) → HasRead db' rp' mode' s points → HasRead db rp mode s points
+read_as_asked db db' rp rp' mode mode' db_is rp_is mode_is s points read =
+    subst (λ (x : List ℕ). HasRead x rp mode s points) db_is (subst (λ (y : List ℕ). HasRead db' y mode s points) rp_is (subst (λ (m : Mode). HasRead db' rp' m s points) mode_is read))
 
 -- ---- images
 
@@ -105,8 +135,8 @@ module _ {N P S : Type 0} (g : Ghosts N P S) (planned : Planned P) (rs : List Re
       changes = none.changes ∙ added.changes;
     }
 
-    pub points_behind : (rs' : List Rec) → HasPoints new (held records) (held rs') → HasPoints new (held rs) (held rs')
-    points_behind rs' has = record {
+    points-behind : (rs' : List Rec) → HasPoints new (held records) (held rs') → HasPoints new (held rs) (held rs')
+    points-behind rs' has = record {
       tasks = has.tasks ∙ added.tasks;
       lives = has.lives ∙ added.lives;
       points = has.points ∙ ap (λ (l : List PointValue). l ++ new) added.points;
@@ -115,11 +145,11 @@ module _ {N P S : Type 0} (g : Ghosts N P S) (planned : Planned P) (rs : List Re
 
     none-or-all : (rs' : List Rec) → HasNoPoints (held records) (held rs') ⊎ HasPoints new (held records) (held rs') → HasNoPoints (held rs) (held rs') ⊎ HasPoints new (held rs) (held rs')
     none-or-all rs' (inl none) = inl (none-behind rs' none)
-    none-or-all rs' (inr has) = inr (points_behind rs' has)
+    none-or-all rs' (inr has) = inr (points-behind rs' has)
 
     -- so has what stands while they are written behind an opening
-    pub writes_behind : (files : Image) → StandsWriting g planned records new files → StandsWriting g planned rs new files
-    writes_behind files w = record {
+    writes-behind : (files : Image) → StandsWriting g planned records new files → StandsWriting g planned rs new files
+    writes-behind files w = record {
       records = w.records;
       stands = w.stands;
       good = w.good;
@@ -139,12 +169,9 @@ module _ {N P S : Type 0} (g : Ghosts N P S) (planned : Planned P) (rs : List Re
       → Moments moment may_leave left_since mid last (stands_writing g planned made.records new) → Moments moment may_leave left_since old last (stays_or_writing g planned rs new)
   opened_then_written seen moment may_leave left_since old mid last engine made opened written = then_run moment may_leave left_since old mid last _ _ _ opened written
       (λ a b was how. opened-writes a b how)
-      (λ a b c was how left stands. inr (writes_behind made.records made.more made.added c stands))
+      (λ a b c was how left stands. inr (writes-behind made.records made.more made.added c stands))
 
 -- ---- what is left
-
-option_points : Option Snapshot → ℕ
-option_points snap = option_map_or (λ (snap : Snapshot). snap.points) snap 0
 
 -- what the lives did is told of a store that holds as much
 more-of : {P : Type 0} (answer : P → Answer) (planned : Planned P) (tasks : List Task) (new : List PointValue) (effects : List Effect) (lives other : List Life) (points more : List PointValue) → other ≡ lives → more ≡ points
@@ -154,24 +181,13 @@ more-of answer planned tasks new effects lives other points more same-lives same
     subst (λ (ls : List Life). stored_effects answer ls (graphs_from planned 1 ls tasks) (points ++ new) ≡ stored_effects answer ls (graphs_from planned 1 ls tasks) points ++ effects) same-lives
     (subst (λ (ps : List PointValue). stored_effects answer other (graphs_from planned 1 other tasks) (ps ++ new) ≡ stored_effects answer other (graphs_from planned 1 other tasks) ps ++ effects) same-points e)
 
-module _ {N P S : Type 0} (g : Ghosts N P S) (planned : Planned P) (one : (refused : Option Refusal) (text : List ℕ) (a b : Task) → Accepts refused text a → Accepts refused text b → a ≡ b) (rs : List Rec) (good : IsGood g planned rs)
-    (seen-before : Image) (images-before : Image → Type 0) (before : EngineValue N) (made : IsEngineBehind g planned rs seen-before images-before before) (new : List PointValue) where
+module _ {N P S : Type 0} (g : Ghosts N P S) (planned : Planned P) (rs : List Rec) (good : IsGood g planned rs) (seen-before : Image) (images-before : Image → Type 0) (before : EngineValue N)
+    (made : IsEngineBehind g planned rs seen-before images-before before) (new : List PointValue) where
   -- the tasks of the lives are those of the engine's
   same-tasks : made.engine.full.good.tasks ≡ good.tasks
   same-tasks =
       let found = made.engine.full.good in
-      sym (tasks_same one (held rs).lives good.tasks found.tasks good.are (subst (λ (ls : List Life). AreTasksOf ls found.tasks) made.added.lives found.are))
-
-  snapped-behind : (rs' : List Rec) (tasks : List Task) → HasSnapped g planned made.records rs' tasks → HasSnapped g planned rs rs' tasks
-  snapped-behind rs' tasks h = record {
-    few = λ lt. h.few (subst (λ (s : Option Snapshot). length (held rs').points - option_points s < SNAP_POINTS) (sym made.added.snap) lt) ∙ made.added.snap;
-    many =
-        λ le. kept (h.many (subst (λ (s : Option Snapshot). SNAP_POINTS ≤ length (held rs').points - option_points s) (sym made.added.snap) le));
-  }
-    where
-      kept : IsSnapped (held rs') ⊎ (((held rs').snap ≡ (held made.records).snap) × IsSnapLong g planned rs' tasks) → IsSnapped (held rs') ⊎ (((held rs').snap ≡ (held rs).snap) × IsSnapLong g planned rs' tasks)
-      kept (inl is) = inl is
-      kept (inr old) = inr (old.0 ∙ made.added.snap, old.1)
+      sym (tasks_same one_task (held rs).lives good.tasks found.tasks good.are (subst (λ (ls : List Life). AreTasksOf ls found.tasks) made.added.lives found.are))
 
   tells-behind : (tasks : List Task) (text : List ℕ) → TellsOf g planned made.records tasks new text → TellsOf g planned rs tasks new text
   tells-behind tasks text t = record {
@@ -183,15 +199,63 @@ module _ {N P S : Type 0} (g : Ghosts N P S) (planned : Planned P) (one : (refus
         ∙ ap (λ (ps : List PointValue). text_behind (names_from (held rs).lives tasks) (life_events g planned (held rs).lives tasks ps) t.effects) made.added.points;
   }
 
-  -- behind an opening the points are there, and what they make
-  pub leaves_written : (seen : Image) (images : Image → Type 0) (after : EngineValue N) (text : List ℕ) → HasWritten g planned made.records made.engine.full.good.tasks new seen images after text
-      → LeavesWritten g planned rs good.tasks new seen images text
-  leaves_written seen images after text w = record {
-    records = w.records;
-    full = w.engine.full;
-    points = points_behind g planned rs new made.records made.more made.added w.records w.points;
-    snapped = subst (λ (ts : List Task). HasSnapped g planned rs w.records ts) same-tasks (snapped-behind w.records made.engine.full.good.tasks w.snapped_is);
-    reads = seen_stands seen images w.records after.store w.engine.on;
-    leaves = image_stands w.records seen images after.store w.engine.on;
-    tells = subst (λ (ts : List Task). TellsOf g planned rs ts new text) same-tasks (tells-behind made.engine.full.good.tasks text w.tells);
-  }
+  module _ (seen : Image) (images : Image → Type 0) (after : EngineValue N) (text : List ℕ) (h : HasWritten g planned made.records made.engine.full.good.tasks new seen images after text) where
+    -- behind an opening the points are there, and what they make
+    abbrev there : LeavesWritten g planned rs good.tasks new seen images text
+    there = record {
+      records = h.records;
+      full = h.engine.full;
+      points = points-behind g planned rs new made.records made.more made.added h.records h.points;
+      snapped = subst (λ (ts : List Task). HasSnapped g planned rs h.records ts) same-tasks (snapped_same g planned rs made.records h.records made.engine.full.good.tasks made.added.snap h.snapped_is);
+      reads = seen_stands seen images h.records after.store h.engine.on;
+      leaves = image_stands h.records seen images after.store h.engine.on;
+      tells = subst (λ (ts : List Task). TellsOf g planned rs ts new text) same-tasks (tells-behind made.engine.full.good.tasks text h.tells);
+    }
+
+    -- the text was written, and the net is there
+    wrote : (w v : Option (List ℕ)) (ran : Option (NetValue N)) → Appends w v text → ran ≡ Some after.run.net → (0 < length new → Each (HasStreamsCarried g) after.run.net.lives) → Wrote g planned rs good.tasks new seen images w v ran
+    wrote w v ran written is streams = record {
+      text = text;
+      leaves = there;
+      written = written;
+      net = record {
+        run = after.run;
+        is = is;
+        runs = h.engine.runs;
+        streams = streams;
+      };
+    }
+
+    -- the text was written, or a prefix of it
+    pub written_out : (low high : ℕ) (w v : Option (List ℕ)) (ran last : Option (NetValue N)) (result : Status) → (result ≡ statuses.Ok) ⊎ (result ≡ statuses.WriteFault)
+        → (result ≡ statuses.Ok → Appends w v text × (last ≡ Some after.run.net)) → (result ≢ statuses.Ok → AppendsPrefix w v text × (last ≡ ran)) → (0 < length new → Each (HasStreamsCarried g) after.run.net.lives)
+        → WrittenTo g planned rs good new low high seen images w v last result
+    written_out low high w v ran last result (inl e) all part streams = let p = all e in subst (WrittenTo g planned rs good new low high seen images w v last) (sym e) (wrote w v last p.0 p.1 streams)
+    written_out low high w v ran last result (inr e) all part streams =
+        let p = part (λ same. let wrong : statuses.WriteFault ≡ statuses.Ok = sym e ∙ same in absurd cc) in
+        subst (WrittenTo g planned rs good new low high seen images w v last) (sym e) (record { text = text; leaves = there; written = p.0 })
+
+-- ---- no store was opened
+
+module _ {N P S T : Type 0} (g : Ghosts N P S) (planned : Planned P) (before after : ℕ) where
+  -- then nothing was written, and a place is told only where a pattern was refused
+  pub none_opened : (rs : List Rec) (good : IsGood g planned rs) (new : List PointValue) (seen : Image) (images : Image → Type 0) (w : Option (List ℕ)) (ran : Option (NetValue N)) (fault : EngineFault) → IsOfOpening fault
+      → ((part : Part) (offset : ℕ) → IsErrOf {T = T} (Err fault) (engines.NotStore part offset) → HasRisen before after) → WrittenTo g planned rs good new before after seen images w w ran (status_of_engine fault)
+  none_opened rs good new seen images w ran (engines.Script fault) may rose = absurd may
+  none_opened rs good new seen images w ran engines.NoTask may rose = absurd may
+  none_opened rs good new seen images w ran engines.Exists may rose = absurd may
+  none_opened rs good new seen images w ran engines.TooManyTasks may rose = absurd may
+  none_opened rs good new seen images w ran (engines.NotStore part offset) may rose = (rose part offset refl, keeps_same w)
+  none_opened rs good new seen images w ran engines.DiskFault may rose = keeps_same w
+  none_opened rs good new seen images w ran engines.NoMemory may rose = keeps_same w
+
+  -- and why it wasn't
+  pub opens_none_behind : (refused : List ℕ) (still : Type 0) (files : Image) (fault : EngineFault) → IsOfOpening fault
+      → ((part : Part) (offset : ℕ) → IsErrOf {T = T} (Err fault) (engines.NotStore part offset) → IsNoGood g planned before after refused files part offset × still) → OpensBehind g planned before after refused still files (status_of_engine fault)
+  opens_none_behind refused still files (engines.Script fault) may why = absurd may
+  opens_none_behind refused still files engines.NoTask may why = absurd may
+  opens_none_behind refused still files engines.Exists may why = absurd may
+  opens_none_behind refused still files engines.TooManyTasks may why = absurd may
+  opens_none_behind refused still files (engines.NotStore part offset) may why = why part offset refl
+  opens_none_behind refused still files engines.DiskFault may why = tt
+  opens_none_behind refused still files engines.NoMemory may why = tt

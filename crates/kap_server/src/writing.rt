@@ -100,6 +100,7 @@ fn write_on<
         (D.seen disk.old) result }
     ensures status { EndsWriting result }
     ensures none { result ≢ Status.Ok → ran.new ≡ ran.old }
+    ensures unwritten { result ≢ Status.Ok → result ≢ Status.WriteFault → out.new ≡ out.old }
     ensures write_fault { result ≡ Status.WriteFault
         → HasRisen (K.faults out.old) (K.faults out.new) }
     ensures disk_fault { result ≡ Status.DiskFault
@@ -202,6 +203,7 @@ pub(crate) fn write<
         (Quiet D.seen D.moment D.may_leave D.left_since disk.old disk.new)
         (D.seen disk.old) result }
     ensures none { result ≢ Status.Ok → ran.new ≡ ran.old }
+    ensures unwritten { result ≢ Status.Ok → result ≢ Status.WriteFault → out.new ≡ out.old }
     ensures read { result ≡ Status.Ok → HasEnded (S.left input.old) (S.left input.new) }
     ensures read_fault { result ≡ Status.ReadFault
         → HasRisen (S.faults input.old) (S.faults input.new) }
