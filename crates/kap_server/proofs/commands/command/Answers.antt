@@ -1,4 +1,4 @@
-use Rattle.std.proofs.Common.{◌≡◌, ℕ, true, List, map, inr, sym, ap, subst, ◌∙◌, ⊎_elim}
+use Rattle.std.proofs.Common.{◌≡◌, ℕ, true, false, List, map, inr, sym, ap, subst, ◌∙◌, ⊎_elim}
 use Rattle.std.specs.Prelude.{◌⊎◌, string_bytes}
 use Rattle.kap_io.specs.Moments.{Quiet}
 use Rattle.line_points.specs.declared.mode.Mode.TheVariants as modes
@@ -164,7 +164,7 @@ returns-in-Some-Show-clause-pattern g c = λ e. absurd (no_pattern c.list.result
 -- ---- a task is defined
 
 pub returns-in-Some-Define-clause-usage : goal.returns-in-Some-Define-clause-usage
-returns-in-Some-Define-clause-usage g c = 
+returns-in-Some-Define-clause-usage g c =
     let asked = rw (c.in-Some-Define.is, c.in-Some-Define.field-0-is) at c.request_in.ensures.request in
     record {
       only = λ e. absurd (script_not (g.P.Patterns.refused c.define.new.pats) (g.S.Source.left c.args.input.now) (g.S.Source.left c.define.new.input) c.define.result statuses.Usage c.define.ensures.script (λ x. x) e);
@@ -172,14 +172,14 @@ returns-in-Some-Define-clause-usage g c =
     }
 
 pub returns-in-Some-Define-clause-too_many : goal.returns-in-Some-Define-clause-too_many
-returns-in-Some-Define-clause-too_many g c = 
+returns-in-Some-Define-clause-too_many g c =
     let asked = rw (c.in-Some-Define.is, c.in-Some-Define.field-0-is) at c.request_in.ensures.request in
-    λ not. let no = ap defines asked ∙ not in absurd cc
+    λ not. let no : true ≡ false = ap defines asked ∙ not in absurd cc
 
 pub returns-in-Some-Define-clause-nothing : goal.returns-in-Some-Define-clause-nothing
-returns-in-Some-Define-clause-nothing g c = 
+returns-in-Some-Define-clause-nothing g c =
     let asked = rw (c.in-Some-Define.is, c.in-Some-Define.field-0-is) at c.request_in.ensures.request in
-    λ not. let no = ap defines asked ∙ not in absurd cc
+    λ not. let no : true ≡ false = ap defines asked ∙ not in absurd cc
 
 pub returns-in-Some-Define-clause-script : goal.returns-in-Some-Define-clause-script
 returns-in-Some-Define-clause-script g c = λ id asks. c.define.ensures.script
@@ -218,7 +218,7 @@ returns-in-Some-Define-clause-write_fault g c = λ e. absurd (script_not (g.P.Pa
 -- ---- a task is changed
 
 pub returns-in-Some-Change-clause-usage : goal.returns-in-Some-Change-clause-usage
-returns-in-Some-Change-clause-usage g c = 
+returns-in-Some-Change-clause-usage g c =
     let asked = rw (c.in-Some-Change.is, c.in-Some-Change.field-0-is) at c.request_in.ensures.request in
     record {
       only = λ e. absurd (changes_not c.change.result statuses.Usage c.change.ensures.ends (λ x. x) e);
@@ -226,7 +226,7 @@ returns-in-Some-Change-clause-usage g c =
     }
 
 pub returns-in-Some-Change-clause-too_many : goal.returns-in-Some-Change-clause-too_many
-returns-in-Some-Change-clause-too_many g c = 
+returns-in-Some-Change-clause-too_many g c =
     let asked = rw (c.in-Some-Change.is, c.in-Some-Change.field-0-is) at c.request_in.ensures.request in
     λ not. record {
       only = λ e. absurd (changes_not c.change.result statuses.TooManyTasks c.change.ensures.ends (λ x. x) e);
@@ -272,7 +272,7 @@ returns-in-Some-Change-clause-pattern g c = λ e. absurd (changes_no_pattern c.c
 -- ---- points are written
 
 pub returns-in-Some-Write-clause-usage : goal.returns-in-Some-Write-clause-usage
-returns-in-Some-Write-clause-usage g c = 
+returns-in-Some-Write-clause-usage g c =
     let asked = rw (c.in-Some-Write.is, c.in-Some-Write.field-0-is) at c.request_in.ensures.request in
     record {
       only = λ e. absurd (lines_not c.in-Some-Write.db.now c.in-Some-Write.rp.now (modes.Live (unit_of c.in-Some-Write.options) c.args.now) (g.S.Source.left c.args.input.now) (g.S.Source.left c.write.new.input) c.write.result statuses.Usage c.write.ensures.lines (λ x. x) e);
@@ -280,7 +280,7 @@ returns-in-Some-Write-clause-usage g c =
     }
 
 pub returns-in-Some-Write-clause-too_many : goal.returns-in-Some-Write-clause-too_many
-returns-in-Some-Write-clause-too_many g c = 
+returns-in-Some-Write-clause-too_many g c =
     let asked = rw (c.in-Some-Write.is, c.in-Some-Write.field-0-is) at c.request_in.ensures.request in
     λ not. record {
       only = λ e. absurd (lines_not c.in-Some-Write.db.now c.in-Some-Write.rp.now (modes.Live (unit_of c.in-Some-Write.options) c.args.now) (g.S.Source.left c.args.input.now) (g.S.Source.left c.write.new.input) c.write.result statuses.TooManyTasks c.write.ensures.lines (λ x. x) e);
@@ -293,9 +293,9 @@ returns-in-Some-Write-clause-nothing g c = λ not. ⊎_elim
     (λ e. absurd (lines_not c.in-Some-Write.db.now c.in-Some-Write.rp.now (modes.Live (unit_of c.in-Some-Write.options) c.args.now) (g.S.Source.left c.args.input.now) (g.S.Source.left c.write.new.input) c.write.result statuses.TooManyTasks c.write.ensures.lines (λ x. x) e))
 
 pub returns-in-Some-Write-clause-no_net : goal.returns-in-Some-Write-clause-no_net
-returns-in-Some-Write-clause-no_net g c = 
+returns-in-Some-Write-clause-no_net g c =
     let asked = rw (c.in-Some-Write.is, c.in-Some-Write.field-0-is) at c.request_in.ensures.request in
-    λ h. c.write.ensures.none (λ ok. let no = ap runs_net asked ∙ h ok in absurd cc) ∙ c.requires.none
+    λ h. c.write.ensures.none (λ ok. let no : true ≡ false = ap runs_net asked ∙ h ok in absurd cc) ∙ c.requires.none
 
 pub returns-in-Some-Write-clause-lines : goal.returns-in-Some-Write-clause-lines
 returns-in-Some-Write-clause-lines g c = λ options db rp asks.
