@@ -1,6 +1,6 @@
 -- What stands after a task of a store was defined, or changed.
-use Rattle.std.proofs.Common.{◌≡◌, ℕ, ◌<◌, Bool, true, false, List, [], ◌∷◌, ◌++◌, length, Option, None, Some, inl, inr, refl, sym, ap, subst, cond, ◌∙◌, arith}
-use Rattle.std.specs.Prelude.{◌⊎◌, ◌≤◌, not, ◌&&◌, nat_le, nat_lt, IfSome}
+use Rattle.std.proofs.Common.{◌≡◌, ℕ, ◌<◌, Bool, true, false, List, [], ◌∷◌, ◌++◌, length, Option, None, Some, Err, inl, inr, refl, sym, ap, subst, cond, ◌∙◌, arith}
+use Rattle.std.specs.Prelude.{◌≢◌, ◌⊎◌, ◌≤◌, not, ◌&&◌, nat_le, nat_lt, IfSome, IsErrOf}
 use Rattle.std.specs.List.{AllByRecursion as Each}
 use Rattle.std.proofs.lemmas.Bool.Decides.{nat_tests}
 use Rattle.kap_base.specs.Texts.{is_task_id}
@@ -8,7 +8,7 @@ use Rattle.kap_base.specs.Words.{HasRisen}
 use Rattle.kap_base.specs.declared.limits.TheConstants.{SCRIPT_LIMIT, TASK_LIMIT}
 use Rattle.kap_base.proofs.TestLaws.{first_of, second_of}
 use Rattle.kap_io.specs.Disk.{Image}
-use Rattle.kap_io.specs.Moments.{Moments, then_run, weaker}
+use Rattle.kap_io.specs.Moments.{Moments, no_call, then_run, weaker}
 use Rattle.kap_io.specs.declared.disk.Part.{Part}
 use Rattle.lambda_types.specs.Faults.{Refusal}
 use Rattle.node_core.specs.declared.node.Node.{Ghosts}
@@ -25,20 +25,23 @@ use Rattle.tick_compile.specs.declared.script_fault.ScriptFault.TheVariants as s
 use Rattle.tick_compile.specs.declared.tasks.Task.{Task}
 use Rattle.topic_store.proofs.Adding.{image_stands}
 use Rattle.topic_store.proofs.Found.{seen_stands}
+use Rattle.topic_store.specs.Stores.{IsNamed}
 use Rattle.engine_store.specs.Asking.{IsScript}
+use Rattle.engine_store.specs.Faults.{IsNoGood, IsOfOpening}
 use Rattle.engine_store.specs.Good.{IsGood, stays_or_good}
 use Rattle.engine_store.specs.declared.fault.EngineFault.{EngineFault}
 use Rattle.engine_store.specs.declared.fault.EngineFault.TheVariants as engines
 use Rattle.engine_store.proofs.WhyLaws.{refused_rose}
-use Rattle.kap_engine.specs.Changing.{IsRefusal, IsRefusedAgain, IsWhyNoneDefined, IsWhyNoneEnabled, StandsFull, stands_full_before_or_after}
+use Rattle.kap_engine.specs.Changing.{IsRefusal, IsRefusedAgain, IsWhyNoneDefined, IsWhyNoneEnabled, IsWhyNoneEnded, StandsFull, stands_full_before_or_after}
 use Rattle.kap_engine.specs.Engines.{EngineValue, IsEngine, IsEngineBehind}
 use Rattle.kap_server.specs.declared.status.Status.{Status}
 use Rattle.kap_server.specs.declared.status.Status.TheVariants as statuses
 use Rattle.kap_server.specs.declared.words.Change.{Change}
 use Rattle.kap_server.specs.declared.words.Change.TheVariants.{Enable, Disable, Delete}
-use Rattle.kap_server.specs.Changing.{ChangedTo, DefinedTo, LeavesChanged, record_of, stays_or_changed}
-use Rattle.kap_server.specs.Listing.{LeavesFull}
-use Rattle.kap_server.specs.ReadingIn.{IsAll}
+use Rattle.kap_server.specs.Changing.{ChangedTo, Changes, DefinedTo, EndsChange, EndsDefinition, EndsReading, IsRefusedThere, IsScriptFault, IsTaskScript, LeavesChanged, OpensBehind, OpensToChange, ReadsScript, is_early, record_of, stays_or_changed}
+use Rattle.kap_server.specs.Listing.{AreAsked, LeavesFull}
+use Rattle.kap_server.specs.ReadingIn.{IsAll, IsLong, IsShort, ReadsFew}
+use Rattle.kap_server.specs.Readying.{is_pattern_refused}
 use Rattle.kap_server.specs.Statuses.{status_of_engine, status_of_script}
 
 -- each text that one script answers is refused for no fault
@@ -131,15 +134,46 @@ module _ {N P S : Type 0} (g : Ghosts N P S) (planned : Planned P) (rs : List Re
   pub kept_tasks : (seen : Image) (images : Image → Type 0) (engine : EngineValue N) → (made : IsEngineBehind g planned rs seen images engine) → engine.store.kept.tasks ≡ (held rs).tasks
   kept_tasks seen images engine made = made.engine.on.kept.keeps.tasks ∙ made.added.tasks
 
+  -- a task had the id, and the record is there
+  pub change_done : (seen-before : Image) (images-before : Image → Type 0) (engine after : EngineValue N) (seen : Image) (images : Image → Type 0) (change : Change) (id : List ℕ) (before now : ℕ)
+      → (made : IsEngineBehind g planned rs seen-before images-before engine) → IsEngine g planned (made.records ++ record_of change id ∷ []) seen images after
+      → ChangedTo g planned rs id (record_of change id) before now seen images statuses.Ok
+  change_done seen-before images-before engine after seen images change id before now made done = (
+    subst (λ (tasks : List StoredTask). has_task id tasks ≡ true) made.added.tasks (task_there change id (held made.records) (last_may made.records (record_of change id) done.on.stored.follow)),
+    leaves_changed seen-before images-before engine after seen images (record_of change id) made done,
+  )
+
+  -- none had it, there was room, and the record is there
+  pub define_done : (seen-before : Image) (images-before : Image → Type 0) (engine after : EngineValue N) (seen : Image) (images : Image → Type 0) (id script : List ℕ) (before now : ℕ)
+      → (made : IsEngineBehind g planned rs seen-before images-before engine) → IsEngine g planned (made.records ++ kinds.Define id script false ∷ []) seen images after
+      → DefinedTo g planned rs id (kinds.Define id script false) before now seen images statuses.Ok
+  define_done seen-before images-before engine after seen images id script before now made done =
+      let new = task_new id script false (held made.records) (last_may made.records (kinds.Define id script false) done.on.stored.follow) in (
+        subst (λ (tasks : List StoredTask). has_task id tasks ≡ false) made.added.tasks new.0,
+        subst (λ (tasks : List StoredTask). length tasks < TASK_LIMIT) made.added.tasks new.1,
+        leaves_changed seen-before images-before engine after seen images (kinds.Define id script false) made done,
+      )
+
+  -- nothing was opened
+  pub nothing_changed : {D : Type 0} (seen : D → Image) (moment : D → ℕ) (may_leave : D → Image → Type 0) (left_since : D → ℕ → Image → Type 0) (disk : D) (id : List ℕ) (r : Rec) (before after : ℕ)
+      → Changes g planned seen moment may_leave left_since rs id r before after disk disk statuses.NoMemory
+  nothing_changed seen moment may_leave left_since disk id r before after = record {
+    ends = tt;
+    any_moment = no_call moment may_leave left_since disk (stays_or_changed g planned rs r) (λ c left. inl (inl refl));
+  }
+
+  -- and its log is the one that the head names
+  pub named_now : (seen : Image) (images : Image → Type 0) (engine : EngineValue N) → IsEngineBehind g planned rs seen images engine → IsNamed seen engine.store.log.part
+  named_now seen images engine made = record { run = made.engine.on.run; head = made.engine.on.head; is = made.engine.on.part }
+
 -- ---- why a task isn't changed
 
 found-script : (id : List ℕ) (tasks : List StoredTask) (task : StoredTask) → Each (λ task. IsScript task.script) tasks → task_of id tasks ≡ Some task → IsScript task.script
 found-script id [] task all e = absurd cc
-found-script id (t ∷ tasks) task all e = by (is_called id t) e
-  where
-    by : (b : Bool) → cond b (Some t) (task_of id tasks) ≡ Some task → IsScript task.script
-    by true is = let same : t ≡ task = cc in subst (λ (x : StoredTask). IsScript x.script) same all.0
-    by false is = found-script id tasks task all.1 is
+found-script id (t ∷ tasks) task all e = elim (is_called id t) as (λ b. cond b (Some t) (task_of id tasks) ≡ Some task → IsScript task.script) [
+  | true ↦ λ is. let same : t ≡ task = cc in subst (λ (x : StoredTask). IsScript x.script) same all.0
+  | false ↦ λ is. found-script id tasks task all.1 is
+] e
 
 module _ {N P S : Type 0} (g : Ghosts N P S) (planned : Planned P) (rs : List Rec) (good : IsGood g planned rs) (apart : Apart) (before after : ℕ) (refused id : List ℕ) (seen : Image) (images : Image → Type 0) where
   pub change_refused : (log : Part) (r : Rec) (fault : EngineFault) → IsWhyNoneEnabled before after refused log id (held rs).tasks fault → (IsRefusal fault → LeavesFull g planned rs seen images)
@@ -149,7 +183,7 @@ module _ {N P S : Type 0} (g : Ghosts N P S) (planned : Planned P) (rs : List Re
   change_refused log r engines.Exists why leaves = absurd why
   change_refused log r engines.TooManyTasks why leaves = absurd why
   change_refused log r (engines.NotStore part offset) why leaves =
-      let again : IsRefusedAgain before after refused id (held rs).tasks offset = why.1 in
+      let again : IsRefusedAgain before after refused (task_of id (held rs).tasks) offset = why.1 in
       refused_rose before after refused again.task.script apart (found-script id (held rs).tasks again.task good.scripts.of_tasks again.is) again.why
   change_refused log r engines.DiskFault why leaves = tt
   change_refused log r engines.NoMemory why leaves = tt
@@ -197,3 +231,297 @@ module _ {N P S : Type 0} (g : Ghosts N P S) (planned : Planned P) (rs : List Re
   define_refused r (engines.NotStore part offset) is why rose leaves = absurd why
   define_refused r engines.DiskFault is why rose leaves = tt
   define_refused r engines.NoMemory is why rose leaves = tt
+
+-- ---- what was read
+
+-- a text that is a script is that of a task
+pub reads_defined : (refused text : List ℕ) (s t : Option (List ℕ)) (status : Status) → IsAll s text → IsTaskScript text → EndsDefinition refused text status → ReadsScript refused s t status
+reads_defined refused text s t statuses.Ok all is ends = told_of IsTaskScript s text all is
+reads_defined refused text s t statuses.Usage all is ends = absurd ends
+reads_defined refused text s t (statuses.Script fault) all is ends = told_of (λ text. IsShort text × Refuses (refusal_in fault refused) text fault) s text all (is.0, ends.0)
+reads_defined refused text s t (statuses.Line n fault) all is ends = absurd ends
+reads_defined refused text s t (statuses.Truncated n) all is ends = absurd ends
+reads_defined refused text s t (statuses.NotStore part offset) all is ends = told_of IsTaskScript s text all is
+reads_defined refused text s t statuses.NoTask all is ends = absurd ends
+reads_defined refused text s t statuses.Exists all is ends = told_of IsTaskScript s text all is
+reads_defined refused text s t statuses.TooManyTasks all is ends = told_of IsTaskScript s text all is
+reads_defined refused text s t statuses.TooLong all is ends = absurd ends
+reads_defined refused text s t statuses.NoMemory all is ends = tt
+reads_defined refused text s t statuses.ReadFault all is ends = absurd ends
+reads_defined refused text s t statuses.WriteFault all is ends = absurd ends
+reads_defined refused text s t statuses.DiskFault all is ends = told_of IsTaskScript s text all is
+
+-- one that is none has a fault
+pub fault_reads : (refused text : List ℕ) (s t : Option (List ℕ)) (status : Status) → IsAll s text → IsShort text → IsScriptFault refused text status → ReadsScript refused s t status
+fault_reads refused text s t statuses.Ok all short why = absurd why
+fault_reads refused text s t statuses.Usage all short why = absurd why
+fault_reads refused text s t (statuses.Script fault) all short why = told_of (λ text. IsShort text × Refuses (refusal_in fault refused) text fault) s text all (short, why)
+fault_reads refused text s t (statuses.Line n fault) all short why = absurd why
+fault_reads refused text s t (statuses.Truncated n) all short why = absurd why
+fault_reads refused text s t (statuses.NotStore part offset) all short why = absurd why
+fault_reads refused text s t statuses.NoTask all short why = absurd why
+fault_reads refused text s t statuses.Exists all short why = absurd why
+fault_reads refused text s t statuses.TooManyTasks all short why = absurd why
+fault_reads refused text s t statuses.TooLong all short why = absurd why
+fault_reads refused text s t statuses.NoMemory all short why = tt
+fault_reads refused text s t statuses.ReadFault all short why = absurd why
+fault_reads refused text s t statuses.WriteFault all short why = absurd why
+fault_reads refused text s t statuses.DiskFault all short why = absurd why
+
+pub fault_early : (refused text : List ℕ) (status : Status) → IsScriptFault refused text status → EndsReading status
+fault_early refused text statuses.Ok why = absurd why
+fault_early refused text statuses.Usage why = absurd why
+fault_early refused text (statuses.Script fault) why = tt
+fault_early refused text (statuses.Line n fault) why = absurd why
+fault_early refused text (statuses.Truncated n) why = absurd why
+fault_early refused text (statuses.NotStore part offset) why = absurd why
+fault_early refused text statuses.NoTask why = absurd why
+fault_early refused text statuses.Exists why = absurd why
+fault_early refused text statuses.TooManyTasks why = absurd why
+fault_early refused text statuses.TooLong why = absurd why
+fault_early refused text statuses.NoMemory why = tt
+fault_early refused text statuses.ReadFault why = absurd why
+fault_early refused text statuses.WriteFault why = absurd why
+fault_early refused text statuses.DiskFault why = absurd why
+
+pub never_early : (s status : Status) → EndsReading s → (EndsReading status → ⊥) → s ≡ status → ⊥
+never_early s status ends none e = none (subst EndsReading e ends)
+
+-- it couldn't be read, or is too long
+module _ (status : Status) (ends : (status ≡ statuses.TooLong) ⊎ ((status ≡ statuses.ReadFault) ⊎ (status ≡ statuses.NoMemory))) where
+  pub unread_reads : (refused : List ℕ) (s t : Option (List ℕ)) → (status ≡ statuses.TooLong → IsLong s) → (status ≡ statuses.ReadFault → ReadsFew s t) → ReadsScript refused s t status
+  unread_reads refused s t long few = by ends
+    where
+      by : (status ≡ statuses.TooLong) ⊎ ((status ≡ statuses.ReadFault) ⊎ (status ≡ statuses.NoMemory)) → ReadsScript refused s t status
+      by (inl e) = subst (ReadsScript refused s t) (sym e) (long e)
+      by (inr (inl e)) = subst (ReadsScript refused s t) (sym e) (few e)
+      by (inr (inr e)) = subst (ReadsScript refused s t) (sym e) tt
+
+  pub unread_early : EndsReading status
+  unread_early = by ends
+    where
+      by : (status ≡ statuses.TooLong) ⊎ ((status ≡ statuses.ReadFault) ⊎ (status ≡ statuses.NoMemory)) → EndsReading status
+      by (inl e) = subst EndsReading (sym e) tt
+      by (inr (inl e)) = subst EndsReading (sym e) tt
+      by (inr (inr e)) = subst EndsReading (sym e) tt
+
+  pub unread_pattern : is_pattern_refused status ≡ true → ⊥
+  unread_pattern told = by ends
+    where
+      by : (status ≡ statuses.TooLong) ⊎ ((status ≡ statuses.ReadFault) ⊎ (status ≡ statuses.NoMemory)) → ⊥
+      by (inl e) = let one : is_pattern_refused statuses.TooLong ≡ true = ap is_pattern_refused (sym e) ∙ told in absurd cc
+      by (inr (inl e)) = let one : is_pattern_refused statuses.ReadFault ≡ true = ap is_pattern_refused (sym e) ∙ told in absurd cc
+      by (inr (inr e)) = let one : is_pattern_refused statuses.NoMemory ≡ true = ap is_pattern_refused (sym e) ∙ told in absurd cc
+
+-- a script's fault is why it is none, unless memory lacked
+pub script_fault : (refused text : List ℕ) (fault : ScriptFault) → (fault ≢ scripts.NoMemory → Refuses (refusal_in fault refused) text fault) → IsScriptFault refused text (status_of_script fault)
+script_fault refused text (scripts.NotUtf8 at) why = why (λ e. absurd cc)
+script_fault refused text (scripts.Lex fault) why = why (λ e. absurd cc)
+script_fault refused text (scripts.Parse fault) why = why (λ e. absurd cc)
+script_fault refused text (scripts.Name fault) why = why (λ e. absurd cc)
+script_fault refused text (scripts.NoKind at) why = why (λ e. absurd cc)
+script_fault refused text (scripts.Property at) why = why (λ e. absurd cc)
+script_fault refused text (scripts.Argument at) why = why (λ e. absurd cc)
+script_fault refused text (scripts.Handler at) why = why (λ e. absurd cc)
+script_fault refused text (scripts.Template at fault) why = why (λ e. absurd cc)
+script_fault refused text (scripts.Lambda fault) why = why (λ e. absurd cc)
+script_fault refused text (scripts.Graph fault) why = why (λ e. absurd cc)
+script_fault refused text scripts.NoFrom why = why (λ e. absurd cc)
+script_fault refused text scripts.NoMemory why = tt
+
+-- a status of a refused pattern is that of a fault of one
+pub script_rose : (before after : ℕ) (fault : ScriptFault) → (is_refusal fault ≡ true → HasRisen before after) → is_pattern_refused (status_of_script fault) ≡ true → HasRisen before after
+script_rose before after fault rose told = by (script_status fault)
+  where
+    by : (status_of_script fault ≡ statuses.NoMemory) ⊎ (status_of_script fault ≡ statuses.Script fault) → HasRisen before after
+    by (inl e) = let none : is_pattern_refused statuses.NoMemory ≡ true = ap is_pattern_refused (sym e) ∙ told in absurd cc
+    by (inr e) = rose (ap is_pattern_refused (sym e) ∙ told)
+
+pub engine_rose : (before after : ℕ) (fault : EngineFault) → ((f : ScriptFault) → fault ≡ engines.Script f → is_refusal f ≡ true → HasRisen before after) → is_pattern_refused (status_of_engine fault) ≡ true → HasRisen before after
+engine_rose before after (engines.Script fault) rose told = script_rose before after fault (rose fault refl) told
+engine_rose before after engines.NoTask rose told = absurd cc
+engine_rose before after engines.Exists rose told = absurd cc
+engine_rose before after engines.TooManyTasks rose told = absurd cc
+engine_rose before after (engines.NotStore part offset) rose told = absurd cc
+engine_rose before after engines.DiskFault rose told = absurd cc
+engine_rose before after engines.NoMemory rose told = absurd cc
+
+-- ---- an opening that fails
+
+pub opening_defines : (refused text : List ℕ) (fault : EngineFault) → IsOfOpening fault → EndsDefinition refused text (status_of_engine fault)
+opening_defines refused text (engines.Script fault) may = absurd may
+opening_defines refused text engines.NoTask may = absurd may
+opening_defines refused text engines.Exists may = absurd may
+opening_defines refused text engines.TooManyTasks may = absurd may
+opening_defines refused text (engines.NotStore part offset) may = tt
+opening_defines refused text engines.DiskFault may = tt
+opening_defines refused text engines.NoMemory may = tt
+
+pub opening_changes : (fault : EngineFault) → IsOfOpening fault → EndsChange (status_of_engine fault)
+opening_changes (engines.Script fault) may = absurd may
+opening_changes engines.NoTask may = absurd may
+opening_changes engines.Exists may = absurd may
+opening_changes engines.TooManyTasks may = absurd may
+opening_changes (engines.NotStore part offset) may = tt
+opening_changes engines.DiskFault may = tt
+opening_changes engines.NoMemory may = tt
+
+-- it is of no pattern
+pub opening_pattern : (fault : EngineFault) → IsOfOpening fault → is_pattern_refused (status_of_engine fault) ≡ true → ⊥
+opening_pattern (engines.Script fault) may told = may
+opening_pattern engines.NoTask may told = may
+opening_pattern engines.Exists may told = may
+opening_pattern engines.TooManyTasks may told = may
+opening_pattern (engines.NotStore part offset) may told = absurd cc
+opening_pattern engines.DiskFault may told = absurd cc
+opening_pattern engines.NoMemory may told = absurd cc
+
+module _ {N P S : Type 0} (g : Ghosts N P S) (planned : Planned P) (rs : List Rec) (id : List ℕ) (r : Rec) (before after : ℕ) (seen : Image) (images : Image → Type 0) where
+  pub none_defined : {T : Type 0} (fault : EngineFault) → IsOfOpening fault → ((part : Part) (offset : ℕ) → IsErrOf {T = T} (Err fault) (engines.NotStore part offset) → HasRisen before after)
+      → DefinedTo g planned rs id r before after seen images (status_of_engine fault)
+  none_defined (engines.Script fault) may rose = absurd may
+  none_defined engines.NoTask may rose = absurd may
+  none_defined engines.Exists may rose = absurd may
+  none_defined engines.TooManyTasks may rose = absurd may
+  none_defined (engines.NotStore part offset) may rose = rose part offset refl
+  none_defined engines.DiskFault may rose = tt
+  none_defined engines.NoMemory may rose = tt
+
+  pub none_changed : {T : Type 0} (fault : EngineFault) → IsOfOpening fault → ((part : Part) (offset : ℕ) → IsErrOf {T = T} (Err fault) (engines.NotStore part offset) → HasRisen before after)
+      → ChangedTo g planned rs id r before after seen images (status_of_engine fault)
+  none_changed (engines.Script fault) may rose = absurd may
+  none_changed engines.NoTask may rose = absurd may
+  none_changed engines.Exists may rose = absurd may
+  none_changed engines.TooManyTasks may rose = absurd may
+  none_changed (engines.NotStore part offset) may rose = rose part offset refl
+  none_changed engines.DiskFault may rose = tt
+  none_changed engines.NoMemory may rose = tt
+
+-- ---- which files were opened
+
+module _ {N P S : Type 0} (g : Ghosts N P S) (planned : Planned P) (before after : ℕ) (refused : List ℕ) (still : Type 0) (files : Image) where
+  -- none
+  pub opens_early : (status : Status) → EndsReading status → OpensBehind g planned before after refused still files status
+  opens_early statuses.Ok ends = absurd ends
+  opens_early statuses.Usage ends = absurd ends
+  opens_early (statuses.Script fault) ends = tt
+  opens_early (statuses.Line n fault) ends = tt
+  opens_early (statuses.Truncated n) ends = absurd ends
+  opens_early (statuses.NotStore part offset) ends = absurd ends
+  opens_early statuses.NoTask ends = absurd ends
+  opens_early statuses.Exists ends = absurd ends
+  opens_early statuses.TooManyTasks ends = absurd ends
+  opens_early statuses.TooLong ends = tt
+  opens_early statuses.NoMemory ends = tt
+  opens_early statuses.ReadFault ends = tt
+  opens_early statuses.WriteFault ends = absurd ends
+  opens_early statuses.DiskFault ends = absurd ends
+
+  -- those of no right store
+  pub behind_none : {T : Type 0} (fault : EngineFault) → IsOfOpening fault → ((part : Part) (offset : ℕ) → IsErrOf {T = T} (Err fault) (engines.NotStore part offset) → IsNoGood g planned before after refused files part offset × still)
+      → OpensBehind g planned before after refused still files (status_of_engine fault)
+  behind_none (engines.Script fault) may why = absurd may
+  behind_none engines.NoTask may why = absurd may
+  behind_none engines.Exists may why = absurd may
+  behind_none engines.TooManyTasks may why = absurd may
+  behind_none (engines.NotStore part offset) may why = why part offset refl
+  behind_none engines.DiskFault may why = tt
+  behind_none engines.NoMemory may why = tt
+
+  -- or of one, where no task is defined
+  pub behind_asked : (last id script : List ℕ) (tasks : List StoredTask) (fault : EngineFault) → IsWhyNoneDefined last id script tasks fault → AreAsked g planned files
+      → OpensBehind g planned before after refused still files (status_of_engine fault)
+  behind_asked last id script tasks (engines.Script fault) why asked = by (script_status fault)
+    where
+      by : (status_of_script fault ≡ statuses.NoMemory) ⊎ (status_of_script fault ≡ statuses.Script fault) → OpensBehind g planned before after refused still files (status_of_script fault)
+      by (inl e) = subst (OpensBehind g planned before after refused still files) (sym e) tt
+      by (inr e) = subst (OpensBehind g planned before after refused still files) (sym e) tt
+  behind_asked last id script tasks engines.NoTask why asked = absurd why
+  behind_asked last id script tasks engines.Exists why asked = asked
+  behind_asked last id script tasks engines.TooManyTasks why asked = asked
+  behind_asked last id script tasks (engines.NotStore part offset) why asked = absurd why
+  behind_asked last id script tasks engines.DiskFault why asked = tt
+  behind_asked last id script tasks engines.NoMemory why asked = tt
+
+  module _ (now : Image) (id : List ℕ) where
+    -- the same of a change
+    pub change_none : {T : Type 0} (fault : EngineFault) → IsOfOpening fault → ((part : Part) (offset : ℕ) → IsErrOf {T = T} (Err fault) (engines.NotStore part offset) → IsNoGood g planned before after refused files part offset × still)
+        → OpensToChange g planned before after refused still files now id (status_of_engine fault)
+    change_none (engines.Script fault) may why = absurd may
+    change_none engines.NoTask may why = absurd may
+    change_none engines.Exists may why = absurd may
+    change_none engines.TooManyTasks may why = absurd may
+    change_none (engines.NotStore part offset) may why = inl (why part offset refl)
+    change_none engines.DiskFault may why = tt
+    change_none engines.NoMemory may why = tt
+
+    -- where none is changed, the log and the tasks are those of the records, where these are right
+    pub change_asked : (log : Part) (tasks : List StoredTask) (fault : EngineFault) → IsWhyNoneEnabled before after refused log id tasks fault → (asked : AreAsked g planned files)
+        → (IsRefusal fault → IsGood g planned asked.records → IsNamed now log × (tasks ≡ (held asked.records).tasks))
+        → OpensToChange g planned before after refused still files now id (status_of_engine fault)
+    change_asked log tasks (engines.Script fault) why asked there = absurd why
+    change_asked log tasks engines.NoTask why asked there = asked
+    change_asked log tasks engines.Exists why asked there = absurd why
+    change_asked log tasks engines.TooManyTasks why asked there = absurd why
+    change_asked log tasks (engines.NotStore part offset) why asked there = inr (record {
+      asked = asked;
+      again = λ good. let t = there tt good in (
+        subst (IsNamed now) (sym why.0) t.0,
+        subst (λ (ts : List StoredTask). IsRefusedAgain before after refused (task_of id ts) offset) t.1 why.1,
+      );
+    })
+    change_asked log tasks engines.DiskFault why asked there = tt
+    change_asked log tasks engines.NoMemory why asked there = tt
+
+-- ---- how it ends, on any disk
+
+-- no task is defined
+pub define_ends : (apart : Apart) (refused id script : List ℕ) (tasks : List StoredTask) (fault : EngineFault) → IsScript script → IsWhyNoneDefined refused id script tasks fault → EndsDefinition refused script (status_of_engine fault)
+define_ends apart refused id script tasks (engines.Script fault) is why = by (script_status fault)
+  where
+    by : (status_of_script fault ≡ statuses.NoMemory) ⊎ (status_of_script fault ≡ statuses.Script fault) → EndsDefinition refused script (status_of_script fault)
+    by (inl e) = subst (EndsDefinition refused script) (sym e) tt
+    by (inr e) = subst (EndsDefinition refused script) (sym e) (why, is_pattern apart refused script fault is why)
+define_ends apart refused id script tasks engines.NoTask is why = absurd why
+define_ends apart refused id script tasks engines.Exists is why = tt
+define_ends apart refused id script tasks engines.TooManyTasks is why = tt
+define_ends apart refused id script tasks (engines.NotStore part offset) is why = absurd why
+define_ends apart refused id script tasks engines.DiskFault is why = tt
+define_ends apart refused id script tasks engines.NoMemory is why = tt
+
+-- none is changed
+pub change_ends : (before after : ℕ) (refused : List ℕ) (log : Part) (id : List ℕ) (tasks : List StoredTask) (fault : EngineFault) → IsWhyNoneEnabled before after refused log id tasks fault → EndsChange (status_of_engine fault)
+change_ends before after refused log id tasks (engines.Script fault) why = absurd why
+change_ends before after refused log id tasks engines.NoTask why = tt
+change_ends before after refused log id tasks engines.Exists why = absurd why
+change_ends before after refused log id tasks engines.TooManyTasks why = absurd why
+change_ends before after refused log id tasks (engines.NotStore part offset) why = tt
+change_ends before after refused log id tasks engines.DiskFault why = tt
+change_ends before after refused log id tasks engines.NoMemory why = tt
+
+-- a definition that was read ends early only where nothing was opened
+pub not_early : (refused text : List ℕ) (status : Status) → EndsDefinition refused text status → is_early status ≡ true → ⊥
+not_early refused text statuses.Ok ends early = absurd cc
+not_early refused text statuses.Usage ends early = ends
+not_early refused text (statuses.Script fault) ends early = let none = not-true (is_refusal fault) early in let some = ends.1 in absurd cc
+not_early refused text (statuses.Line n fault) ends early = ends
+not_early refused text (statuses.Truncated n) ends early = ends
+not_early refused text (statuses.NotStore part offset) ends early = absurd cc
+not_early refused text statuses.NoTask ends early = ends
+not_early refused text statuses.Exists ends early = absurd cc
+not_early refused text statuses.TooManyTasks ends early = absurd cc
+not_early refused text statuses.TooLong ends early = ends
+not_early refused text statuses.NoMemory ends early = absurd cc
+not_early refused text statuses.ReadFault ends early = ends
+not_early refused text statuses.WriteFault ends early = ends
+not_early refused text statuses.DiskFault ends early = absurd cc
+
+-- why a task isn't disabled or deleted is why none is changed
+pub ended_why : (before after : ℕ) (refused : List ℕ) (log : Part) (id : List ℕ) (tasks : List StoredTask) (fault : EngineFault) → IsWhyNoneEnded id tasks fault → IsWhyNoneEnabled before after refused log id tasks fault
+ended_why before after refused log id tasks (engines.Script fault) why = absurd why
+ended_why before after refused log id tasks engines.NoTask why = why
+ended_why before after refused log id tasks engines.Exists why = absurd why
+ended_why before after refused log id tasks engines.TooManyTasks why = absurd why
+ended_why before after refused log id tasks (engines.NotStore part offset) why = absurd why
+ended_why before after refused log id tasks engines.DiskFault why = tt
+ended_why before after refused log id tasks engines.NoMemory why = tt
