@@ -1,4 +1,4 @@
-use Rattle.std.proofs.Common.{◌≡◌, ℕ, true, false, List, map, inr, sym, ap, subst, ◌∙◌, ⊎_elim}
+use Rattle.std.proofs.Common.{◌≡◌, ℕ, ℤ, true, false, List, map, inr, sym, ap, subst, ◌∙◌, ⊎_elim, w64, to_z, of_z, to_z-of_z}
 use Rattle.std.specs.Prelude.{◌⊎◌, string_bytes}
 use Rattle.kap_io.specs.Moments.{Quiet}
 use Rattle.line_points.specs.declared.mode.Mode.TheVariants as modes
@@ -275,7 +275,7 @@ pub returns-in-Some-Write-clause-usage : goal.returns-in-Some-Write-clause-usage
 returns-in-Some-Write-clause-usage g c =
     let asked = rw (c.in-Some-Write.is, c.in-Some-Write.field-0-is) at c.request_in.ensures.request in
     record {
-      only = λ e. absurd (lines_not c.in-Some-Write.db.now c.in-Some-Write.rp.now (modes.Live (unit_of c.in-Some-Write.options) c.args.now) (g.S.Source.left c.args.input.now) (g.S.Source.left c.write.new.input) c.write.result statuses.Usage c.write.ensures.lines (λ x. x) e);
+      only = λ e. absurd (lines_not c.in-Some-Write.db.now c.in-Some-Write.rp.now (modes.Live (unit_of c.in-Some-Write.options) (to_z w64 (of_z w64 c.args.now))) (g.S.Source.left c.args.input.now) (g.S.Source.left c.write.new.input) c.write.result statuses.Usage c.write.ensures.lines (λ x. x) e);
       always = λ none. absurd (write_not_none c.in-Some-Write.options c.in-Some-Write.db.now c.in-Some-Write.rp.now (asked ∙ none));
     }
 
@@ -283,14 +283,14 @@ pub returns-in-Some-Write-clause-too_many : goal.returns-in-Some-Write-clause-to
 returns-in-Some-Write-clause-too_many g c =
     let asked = rw (c.in-Some-Write.is, c.in-Some-Write.field-0-is) at c.request_in.ensures.request in
     λ not. record {
-      only = λ e. absurd (lines_not c.in-Some-Write.db.now c.in-Some-Write.rp.now (modes.Live (unit_of c.in-Some-Write.options) c.args.now) (g.S.Source.left c.args.input.now) (g.S.Source.left c.write.new.input) c.write.result statuses.TooManyTasks c.write.ensures.lines (λ x. x) e);
+      only = λ e. absurd (lines_not c.in-Some-Write.db.now c.in-Some-Write.rp.now (modes.Live (unit_of c.in-Some-Write.options) (to_z w64 (of_z w64 c.args.now))) (g.S.Source.left c.args.input.now) (g.S.Source.left c.write.new.input) c.write.result statuses.TooManyTasks c.write.ensures.lines (λ x. x) e);
       always = λ many. absurd (write_not_many c.in-Some-Write.options c.in-Some-Write.db.now c.in-Some-Write.rp.now _ asked many);
     }
 
 pub returns-in-Some-Write-clause-nothing : goal.returns-in-Some-Write-clause-nothing
 returns-in-Some-Write-clause-nothing g c = λ not. ⊎_elim
-    (λ e. absurd (lines_not c.in-Some-Write.db.now c.in-Some-Write.rp.now (modes.Live (unit_of c.in-Some-Write.options) c.args.now) (g.S.Source.left c.args.input.now) (g.S.Source.left c.write.new.input) c.write.result statuses.Usage c.write.ensures.lines (λ x. x) e))
-    (λ e. absurd (lines_not c.in-Some-Write.db.now c.in-Some-Write.rp.now (modes.Live (unit_of c.in-Some-Write.options) c.args.now) (g.S.Source.left c.args.input.now) (g.S.Source.left c.write.new.input) c.write.result statuses.TooManyTasks c.write.ensures.lines (λ x. x) e))
+    (λ e. absurd (lines_not c.in-Some-Write.db.now c.in-Some-Write.rp.now (modes.Live (unit_of c.in-Some-Write.options) (to_z w64 (of_z w64 c.args.now))) (g.S.Source.left c.args.input.now) (g.S.Source.left c.write.new.input) c.write.result statuses.Usage c.write.ensures.lines (λ x. x) e))
+    (λ e. absurd (lines_not c.in-Some-Write.db.now c.in-Some-Write.rp.now (modes.Live (unit_of c.in-Some-Write.options) (to_z w64 (of_z w64 c.args.now))) (g.S.Source.left c.args.input.now) (g.S.Source.left c.write.new.input) c.write.result statuses.TooManyTasks c.write.ensures.lines (λ x. x) e))
 
 pub returns-in-Some-Write-clause-no_net : goal.returns-in-Some-Write-clause-no_net
 returns-in-Some-Write-clause-no_net g c =
@@ -302,7 +302,8 @@ returns-in-Some-Write-clause-lines g c = λ options db rp asks.
     let asked = rw (c.in-Some-Write.is, c.in-Some-Write.field-0-is) at c.request_in.ensures.request in
     write_as_asked c.in-Some-Write.options options c.in-Some-Write.db.now c.in-Some-Write.rp.now db rp (asked ∙ asks)
     (λ o d r. ReadsLines d r (modes.Live (unit_of o) c.args.now) (g.S.Source.left c.args.input.now) (g.S.Source.left c.write.new.input) c.write.result)
-    c.write.ensures.lines
+    (subst (λ (t : ℤ). ReadsLines c.in-Some-Write.db.now c.in-Some-Write.rp.now (modes.Live (unit_of c.in-Some-Write.options) t) (g.S.Source.left c.args.input.now) (g.S.Source.left c.write.new.input) c.write.result)
+    (to_z-of_z w64 c.args.now c.ranges.now) c.write.ensures.lines)
 
 pub returns-in-Some-Write-clause-written : goal.returns-in-Some-Write-clause-written
 returns-in-Some-Write-clause-written g c = λ options db rp rs good asks tells stands.
@@ -310,13 +311,15 @@ returns-in-Some-Write-clause-written g c = λ options db rp rs good asks tells s
     write_as_asked c.in-Some-Write.options options c.in-Some-Write.db.now c.in-Some-Write.rp.now db rp (asked ∙ asks)
     (λ o d r. (EndsReading c.write.result × (c.write.new.disk ≡ c.args.disk.now) × (c.write.new.out ≡ c.args.out.now))
     ⊎ Writes g.N.Node g.N.ScriptNode.planned g.D.Disk.seen g.D.Disk.moment g.D.Disk.may_leave g.D.Disk.left_since d r (modes.Live (unit_of o) c.args.now) rs good (g.S.Source.left c.args.input.now) (g.K.Sink.written c.args.out.now) (g.K.Sink.written c.write.new.out) (g.P.Patterns.refusals c.args.pats.now) (g.P.Patterns.refusals c.write.new.pats) c.args.disk.now c.write.new.disk c.write.new.ran c.write.result)
-    (c.write.ensures.written tells rs good stands)
+    (subst (λ (t : ℤ). (EndsReading c.write.result × (c.write.new.disk ≡ c.args.disk.now) × (c.write.new.out ≡ c.args.out.now))
+    ⊎ Writes g.N.Node g.N.ScriptNode.planned g.D.Disk.seen g.D.Disk.moment g.D.Disk.may_leave g.D.Disk.left_since c.in-Some-Write.db.now c.in-Some-Write.rp.now (modes.Live (unit_of c.in-Some-Write.options) t) rs good (g.S.Source.left c.args.input.now) (g.K.Sink.written c.args.out.now) (g.K.Sink.written c.write.new.out) (g.P.Patterns.refusals c.args.pats.now) (g.P.Patterns.refusals c.write.new.pats) c.args.disk.now c.write.new.disk c.write.new.ran c.write.result)
+    (to_z-of_z w64 c.args.now c.ranges.now) (c.write.ensures.written tells rs good stands))
 
 pub returns-in-Some-Write-clause-write_status : goal.returns-in-Some-Write-clause-write_status
 returns-in-Some-Write-clause-write_status g c = λ options db rp body rs status asks tells stands good is to.
     let asked = rw (c.in-Some-Write.is, c.in-Some-Write.field-0-is) at c.request_in.ensures.request in
     write_answers db rp (modes.Live (unit_of options) c.args.now) body (g.P.Patterns.refusals c.args.pats.now) (g.P.Patterns.refusals c.write.new.pats) (g.S.Source.left c.write.new.input) c.write.result status (g.S.Source.left c.args.input.now) is
-    (write_rose g.N.Node g.N.ScriptNode.planned g.D.Disk.seen g.D.Disk.moment g.D.Disk.may_leave g.D.Disk.left_since c.in-Some-Write.db.now c.in-Some-Write.rp.now (modes.Live (unit_of c.in-Some-Write.options) c.args.now) rs good (g.S.Source.left c.args.input.now) (g.K.Sink.written c.args.out.now) (g.K.Sink.written c.write.new.out) (g.P.Patterns.refusals c.args.pats.now) (g.P.Patterns.refusals c.write.new.pats) c.args.disk.now c.write.new.disk c.write.new.ran (c.write.new.disk ≡ c.args.disk.now) (c.write.new.out ≡ c.args.out.now) c.write.result (c.write.ensures.written tells rs good stands))
+    (write_rose g.N.Node g.N.ScriptNode.planned g.D.Disk.seen g.D.Disk.moment g.D.Disk.may_leave g.D.Disk.left_since c.in-Some-Write.db.now c.in-Some-Write.rp.now (modes.Live (unit_of c.in-Some-Write.options) (to_z w64 (of_z w64 c.args.now))) rs good (g.S.Source.left c.args.input.now) (g.K.Sink.written c.args.out.now) (g.K.Sink.written c.write.new.out) (g.P.Patterns.refusals c.args.pats.now) (g.P.Patterns.refusals c.write.new.pats) c.args.disk.now c.write.new.disk c.write.new.ran (c.write.new.disk ≡ c.args.disk.now) (c.write.new.out ≡ c.args.out.now) c.write.result (c.write.ensures.written tells rs good stands))
     (returns-in-Some-Write-clause-lines g c options db rp asks) to
 
 pub returns-in-Some-Write-clause-unopened : goal.returns-in-Some-Write-clause-unopened
@@ -335,4 +338,4 @@ pub returns-in-Some-Write-clause-read : goal.returns-in-Some-Write-clause-read
 returns-in-Some-Write-clause-read g c = λ reads ok. c.write.ensures.read ok
 
 pub returns-in-Some-Write-clause-pattern : goal.returns-in-Some-Write-clause-pattern
-returns-in-Some-Write-clause-pattern g c = λ e. absurd (lines_no_pattern c.in-Some-Write.db.now c.in-Some-Write.rp.now (modes.Live (unit_of c.in-Some-Write.options) c.args.now) (g.S.Source.left c.args.input.now) (g.S.Source.left c.write.new.input) c.write.result c.write.ensures.lines e)
+returns-in-Some-Write-clause-pattern g c = λ e. absurd (lines_no_pattern c.in-Some-Write.db.now c.in-Some-Write.rp.now (modes.Live (unit_of c.in-Some-Write.options) (to_z w64 (of_z w64 c.args.now))) (g.S.Source.left c.args.input.now) (g.S.Source.left c.write.new.input) c.write.result c.write.ensures.lines e)
