@@ -15,7 +15,7 @@ use Rattle.kap_server.specs.Checking.{Checked, ChecksTo}
 use Rattle.kap_server.specs.Command.{IsUnlessFailed}
 use Rattle.kap_server.specs.Runs.{refusal_of}
 
-not_both : (text : List ℕ) → IsShort text → SCRIPT_LIMIT < length text → ⊥
+pub not_both : (text : List ℕ) → IsShort text → SCRIPT_LIMIT < length text → ⊥
 not_both text short long = omega (arith, short, long)
 
 pub one_status : (refused : Option Refusal) (text : List ℕ) (a b : Status) → ChecksTo refused text a → ChecksTo refused text b → a ≡ b

@@ -14,3 +14,4 @@ pub mod NetLaws
 pub mod ChangeLaws
 pub mod WriteLaws
 pub mod ExportLaws
+pub mod CommandLaws

@@ -1,9 +1,10 @@
 -- What a command answers, and when.
 use Rattle.std.specs.Prelude.{◌≡◌, ◌⊎◌, ℕ, ◌<◌, ◌≤◌, Bool, true, false, List, length, Option, None, Some}
+use Rattle.kap_base.specs.Words.{HasRisen}
 use Rattle.kap_base.specs.declared.limits.TheConstants.{TASK_LIMIT}
 use Rattle.kap_server.specs.declared.options.ReplayOptions.{ReplayOptions}
 use Rattle.kap_server.specs.declared.status.Status.{Status}
-use Rattle.kap_server.specs.declared.status.Status.TheVariants.{NoMemory, ReadFault, WriteFault, DiskFault}
+use Rattle.kap_server.specs.declared.status.Status.TheVariants.{Ok, NotStore, NoTask, NoMemory, ReadFault, WriteFault, DiskFault}
 use Rattle.kap_server.specs.declared.words.Listing.{Listing}
 use Rattle.kap_server.specs.declared.options.WriteOptions.{WriteOptions}
 use Rattle.kap_server.specs.declared.words.Change.{Change}
@@ -92,3 +93,22 @@ IsUnlessFailed result status =
 -- the answer is this status, unless memory ran out or the disk failed
 abbrev pub IsUnlessDiskFailed : Status → Status → Type 0
 IsUnlessDiskFailed result status = (result ≡ status) ⊎ ((result ≡ NoMemory) ⊎ (result ≡ DiskFault))
+
+-- memory ran out, or a device failed
+abbrev pub HasFailed : Status → Type 0
+HasFailed result =
+    (result ≡ NoMemory) ⊎ ((result ≡ ReadFault) ⊎ ((result ≡ WriteFault) ⊎ (result ≡ DiskFault)))
+
+-- a place is told, and a pattern was refused, whose count is before and after
+abbrev pub IsToldRefused : ℕ → ℕ → Status → Type 0
+IsToldRefused before after (NotStore part offset) = HasRisen before after
+IsToldRefused before after other = ⊥
+
+-- the answer is this status, unless memory ran out, a device failed, or a pattern of a script of the store was refused
+abbrev pub IsUnlessStopped : ℕ → ℕ → Status → Status → Type 0
+IsUnlessStopped before after result status = (result ≡ status) ⊎ (HasFailed result ⊎ IsToldRefused before after result)
+
+-- the status of a change of a task: whether some task of the store has the id
+abbrev pub change_status : Bool → Status
+change_status true = Ok
+change_status false = NoTask

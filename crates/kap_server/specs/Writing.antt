@@ -56,6 +56,15 @@ module _ (db rp : List ℕ) (mode : Mode) where
   ReadsLines s t WriteFault = IfSome s HasPointsIn
   ReadsLines s t DiskFault = IfSome s HasPointsIn
 
+  -- the status of a write of these lines
+  abbrev pub WritesTo : List ℕ → Status → Type 0
+  WritesTo body Ok = HasPointsIn body
+  WritesTo body (Line n fault) =
+      IsWithin BODY_LIMIT body
+      × (body_of db rp mode body ≡ read_err (record { line = n; fault = fault }))
+  WritesTo body TooLong = BODY_LIMIT < length body
+  WritesTo body other = ⊥
+
 -- how points of lines that were read can be written, on any disk
 abbrev pub EndsWriting : Status → Type 0
 EndsWriting Ok = ⊤

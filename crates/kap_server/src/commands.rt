@@ -13,10 +13,10 @@ ghost use Rattle.sample_points.specs.Samples.{sample_text};
 ghost use Rattle.tick_compile.specs.declared.tasks.Task.{Task};
 ghost use Rattle.engine_store.specs.Good.{IsFull, IsGood, stays_or_good};
 ghost use Rattle.line_points.specs.declared.mode.Mode.{Mode};
-ghost use Rattle.kap_server.specs.Changing.{Changes, Defines, EndsReading, OpensBehind, OpensToChange, ReadsScript, is_early, record_of};
+ghost use Rattle.kap_server.specs.Changing.{Changes, Defines, DefinesTo, EndsReading, OpensBehind, OpensToChange, ReadsScript, is_early, record_of};
 ghost use Rattle.kap_server.specs.Checking.{Checked, ChecksTo};
 ghost use Rattle.kap_server.specs.Command.{AsksForTooMany, AsksToChange, AsksToCheck, AsksToDefine, AsksToGenerate, AsksToInit, AsksToReplay, AsksToShow, AsksToSummarize, AsksToWrite};
-ghost use Rattle.kap_server.specs.Command.{ExactlyWhere, IsUnlessDiskFailed, IsUnlessFailed, changes_store, defines};
+ghost use Rattle.kap_server.specs.Command.{ExactlyWhere, IsToldRefused, IsUnlessDiskFailed, IsUnlessFailed, IsUnlessStopped, change_status, changes_store, defines};
 ghost use Rattle.kap_server.specs.Exporting.{IsExportable, SayInEachLife, TellsAsReplay};
 ghost use Rattle.kap_server.specs.Generating.{Summed, WritesText};
 ghost use Rattle.kap_server.specs.Listing.{AreOthers, LeavesFull, Opens, Shows, held_whole, list_text};
@@ -28,12 +28,13 @@ ghost use Rattle.kap_server.specs.Readying.{is_pattern_refused};
 ghost use Rattle.kap_server.specs.Runs.{Ran, refusal_of};
 ghost use Rattle.kap_server.specs.Statuses.{status_at};
 ghost use Rattle.kap_server.specs.Words.{Pair, pairs_of, reads_input, request_in, runs_net, uses_disk, writes_output};
-ghost use Rattle.kap_server.specs.Writing.{ReadsLines, Writes};
+ghost use Rattle.kap_server.specs.Writing.{ReadsLines, Writes, WritesTo};
 ghost use Rattle.kap_server.specs.declared.options.ReplayOptions.{ReplayOptions};
 ghost use Rattle.kap_server.specs.declared.options.WriteOptions.{WriteOptions};
 ghost use Rattle.kap_server.specs.declared.status.Status.{Status};
 ghost use Rattle.kap_server.specs.declared.words.Change.{Change};
 ghost use Rattle.kap_server.specs.declared.words.Listing.{Listing};
+ghost use Rattle.store_records.specs.Held.{has_task};
 ghost use Rattle.store_records.specs.Histories.{held};
 ghost use Rattle.store_records.specs.declared.rec.Rec.{Rec};
 ghost use Rattle.topic_store.specs.Stores.{IsNoStore, Stands};
@@ -316,6 +317,13 @@ pub fn command<
         → (EndsReading result × (disk.new ≡ disk.old))
         ⊎ Defines N.Node N.planned D.seen D.moment D.may_leave D.left_since rs id
         (S.left input.old) (P.refusals pats.old) (P.refusals pats.new) disk.old disk.new result }
+    // There its status is that of the text that the input gives, of the id and of how many tasks there are,
+    // unless memory ran out, a device failed, or a pattern of the store's scripts was refused.
+    ensures define_status { (id text : List ℕ) (rs : List Rec) (status : Status)
+        → AsksToDefine (map string_bytes words.now) id → IsTrue D.tells
+        → Stands rs (D.seen disk.old) → IsGood N.Node N.planned rs → S.left input.old ≡ Some text
+        → DefinesTo (refusal_of result (P.refused pats.new)) rs id text status
+        → IsUnlessStopped (P.refusals pats.old) (P.refusals pats.new) result status }
     // Of a change of a task of a right store: at Ok a task had the id and is enabled, disabled or gone; at
     // NoTask none had it. At each moment it is so with each image.
     ensures changed { (change : Change) (id : List ℕ) (rs : List Rec)
@@ -324,6 +332,13 @@ pub fn command<
         → Changes N.Node N.planned D.seen D.moment D.may_leave D.left_since rs id
         (record_of change id) (P.refusals pats.old) (P.refusals pats.new)
         disk.old disk.new result }
+    // Its status is Ok where a task of it has the id, and else NoTask, unless memory ran out, the disk failed,
+    // or a pattern of the store's scripts was refused.
+    ensures change_status { (change : Change) (id : List ℕ) (rs : List Rec)
+        → AsksToChange (map string_bytes words.now) change id → IsTrue D.tells
+        → Stands rs (D.seen disk.old) → IsGood N.Node N.planned rs
+        → IsUnlessDiskFailed result (change_status (has_task id (held rs).tasks))
+        ⊎ IsToldRefused (P.refusals pats.old) (P.refusals pats.new) result }
     // Of a write: what of the input was read, as the status says.
     ensures lines { (options : WriteOptions) (db rp : List ℕ)
         → AsksToWrite (map string_bytes words.now) options db rp
@@ -342,6 +357,13 @@ pub fn command<
         (Mode.Live (unit_of options) now) rs good (S.left input.old)
         (K.written out.old) (K.written out.new) (P.refusals pats.old) (P.refusals pats.new)
         disk.old disk.new ran.new result }
+    // There its status is that of the lines that the input gives, unless memory ran out, a device failed, or a
+    // pattern of the store's scripts was refused.
+    ensures write_status { (options : WriteOptions) (db rp body : List ℕ) (rs : List Rec)
+        (status : Status) → AsksToWrite (map string_bytes words.now) options db rp → IsTrue D.tells
+        → Stands rs (D.seen disk.old) → IsGood N.Node N.planned rs → S.left input.old ≡ Some body
+        → WritesTo db rp (Mode.Live (unit_of options) now) body status
+        → IsUnlessStopped (P.refusals pats.old) (P.refusals pats.new) result status }
     // A refused script, recording or line changes nothing on the disk.
     ensures unopened { reads_input (request_in (map string_bytes words.now)) ≡ true
         → is_early result ≡ true → disk.new ≡ disk.old }
