@@ -303,7 +303,7 @@ returns-in-Some-Write-clause-lines g c = λ options db rp asks.
     write_as_asked c.in-Some-Write.options options c.in-Some-Write.db.now c.in-Some-Write.rp.now db rp (asked ∙ asks)
     (λ o d r. ReadsLines d r (modes.Live (unit_of o) c.args.now) (g.S.Source.left c.args.input.now) (g.S.Source.left c.write.new.input) c.write.result)
     (subst (λ (t : ℤ). ReadsLines c.in-Some-Write.db.now c.in-Some-Write.rp.now (modes.Live (unit_of c.in-Some-Write.options) t) (g.S.Source.left c.args.input.now) (g.S.Source.left c.write.new.input) c.write.result)
-    (to_z-of_z w64 c.args.now c.ranges.now) c.write.ensures.lines)
+    (to_z-of_z c.ranges.now) c.write.ensures.lines)
 
 pub returns-in-Some-Write-clause-written : goal.returns-in-Some-Write-clause-written
 returns-in-Some-Write-clause-written g c = λ options db rp rs good asks tells stands.
@@ -313,7 +313,7 @@ returns-in-Some-Write-clause-written g c = λ options db rp rs good asks tells s
     ⊎ Writes g.N.Node g.N.ScriptNode.planned g.D.Disk.seen g.D.Disk.moment g.D.Disk.may_leave g.D.Disk.left_since d r (modes.Live (unit_of o) c.args.now) rs good (g.S.Source.left c.args.input.now) (g.K.Sink.written c.args.out.now) (g.K.Sink.written c.write.new.out) (g.P.Patterns.refusals c.args.pats.now) (g.P.Patterns.refusals c.write.new.pats) c.args.disk.now c.write.new.disk c.write.new.ran c.write.result)
     (subst (λ (t : ℤ). (EndsReading c.write.result × (c.write.new.disk ≡ c.args.disk.now) × (c.write.new.out ≡ c.args.out.now))
     ⊎ Writes g.N.Node g.N.ScriptNode.planned g.D.Disk.seen g.D.Disk.moment g.D.Disk.may_leave g.D.Disk.left_since c.in-Some-Write.db.now c.in-Some-Write.rp.now (modes.Live (unit_of c.in-Some-Write.options) t) rs good (g.S.Source.left c.args.input.now) (g.K.Sink.written c.args.out.now) (g.K.Sink.written c.write.new.out) (g.P.Patterns.refusals c.args.pats.now) (g.P.Patterns.refusals c.write.new.pats) c.args.disk.now c.write.new.disk c.write.new.ran c.write.result)
-    (to_z-of_z w64 c.args.now c.ranges.now) (c.write.ensures.written tells rs good stands))
+    (to_z-of_z c.ranges.now) (c.write.ensures.written tells rs good stands))
 
 pub returns-in-Some-Write-clause-write_status : goal.returns-in-Some-Write-clause-write_status
 returns-in-Some-Write-clause-write_status g c = λ options db rp body rs status asks tells stands good is to.
