@@ -1,6 +1,6 @@
 -- What stands after a task of a store was defined, or changed.
 use Rattle.std.proofs.Common.{◌≡◌, ℕ, ◌<◌, Bool, true, false, List, [], ◌∷◌, ◌++◌, length, Option, None, Some, Err, inl, inr, refl, sym, ap, subst, cond, ◌∙◌, arith}
-use Rattle.std.specs.Prelude.{◌≢◌, ◌⊎◌, ◌≤◌, not, ◌&&◌, nat_le, nat_lt, IfSome, IsErrOf}
+use Rattle.std.specs.Prelude.{◌≢◌, ◌⊎◌, not, ◌&&◌, nat_le, nat_lt, IfSome, IsErrOf}
 use Rattle.std.specs.List.{AllByRecursion as Each}
 use Rattle.std.proofs.lemmas.Bool.Decides.{nat_tests}
 use Rattle.kap_base.specs.Texts.{is_task_id}
@@ -38,7 +38,7 @@ use Rattle.kap_server.specs.declared.status.Status.{Status}
 use Rattle.kap_server.specs.declared.status.Status.TheVariants as statuses
 use Rattle.kap_server.specs.declared.words.Change.{Change}
 use Rattle.kap_server.specs.declared.words.Change.TheVariants.{Enable, Disable, Delete}
-use Rattle.kap_server.specs.Changing.{ChangedTo, Changes, DefinedTo, EndsChange, EndsDefinition, EndsReading, IsRefusedThere, IsScriptFault, IsTaskScript, LeavesChanged, OpensBehind, OpensToChange, ReadsScript, is_early, record_of, stays_or_changed}
+use Rattle.kap_server.specs.Changing.{ChangedTo, Changes, DefinedTo, EndsChange, EndsDefinition, EndsReading, IsScriptFault, IsTaskScript, LeavesChanged, OpensBehind, OpensToChange, ReadsScript, is_early, record_of, stays_or_changed}
 use Rattle.kap_server.specs.Listing.{AreAsked, LeavesFull}
 use Rattle.kap_server.specs.ReadingIn.{IsAll, IsLong, IsShort, ReadsFew}
 use Rattle.kap_server.specs.Readying.{is_pattern_refused}

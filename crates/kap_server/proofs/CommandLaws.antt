@@ -1,5 +1,5 @@
 -- What a command that changes a store answers.
-use Rattle.std.proofs.Common.{◌≡◌, ℕ, ◌<◌, ◌≤◌, Bool, true, false, List, length, Option, None, Some, Ok, Err, inl, inr, refl, sym, ap, subst, ◌∙◌, arith}
+use Rattle.std.proofs.Common.{◌≡◌, ℕ, ◌<◌, ◌≤◌, true, false, List, length, Option, None, Some, Ok, Err, inl, inr, refl, sym, ap, subst, ◌∙◌, arith}
 use Rattle.std.specs.Prelude.{◌⊎◌}
 use Rattle.kap_base.specs.Points.{PointValue}
 use Rattle.kap_base.specs.Words.{HasRisen}
@@ -35,7 +35,6 @@ use Rattle.kap_server.specs.Changing.{ChangedTo, DefinedTo, Defines, DefinesTo, 
 use Rattle.kap_server.specs.Command.{AsksForTooMany, HasFailed, IsToldRefused, IsUnlessDiskFailed, IsUnlessStopped, change_status}
 use Rattle.kap_server.specs.Listing.{AreAsked}
 use Rattle.kap_server.specs.Readying.{is_pattern_refused}
-use Rattle.kap_server.specs.ReadingIn.{IsAll}
 use Rattle.kap_server.specs.Runs.{refusal_of}
 use Rattle.kap_server.specs.Words.{ChangeTask, Define, Request, Write, request_in}
 use Rattle.kap_server.specs.Writing.{ReadsLines, Writes, WritesTo, WrittenTo}

@@ -4,7 +4,6 @@ use Rattle.std.specs.Prelude.{if◌then◌else◌, filter, flat_map}
 use Rattle.std.specs.List.{AllZip}
 use Rattle.std.specs.Cmp.Lexicographic.{bytes_decides}
 use Rattle.std.specs.Str.{bytes_eq}
-use Rattle.std.proofs.lemmas.List.{drop_all}
 use Rattle.std.proofs.lemmas.List.Concat.{flat_map-append}
 use Rattle.kap_base.specs.Events.{EventValue}
 use Rattle.kap_base.specs.Points.{PointValue}
@@ -28,7 +27,6 @@ use Rattle.store_records.specs.Held.{Held, is_enabled, is_open, is_open_of}
 use Rattle.store_records.specs.Orders.{AreValidLives, HasOpenLives, IsInOrder, IsValid}
 use Rattle.store_records.specs.declared.task.Life.{Life}
 use Rattle.task_graph.specs.declared.spec.NodeSpec.{NodeSpec}
-use Rattle.task_run.specs.Graphs.{Placed}
 use Rattle.task_run.specs.Lives.{effects_of}
 use Rattle.tick_compile.specs.declared.tasks.Task.{Task}
 use Rattle.topic_core.specs.Print.{transition_line}

@@ -1,7 +1,6 @@
 -- What the alerts of a store have to do with a replay of what it exports.
-use Rattle.std.specs.Prelude.{◌≡◌, ℕ, ◌≤◌, true, false, Bool, List, Option, [], ◌∷◌, filter, length, map}
+use Rattle.std.specs.Prelude.{◌≡◌, ℕ, ◌≤◌, true, false, Bool, List, Option, [], filter, length, map}
 use Rattle.std.specs.List.{AllByRecursion as Each, list_any}
-use Rattle.kap_base.specs.Points.{PointValue}
 use Rattle.kap_base.specs.declared.items.Effect.{Effect}
 use Rattle.kap_base.specs.declared.items.What.{What}
 use Rattle.kap_base.specs.declared.items.What.TheVariants as what
@@ -19,7 +18,6 @@ use Rattle.store_lists.specs.Lists.{points_text}
 use Rattle.store_records.specs.Held.{Held, is_open}
 use Rattle.store_records.specs.declared.task.Life.{Life}
 use Rattle.task_graph.specs.declared.spec.NodeSpec.{NodeSpec}
-use Rattle.task_run.specs.Graphs.{Placed}
 use Rattle.task_run.specs.Lives.{effects_of}
 use Rattle.tick_compile.specs.declared.tasks.Task.{Task}
 use Rattle.kap_server.specs.Listing.{Shows}
