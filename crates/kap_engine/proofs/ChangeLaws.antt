@@ -10,7 +10,6 @@ use Rattle.kap_io.specs.Disk.{Image}
 use Rattle.kap_io.specs.Moments.{Moments, no_call, weaker}
 use Rattle.effect_text.specs.declared.names.TaskNames.{TaskNames}
 use Rattle.life_effects.proofs.FitLaws.{held_fits}
-use Rattle.life_effects.specs.Effects.{LivesFit}
 use Rattle.node_core.specs.declared.node.Node.{Ghosts}
 use Rattle.node_set.specs.Tasks.{Planned}
 use Rattle.store_kept.specs.Keeping.{AreValid, KeptValue}
@@ -22,14 +21,14 @@ use Rattle.store_records.specs.declared.rec.Rec.{Rec}
 use Rattle.store_records.specs.declared.rec.Rec.TheVariants as kinds
 use Rattle.store_records.specs.declared.task.Life.{Life}
 use Rattle.store_records.specs.declared.task.StoredTask.{StoredTask}
-use Rattle.task_run.specs.Plans.{IsPlan, PlanValue}
+use Rattle.task_run.specs.Plans.{PlanValue}
 use Rattle.tick_compile.specs.declared.tasks.Task.{Task}
 use Rattle.topic_core.specs.declared.transition.Transition.{Transition}
 use Rattle.topic_store.specs.Adding.{stands_before_or_after}
 use Rattle.topic_store.specs.Stores.{IsOn, StoreState}
 use Rattle.topic_store.proofs.Adding.{image_stands}
 use Rattle.engine_runs.specs.Running.{HasRun, RunValue}
-use Rattle.engine_runs.specs.Scripts.{AreTasksOf, IsPlanned, IsTaskOf}
+use Rattle.engine_runs.specs.Scripts.{IsTaskOf}
 use Rattle.engine_runs.proofs.ChangeLaws.{run_later}
 use Rattle.engine_runs.proofs.PlaceLaws.{each_at}
 use Rattle.engine_runs.proofs.RunLaws.{ran_less}

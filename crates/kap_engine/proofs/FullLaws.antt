@@ -1,5 +1,5 @@
 -- A store that is right, and has all transitions, is so behind a record that changes a task.
-use Rattle.std.proofs.Common.{◌≡◌, ℕ, ◌+◌, ◌≤◌, true, false, cond, List, [], ◌∷◌, ◌++◌, length, refl, sym, ap, subst, ◌∙◌, append-nil, length-append, arith}
+use Rattle.std.proofs.Common.{◌≡◌, ℕ, ◌+◌, ◌≤◌, true, false, cond, List, [], ◌∷◌, ◌++◌, length, refl, sym, ap, subst, ◌∙◌, append-nil, arith}
 use Rattle.std.specs.List.{AllByRecursion as Each, list_any}
 use Rattle.kap_base.specs.Points.{PointValue}
 use Rattle.kap_base.specs.declared.items.Effect.{Effect}
@@ -10,12 +10,11 @@ use Rattle.node_core.specs.Meaning.{Answer}
 use Rattle.node_core.specs.declared.node.Node.{Ghosts}
 use Rattle.node_set.specs.Tasks.{Planned, nodes_from}
 use Rattle.store_kept.proofs.Keeping.{held_push}
-use Rattle.store_records.specs.Held.{Held, after, begun, ended, is_open, points_in, transitions_in}
+use Rattle.store_records.specs.Held.{Held, begun, ended, is_open, points_in, transitions_in}
 use Rattle.store_records.specs.Histories.{end_of, held}
 use Rattle.store_records.specs.declared.rec.Rec.{Rec}
 use Rattle.store_records.specs.declared.rec.Rec.TheVariants as kinds
 use Rattle.store_records.specs.declared.task.Life.{Life}
-use Rattle.store_records.specs.declared.task.StoredTask.{StoredTask}
 use Rattle.task_run.specs.Courses.{Course, course_effects}
 use Rattle.task_run.specs.Graphs.{Placed}
 use Rattle.tick_compile.specs.declared.tasks.Task.{Task}
@@ -28,7 +27,7 @@ use Rattle.engine_runs.specs.Whole.{IsSnapOf, due_of}
 use Rattle.engine_runs.proofs.HeldLaws.{held_later}
 use Rattle.engine_runs.proofs.OpenLaws.{effects_later}
 use Rattle.engine_store.specs.Asking.{AreScripts}
-use Rattle.engine_store.specs.Good.{IsFull, IsGood, graphs_in}
+use Rattle.engine_store.specs.Good.{IsFull, graphs_in}
 use Rattle.engine_store.proofs.SnapLaws.{last_before, last_kept}
 use Rattle.kap_engine.specs.Changing.{ChangesTask, DefinesScript}
 use Rattle.kap_engine.proofs.TaskLaws.{HasScript, LifeHasScript, are_for, begun_scripts, each_both, ended_scripts, ended_tasks, tasks_for, tasks_scripts, zip_both}

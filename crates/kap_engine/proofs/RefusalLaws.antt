@@ -16,7 +16,6 @@ use Rattle.topic_store.specs.Adding.{AddFault}
 use Rattle.topic_store.specs.Stores.{StoreState}
 use Rattle.topic_store.specs.declared.fault.StoreFault.{StoreFault}
 use Rattle.topic_store.specs.declared.fault.StoreFault.TheVariants as stores
-use Rattle.engine_runs.specs.Faults.{IsRefused}
 use Rattle.engine_store.specs.Faults.{compile_fault, store_fault}
 use Rattle.engine_store.specs.declared.fault.EngineFault.{EngineFault}
 use Rattle.engine_store.specs.declared.fault.EngineFault.TheVariants as engines

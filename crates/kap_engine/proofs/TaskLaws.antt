@@ -1,5 +1,5 @@
 -- The scripts of tasks and lives, behind a record that changes a task.
-use Rattle.std.proofs.Common.{◌≡◌, ℕ, zero, suc, Bool, true, false, cond, List, [], ◌∷◌, ◌++◌, Option, None, Some}
+use Rattle.std.proofs.Common.{ℕ, zero, suc, Bool, true, false, cond, List, [], ◌∷◌, ◌++◌, Option, None, Some}
 use Rattle.std.specs.Prelude.{IfSome}
 use Rattle.std.specs.List.{AllByRecursion as Each, AllZip, insert, list_any, position_or_len}
 use Rattle.std.specs.Ordering.{is_lt}

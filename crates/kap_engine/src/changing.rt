@@ -13,6 +13,7 @@ ghost use Rattle.store_records.specs.declared.task.Life.{Life};
 ghost use Rattle.tick_compile.specs.Tasks.{is_refusal};
 ghost use Rattle.engine_runs.specs.Scripts.{IsTaskOf};
 ghost use Rattle.engine_store.specs.Faults.{EngineCause};
+ghost use Rattle.engine_store.specs.declared.fault.EngineFault.TheVariants.{DiskFault as disk_failed};
 ghost use Rattle.kap_engine.specs.Changing.{AreNext, ChangesTask, DefinesScript, HasBegun, IsFailure, IsRefusal, IsWhyNoneDefined, IsWhyNoneEnabled, IsWhyNoneEnded, IsWhyNotPlanned, fault_at, stands_full_before_or_after};
 ghost use Rattle.kap_engine.specs.Engines.{IsEngine};
 
@@ -130,7 +131,9 @@ impl<N: ScriptNode + NumberingNode + Send> Engine<N> {
             (stands_full_before_or_after N.Node N.planned rs rec.now) }
         ensures stored { OnOk result (self.new.stored ≡ []) }
         ensures failed { IfErr result IsFailure }
-        ensures quiet { IfErr result (λ f. self.new.spent ≡ false → disk.new ≡ disk.old) }
+        ensures quiet { IfErr result (λ f. self.new.spent ≡ false
+            → (self.new ≡ self.old) × (disk.new ≡ disk.old)) }
+        ensures spends { IfErr result (λ f. f ≡ disk_failed → self.new.spent ≡ true) }
         ensures cause { EngineCause (D.faults disk.old) (D.faults disk.new) result }
     {
         if let Err(fault) = self.store.add(disk, rec) {
@@ -179,7 +182,9 @@ impl<N: ScriptNode + NumberingNode + Send> Engine<N> {
             → is_refusal fault ≡ true → HasRisen (P.refusals pats.old) (P.refusals pats.new)) }
         ensures still { IfErr result (λ f. IsRefusal f
             → (self.new ≡ self.old) × (disk.new ≡ disk.old)) }
-        ensures quiet { IfErr result (λ f. self.new.spent ≡ false → disk.new ≡ disk.old) }
+        ensures quiet { IfErr result (λ f. self.new.spent ≡ false
+            → (self.new ≡ self.old) × (disk.new ≡ disk.old)) }
+        ensures spends { IfErr result (λ f. f ≡ disk_failed → self.new.spent ≡ true) }
         ensures cause { EngineCause (D.faults disk.old) (D.faults disk.new) result }
     {
         let task = match compile(alloc, script.bytes(), pats) {
@@ -229,7 +234,9 @@ impl<N: ScriptNode + NumberingNode + Send> Engine<N> {
             self.old.store.log.part id.now self.old.store.kept.tasks) }
         ensures still { IfErr result (λ f. IsRefusal f
             → (self.new ≡ self.old) × (disk.new ≡ disk.old)) }
-        ensures quiet { IfErr result (λ f. self.new.spent ≡ false → disk.new ≡ disk.old) }
+        ensures quiet { IfErr result (λ f. self.new.spent ≡ false
+            → (self.new ≡ self.old) × (disk.new ≡ disk.old)) }
+        ensures spends { IfErr result (λ f. f ≡ disk_failed → self.new.spent ≡ true) }
         ensures cause { EngineCause (D.faults disk.old) (D.faults disk.new) result }
     {
         let Some(place) = find_task(self.store.tasks(), id) else {
@@ -262,7 +269,9 @@ impl<N: ScriptNode + NumberingNode + Send> Engine<N> {
         ensures why { IfErr result (IsWhyNoneEnded id.now self.old.store.kept.tasks) }
         ensures still { IfErr result (λ f. IsRefusal f
             → (self.new ≡ self.old) × (disk.new ≡ disk.old)) }
-        ensures quiet { IfErr result (λ f. self.new.spent ≡ false → disk.new ≡ disk.old) }
+        ensures quiet { IfErr result (λ f. self.new.spent ≡ false
+            → (self.new ≡ self.old) × (disk.new ≡ disk.old)) }
+        ensures spends { IfErr result (λ f. f ≡ disk_failed → self.new.spent ≡ true) }
         ensures cause { EngineCause (D.faults disk.old) (D.faults disk.new) result }
     {
         if !has_task(self.store.tasks(), id) {
@@ -294,7 +303,9 @@ impl<N: ScriptNode + NumberingNode + Send> Engine<N> {
         ensures why { IfErr result (IsWhyNoneEnded id.now self.old.store.kept.tasks) }
         ensures still { IfErr result (λ f. IsRefusal f
             → (self.new ≡ self.old) × (disk.new ≡ disk.old)) }
-        ensures quiet { IfErr result (λ f. self.new.spent ≡ false → disk.new ≡ disk.old) }
+        ensures quiet { IfErr result (λ f. self.new.spent ≡ false
+            → (self.new ≡ self.old) × (disk.new ≡ disk.old)) }
+        ensures spends { IfErr result (λ f. f ≡ disk_failed → self.new.spent ≡ true) }
         ensures cause { EngineCause (D.faults disk.old) (D.faults disk.new) result }
     {
         if !has_task(self.store.tasks(), id) {

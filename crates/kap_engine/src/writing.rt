@@ -1,6 +1,6 @@
 //! Points are written: stored, run, and their transitions stored.
 
-ghost use Rattle.std.specs.Prelude.{◌≡◌, ◌⊎◌, ◌+◌, ◌++◌, ◌<◌, ◌^◌, [], false, ℕ, length, IfErr, IfOk, IsTrue, List, OnOk};
+ghost use Rattle.std.specs.Prelude.{◌≡◌, ◌⊎◌, ◌+◌, ◌++◌, ◌<◌, ◌^◌, [], false, true, ℕ, length, IfErr, IfOk, IsTrue, List, OnOk};
 ghost use Rattle.std.specs.List.{AllByRecursion as Each, list_all};
 ghost use Rattle.kap_base.specs.Points.{PointValue};
 ghost use Rattle.kap_io.specs.Moments.{Moments};
@@ -75,7 +75,7 @@ fn run_points<N: ScriptNode + NumberingNode + Send, R: Threads + Sync, G: Gate +
 
 impl<N: ScriptNode + NumberingNode + Send> Engine<N> {
     /// Writes points, which are ungrouped and of this database and policy: they are stored as one batch, run
-    /// in epochs of at most 4,096, and the transitions that they make are stored; and where `SNAP_POINTS` or
+    /// in epochs, and the transitions that they make are stored; and where `SNAP_POINTS` or
     /// more stand behind the last snapshot, another one is, unless its record is longer than a log takes. The
     /// answer is the text of what the lives did. At each moment each image of the disk stands for a right
     /// store with all of the points or none, and from Ok on with all, and all transitions.
@@ -107,7 +107,9 @@ impl<N: ScriptNode + NumberingNode + Send> Engine<N> {
             (stands_writing N.Node N.planned rs points) }
         ensures streams { 0 < length points
             → OnOk result (Each (HasStreamsCarried N.Node) self.new.run.net.lives) }
-        ensures still { IfErr result (λ f. self.new.spent ≡ false → disk.new ≡ disk.old) }
+        ensures still { IfErr result (λ f. self.new.spent ≡ false
+            → (self.new ≡ self.old) × (disk.new ≡ disk.old)) }
+        ensures spends { IfErr result (λ f. f ≡ DiskFault → self.new.spent ≡ true) }
         ensures faults { IfErr result (λ f. (f ≡ DiskFault) ⊎ (f ≡ no_memory)) }
         ensures cause { EngineCause (D.faults disk.old) (D.faults disk.new) result }
     {

@@ -8,7 +8,8 @@ use Rattle.topic_store.specs.Snapshots.{SnapOrNot}
 use Rattle.topic_store.proofs.Quietly.{on_quietly}
 use Rattle.topic_store.proofs.Rereading.{none_of}
 use Rattle.engine_runs.specs.declared.fault.RunFault.{RunFault}
-use Rattle.engine_store.proofs.CauseLaws.{cause_later, cause_none, cause_other, cause_store, no_place_by, run_no_disk, why_restored}
+use Rattle.engine_store.specs.Faults.{IsOfOpening}
+use Rattle.engine_store.proofs.CauseLaws.{cause_later, cause_none, cause_other, cause_store, no_place_by, opening_of, run_no_disk, run_of_opening, why_restored}
 use Rattle.engine_store.proofs.OpenLaws.{begun_new, firsts, restored}
 use Rattle.engine_store.proofs.SnapLaws.{numbers_there}
 use Rattle.engine_store.proofs.WhyLaws.{fits_of, none_there, others_of}
@@ -25,6 +26,11 @@ pub returns-in_err-gate-clause-cause : goal.returns-in_err-gate-clause-cause
 returns-in_err-gate-clause-cause g c =
     let p = err_from_is_err_and c.from_residual.result c.from_residual.ensures.1 in
     rw p.1 (cause_store _ _ c.in_err-gate.field-0.0 p.0 p.2 c.in_err-gate.ensures.cause)
+
+pub returns-in_err-gate-clause-faults : goal.returns-in_err-gate-clause-faults
+returns-in_err-gate-clause-faults g c =
+    let p = err_from_is_err_and c.from_residual.result c.from_residual.ensures.1 in
+    rw p.1 (opening_of c.in_err-gate.field-0.0 p.0 p.2)
 
 -- ---- there is none
 
@@ -53,6 +59,11 @@ pub returns-in_err-topics-clause-cause : goal.returns-in_err-topics-clause-cause
 returns-in_err-topics-clause-cause g c =
     let p = err_from_is_err_and c.from_residual-in_err-topics.result c.from_residual-in_err-topics.ensures.1 in
     rw p.1 (cause_later _ _ _ _ c.snap.ensures.cause.later (cause_store _ _ c.in_err-topics.field-0.0 p.0 p.2 c.in_err-topics.ensures.cause))
+
+pub returns-in_err-topics-clause-faults : goal.returns-in_err-topics-clause-faults
+returns-in_err-topics-clause-faults g c =
+    let p = err_from_is_err_and c.from_residual-in_err-topics.result c.from_residual-in_err-topics.ensures.1 in
+    rw p.1 (opening_of c.in_err-topics.field-0.0 p.0 p.2)
 
 -- ---- the lives are restored
 
@@ -100,3 +111,6 @@ pub returns-clause-cause : goal.returns-clause-cause
 returns-clause-cause g c =
     cause_other _ _ c.run_fault.result (omega (arith, c.snap.ensures.cause.later, c.topics_behind.ensures.cause.later))
     (λ disk. run_no_disk c.part.result c.in-Some.gate c.in-Err.fault (sym c.run_fault.ensures ∙ disk))
+
+pub returns-clause-faults : goal.returns-clause-faults
+returns-clause-faults g c = subst IsOfOpening (sym c.run_fault.ensures) (run_of_opening c.part.result c.in-Some.gate c.in-Err.fault)

@@ -1,4 +1,4 @@
-use Rattle.std.proofs.Common.{◌≡◌, false, length, Err, Ok, refl, sym, ◌∙◌, arith}
+use Rattle.std.proofs.Common.{◌≡◌, false, length, Err, Ok, refl, sym, subst, ◌∙◌, arith}
 use Rattle.std.specs.Prelude.{Result, is_err}
 use Rattle.std.proofs.lemmas.Bool.Decides.{nat_tests}
 use Rattle.std.proofs.lemmas.Result.{err_from_is_err_and}
@@ -6,7 +6,8 @@ use Rattle.kap_io.specs.Moments.{quiet_start, quiet_then}
 use Rattle.topic_store.specs.Points.{GivesOrNot}
 use Rattle.topic_store.proofs.Quietly.{on_quietly}
 use Rattle.engine_runs.specs.declared.fault.RunFault.{RunFault}
-use Rattle.engine_store.proofs.CauseLaws.{cause_later, cause_none, cause_other, cause_store, no_place_by, run_no_disk, why_run}
+use Rattle.engine_store.specs.Faults.{IsOfOpening}
+use Rattle.engine_store.proofs.CauseLaws.{cause_later, cause_none, cause_other, cause_store, no_place_by, opening_of, run_no_disk, run_of_opening, why_run}
 use Rattle.engine_store.proofs.PassLaws.{nil_of}
 use Rattle.engine_store.proofs.ReadLaws.{reading_done, reading_on, reading_start}
 use Rattle.engine_store.proofs.opening.run_rest.Goals as goal
@@ -42,6 +43,11 @@ returns-in_err-piece-clause-cause g c =
     let p = err_from_is_err_and c.from_residual.result c.from_residual.ensures.1 in
     rw p.1 (cause_later _ _ _ _ c.reading.invariant.later (cause_store _ _ c.in_err-piece.field-0.0 p.0 p.2 c.in_err-piece.ensures.cause))
 
+pub returns-in_err-piece-clause-faults : goal.returns-in_err-piece-clause-faults
+returns-in_err-piece-clause-faults g c =
+    let p = err_from_is_err_and c.from_residual.result c.from_residual.ensures.1 in
+    rw p.1 (opening_of c.in_err-piece.field-0.0 p.0 p.2)
+
 -- ---- no point is left
 
 pub returns-then-is_empty-clause-runs : goal.returns-then-is_empty-clause-runs
@@ -76,6 +82,9 @@ pub returns-in-Err-clause-cause : goal.returns-in-Err-clause-cause
 returns-in-Err-clause-cause g c =
     cause_other _ _ c.run_fault.result (omega (arith, c.reading.invariant.later, c.next.ensures.cause.later))
     (λ disk. run_no_disk c.part.result 0 c.in-Err.fault (sym c.run_fault.ensures ∙ disk))
+
+pub returns-in-Err-clause-faults : goal.returns-in-Err-clause-faults
+returns-in-Err-clause-faults g c = subst IsOfOpening (sym c.run_fault.ensures) (run_of_opening c.part.result 0 c.in-Err.fault)
 
 -- ---- a piece was run
 

@@ -1,11 +1,12 @@
-use Rattle.std.proofs.Common.{Err, sym, ap, ◌∙◌, arith}
+use Rattle.std.proofs.Common.{Err, sym, ap, subst, ◌∙◌, arith}
 use Rattle.std.proofs.lemmas.Result.{err_from_is_err_and}
 use Rattle.kap_io.specs.Moments.{quiet_then}
 use Rattle.store_records.specs.Histories.{held}
 use Rattle.topic_store.proofs.Quietly.{on_quietly}
 use Rattle.engine_store.specs.declared.fault.EngineFault.{EngineFault}
 use Rattle.engine_store.specs.declared.fault.EngineFault.TheVariants.{NotStore}
-use Rattle.engine_store.proofs.CauseLaws.{cause_later, cause_none, cause_other, cause_same, run_no_disk, same_fault, why_asked, why_later, why_run}
+use Rattle.engine_store.specs.Faults.{IsOfOpening}
+use Rattle.engine_store.proofs.CauseLaws.{cause_later, cause_none, cause_other, cause_same, run_no_disk, run_of_opening, same_fault, why_asked, why_later, why_run}
 use Rattle.engine_store.proofs.ReadLaws.{all_named, turned}
 use Rattle.engine_store.proofs.WhyLaws.{scripts_held}
 use Rattle.engine_store.proofs.opening.run_store.Goals as goal
@@ -23,6 +24,9 @@ pub returns-in-Err-clause-cause : goal.returns-in-Err-clause-cause
 returns-in-Err-clause-cause g c =
     cause_other _ _ c.run_fault.result (omega arith) (λ disk. run_no_disk c.part.result 0 c.in-Err.fault (sym c.run_fault.ensures ∙ disk))
 
+pub returns-in-Err-clause-faults : goal.returns-in-Err-clause-faults
+returns-in-Err-clause-faults g c = subst IsOfOpening (sym c.run_fault.ensures) (run_of_opening c.part.result 0 c.in-Err.fault)
+
 -- ---- the lives don't begin
 
 pub returns-in_err-run-clause-why : goal.returns-in_err-run-clause-why
@@ -37,6 +41,11 @@ pub returns-in_err-run-clause-cause : goal.returns-in_err-run-clause-cause
 returns-in_err-run-clause-cause g c =
     let p = err_from_is_err_and c.from_residual.result c.from_residual.ensures.1 in
     cause_same _ _ _ c.in_err-run.field-0.0 p.0 p.1 p.2 c.in_err-run.ensures.cause
+
+pub returns-in_err-run-clause-faults : goal.returns-in_err-run-clause-faults
+returns-in_err-run-clause-faults g c =
+    let p = err_from_is_err_and c.from_residual.result c.from_residual.ensures.1 in
+    rw p.1 (subst IsOfOpening (sym p.2) c.in_err-run.ensures.faults)
 
 -- ---- they don't run
 
@@ -58,6 +67,11 @@ returns-in_err-due-clause-cause g c =
     let p = err_from_is_err_and c.from_residual-in_err-due.result c.from_residual-in_err-due.ensures.1 in
     cause_same _ _ _ c.in_err-due.field-0.0 p.0 p.1 p.2 (cause_later _ _ _ _ c.begin_run.ensures.cause.later c.in_err-due.ensures.cause)
 
+pub returns-in_err-due-clause-faults : goal.returns-in_err-due-clause-faults
+returns-in_err-due-clause-faults g c =
+    let p = err_from_is_err_and c.from_residual-in_err-due.result c.from_residual-in_err-due.ensures.1 in
+    rw p.1 (subst IsOfOpening (sym p.2) c.in_err-due.ensures.faults)
+
 -- ---- one that begins behind all points can't
 
 pub returns-in-Err-turn-clause-why : goal.returns-in-Err-turn-clause-why
@@ -76,6 +90,10 @@ pub returns-in-Err-turn-clause-cause : goal.returns-in-Err-turn-clause-cause
 returns-in-Err-turn-clause-cause g c =
     cause_other _ _ c.run_fault-in-Err-turn.result (omega (arith, c.begin_run.ensures.cause.later, c.run_rest.ensures.cause.later))
     (λ disk. run_no_disk c.part-in-Err-turn.result 0 c.in-Err-turn.fault (sym c.run_fault-in-Err-turn.ensures ∙ disk))
+
+pub returns-in-Err-turn-clause-faults : goal.returns-in-Err-turn-clause-faults
+returns-in-Err-turn-clause-faults g c =
+    subst IsOfOpening (sym c.run_fault-in-Err-turn.ensures) (run_of_opening c.part-in-Err-turn.result 0 c.in-Err-turn.fault)
 
 -- ---- there are too many transitions
 
@@ -114,3 +132,7 @@ returns-clause-quiet g c = λ tells.
 
 pub returns-clause-cause : goal.returns-clause-cause
 returns-clause-cause g c = cause_none _ _ _ (omega (arith, c.begin_run.ensures.cause.later, c.run_rest.ensures.cause.later))
+
+pub returns-clause-kept : goal.returns-clause-kept
+returns-clause-kept g c =
+    c.in_default-turn.ensures.kept ∙ c.in_ok-due.ensures.kept ∙ c.in_ok-run.ensures.kept ∙ c.in_default.ensures.kept

@@ -4,7 +4,7 @@ use Rattle.store_records.specs.Histories.{end_of, held}
 use Rattle.engine_store.proofs.CauseLaws.{cause_of}
 use Rattle.kap_engine.specs.Changing.{AreNext}
 use Rattle.kap_engine.specs.Engines.{EngineValue, IsEngine}
-use Rattle.kap_engine.proofs.AddLaws.{disk_rose, still_of}
+use Rattle.kap_engine.proofs.AddLaws.{disk_rose, spent_of, still_of}
 use Rattle.kap_engine.proofs.ChangeLaws.{begun_turned, full_moments, turned_behind}
 use Rattle.kap_engine.proofs.RefusalLaws.{add_failed}
 use Rattle.kap_engine.proofs.engine.Engine.add_change.Goals as goal
@@ -20,7 +20,11 @@ pub returns-in-Err-clause-failed : goal.returns-in-Err-clause-failed
 returns-in-Err-clause-failed g c = add_failed _ _ _ _ _ c.in-Err.fault c.from.result c.from.ensures c.in-Err.ensures.cause
 
 pub returns-in-Err-clause-quiet : goal.returns-in-Err-clause-quiet
-returns-in-Err-clause-quiet g c = λ unspent. still_of c.in-Err.fault _ _ _ _ _ c.spent-self-inside.result c.in-Err.ensures.cause c.spent-self-inside.ensures unspent
+returns-in-Err-clause-quiet g c = λ unspent.
+    still_of c.in-Err.fault _ _ _ _ _ c.self.inside.run c.self.inside.stored c.self.inside.spent c.spent-self-inside.result c.args.self.now c.in-Err.ensures.cause c.spent-self-inside.ensures c.self.view_is c.requires.unspent unspent
+
+pub returns-in-Err-clause-spends : goal.returns-in-Err-clause-spends
+returns-in-Err-clause-spends g c = spent_of c.in-Err.fault c.from.result _ _ _ _ _ c.spent-self-inside.result c.from.ensures c.in-Err.ensures.cause c.spent-self-inside.ensures
 
 pub returns-in-Err-clause-cause : goal.returns-in-Err-clause-cause
 returns-in-Err-clause-cause g c = cause_of _ _ c.in-Err.fault c.from.result c.from.ensures c.add.ensures.later (disk_rose c.in-Err.fault _ _ _ _ _ c.in-Err.ensures.cause)

@@ -1,5 +1,4 @@
 use Rattle.std.proofs.Common.{◌≡◌, ◌<◌, ◌≤◌, List, ℕ, [], ◌∷◌, ◌++◌, false, length, ap, subst, sym, ◌∙◌, arith}
-use Rattle.std.proofs.lemmas.Result.{err_from_is_err_and}
 use Rattle.std.specs.Prelude.{◌≢◌, None, OnOk}
 use Rattle.kap_base.specs.declared.limits.TheConstants.{TASK_LIMIT}
 use Rattle.kap_io.specs.Moments.{Moments}

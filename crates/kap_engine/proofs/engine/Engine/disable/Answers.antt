@@ -3,7 +3,6 @@ use Rattle.std.specs.Prelude.{OnOk}
 use Rattle.kap_io.specs.Moments.{Moments}
 use Rattle.store_records.specs.Held.{has_task}
 use Rattle.store_records.specs.Histories.{held}
-use Rattle.store_records.specs.declared.rec.Rec.{Rec}
 use Rattle.store_records.specs.declared.rec.Rec.TheVariants as kinds
 use Rattle.store_records.specs.declared.task.StoredTask.{StoredTask}
 use Rattle.kap_engine.specs.Changing.{stands_full_before_or_after}

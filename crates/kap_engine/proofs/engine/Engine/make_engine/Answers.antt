@@ -1,4 +1,4 @@
-use Rattle.std.proofs.Common.{List, Err, sym, ap, ◌∙◌, arith}
+use Rattle.std.proofs.Common.{List, Err, sym, ap, subst, ◌∙◌, arith}
 use Rattle.std.proofs.lemmas.Result.{err_from_is_err_and}
 use Rattle.kap_io.specs.Moments.{quiet_then}
 use Rattle.store_records.specs.declared.rec.Rec.{Rec}
@@ -6,10 +6,10 @@ use Rattle.topic_store.specs.Stores.{IsOn, StoreState}
 use Rattle.topic_store.specs.declared.fault.StoreFault.{StoreFault}
 use Rattle.topic_store.proofs.Found.{seen_stands}
 use Rattle.topic_store.proofs.Quietly.{on_quietly}
-use Rattle.engine_store.specs.Faults.{no_lives, no_store}
+use Rattle.engine_store.specs.Faults.{IsOfOpening, no_lives, no_store}
 use Rattle.engine_store.specs.declared.fault.EngineFault.{EngineFault}
 use Rattle.engine_store.specs.declared.fault.EngineFault.TheVariants.{NotStore}
-use Rattle.engine_store.proofs.CauseLaws.{cause_later, cause_none, cause_of, cause_same, cause_store, no_place, same_fault}
+use Rattle.engine_store.proofs.CauseLaws.{cause_later, cause_none, cause_of, cause_same, cause_store, no_place, opening_of, same_fault}
 use Rattle.kap_engine.proofs.MakeLaws.{found_fault, good_moments, made_behind, may_store, named_by, none_missing, on_seen, opened_fault, quiet_good, quiet_still}
 use Rattle.engine_store.proofs.WhyLaws.{good_rose}
 use Rattle.kap_engine.proofs.engine.Engine.make_engine.Goals as goal
@@ -34,6 +34,11 @@ pub returns-in_err-store-clause-cause : goal.returns-in_err-store-clause-cause
 returns-in_err-store-clause-cause g c =
     let p = err_from_is_err_and c.from_residual.result c.from_residual.ensures.1 in
     rw p.1 (cause_store _ _ c.in_err-store.field-0.0 p.0 p.2 c.in_err-store.ensures.cause)
+
+pub returns-in_err-store-clause-faults : goal.returns-in_err-store-clause-faults
+returns-in_err-store-clause-faults g c =
+    let p = err_from_is_err_and c.from_residual.result c.from_residual.ensures.1 in
+    rw p.1 (opening_of c.in_err-store.field-0.0 p.0 p.2)
 
 -- ---- its lives don't run
 
@@ -72,6 +77,11 @@ pub returns-in_err-run-clause-cause : goal.returns-in_err-run-clause-cause
 returns-in_err-run-clause-cause g c =
     let p = err_from_is_err_and c.from_residual-in_err-run.result c.from_residual-in_err-run.ensures.1 in
     cause_same _ _ _ c.in_err-run.field-0.0 p.0 p.1 p.2 (cause_later _ _ _ _ c.open_store.ensures.cause.later c.in_err-run.ensures.cause)
+
+pub returns-in_err-run-clause-faults : goal.returns-in_err-run-clause-faults
+returns-in_err-run-clause-faults g c =
+    let p = err_from_is_err_and c.from_residual-in_err-run.result c.from_residual-in_err-run.ensures.1 in
+    rw p.1 (subst IsOfOpening (sym p.2) c.in_err-run.ensures.faults)
 
 -- ---- the missing transitions aren't all stored
 
@@ -116,6 +126,11 @@ returns-in_err-add_transitions-clause-cause g c =
     let p = err_from_is_err_and c.from_residual-in_err-add_transitions.result c.from_residual-in_err-add_transitions.ensures.1 in
     rw p.1 (cause_later _ _ _ _ c.open_store.ensures.cause.later (cause_later _ _ _ _ c.run_store.ensures.cause.later
     (cause_of _ _ c.in_err-add_transitions.field-0.0 p.0 p.2 c.add_transitions.ensures.later (λ is. c.in_err-add_transitions.ensures.failed (ap (λ (f : StoreFault). Err f) is)))))
+
+pub returns-in_err-add_transitions-clause-faults : goal.returns-in_err-add_transitions-clause-faults
+returns-in_err-add_transitions-clause-faults g c =
+    let p = err_from_is_err_and c.from_residual-in_err-add_transitions.result c.from_residual-in_err-add_transitions.ensures.1 in
+    rw p.1 (opening_of c.in_err-add_transitions.field-0.0 p.0 p.2)
 
 -- ---- the engine is made
 

@@ -8,7 +8,7 @@ use Rattle.topic_store.specs.Stores.{IsOn}
 use Rattle.engine_runs.specs.Running.{HasRun}
 use Rattle.kap_engine.specs.Engines.{EngineValue}
 use Rattle.engine_store.proofs.CauseLaws.{cause_later, cause_none, cause_of, cause_other, cause_same}
-use Rattle.kap_engine.proofs.AddLaws.{disk_rose, fault_of, none_placed, still_of}
+use Rattle.kap_engine.proofs.AddLaws.{disk_rose, fault_of, none_placed, spent_of, still_of}
 use Rattle.kap_engine.proofs.BatchLaws.{batch_good, batch_held, ran_all}
 use Rattle.kap_engine.proofs.WriteLaws.{batch_moments, due_moments, written}
 use Rattle.kap_engine.proofs.engine.Engine.write.Goals as goal
@@ -22,7 +22,11 @@ returns-in-Err-clause-any_moment g c = λ tells rs at.
     g.D.Disk.moment g.D.Disk.may_leave g.D.Disk.left_since _ _ (c.add_batch.ensures.any_moment tells rs stood)
 
 pub returns-in-Err-clause-still : goal.returns-in-Err-clause-still
-returns-in-Err-clause-still g c = λ unspent. still_of c.in-Err.fault _ _ _ _ _ c.spent-self-inside.result c.in-Err.ensures.cause c.spent-self-inside.ensures unspent
+returns-in-Err-clause-still g c = λ unspent.
+    still_of c.in-Err.fault _ _ _ _ _ c.self.inside.run c.self.inside.stored c.self.inside.spent c.spent-self-inside.result c.args.self.now c.in-Err.ensures.cause c.spent-self-inside.ensures c.self.view_is c.requires.unspent unspent
+
+pub returns-in-Err-clause-spends : goal.returns-in-Err-clause-spends
+returns-in-Err-clause-spends g c = spent_of c.in-Err.fault c.from.result _ _ _ _ _ c.spent-self-inside.result c.from.ensures c.in-Err.ensures.cause c.spent-self-inside.ensures
 
 pub returns-in-Err-clause-faults : goal.returns-in-Err-clause-faults
 returns-in-Err-clause-faults g c = fault_of c.in-Err.fault c.from.result c.from.ensures (none_placed c.in-Err.fault _ _ _ _ _ c.in-Err.ensures.cause)
