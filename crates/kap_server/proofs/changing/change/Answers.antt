@@ -1,4 +1,4 @@
-use Rattle.std.proofs.Common.{◌≡◌, ℕ, List, sym, subst}
+use Rattle.std.proofs.Common.{ℕ, List, sym, subst}
 use Rattle.kap_io.specs.Moments.{Quiet}
 use Rattle.store_records.specs.Histories.{held}
 use Rattle.store_records.specs.declared.task.StoredTask.{StoredTask}

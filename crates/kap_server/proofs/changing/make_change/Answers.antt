@@ -1,9 +1,7 @@
-use Rattle.std.proofs.Common.{◌≡◌, ℕ, List, [], ◌∷◌, ◌++◌, sym, subst}
-use Rattle.std.specs.Prelude.{OnOk}
+use Rattle.std.proofs.Common.{sym, subst}
 use Rattle.std.proofs.lemmas.Result.{IfErr-weaker}
 use Rattle.kap_io.specs.Moments.{Moments}
 use Rattle.kap_engine.specs.Changing.{IsWhyNoneEnabled, IsWhyNoneEnded, stands_full_before_or_after}
-use Rattle.kap_engine.specs.Engines.{IsEngine}
 use Rattle.kap_server.specs.Changing.{record_of}
 use Rattle.kap_server.specs.declared.words.Change.{Change}
 use Rattle.kap_server.proofs.ChangeLaws.{ended_why}

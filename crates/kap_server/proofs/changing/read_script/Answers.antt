@@ -1,8 +1,6 @@
-use Rattle.std.proofs.Common.{◌≡◌, ℕ, List, true, sym, subst, ap, ◌∙◌, Err}
-use Rattle.std.proofs.lemmas.Result.{IfErr-weaker, err_from_is_err_and}
-use Rattle.kap_server.specs.Changing.{EndsReading, IsScriptFault, ReadsScript}
-use Rattle.kap_server.specs.declared.status.Status.{Status}
-use Rattle.kap_server.proofs.ChangeLaws.{fault_early, fault_reads, unread_early, unread_pattern, unread_reads}
+use Rattle.std.proofs.lemmas.Result.{IfErr-weaker}
+use Rattle.kap_server.specs.Changing.{IsScriptFault, ReadsScript}
+use Rattle.kap_server.proofs.ChangeLaws.{fault_reads}
 use Rattle.kap_server.proofs.changing.read_script.Goals as goal
 
 pub returns-clause-fault : goal.returns-clause-fault

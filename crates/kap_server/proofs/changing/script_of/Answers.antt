@@ -1,4 +1,4 @@
-use Rattle.std.proofs.Common.{◌≡◌, ℕ, List, true, sym, subst}
+use Rattle.std.proofs.Common.{◌≡◌, true, sym, subst}
 use Rattle.kap_server.specs.Changing.{IsScriptFault}
 use Rattle.kap_server.specs.Readying.{is_pattern_refused}
 use Rattle.kap_server.specs.declared.status.Status.{Status}
