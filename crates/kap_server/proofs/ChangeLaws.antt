@@ -40,7 +40,7 @@ use Rattle.kap_server.specs.declared.words.Change.{Change}
 use Rattle.kap_server.specs.declared.words.Change.TheVariants.{Enable, Disable, Delete}
 use Rattle.kap_server.specs.Changing.{ChangedTo, Changes, DefinedTo, EndsChange, EndsDefinition, EndsReading, IsScriptFault, IsTaskScript, LeavesChanged, OpensBehind, OpensToChange, ReadsScript, is_early, record_of, stays_or_changed}
 use Rattle.kap_server.specs.Listing.{AreAsked, LeavesFull}
-use Rattle.kap_server.specs.ReadingIn.{IsAll, IsLong, IsShort, ReadsFew}
+use Rattle.kap_server.specs.ReadingIn.{IsAll, IsShort}
 use Rattle.kap_server.specs.Readying.{is_pattern_refused}
 use Rattle.kap_server.specs.Statuses.{status_of_engine, status_of_script}
 
@@ -268,50 +268,9 @@ fault_reads refused text s t statuses.ReadFault all short why = absurd why
 fault_reads refused text s t statuses.WriteFault all short why = absurd why
 fault_reads refused text s t statuses.DiskFault all short why = absurd why
 
-pub fault_early : (refused text : List ℕ) (status : Status) → IsScriptFault refused text status → EndsReading status
-fault_early refused text statuses.Ok why = absurd why
-fault_early refused text statuses.Usage why = absurd why
-fault_early refused text (statuses.Script fault) why = tt
-fault_early refused text (statuses.Line n fault) why = absurd why
-fault_early refused text (statuses.Truncated n) why = absurd why
-fault_early refused text (statuses.NotStore part offset) why = absurd why
-fault_early refused text statuses.NoTask why = absurd why
-fault_early refused text statuses.Exists why = absurd why
-fault_early refused text statuses.TooManyTasks why = absurd why
-fault_early refused text statuses.TooLong why = absurd why
-fault_early refused text statuses.NoMemory why = tt
-fault_early refused text statuses.ReadFault why = absurd why
-fault_early refused text statuses.WriteFault why = absurd why
-fault_early refused text statuses.DiskFault why = absurd why
-
+-- a status with which no reading ends
 pub never_early : (s status : Status) → EndsReading s → (EndsReading status → ⊥) → s ≡ status → ⊥
 never_early s status ends none e = none (subst EndsReading e ends)
-
--- it couldn't be read, or is too long
-module _ (status : Status) (ends : (status ≡ statuses.TooLong) ⊎ ((status ≡ statuses.ReadFault) ⊎ (status ≡ statuses.NoMemory))) where
-  pub unread_reads : (refused : List ℕ) (s t : Option (List ℕ)) → (status ≡ statuses.TooLong → IsLong s) → (status ≡ statuses.ReadFault → ReadsFew s t) → ReadsScript refused s t status
-  unread_reads refused s t long few = by ends
-    where
-      by : (status ≡ statuses.TooLong) ⊎ ((status ≡ statuses.ReadFault) ⊎ (status ≡ statuses.NoMemory)) → ReadsScript refused s t status
-      by (inl e) = subst (ReadsScript refused s t) (sym e) (long e)
-      by (inr (inl e)) = subst (ReadsScript refused s t) (sym e) (few e)
-      by (inr (inr e)) = subst (ReadsScript refused s t) (sym e) tt
-
-  pub unread_early : EndsReading status
-  unread_early = by ends
-    where
-      by : (status ≡ statuses.TooLong) ⊎ ((status ≡ statuses.ReadFault) ⊎ (status ≡ statuses.NoMemory)) → EndsReading status
-      by (inl e) = subst EndsReading (sym e) tt
-      by (inr (inl e)) = subst EndsReading (sym e) tt
-      by (inr (inr e)) = subst EndsReading (sym e) tt
-
-  pub unread_pattern : is_pattern_refused status ≡ true → ⊥
-  unread_pattern told = by ends
-    where
-      by : (status ≡ statuses.TooLong) ⊎ ((status ≡ statuses.ReadFault) ⊎ (status ≡ statuses.NoMemory)) → ⊥
-      by (inl e) = let one : is_pattern_refused statuses.TooLong ≡ true = ap is_pattern_refused (sym e) ∙ told in absurd cc
-      by (inr (inl e)) = let one : is_pattern_refused statuses.ReadFault ≡ true = ap is_pattern_refused (sym e) ∙ told in absurd cc
-      by (inr (inr e)) = let one : is_pattern_refused statuses.NoMemory ≡ true = ap is_pattern_refused (sym e) ∙ told in absurd cc
 
 -- a script's fault is why it is none, unless memory lacked
 pub script_fault : (refused text : List ℕ) (fault : ScriptFault) → (fault ≢ scripts.NoMemory → Refuses (refusal_in fault refused) text fault) → IsScriptFault refused text (status_of_script fault)
