@@ -1,4 +1,4 @@
-use Rattle.std.proofs.Common.{inr, Err, Ok, List, ℕ, sym, subst, ◌∙◌}
+use Rattle.std.proofs.Common.{inr, Err, List, ℕ, sym, subst, ◌∙◌}
 use Rattle.kap_io.specs.Moments.{quiet_then}
 use Rattle.store_records.specs.Histories.{held}
 use Rattle.store_lists.specs.Writing.{Lists}
