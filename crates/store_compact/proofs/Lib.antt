@@ -1,0 +1,5 @@
+pub mod Tasks
+pub mod Lives
+pub mod Later
+pub mod Thin
+pub mod Step
