@@ -47,8 +47,11 @@ lived_later at h gate (r ∷ rs) lived = lived_later at (after h gate r) (next_g
 same_number : (a b : ℕ) → (a == b) ≡ true → a ≡ b
 same_number a b e = grind (arith, nat_tests)
 
-other_number : (a b : ℕ) → a < b → (b == a) ≡ false
+pub other_number : (a b : ℕ) → a < b → (b == a) ≡ false
 other_number a b lt = grind (arith, nat_tests)
+
+pub own_number : (a : ℕ) → (a == a) ≡ true
+own_number a = grind (arith, nat_tests)
 
 -- the task isn't the one of this id that the record at this offset defined
 abbrev pub IsOther : List ℕ → ℕ → StoredTask → Type 0
@@ -63,7 +66,7 @@ others_of id at [] none = tt
 others_of id at (x ∷ xs) none =
     (first_false (is_called id x && (x.define_at == at)) (is_there id at xs) none, others_of id at xs (second_false (is_called id x && (x.define_at == at)) (is_there id at xs) none))
 
-both_false : (a b : Bool) → b ≡ false → (a && b) ≡ false
+pub both_false : (a b : Bool) → b ≡ false → (a && b) ≡ false
 both_false true b e = e
 both_false false b e = refl
 

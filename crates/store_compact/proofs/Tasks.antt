@@ -19,7 +19,7 @@ use Rattle.store_compact.specs.Same.{unplaced}
 
 -- ---- ids
 
-same_id : (a b : List ℕ) → bytes_eq a b ≡ true → a ≡ b
+pub same_id : (a b : List ℕ) → bytes_eq a b ≡ true → a ≡ b
 same_id a b e = (bytes_eq-Decides a b).0 e
 
 -- of two ids one stands below the other
@@ -87,6 +87,12 @@ there_has id (x ∷ xs) t e = elim (is_called id x) as (λ b. cond b (Some x) (t
   | true ↦ λ e. refl
   | false ↦ λ e. there_has id xs t e
 ] e
+
+pub none_of_id : (id : List ℕ) (xs : List StoredTask) → has_task id xs ≡ false → task_of id xs ≡ None
+none_of_id id [] none = refl
+none_of_id id (x ∷ xs) none =
+    let here : is_called id x ≡ false = first_false (is_called id x) (has_task id xs) none in
+    rw here (none_of_id id xs (second_false (is_called id x) (has_task id xs) none))
 
 module _ (P : StoredTask → Type 0) where
   pub each_found : (id : List ℕ) (xs : List StoredTask) (t : StoredTask) → task_of id xs ≡ Some t → Each P xs → P t
@@ -330,3 +336,20 @@ module _ (p : StoredTask → Bool) where
   -- a task that is left out is defined
   pub put_lost : (t : StoredTask) (xs : List StoredTask) → p t ≡ false → filter p xs ≡ filter p (put_task t xs)
   put_lost t xs out = lost_put t xs out ∙ ap (λ (l : List StoredTask). filter p l) (sym (put_is t xs))
+
+-- ---- after a task was deleted
+
+others_above : (id : List ℕ) (xs : List StoredTask) → Each (λ other. byte_order id other.id ≡ Less) xs → Each (λ other. is_called id other ≡ false) xs
+others_above id [] each = tt
+others_above id (x ∷ xs) each = (less_apart id x.id each.0, others_above id xs each.1)
+
+out_none : (id : List ℕ) (xs : List StoredTask) → IdsRise xs → Each (λ other. is_called id other ≡ false) (take_out id xs)
+out_none id [] rise = tt
+out_none id (x ∷ xs) rise = elim (is_called id x) as (λ b. is_called id x ≡ b → Each (λ other. is_called id other ≡ false) (cond b xs (x ∷ take_out id xs))) [
+  | true ↦ λ e. others_above id xs (subst (λ (i : List ℕ). Each (λ other. byte_order i other.id ≡ Less) xs) (same_id x.id id e) rise.0)
+  | false ↦ λ e. (e, out_none id xs rise.1)
+] refl
+
+-- none of its id is there
+pub none_left : (id : List ℕ) (xs : List StoredTask) → IdsRise xs → Each (λ other. is_called id other ≡ false) (remove_task id xs)
+none_left id xs rise = subst (Each (λ other. is_called id other ≡ false)) (sym (out_is id xs)) (out_none id xs rise)
