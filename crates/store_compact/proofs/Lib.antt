@@ -3,3 +3,4 @@ pub mod Lives
 pub mod Later
 pub mod Thin
 pub mod Step
+pub mod Total

@@ -44,7 +44,7 @@ is_not false e = absurd cc
 lt_stays : (a b n : ℕ) → a ≤ b → nat_lt b n ≡ true → nat_lt a n ≡ true
 lt_stays a b n le lt = grind (arith, nat_tests)
 
-each_weaker : (P Q : StoredTask → Type 0) → ((t : StoredTask) → P t → Q t) → (xs : List StoredTask) → Each P xs → Each Q xs
+pub each_weaker : (P Q : StoredTask → Type 0) → ((t : StoredTask) → P t → Q t) → (xs : List StoredTask) → Each P xs → Each Q xs
 each_weaker P Q to [] each = tt
 each_weaker P Q to (x ∷ xs) each = (to x each.0, each_weaker P Q to xs each.1)
 
@@ -78,7 +78,7 @@ lives_grow es fs xs ys front back =
 
 -- ---- a life that begins
 
-lived_new : (at n : ℕ) (t : StoredTask) (ls : List Life) → t.define_at ≡ at → has_lived at (ls ++ life_from n t ∷ []) ≡ true
+pub lived_new : (at n : ℕ) (t : StoredTask) (ls : List Life) → t.define_at ≡ at → has_lived at (ls ++ life_from n t ∷ []) ≡ true
 lived_new at n t ls is = lived_back at ls (life_from n t ∷ []) (rw is (rw (own_number at) refl))
 
 -- ---- the step
