@@ -15,11 +15,13 @@ use Rattle.store_records.specs.declared.task.Life.{Life}
 use Rattle.store_records.specs.declared.task.Snapshot.{Snapshot}
 use Rattle.store_records.specs.declared.task.StoredTask.{StoredTask}
 use Rattle.store_records.proofs.OrderLaws.{in_order}
+use Rattle.store_kept.specs.Keeping.{KeepsRecords, KeptValue}
 use Rattle.store_kept.proofs.Keeping.{end_more, follow_push, held_push}
+use Rattle.store_compact.specs.Deciding.{is_kept}
 use Rattle.store_compact.specs.Same.{HoldSame, if_snap, last_snap, later_rec, unplaced, unplaced_snap}
 use Rattle.store_compact.specs.Staying.{has_lived, if_stays, is_snap_at, is_there, staying, staying_from, staying_of, stays}
 use Rattle.store_compact.proofs.Later.{lived_after, own_number}
-use Rattle.store_compact.proofs.Step.{Steps, each_weaker, lived_new, steps}
+use Rattle.store_compact.proofs.Step.{Steps, decides, each_weaker, lived_new, steps}
 use Rattle.store_compact.proofs.Tasks.{each_found, each_putting, each_removing, each_setting}
 use Rattle.store_compact.proofs.Thin.{IsSteady, IsThin, last_of_all, remains}
 
@@ -95,25 +97,26 @@ held_split h at [] ys = refl
 held_split h at (r ∷ xs) ys = held_split (after h at r) (next_gate at r) xs ys
 
 -- These records, which stay, stand for what the store holds there.
-pub record IsStand (all h : Held) (ks : List Rec) : Type 0 where
+pub record IsStand (all h : Held) (at : ℕ) (ks : List Rec) : Type 0 where
   pub follow : Follow ks
   pub thin : IsThin all h (held ks)
+  pub steady : IsSteady h at
 
 module _ (all : Held) where
   one_step : (h : Held) (at : ℕ) (r : Rec) (before ks : List Rec) (b : Bool) → FitsRecord r → Follow ks → Steps all h (held ks) at (end_of ks) r b
       → ((more : List Rec) → Follow more → IsThin all (after h at r) (held more)
-      → IsStand all (held_from (after h at r) (next_gate at r) before) (more ++ staying_from all (after h at r) (next_gate at r) before))
-      → IsStand all (held_from (after h at r) (next_gate at r) before) (ks ++ (if_stays b r ++ staying_from all (after h at r) (next_gate at r) before))
+      → IsStand all (held_from (after h at r) (next_gate at r) before) (end_from (next_gate at r) before) (more ++ staying_from all (after h at r) (next_gate at r) before))
+      → IsStand all (held_from (after h at r) (next_gate at r) before) (end_from (next_gate at r) before) (ks ++ (if_stays b r ++ staying_from all (after h at r) (next_gate at r) before))
   one_step h at r before ks true fits follow step go_on =
-      subst (IsStand all (held_from (after h at r) (next_gate at r) before)) (append_assoc ks (r ∷ []) (staying_from all (after h at r) (next_gate at r) before))
+      subst (IsStand all (held_from (after h at r) (next_gate at r) before) (end_from (next_gate at r) before)) (append_assoc ks (r ∷ []) (staying_from all (after h at r) (next_gate at r) before))
       (go_on (ks ++ r ∷ []) (follow_push ks r follow fits step.0) (subst (λ (g : Held). IsThin all (after h at r) g) (sym (held_push ks r)) step.1))
   one_step h at r before ks false fits follow step go_on = go_on ks follow step
 
   thin_from : (before behind pre ks : List Rec) (h : Held) (at : ℕ) → held pre ≡ h → end_of pre ≡ at → all ≡ held_from h at (before ++ behind)
       → Follow pre → FollowFrom h at (before ++ behind) → IsSteady h at → Follow ks → IsThin all h (held ks)
-      → IsStand all (held_from h at before) (ks ++ staying_from all h at before)
+      → IsStand all (held_from h at before) (end_from at before) (ks ++ staying_from all h at before)
   thin_from [] behind pre ks h at is_h is_at ends pre_follow follow steady ks_follow thin =
-      subst (IsStand all h) (sym (append-nil ks)) (record { follow = ks_follow; thin = thin })
+      subst (IsStand all h at) (sym (append-nil ks)) (record { follow = ks_follow; thin = thin; steady = steady })
   thin_from (r ∷ before) behind pre ks h at is_h is_at ends pre_follow follow steady ks_follow thin =
       let may : MayFollow (held pre) r = subst (λ (x : Held). MayFollow x r) (sym is_h) follow.1 in
       let more_pre : Follow (pre ++ r ∷ []) = follow_push pre r pre_follow follow.0 may in
@@ -134,7 +137,7 @@ thin_first : (all : Held) → IsThin all nothing nothing
 thin_first all = record { tasks = refl; lives = refl; points = refl; transitions = refl; snap = refl }
 
 -- what stays of the first records stands for what these hold
-pub stand_at : (rs before behind : List Rec) → Follow rs → rs ≡ before ++ behind → IsStand (held rs) (held before) (staying_of rs before)
+pub stand_at : (rs before behind : List Rec) → Follow rs → rs ≡ before ++ behind → IsStand (held rs) (held before) (end_of before) (staying_of rs before)
 stand_at rs before behind follow split =
     thin_from (held rs) before behind [] [] nothing first_gate refl refl (ap held split) tt (subst Follow split follow) steady_first tt (thin_first (held rs))
 
@@ -243,3 +246,19 @@ staying_more all h at (q ∷ before) r =
 
 pub staying_push : (rs before : List Rec) (r : Rec) → staying_of rs (before ++ r ∷ []) ≡ staying_of rs before ++ if_stays (stays (held rs) (held before) (end_of before) r) r
 staying_push rs before r = staying_more (held rs) nothing first_gate before r
+
+-- a record fits, and may follow those before it
+follows_from : (h : Held) (at : ℕ) (before : List Rec) (r : Rec) (behind : List Rec) → FollowFrom h at (before ++ r ∷ behind) → FitsRecord r × MayFollow (held_from h at before) r
+follows_from h at [] r behind follow = (follow.0, follow.1)
+follows_from h at (q ∷ before) r behind follow = follows_from (after h at q) (next_gate at q) before r behind follow.2
+
+pub follows_there : (rs before : List Rec) (r : Rec) (behind : List Rec) → Follow rs → rs ≡ before ++ r ∷ behind → FitsRecord r × MayFollow (held before) r
+follows_there rs before r behind follow split = follows_from nothing first_gate before r behind (subst Follow split follow)
+
+-- by what is kept of all records, and of those that stay so far, it is decided whether one stays
+pub decides_at : (rs before : List Rec) (r : Rec) (behind : List Rec) (a k : KeptValue) → Follow rs → rs ≡ before ++ r ∷ behind → KeepsRecords rs a → KeepsRecords (staying_of rs before) k
+    → is_kept a k (end_of before) r ≡ stays (held rs) (held before) (end_of before) r
+decides_at rs before r behind a k follow split keeps_all keeps =
+    let stand = stand_at rs before (r ∷ behind) follow split in
+    decides (held rs) (held before) (held (staying_of rs before)) (end_of before) (end_of (staying_of rs before)) behind stand.steady stand.thin a k keeps_all.keeps keeps.keeps r
+    (follows_there rs before r behind follow split).1 (ap held split ∙ held_split nothing first_gate before (r ∷ behind))
