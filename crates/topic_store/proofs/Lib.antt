@@ -10,3 +10,5 @@ pub mod Quietly
 pub mod Reading
 pub mod Rereading
 pub mod TransitionLaws
+pub mod Copies
+pub mod Rewritten

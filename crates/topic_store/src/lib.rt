@@ -3,10 +3,12 @@
 #![tactic(auto)]
 
 mod behind;
+mod copying;
 mod fault;
 mod opening;
 mod pieces;
 mod reader;
+mod rewriting;
 mod start;
 mod store;
 mod stored;
