@@ -10,3 +10,4 @@ pub mod Quietly
 pub mod Reading
 pub mod Rereading
 pub mod TransitionLaws
+pub mod Copies

@@ -8,3 +8,4 @@ pub mod Snapshots
 pub mod Pieces
 pub mod Behind
 pub mod Points
+pub mod Rewriting

@@ -3,6 +3,7 @@
 #![tactic(auto)]
 
 mod behind;
+mod copying;
 mod fault;
 mod opening;
 mod pieces;

@@ -1,0 +1,6 @@
+pub mod Tasks
+pub mod Lives
+pub mod Later
+pub mod Thin
+pub mod Step
+pub mod Total
