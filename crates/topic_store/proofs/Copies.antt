@@ -73,6 +73,12 @@ next_there rs before (r ∷ behind) gate next body stored split at there =
 some_is : {A : Type 0} (x y : A) → ◌≡◌ {A = Option A} (Some x) (Some y) → x ≡ y
 some_is x y e = cc
 
+pub none_is_none : (r : Rec) → ◌≡◌ {A = Option Rec} None (Some r) → ⊥
+none_is_none r e = absurd cc
+
+pub short_body : (a b : List ℕ) → a ≡ b → length b ≤ BODY_LIMIT → length a ≤ BODY_LIMIT
+short_body a b same short = subst (λ (l : List ℕ). length l ≤ BODY_LIMIT) (sym same) short
+
 -- it is read
 pub stored_there : (before behind : List Rec) (next : ℕ) (body : List ℕ) (r : Rec) → (has : HasNext before behind next body) → Some r ≡ Some has.r
     → StoredOrNot (Ok (Some (body, r, next))) before behind
@@ -218,10 +224,11 @@ module _ (rs : List Rec) (gate : ℕ) (seen : Image) (images : Image → Type 0)
 
 -- ---- the moments of copying
 
-module _ {D : Type 0} (moment : D → ℕ) (may_leave : D → Image → Type 0) (left_since : D → ℕ → Image → Type 0) (part : Part) where
+module _ {D : Type 0} (moment : D → ℕ) (may_leave : D → Image → Type 0) (left_since : D → ℕ → Image → Type 0) (part same : Part) (is : same ≡ part) where
   -- calls on one file, and then others
-  pub on_then : (old mid new : D) → Moments moment may_leave left_since old mid (On part (λ _ _. Unit {0})) → Moments moment may_leave left_since mid new (On part (λ _ _. Unit {0}))
+  pub on_then : (old mid new : D) → Moments moment may_leave left_since old mid (On part (λ _ _. Unit {0})) → Moments moment may_leave left_since mid new (On same (λ _ _. Unit {0}))
       → Moments moment may_leave left_since old new (On part (λ _ _. Unit {0}))
-  on_then old mid new one two = then_run moment may_leave left_since old mid new (On part (λ _ _. Unit {0})) (On part (λ _ _. Unit {0})) (On part (λ _ _. Unit {0})) one two
+  on_then old mid new one two = then_run moment may_leave left_since old mid new (On part (λ _ _. Unit {0})) (On part (λ _ _. Unit {0})) (On part (λ _ _. Unit {0})) one
+      (subst (λ (p : Part). Moments moment may_leave left_since mid new (On p (λ _ _. Unit {0}))) is two)
       (λ a b was how. how)
       (λ a b c was how now step. record { step = tt; elsewhere = λ q apart. step.elsewhere q apart ∙ how.elsewhere q apart })

@@ -11,3 +11,4 @@ pub mod Reading
 pub mod Rereading
 pub mod TransitionLaws
 pub mod Copies
+pub mod Rewritten

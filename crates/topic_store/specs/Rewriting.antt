@@ -85,3 +85,17 @@ CopiesOrNot rs seen images old all log k (Ok (Some next)) = IsCopying rs next se
 CopiesOrNot rs seen images old all log k (Err DiskFault) = ⊤
 CopiesOrNot rs seen images old all log k (Err NoMemory) = ⊤
 CopiesOrNot rs seen images old all log k (Err fault) = ⊥
+
+-- ---- the switch
+
+-- the run of the head is found, unless the disk failed or memory ran out
+abbrev pub RunOrNot : ℕ → Result ℕ StoreFault → Type 0
+RunOrNot run (Ok found) = found ≡ run
+RunOrNot run (Err DiskFault) = ⊤
+RunOrNot run (Err NoMemory) = ⊤
+RunOrNot run (Err fault) = ⊥
+
+-- The store is on its log as before, and the other one is that of the records that stay.
+pub record IsWritten (rs : List Rec) (seen : Image) (images : Image → Type 0) (old : StoreState) (log : LogState) (k : KeptValue) : Type 0 where
+  pub on : IsOn rs seen images old
+  pub put : HasPut (staying rs) seen images log k

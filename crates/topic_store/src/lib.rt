@@ -8,6 +8,7 @@ mod fault;
 mod opening;
 mod pieces;
 mod reader;
+mod rewriting;
 mod start;
 mod store;
 mod stored;
