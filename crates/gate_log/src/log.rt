@@ -1,4 +1,4 @@
-ghost use Rattle.std.specs.Prelude.{◌≡◌, ◌↔◌, ◌<◌, ◌≤◌, ◌++◌, ◌∷◌, [], false, List, ℕ, length, OnOk, IsTrue, ◌^◌, ◌*◌};
+ghost use Rattle.std.specs.Prelude.{◌≡◌, ◌↔◌, ◌<◌, ◌≤◌, ◌++◌, ◌∷◌, [], false, true, List, ℕ, length, OnOk, IsTrue, ◌^◌, ◌*◌};
 ghost use Rattle.kap_base.specs.Words.{HasRisen};
 ghost use Rattle.kap_io.specs.Disk.{Elsewhere, On};
 ghost use Rattle.kap_io.specs.Moments.{Moments};
@@ -66,6 +66,13 @@ impl Log {
         ensures { result ≡ self.now.spent }
     {
         self.spent
+    }
+
+    /// Gives it up, as a call on it does that failed in the middle: it is then to be opened anew.
+    pub fn spend(&mut self)
+        ensures { self.new ≡ record self.old { spent = true } }
+    {
+        self.spent = true;
     }
 
     /// Adds a body, by two writes, each of which is synced. From `Ok` on it is the last one in each image.

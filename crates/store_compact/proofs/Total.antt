@@ -18,7 +18,7 @@ use Rattle.store_records.proofs.OrderLaws.{in_order}
 use Rattle.store_kept.specs.Keeping.{KeepsRecords, KeptValue}
 use Rattle.store_kept.proofs.Keeping.{end_more, follow_push, held_push}
 use Rattle.store_compact.specs.Deciding.{is_kept}
-use Rattle.store_compact.specs.Same.{HoldSame, if_snap, last_snap, later_rec, unplaced, unplaced_snap}
+use Rattle.store_compact.specs.Same.{HasLastSnap, HoldSame, if_snap, last_snap, later_rec, unplaced, unplaced_snap}
 use Rattle.store_compact.specs.Staying.{has_lived, if_stays, is_snap_at, is_there, staying, staying_from, staying_of, stays}
 use Rattle.store_compact.proofs.Later.{lived_after, own_number}
 use Rattle.store_compact.proofs.Step.{Steps, decides, each_weaker, lived_new, steps}
@@ -262,3 +262,34 @@ decides_at rs before r behind a k follow split keeps_all keeps =
     let stand = stand_at rs before (r ∷ behind) follow split in
     decides (held rs) (held before) (held (staying_of rs before)) (end_of before) (end_of (staying_of rs before)) behind stand.steady stand.thin a k keeps_all.keeps keeps.keeps r
     (follows_there rs before r behind follow split).1 (ap held split ∙ held_split nothing first_gate before (r ∷ behind))
+
+-- ---- the last snapshot, where it stands
+
+staying_split : (all h : Held) (at : ℕ) (xs ys : List Rec) → staying_from all h at (xs ++ ys) ≡ staying_from all h at xs ++ staying_from all (held_from h at xs) (end_from at xs) ys
+staying_split all h at [] ys = refl
+staying_split all h at (r ∷ xs) ys =
+    ap (λ (l : List Rec). if_stays (stays all h at r) r ++ l) (staying_split all (after h at r) (next_gate at r) xs ys)
+    ∙ sym (append_assoc (if_stays (stays all h at r) r) (staying_from all (after h at r) (next_gate at r) xs) _)
+
+pub same_snap : (rs before behind : List Rec) (points trans : ℕ) (states : List ℕ) → Follow rs → rs ≡ before ++ kinds.Snap points trans states ∷ behind → last_snap behind ≡ None
+    → HasLastSnap (held before) points trans states (staying rs)
+same_snap rs before behind points trans states follow split none =
+    let r : Rec = kinds.Snap points trans states in
+    let all : Held = held rs in
+    let h : Held = held before in
+    let at : ℕ = end_of before in
+    let ends : all ≡ held_from (after h at r) (next_gate at r) behind = ap held split ∙ held_split nothing first_gate before (r ∷ behind) in
+    let stay : is_snap_at at all.snap ≡ true =
+    ap (λ (x : Held). is_snap_at at x.snap) ends ∙ ap (λ (o : Option Snapshot). is_snap_at at o) (no_snap_from (after h at r) (next_gate at r) behind none) ∙ own_number at in
+    let thin = (stand_at rs before (r ∷ behind) follow split).thin in
+    record {
+      before = staying_of rs before;
+      behind = staying_from all (after h at r) (next_gate at r) behind;
+      split =
+          ap (λ (l : List Rec). staying_from all nothing first_gate l) split ∙ staying_split all nothing first_gate before (r ∷ behind)
+          ∙ ap (λ (b : Bool). staying_of rs before ++ (if_stays b r ++ staying_from all (after h at r) (next_gate at r) behind)) stay;
+      none_behind = last_from all (after h at r) (next_gate at r) behind (ap (λ (x : Held). x.snap) ends) ∙ none;
+      lives = thin.lives;
+      points_are = thin.points;
+      transitions = thin.transitions;
+    }

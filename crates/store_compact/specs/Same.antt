@@ -1,6 +1,7 @@
 -- Two stores that hold the same, wherever their records stand.
-use Rattle.std.specs.Prelude.{◌≡◌, List, [], ◌∷◌, map, Option, Some, None, option_map}
+use Rattle.std.specs.Prelude.{◌≡◌, ℕ, List, [], ◌∷◌, ◌++◌, map, Option, Some, None, option_map}
 use Rattle.store_records.specs.Held.{Held}
+use Rattle.store_records.specs.Histories.{held}
 use Rattle.store_records.specs.declared.rec.Rec.{Rec}
 use Rattle.store_records.specs.declared.rec.Rec.TheVariants as kinds
 use Rattle.store_records.specs.declared.task.Life.{Life}
@@ -39,3 +40,13 @@ if_snap r = None
 abbrev pub last_snap : List Rec → Option Rec
 last_snap [] = None
 last_snap (r ∷ rs) = later_rec (last_snap rs) (if_snap r)
+
+-- The last snapshot among these records is this one, behind records of a store that had the same lives, points and transitions as here.
+pub record HasLastSnap (h : Held) (points trans : ℕ) (states : List ℕ) (rs : List Rec) : Type 0 where
+  pub before : List Rec
+  pub behind : List Rec
+  pub split : rs ≡ before ++ kinds.Snap points trans states ∷ behind
+  pub none_behind : last_snap behind ≡ None
+  pub lives : map unplaced_life (held before).lives ≡ map unplaced_life h.lives
+  pub points_are : (held before).points ≡ h.points
+  pub transitions : (held before).transitions ≡ h.transitions

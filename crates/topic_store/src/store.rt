@@ -3,6 +3,7 @@
 ghost use Rattle.std.specs.Prelude.{◌≡◌, ◌≤◌, ◌+◌, ◌++◌, ◌∷◌, [], ℕ, false, length, List, IfOk, IsTrue, OnOk, drop, option_map};
 ghost use Rattle.std.specs.List.{list_all};
 ghost use Rattle.kap_base.specs.Words.{HasRisen};
+ghost use Rattle.gate_log.specs.Head.{IsHead};
 ghost use Rattle.kap_io.specs.Moments.{Moments, Quiet};
 ghost use Rattle.store_records.specs.Held.{MayFollow, points_in};
 ghost use Rattle.store_records.specs.Histories.{held};
@@ -10,12 +11,14 @@ ghost use Rattle.store_records.specs.Lines.{are_lines, is_of};
 ghost use Rattle.store_records.specs.Orders.{DefinesValid};
 ghost use Rattle.store_records.specs.Records.{HasForm};
 ghost use Rattle.store_records.specs.declared.rec.Rec.{Rec};
+ghost use Rattle.store_compact.specs.Staying.{staying};
 ghost use Rattle.topic_store.specs.Adding.{AddFault, IsLongOrNot, stands_before_or_after};
 ghost use Rattle.store_kept.specs.Keeping.{AreValid, KeepsRecords, kept_of};
 ghost use Rattle.topic_store.specs.Behind.{TopicsOrNot};
 ghost use Rattle.topic_store.specs.Opening.{Finds, IsOnWith, Opens, Refuses, StoreCause};
 ghost use Rattle.topic_store.specs.Pieces.{PieceOrNot, piece_behind};
 ghost use Rattle.topic_store.specs.Points.{IsBefore};
+ghost use Rattle.topic_store.specs.Rewriting.{RewriteFault, RewritesOrNot, other_log, stands_old_or_new};
 ghost use Rattle.topic_store.specs.Snapshots.{SnapOrNot};
 ghost use Rattle.topic_store.specs.Stores.{IsNoStore, IsOn, Stands, numbers_of, store_of};
 
@@ -24,6 +27,7 @@ use crate::fault::{StoreFault, fault_in};
 use crate::opening::{open_part, synced_head};
 use crate::pieces::{piece_from, piece_len, points_start, transitions_start};
 use crate::reader::PointsReader;
+use crate::rewriting::rewrite_store;
 use crate::stored::states_at;
 use gate_log::{BODY_LIMIT, Log};
 use kap_base::{Bytes, Point, Points, Text};
@@ -266,6 +270,48 @@ impl Store {
             rp,
             points,
         )
+    }
+
+    /// Rewrites the store into its other log: makes that anew, copies into it the records that `staying` tells of,
+    /// and lets the head name it. Left out are records that changed nothing (an Enable of an enabled task, and the
+    /// reverse), snapshots but the last, and Define and Delete of tasks that never had a life and are deleted; all
+    /// else is in the same order. So tasks, lives, points, transitions and the last snapshot stay; the places of
+    /// records are those in the new log. Bodies are copied one after the other, as bytes. At each moment each image
+    /// stands for the old records, or for those that stay, and for these from `Ok` on, when the store is on the
+    /// other log. After each fault the store is spent, and is to be opened anew. `DiskFault` comes only where the
+    /// disk's count of faults rose in this call, and `NoMemory` where memory ran out. `NotStore` comes only on a
+    /// disk that doesn't tell what a read gives, where a record is none or the head doesn't name the log.
+    pub fn rewrite<D: Disk>(&mut self, disk: &mut D) -> Result<(), StoreFault>
+        requires usable { self.old.log.spent ≡ false }
+        ensures rewritten { IsTrue D.tells → (rs : List Rec)
+            → IsOn rs (D.seen disk.old) (D.may_leave disk.old) self.old
+            → RewritesOrNot (λ _. IsOn (staying rs)
+            (D.seen disk.new) (D.may_leave disk.new) self.new) result }
+        ensures switched { IsTrue D.tells → (rs : List Rec)
+            → IsOn rs (D.seen disk.old) (D.may_leave disk.old) self.old
+            → (run : ℕ) → IsHead run (D.seen disk.old Part.Head)
+            → OnOk result (IsHead (run + 1) (D.seen disk.new Part.Head)) }
+        ensures any_moment { IsTrue D.tells → (rs : List Rec)
+            → IsOn rs (D.seen disk.old) (D.may_leave disk.old) self.old
+            → Moments D.moment D.may_leave D.left_since disk.old disk.new (stands_old_or_new rs) }
+        ensures part { OnOk result (self.new.log.part ≡ other_log self.old.log.part) }
+        ensures usable { OnOk result (self.new.log.spent ≡ false) }
+        ensures valid { AreValid self.old.kept → AreValid self.new.kept }
+        ensures later { D.faults disk.old ≤ D.faults disk.new }
+        ensures cause { RewriteFault result self.new
+            (HasRisen (D.faults disk.old) (D.faults disk.new)) }
+    {
+        match rewrite_store(self.alloc, &self.log, &self.kept, disk) {
+            Ok((log, kept)) => {
+                self.log = log;
+                self.kept = kept;
+                Ok(())
+            }
+            Err(fault) => {
+                self.log.spend();
+                Err(fault)
+            }
+        }
     }
 
     /// The tasks, in byte order of their ids.
