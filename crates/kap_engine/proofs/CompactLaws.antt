@@ -1,7 +1,7 @@
 -- An engine stands over the records that stay where its store is compacted.
 use Rattle.std.proofs.Common.{◌≡◌, ◌⊎◌, inl, inr, ⊎_elim, ℕ, Bool, true, false, List, [], ◌∷◌, ◌++◌, length, map, refl, sym, ap, subst, ◌∙◌, append_assoc, true≢false}
-use Rattle.std.specs.Prelude.{Err, Option, ◌||◌}
-use Rattle.std.specs.List.{AllByRecursion as Each, list_any}
+use Rattle.std.specs.Prelude.{Err, ◌||◌}
+use Rattle.std.specs.List.{list_any}
 use Rattle.kap_base.specs.Points.{PointValue}
 use Rattle.kap_base.specs.Events.{EventValue}
 use Rattle.kap_io.specs.Disk.{Image}
@@ -20,7 +20,6 @@ use Rattle.store_records.specs.Histories.{Follow, end_from, end_of, first_gate, 
 use Rattle.store_records.specs.declared.rec.Rec.{Rec}
 use Rattle.store_records.specs.declared.rec.Rec.TheVariants as kinds
 use Rattle.store_records.specs.declared.task.Life.{Life}
-use Rattle.store_records.specs.declared.task.Snapshot.{Snapshot}
 use Rattle.task_run.specs.Courses.{Course, course_effects}
 use Rattle.task_run.specs.Graphs.{Placed}
 use Rattle.tick_compile.specs.declared.tasks.Task.{Task}
@@ -33,7 +32,7 @@ use Rattle.topic_store.specs.declared.fault.StoreFault.TheVariants as stores
 use Rattle.engine_runs.specs.Running.{HasRun, life_events}
 use Rattle.engine_runs.specs.Scripts.{graphs_from}
 use Rattle.engine_runs.specs.Whole.{IsSnapOf}
-use Rattle.engine_store.specs.Asking.{AreScripts, IsScript}
+use Rattle.engine_store.specs.Asking.{IsScript}
 use Rattle.engine_store.specs.Faults.{store_fault}
 use Rattle.engine_store.specs.Good.{IsFull, IsGood}
 use Rattle.engine_store.specs.declared.fault.EngineFault.{EngineFault}

@@ -1,5 +1,5 @@
 -- What is said of lives doesn't hang on the places of the records that defined their tasks.
-use Rattle.std.proofs.Common.{◌≡◌, ◌⊎◌, inl, inr, ℕ, zero, suc, ◌+◌, ◌<◌, Bool, true, false, cond, List, [], ◌∷◌, length, map, drop, refl, sym, ap, subst, ◌∙◌}
+use Rattle.std.proofs.Common.{◌≡◌, inl, inr, ℕ, zero, suc, ◌+◌, Bool, true, false, cond, List, [], ◌∷◌, length, map, drop, refl, sym, ap, subst, ◌∙◌}
 use Rattle.std.specs.List.{AllByRecursion as Each}
 use Rattle.kap_base.specs.Points.{PointValue}
 use Rattle.kap_base.specs.Events.{EventValue}
@@ -9,7 +9,6 @@ use Rattle.flow_core.specs.Nets.{NetValue, numbers_of}
 use Rattle.life_effects.specs.Effects.{course_of, courses_of, open_courses}
 use Rattle.life_effects.specs.Times.{times_fit}
 use Rattle.net_epochs.specs.Epochs.{StandsAt}
-use Rattle.node_core.specs.Meaning.{Answer}
 use Rattle.node_core.specs.declared.node.Node.{Ghosts}
 use Rattle.node_set.specs.Tasks.{Planned}
 use Rattle.store_compact.specs.Same.{unplaced_life}
@@ -21,7 +20,7 @@ use Rattle.tick_compile.specs.declared.tasks.Task.{Task}
 use Rattle.topic_core.specs.Topics.{StandsFor, Trans, event_of}
 use Rattle.engine_runs.specs.Running.{HasRun, LivesRun, RunValue, courses_on, life_events}
 use Rattle.engine_runs.specs.Scripts.{AreTasksOf, graphs_from, life_names, life_nodes, names_from}
-use Rattle.engine_runs.specs.Spans.{AreThere, HasEnded, IsAway, IsOpenOver, IsThere, numbers_from, picked}
+use Rattle.engine_runs.specs.Spans.{AreThere, HasEnded, IsAway, IsThere, numbers_from, picked}
 
 -- ---- lists whose items are changed in what isn't asked
 

@@ -1,5 +1,5 @@
 -- What stands after a store was compacted.
-use Rattle.std.proofs.Common.{◌≡◌, ◌⊎◌, ℕ, true, List, Err, None, Some, inl, inr, refl, sym, ap, subst, ◌∙◌}
+use Rattle.std.proofs.Common.{◌≡◌, ◌⊎◌, ℕ, List, Err, None, Some, inl, inr, refl, ap, ◌∙◌}
 use Rattle.std.specs.Prelude.{IsErrOf, Option}
 use Rattle.kap_base.specs.Words.{HasRisen}
 use Rattle.kap_io.specs.Disk.{Image}

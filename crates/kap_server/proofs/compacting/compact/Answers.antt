@@ -1,4 +1,4 @@
-use Rattle.std.proofs.Common.{ℕ, sym, subst}
+use Rattle.std.proofs.Common.{sym, subst}
 use Rattle.kap_io.specs.Moments.{Quiet}
 use Rattle.kap_server.specs.Compacting.{CompactedTo, EndsCompaction, OpensToCompact}
 use Rattle.kap_server.specs.declared.status.Status.{Status}
