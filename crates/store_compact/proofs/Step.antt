@@ -180,11 +180,10 @@ module _ (all h g : Held) (at to : ℕ) (rest : List Rec) (steady : IsSteady h a
       let few : length g.tasks ≤ length h.tasks =
       omega (arith, sym (length-map g.tasks unplaced) ∙ ap (λ (l : List StoredTask). length l) thin.tasks ∙ length-map (filter p h.tasks) unplaced, filter_few p h.tasks) in
       let old : StoredTask = record { id = id; script = script; enabled = enabled; define_at = at } in
-      let new : StoredTask = record { id = id; script = script; enabled = enabled; define_at = to } in
-      (
+      let new : StoredTask = record { id = id; script = script; enabled = enabled; define_at = to } in (
         both (is_task_id id) _ (first_of (is_task_id id) _ may)
-        (both (not (has_task id g.tasks)) _ (not_false (has_task id g.tasks) free_here)
-        (both (nat_lt (length g.tasks) TASK_LIMIT) _ (lt_stays (length g.tasks) (length h.tasks) TASK_LIMIT few (first_of _ _ sizes)) (second_of _ _ sizes))),
+            (both (not (has_task id g.tasks)) _ (not_false (has_task id g.tasks) free_here)
+            (both (nat_lt (length g.tasks) TASK_LIMIT) _ (lt_stays (length g.tasks) (length h.tasks) TASK_LIMIT few (first_of _ _ sizes)) (second_of _ _ sizes))),
         record {
           tasks =
               unplaced_put new g.tasks ∙ ap (λ (l : List StoredTask). put_task (unplaced new) l) thin.tasks ∙ sym (unplaced_put old (filter p h.tasks))
@@ -231,8 +230,7 @@ module _ (all h g : Held) (at to : ℕ) (rest : List Rec) (steady : IsSteady h a
           let lived : has_lived found.task.define_at (h.lives ++ life_of (length h.points) (task_of id h.tasks)) ≡ true =
           subst (λ (l : List Life). has_lived found.task.define_at (h.lives ++ l) ≡ true) (sym begins) (lived_new found.task.define_at (length h.points) found.task h.lives refl) in
           let stays_in : p found.task ≡ true = or_second (is_there found.task.id found.task.define_at all.tasks) (has_lived found.task.define_at all.lives)
-          (lived_at_last (kinds.Enable id) found.task.define_at ends lived) in
-          (
+          (lived_at_last (kinds.Enable id) found.task.define_at ends lived) in (
             is_in id found stays_in,
             record {
               tasks = set_thin id found stays_in true;
@@ -263,8 +261,7 @@ module _ (all h g : Held) (at to : ℕ) (rest : List Rec) (steady : IsSteady h a
           let lived : has_lived found.task.define_at h.lives ≡ true =
           each_found (λ task. task.enabled ≡ true → has_lived task.define_at h.lives ≡ true) id h.tasks found.task found.there steady.lived (sym there_is ∙ stay) in
           let stays_in : p found.task ≡ true = or_second (is_there found.task.id found.task.define_at all.tasks) (has_lived found.task.define_at all.lives)
-          (lived_so_far (kinds.Disable id) found.task.define_at ends lived) in
-          (
+          (lived_so_far (kinds.Disable id) found.task.define_at ends lived) in (
             is_in id found stays_in,
             record {
               tasks = set_thin id found stays_in false;
@@ -318,8 +315,7 @@ module _ (all h g : Held) (at to : ℕ) (rest : List Rec) (steady : IsSteady h a
       by_found found true stay =
           let lived_is : option_map_or (λ task. has_lived task.define_at all.lives) (task_of id h.tasks) false ≡ has_lived found.task.define_at all.lives =
           ap (λ (o : Option StoredTask). option_map_or (λ task. has_lived task.define_at all.lives) o false) found.there in
-          let stays_in : p found.task ≡ true = or_second (is_there found.task.id found.task.define_at all.tasks) (has_lived found.task.define_at all.lives) (sym lived_is ∙ stay) in
-          (
+          let stays_in : p found.task ≡ true = or_second (is_there found.task.id found.task.define_at all.tasks) (has_lived found.task.define_at all.lives) (sym lived_is ∙ stay) in (
             is_in id found stays_in,
             record {
               tasks = remove_thin id found stays_in;

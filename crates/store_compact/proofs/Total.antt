@@ -146,11 +146,10 @@ stand_at rs before behind follow split =
 each_there : (tasks : List StoredTask) → Each (λ t. is_there t.id t.define_at tasks ≡ true) tasks
 each_there [] = tt
 each_there (x ∷ xs) =
-    let own : (bytes_eq x.id x.id && (x.define_at == x.define_at)) ≡ true = rw ((bytes_eq-Decides x.id x.id).1 refl) (own_number x.define_at) in
-    (
+    let own : (bytes_eq x.id x.id && (x.define_at == x.define_at)) ≡ true = rw ((bytes_eq-Decides x.id x.id).1 refl) (own_number x.define_at) in (
       rw own refl,
       each_weaker (λ t. is_there t.id t.define_at xs ≡ true) (λ t. is_there t.id t.define_at (x ∷ xs) ≡ true)
-      (λ t there. elim (bytes_eq x.id t.id && (x.define_at == t.define_at)) as (λ b. (b || is_there t.id t.define_at xs) ≡ true) [ true ↦ refl | false ↦ there ]) xs (each_there xs),
+          (λ t there. elim (bytes_eq x.id t.id && (x.define_at == t.define_at)) as (λ b. (b || is_there t.id t.define_at xs) ≡ true) [ true ↦ refl | false ↦ there ]) xs (each_there xs),
     )
 
 filter_each : (p : StoredTask → Bool) (xs : List StoredTask) → Each (λ t. p t ≡ true) xs → filter p xs ≡ xs

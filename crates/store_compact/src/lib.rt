@@ -5,4 +5,4 @@ mod deciding;
 mod laws;
 
 pub use deciding::is_kept;
-pub use laws::staying_laws;
+pub use laws::{staying_laws, staying_rows};

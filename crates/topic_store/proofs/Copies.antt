@@ -154,13 +154,6 @@ source_elsewhere part becomes seen later images left rs old all apart elsewhere 
 
 module _ (rs : List Rec) (gate : ℕ) (seen : Image) (images : Image → Type 0) (old : LogState) (all : KeptValue) (log : LogState) (k : KeptValue)
     (copying : IsCopying rs gate seen images old all log k) where
-  pub copied_fault : (later : Image) (left : Image → Type 0) (new : LogState) (more : KeptValue) (fault : StoreFault) → StoredOrNot (Err fault) copying.before copying.behind
-      → CopiesOrNot rs later left old all new more (Err fault)
-  copied_fault later left new more (NotStore part offset) found = found
-  copied_fault later left new more DiskFault found = tt
-  copied_fault later left new more Long found = found
-  copied_fault later left new more NoMemory found = tt
-
   -- all were copied
   pub all_copied : (later : Image) (left : Image → Type 0) → StoredOrNot (Ok None) copying.before copying.behind → HasPut (staying_of rs copying.before) later left log k
       → HasPut (staying rs) later left log k

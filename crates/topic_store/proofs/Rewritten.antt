@@ -162,23 +162,6 @@ module _ (rs : List Rec) (seen : Image) (images : Image → Type 0) (store : Sto
 pub run_is : (n m : ℕ) (file : List ℕ) → IsHead n file → IsHead m file → n ≡ m
 run_is n m file one two = head_unique n m file one two
 
--- ---- answers
-
-module _ {T : Type 0} (P Q : T → Type 0) where
-  pub rewrites_to : (result : Result T StoreFault) → ((x : T) → P x → Q x) → RewritesOrNot P result → RewritesOrNot Q result
-  rewrites_to (Ok x) to is = to x is
-  rewrites_to (Err (NotStore part offset)) to is = is
-  rewrites_to (Err DiskFault) to is = tt
-  rewrites_to (Err Long) to is = is
-  rewrites_to (Err NoMemory) to is = tt
-
-  -- the same fault
-  pub same_fault : (fault : StoreFault) → RewritesOrNot P (Err fault) → RewritesOrNot Q (Err fault)
-  same_fault (NotStore part offset) is = is
-  same_fault DiskFault is = tt
-  same_fault Long is = is
-  same_fault NoMemory is = tt
-
 -- ---- moments
 
 module _ {D : Type 0} (moment : D → ℕ) (may_leave : D → Image → Type 0) (left_since : D → ℕ → Image → Type 0) (rs : List Rec) (seen : D → Image) (store : StoreState) where

@@ -24,12 +24,16 @@ other_log Head = Left
 abbrev pub stands_old_or_new : List Rec → Image → Image → Type 0
 stands_old_or_new rs old files = Stands rs files ⊎ Stands (staying rs) files
 
+-- the disk failed, or memory ran out
+abbrev pub IsFailure : StoreFault → Type 0
+IsFailure DiskFault = ⊤
+IsFailure NoMemory = ⊤
+IsFailure fault = ⊥
+
 -- the store has those of the records that stay, unless the disk failed or memory ran out
 abbrev pub RewritesOrNot : {T : Type 0} → (T → Type 0) → Result T StoreFault → Type 0
 RewritesOrNot IsNew (Ok x) = IsNew x
-RewritesOrNot IsNew (Err DiskFault) = ⊤
-RewritesOrNot IsNew (Err NoMemory) = ⊤
-RewritesOrNot IsNew (Err fault) = ⊥
+RewritesOrNot IsNew (Err fault) = IsFailure fault
 
 -- Each fault spends the store. A fault of the disk comes only where its count rose, and a body is never too long.
 abbrev pub RewriteFault : Result (Unit {0}) StoreFault → StoreState → Type 0 → Type 0
@@ -63,9 +67,7 @@ abbrev pub StoredOrNot : Result (Option (List ℕ × Rec × ℕ)) StoreFault →
 StoredOrNot (Ok None) before behind = behind ≡ []
 StoredOrNot (Ok (Some found)) before [] = ⊥
 StoredOrNot (Ok (Some found)) before (r ∷ behind) = (found.0 ≡ spell_record r) × (found.1 ≡ r) × (found.2 ≡ end_of (before ++ r ∷ []))
-StoredOrNot (Err DiskFault) before behind = ⊤
-StoredOrNot (Err NoMemory) before behind = ⊤
-StoredOrNot (Err fault) before behind = ⊥
+StoredOrNot (Err fault) before behind = IsFailure fault
 
 -- Of the records those before this gate were copied, as far as they stay, from the old log into another one.
 pub record IsCopying (rs : List Rec) (gate : ℕ) (seen : Image) (images : Image → Type 0) (old : LogState) (all : KeptValue) (log : LogState)
@@ -82,18 +84,14 @@ pub record IsCopying (rs : List Rec) (gate : ℕ) (seen : Image) (images : Image
 abbrev pub CopiesOrNot : List Rec → Image → (Image → Type 0) → LogState → KeptValue → LogState → KeptValue → Result (Option ℕ) StoreFault → Type 0
 CopiesOrNot rs seen images old all log k (Ok None) = HasPut (staying rs) seen images log k
 CopiesOrNot rs seen images old all log k (Ok (Some next)) = IsCopying rs next seen images old all log k
-CopiesOrNot rs seen images old all log k (Err DiskFault) = ⊤
-CopiesOrNot rs seen images old all log k (Err NoMemory) = ⊤
-CopiesOrNot rs seen images old all log k (Err fault) = ⊥
+CopiesOrNot rs seen images old all log k (Err fault) = IsFailure fault
 
 -- ---- the switch
 
 -- the run of the head is found, unless the disk failed or memory ran out
 abbrev pub RunOrNot : ℕ → Result ℕ StoreFault → Type 0
 RunOrNot run (Ok found) = found ≡ run
-RunOrNot run (Err DiskFault) = ⊤
-RunOrNot run (Err NoMemory) = ⊤
-RunOrNot run (Err fault) = ⊥
+RunOrNot run (Err fault) = IsFailure fault
 
 -- The store is on its log as before, and the other one is that of the records that stay.
 pub record IsWritten (rs : List Rec) (seen : Image) (images : Image → Type 0) (old : StoreState) (log : LogState) (k : KeptValue) : Type 0 where

@@ -193,9 +193,9 @@ pub(crate) fn copy_records<D: Disk>(
     let mut log = begun;
     let mut kept = Kept::new(alloc);
     let mut gate = FIRST_GATE;
-    'copying: while let Some(next) =
-        copy_record(alloc, old, all, &mut log, &mut kept, disk, gate)?
-    {
+    'copying: while let Some(next) = copy_record(
+        alloc, old, all, &mut log, &mut kept, disk, gate,
+    )? {
         gate = next;
     }
     Ok((log, kept))

@@ -29,7 +29,11 @@ pub(crate) fn no_record(log: &Log, gate: u64) -> StoreFault
 }
 
 /// The body behind a gate of a log, and the next gate; none at the closed gate.
-pub(crate) fn body_at<D: Disk>(log: &Log, disk: &mut D, gate: u64) -> Result<Option<(Bytes, u64)>, StoreFault>
+pub(crate) fn body_at<D: Disk>(
+    log: &Log,
+    disk: &mut D,
+    gate: u64,
+) -> Result<Option<(Bytes, u64)>, StoreFault>
     requires { log.now.spent ≡ false }
     ensures found { IsTrue D.tells → (before after : List (List ℕ))
         → Rests (before ++ after) (D.seen disk.old) (D.may_leave disk.old) log.now

@@ -5,15 +5,14 @@ use Rattle.store_records.specs.declared.rec.Rec.{Rec}
 use Rattle.store_kept.specs.Keeping.{kept_of}
 use Rattle.store_compact.specs.Staying.{staying_of}
 use Rattle.topic_store.specs.Rewriting.{StoredOrNot}
-use Rattle.topic_store.proofs.Copies.{all_copied, body_is, copied_fault, one_copied, one_left_out, put_quietly, source_elsewhere, source_quietly}
+use Rattle.topic_store.proofs.Copies.{all_copied, body_is, one_copied, one_left_out, put_quietly, source_elsewhere, source_quietly}
 use Rattle.topic_store.proofs.Rereading.{none_of}
 use Rattle.topic_store.proofs.copying.copy_record.Goals as goal
 
 pub returns-in_err-body-clause-copied : goal.returns-in_err-body-clause-copied
 returns-in_err-body-clause-copied g c = λ tells rs copying.
     let p = err_from_is_err_and c.from_residual.result c.from_residual.ensures.1 in
-    rw (p.1, p.2) (copied_fault rs c.args.gate _ _ _ _ _ _ copying (g.D.Disk.seen c.next_stored.new.disk) (g.D.Disk.may_leave c.next_stored.new.disk) c.args.log.now (kept_of c.args.kept.now) c.in_err-body.field-0.0
-    (c.in_err-body.ensures.found tells rs copying.before copying.behind copying.source.stored copying.source.rests copying.split copying.at_gate))
+    rw (p.1, p.2) (c.in_err-body.ensures.found tells rs copying.before copying.behind copying.source.stored copying.source.rests copying.split copying.at_gate)
 
 pub returns-in_default-clause-copied : goal.returns-in_default-clause-copied
 returns-in_default-clause-copied g c = λ tells rs copying.

@@ -4,14 +4,10 @@ use Rattle.kap_io.specs.Disk.{Image, On}
 use Rattle.kap_io.specs.Moments.{Moments}
 use Rattle.kap_io.specs.declared.disk.Part.TheVariants.{Head}
 use Rattle.gate_log.specs.Head.{IsHead, IsRunOrNext, IsSettledHead}
-use Rattle.gate_log.specs.declared.log.Log.{Log}
-use Rattle.store_compact.specs.Staying.{staying}
 use Rattle.store_kept.specs.Keeping.{kept_of}
-use Rattle.store_kept.specs.declared.kept.Kept.{Kept}
-use Rattle.topic_store.specs.Rewriting.{IsWritten}
-use Rattle.topic_store.specs.Stores.{IsOn, store_of}
+use Rattle.topic_store.specs.Stores.{store_of}
 use Rattle.topic_store.proofs.Quietly.{on_quietly}
-use Rattle.topic_store.proofs.Rewritten.{no_head, on_other, quiet_first, run_is, same_fault, same_run, settled, switching_moments, writing_moments}
+use Rattle.topic_store.proofs.Rewritten.{no_head, on_other, quiet_first, run_is, same_run, settled, switching_moments, writing_moments}
 use Rattle.topic_store.proofs.rewriting.rewrite_store.Goals as goal
 
 pub returns-in_err-log-clause-rewritten : goal.returns-in_err-log-clause-rewritten
@@ -19,10 +15,7 @@ returns-in_err-log-clause-rewritten g c = λ tells rs on.
     let p = err_from_is_err_and c.from_residual-in_err-log.result c.from_residual-in_err-log.ensures.1 in
     let store = store_of c.args.old.now (kept_of c.args.all.now) in
     let on0 = on_quietly g.D.Disk.seen g.D.Disk.moment g.D.Disk.may_leave g.D.Disk.left_since c.args.disk.now c.read_run.new.disk rs store (c.read_run.ensures.quiet tells) on in
-    let seen = g.D.Disk.seen c.write_other.new.disk in
-    let left = g.D.Disk.may_leave c.write_other.new.disk in
-    rw (p.1, p.2) (same_fault {T = Log × Kept} (λ done. IsWritten rs seen left store done.0 (kept_of done.1)) (λ done. IsOn (staying rs) seen left (store_of done.0 (kept_of done.1)))
-    c.in_err-log.field-0.0 (c.in_err-log.ensures.written tells rs on0))
+    rw (p.1, p.2) (c.in_err-log.ensures.written tells rs on0)
 
 pub returns-in_err-log-clause-any_moment : goal.returns-in_err-log-clause-any_moment
 returns-in_err-log-clause-any_moment g c = λ tells rs on.
