@@ -25,6 +25,7 @@ use Rattle.task_run.specs.Graphs.{Placed}
 use Rattle.tick_compile.specs.declared.tasks.Task.{Task}
 use Rattle.topic_core.specs.Topics.{Trans}
 use Rattle.topic_core.specs.declared.transition.Transition.{Transition}
+use Rattle.topic_store.specs.Rewriting.{RewritesOrNot, stands_old_or_new}
 use Rattle.topic_store.specs.Snapshots.{LastSnap, is_snap}
 use Rattle.topic_store.specs.Stores.{IsOn, StoreState}
 use Rattle.topic_store.specs.declared.fault.StoreFault.{StoreFault}
@@ -40,7 +41,6 @@ use Rattle.engine_store.proofs.SnapLaws.{IsThisSnap, last_added, last_before, la
 use Rattle.kap_engine.specs.Changing.{IsFailure}
 use Rattle.kap_engine.specs.Compacting.{stands_full_old_or_new}
 use Rattle.kap_engine.specs.Engines.{EngineValue, IsEngine}
-use Rattle.topic_store.specs.Rewriting.{RewritesOrNot, stands_old_or_new}
 use Rattle.kap_engine.proofs.UnplacedLaws.{courses_same, each_same, events_same, graphs_same, long_same, open_same, run_same, tasks_same}
 
 -- ---- the last snapshot of those that stay
