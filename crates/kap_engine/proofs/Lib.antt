@@ -5,6 +5,8 @@ pub mod ShotLaws
 pub mod DueLaws
 pub mod AddLaws
 pub mod WriteLaws
+pub mod UnplacedLaws
+pub mod CompactLaws
 pub mod TaskLaws
 pub mod FullLaws
 pub mod ChangeLaws

@@ -4,3 +4,5 @@ pub mod Engines
 pub mod Writing
 -- what a change of a task leaves
 pub mod Changing
+-- what the compaction of a store leaves
+pub mod Compacting

@@ -4,6 +4,7 @@
 #![tactic(auto)]
 
 mod changing;
+mod compacting;
 mod engine;
 mod storing;
 mod writing;

@@ -13,5 +13,6 @@ pub mod GenLaws
 pub mod NetLaws
 pub mod ChangeLaws
 pub mod WriteLaws
+pub mod CompactLaws
 pub mod ExportLaws
 pub mod CommandLaws

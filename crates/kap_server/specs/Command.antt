@@ -8,7 +8,7 @@ use Rattle.kap_server.specs.declared.status.Status.TheVariants.{Ok, NotStore, No
 use Rattle.kap_server.specs.declared.words.Listing.{Listing}
 use Rattle.kap_server.specs.declared.options.WriteOptions.{WriteOptions}
 use Rattle.kap_server.specs.declared.words.Change.{Change}
-use Rattle.kap_server.specs.Words.{ChangeTask, Check, Define, Generate, Init, Pair, Replay, Request, Show, Summarize, Write, request_in}
+use Rattle.kap_server.specs.Words.{ChangeTask, Check, Compact, Define, Generate, Init, Pair, Replay, Request, Show, Summarize, Write, request_in}
 
 -- this status comes exactly where the fact holds, but for want of memory
 pub record ExactlyWhere (result status : Status) (fact : Type 0) : Type 0 where
@@ -71,6 +71,10 @@ AsksToChange words change id = request_in words ≡ Some (ChangeTask change id)
 abbrev pub AsksToWrite : List (List ℕ) → WriteOptions → List ℕ → List ℕ → Type 0
 AsksToWrite words options db rp = request_in words ≡ Some (Write options db rp)
 
+-- the words ask for the compaction of a store
+abbrev pub AsksToCompact : List (List ℕ) → Type 0
+AsksToCompact words = request_in words ≡ Some Compact
+
 -- a command that defines a task
 abbrev pub defines : Option Request → Bool
 defines None = false
@@ -83,6 +87,7 @@ changes_store None = false
 changes_store (Some (Define id)) = true
 changes_store (Some (ChangeTask change id)) = true
 changes_store (Some (Write options db rp)) = true
+changes_store (Some Compact) = true
 changes_store (Some other) = false
 
 -- the answer is this status, unless memory ran out or a device failed

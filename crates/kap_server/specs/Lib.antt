@@ -13,6 +13,7 @@ pub mod Making
 pub mod Listing
 pub mod Changing
 pub mod Writing
+pub mod Compacting
 pub mod Command
 pub mod Generating
 pub mod Nets

@@ -22,7 +22,8 @@ pub record Pair : Type 0 where
 
 -- what the words of a command line ask for: to check a script; to replay a recording for these tasks, so as options
 -- say; to write the sample recording of so many points, or the summary of its replay for these tasks; to make a store;
--- to list what one holds; to define a task by a script; to change a task; or to write points to a database and policy
+-- to list what one holds; to define a task by a script; to change a task; to write points to a database and policy; or
+-- to compact a store
 pub data Request : Type 0 where
   Check : Request
   Replay : (options : ReplayOptions) (pairs : List Pair) → Request
@@ -33,6 +34,7 @@ pub data Request : Type 0 where
   Define : (id : List ℕ) → Request
   ChangeTask : (change : Change) (id : List ℕ) → Request
   Write : (options : WriteOptions) (db rp : List ℕ) → Request
+  Compact : Request
 
 -- words two by two
 abbrev pub pairs_of : List (List ℕ) → List Pair
@@ -51,6 +53,7 @@ request_of (lent.Show listing) = Show listing
 request_of (lent.Define id) = Define id.now
 request_of (lent.Change change id) = ChangeTask change id.now
 request_of (lent.Write options db rp) = Write options db.now rp.now
+request_of lent.Compact = Compact
 
 -- the word begins with `--`, as options do
 abbrev pub is_option : List ℕ → Bool
@@ -132,7 +135,8 @@ change_in command words =
     if bytes_eq command (codes "enable") then change_request Enable words else
     if bytes_eq command (codes "disable") then change_request Disable words else
     if bytes_eq command (codes "delete") then change_request Delete words else
-    if bytes_eq command (codes "write") then write_request no_write_options words else None
+    if bytes_eq command (codes "write") then write_request no_write_options words else
+    if bytes_eq command (codes "compact") then request_alone Compact words else None
 
 -- what the words ask for, if they are those of a command
 abbrev pub request_in : List (List ℕ) → Option Request
@@ -160,6 +164,7 @@ reads_input (Some (Show listing)) = false
 reads_input (Some (Define id)) = true
 reads_input (Some (ChangeTask change id)) = false
 reads_input (Some (Write options db rp)) = true
+reads_input (Some Compact) = false
 
 -- a command that writes to the output
 abbrev pub writes_output : Option Request → Bool
@@ -173,6 +178,7 @@ writes_output (Some (Show listing)) = true
 writes_output (Some (Define id)) = false
 writes_output (Some (ChangeTask change id)) = false
 writes_output (Some (Write options db rp)) = true
+writes_output (Some Compact) = false
 
 -- a command that uses the disk
 abbrev pub uses_disk : Option Request → Bool
@@ -186,6 +192,7 @@ uses_disk (Some (Show listing)) = true
 uses_disk (Some (Define id)) = true
 uses_disk (Some (ChangeTask change id)) = true
 uses_disk (Some (Write options db rp)) = true
+uses_disk (Some Compact) = true
 
 -- a command that has points go through a net
 abbrev pub runs_net : Option Request → Bool
@@ -199,6 +206,7 @@ runs_net (Some (Show listing)) = false
 runs_net (Some (Define id)) = false
 runs_net (Some (ChangeTask change id)) = false
 runs_net (Some (Write options db rp)) = true
+runs_net (Some Compact) = false
 
 -- the options that a request gives are within their limits, a number of points is one that a sample recording can have,
 -- a task that is to be defined has an id, and a database and a policy are on one line
@@ -213,3 +221,4 @@ IsWithinLimits (lent.Define id) = IsTrue (is_task_id id.now)
 IsWithinLimits (lent.Change change id) = ⊤
 IsWithinLimits (lent.Write options db rp) =
     AreWriteLimits options × (has_line_feed db.now ≡ false) × (has_line_feed rp.now ≡ false)
+IsWithinLimits lent.Compact = ⊤

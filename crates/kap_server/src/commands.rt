@@ -15,8 +15,9 @@ ghost use Rattle.engine_store.specs.Good.{IsFull, IsGood, stays_or_good};
 ghost use Rattle.line_points.specs.declared.mode.Mode.{Mode};
 ghost use Rattle.kap_server.specs.Changing.{Changes, Defines, DefinesTo, EndsReading, OpensBehind, OpensToChange, ReadsScript, is_early, record_of};
 ghost use Rattle.kap_server.specs.Checking.{Checked, ChecksTo};
-ghost use Rattle.kap_server.specs.Command.{AsksForTooMany, AsksToChange, AsksToCheck, AsksToDefine, AsksToGenerate, AsksToInit, AsksToReplay, AsksToShow, AsksToSummarize, AsksToWrite};
+ghost use Rattle.kap_server.specs.Command.{AsksForTooMany, AsksToChange, AsksToCheck, AsksToCompact, AsksToDefine, AsksToGenerate, AsksToInit, AsksToReplay, AsksToShow, AsksToSummarize, AsksToWrite};
 ghost use Rattle.kap_server.specs.Command.{ExactlyWhere, IsToldRefused, IsUnlessDiskFailed, IsUnlessFailed, IsUnlessStopped, change_status, changes_store, defines};
+ghost use Rattle.kap_server.specs.Compacting.{Compacts, OpensToCompact};
 ghost use Rattle.kap_server.specs.Exporting.{IsExportable, SayInEachLife, TellsAsReplay};
 ghost use Rattle.kap_server.specs.Generating.{Summed, WritesText};
 ghost use Rattle.kap_server.specs.Listing.{AreOthers, LeavesFull, Opens, Shows, held_whole, list_text};
@@ -41,6 +42,7 @@ ghost use Rattle.topic_store.specs.Stores.{IsNoStore, Stands};
 
 use crate::changing::{change, define};
 use crate::checking::check;
+use crate::compacting::compact;
 use crate::generating::{write_recording, write_summary};
 use crate::listing::list;
 use crate::making::init;
@@ -151,8 +153,11 @@ fn replay_pairs<
 ///   the tasks that are enabled on them, stores their transitions, and then writes the lines of what the lives
 ///   did. A time counts nanoseconds, or what P says: one of `ns`, `n`, `u`, `ms`, `s`, `m` and `h`. A line
 ///   without one has the time of now.
+/// - `compact`: it writes the records of the store that are needed into the other one of its two logs, which
+///   is current then. Left out are records that changed nothing, snapshots but the last, and the definition
+///   and deletion of tasks that never had a life and are deleted.
 ///
-/// Those five read and check the whole input before they open the store, as the lists do; what the opening
+/// Those six read and check the whole input before they open the store, as the lists do; what the opening
 /// stores isn't written.
 ///
 /// `now` is the time of now, in nanoseconds from 1970-01-01T00:00:00Z on. `rt` makes
@@ -364,6 +369,19 @@ pub fn command<
         → Stands rs (D.seen disk.old) → IsGood N.Node N.planned rs → S.left input.old ≡ Some body
         → WritesTo db rp (Mode.Live (unit_of options) now) body status
         → IsUnlessStopped (P.refusals pats.old) (P.refusals pats.new) result status }
+    // Of a compaction of a right store: at Ok just the records that stay are there, of it with all
+    // transitions that are due. At each moment each image is as it was, or stands for the right store with a
+    // few of these more, or with all and just these records.
+    ensures compacted { (rs : List Rec) → AsksToCompact (map string_bytes words.now)
+        → IsTrue D.tells → Stands rs (D.seen disk.old) → IsGood N.Node N.planned rs
+        → Compacts N.Node N.planned D.seen D.moment D.may_leave D.left_since rs
+        (P.refusals pats.old) (P.refusals pats.new) disk.old disk.new result }
+    // Its status is Ok, unless memory ran out, the disk failed, or a pattern of the store's scripts was
+    // refused.
+    ensures compact_status { (rs : List Rec) → AsksToCompact (map string_bytes words.now)
+        → IsTrue D.tells → Stands rs (D.seen disk.old) → IsGood N.Node N.planned rs
+        → IsUnlessDiskFailed result Status.Ok
+        ⊎ IsToldRefused (P.refusals pats.old) (P.refusals pats.new) result }
     // A refused script, recording or line changes nothing on the disk.
     ensures unopened { reads_input (request_in (map string_bytes words.now)) ≡ true
         → is_early result ≡ true → disk.new ≡ disk.old }
@@ -384,6 +402,12 @@ pub fn command<
     ensures write_opened { (options : WriteOptions) (db rp : List ℕ)
         → AsksToWrite (map string_bytes words.now) options db rp → IsTrue D.tells
         → OpensBehind N.Node N.planned (P.refusals pats.old) (P.refusals pats.new)
+        (P.refused pats.new) (Quiet D.seen D.moment D.may_leave D.left_since disk.old disk.new)
+        (D.seen disk.old) result }
+    // Of a compaction the place that is told is that of no such store, and then nothing changed, or the store
+    // isn't right.
+    ensures compact_opened { AsksToCompact (map string_bytes words.now) → IsTrue D.tells
+        → OpensToCompact N.Node N.planned (P.refusals pats.old) (P.refusals pats.new)
         (P.refused pats.new) (Quiet D.seen D.moment D.may_leave D.left_since disk.old disk.new)
         (D.seen disk.old) result }
     // Where the files stand for no store, the place is told, unless what was read was refused first, memory
@@ -443,5 +467,6 @@ pub fn command<
         Some(Request::Write { options, db, rp }) => write(
             rt, alloc, options, db, rp, now, input, out, disk, pats, gate, ran,
         ),
+        Some(Request::Compact) => compact::<D, P, N, G, R>(rt, alloc, disk, pats, gate),
     }
 }

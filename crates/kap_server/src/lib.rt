@@ -4,6 +4,7 @@
 mod changing;
 mod checking;
 mod commands;
+mod compacting;
 mod generating;
 mod inputs;
 mod laws;

@@ -77,6 +77,8 @@ pub(crate) enum Request<'a> {
         db: &'a str,
         rp: &'a str,
     },
+    /// To compact the store.
+    Compact,
 }
 
 fn is_option(word: &[u8]) -> bool
@@ -260,6 +262,8 @@ fn change_in<'a>(command: &str, words: &'a [String]) -> Option<Request<'a>>
         change_request(Change::Delete, words)
     } else if command == "write" {
         write_request(no_write_options(), words)
+    } else if command == "compact" {
+        request_alone(Request::Compact, words)
     } else {
         None
     }

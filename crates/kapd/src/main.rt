@@ -1,7 +1,7 @@
 //! `kapd - check` prints the canonical form of the script on standard input, and `kapd - replay ID SCRIPT`
 //! replays the recording there by the task of the script, and writes what it does to standard output. `kapd
 //! PLACE init` makes a store in the folder PLACE; `kapd PLACE tasks`, `topics`, `alerts` and `export` list what
-//! the store there holds, and `define`, `enable`, `disable`, `delete` and `write` change it.
+//! the store there holds, and `define`, `enable`, `disable`, `delete`, `write` and `compact` change it.
 #![tactic(auto)]
 
 mod places;
@@ -62,6 +62,8 @@ end. `check`, `replay` and `gen` don't look at it. Commands:
                reads points in line protocol from standard input, stores them
                under a database and a policy, and writes what the enabled tasks
                do at them
+  compact      writes the store anew, without what it needs no more: tasks,
+               points and changes of level stay
 
 But for init these open the store in the folder, and first store the changes of
 level that a stop left out.

@@ -13,6 +13,7 @@ use Rattle.kap_server.specs.Writing.{ReadsLines, Writes}
 use Rattle.kap_server.specs.declared.words.Change.{Change}
 use Rattle.kap_server.proofs.CommandLaws.{behind_nowhere, change_answers, change_not_many, change_not_none, change_nowhere, changes_no_pattern, changes_not, define_answers, define_not_none, lines_no_pattern, lines_not, same_change, same_changed, same_defined, script_not, write_answers, write_as_asked, write_not_many, write_not_none, write_rose}
 use Rattle.kap_server.proofs.CheckLaws.{check_answers}
+use Rattle.kap_server.proofs.CompactLaws.{compact_answers, compact_not_many, compact_not_none, compact_nowhere, compacts_changes}
 use Rattle.kap_server.proofs.GenLaws.{few_to_replay, few_to_summarize, summary_not_none, summed_as_asked, summed_not, summed_tells}
 use Rattle.kap_server.proofs.ListLaws.{never, no_pattern, same_listing, show_not_many, show_not_none, shows_asked, tells_place}
 use Rattle.kap_server.proofs.NetLaws.{net_as_asked, samples_as_asked}
@@ -339,3 +340,49 @@ returns-in-Some-Write-clause-read g c = λ reads ok. c.write.ensures.read ok
 
 pub returns-in-Some-Write-clause-pattern : goal.returns-in-Some-Write-clause-pattern
 returns-in-Some-Write-clause-pattern g c = λ e. absurd (lines_no_pattern c.in-Some-Write.db.now c.in-Some-Write.rp.now (modes.Live (unit_of c.in-Some-Write.options) (to_z w64 (of_z w64 c.args.now))) (g.S.Source.left c.args.input.now) (g.S.Source.left c.write.new.input) c.write.result c.write.ensures.lines e)
+
+pub returns-in-Some-Compact-clause-usage : goal.returns-in-Some-Compact-clause-usage
+returns-in-Some-Compact-clause-usage g c =
+    let asked = rw (c.in-Some-Compact.is, c.in-Some-Compact.field-0-is) at c.request_in.ensures.request in
+    record {
+      only = λ e. absurd (changes_not c.compact.result statuses.Usage (compacts_changes c.compact.result c.compact.ensures.ends) (λ x. x) e);
+      always = λ none. absurd (compact_not_none (asked ∙ none));
+    }
+
+pub returns-in-Some-Compact-clause-too_many : goal.returns-in-Some-Compact-clause-too_many
+returns-in-Some-Compact-clause-too_many g c =
+    let asked = rw (c.in-Some-Compact.is, c.in-Some-Compact.field-0-is) at c.request_in.ensures.request in
+    λ not. record {
+      only = λ e. absurd (changes_not c.compact.result statuses.TooManyTasks (compacts_changes c.compact.result c.compact.ensures.ends) (λ x. x) e);
+      always = λ many. absurd (compact_not_many _ asked many);
+    }
+
+pub returns-in-Some-Compact-clause-nothing : goal.returns-in-Some-Compact-clause-nothing
+returns-in-Some-Compact-clause-nothing g c = λ not. ⊎_elim
+    (λ e. absurd (changes_not c.compact.result statuses.Usage (compacts_changes c.compact.result c.compact.ensures.ends) (λ x. x) e))
+    (λ e. absurd (changes_not c.compact.result statuses.TooManyTasks (compacts_changes c.compact.result c.compact.ensures.ends) (λ x. x) e))
+
+pub returns-in-Some-Compact-clause-compacted : goal.returns-in-Some-Compact-clause-compacted
+returns-in-Some-Compact-clause-compacted g c = λ rs asks tells stands good. c.compact.ensures.compacted tells rs stands good
+
+pub returns-in-Some-Compact-clause-compact_status : goal.returns-in-Some-Compact-clause-compact_status
+returns-in-Some-Compact-clause-compact_status g c = λ rs asks tells stands good.
+    compact_answers g.N.Node g.N.ScriptNode.planned rs (g.P.Patterns.refusals c.args.pats.now) (g.P.Patterns.refusals c.compact.new.pats) (g.D.Disk.seen c.compact.new.disk) (g.D.Disk.may_leave c.compact.new.disk) c.compact.result
+    (c.compact.ensures.compacted tells rs stands good).ends
+
+pub returns-in-Some-Compact-clause-compact_opened : goal.returns-in-Some-Compact-clause-compact_opened
+returns-in-Some-Compact-clause-compact_opened g c = λ asks tells. c.compact.ensures.opened tells
+
+pub returns-in-Some-Compact-clause-nowhere : goal.returns-in-Some-Compact-clause-nowhere
+returns-in-Some-Compact-clause-nowhere g c = λ part offset changes tells none.
+    inr (compact_nowhere g.N.Node g.N.ScriptNode.planned (g.P.Patterns.refusals c.args.pats.now) (g.P.Patterns.refusals c.compact.new.pats) (g.P.Patterns.refused c.compact.new.pats) (Quiet g.D.Disk.seen g.D.Disk.moment g.D.Disk.may_leave g.D.Disk.left_since c.args.disk.now c.compact.new.disk) (g.D.Disk.seen c.args.disk.now) part offset none c.compact.result
+    (c.compact.ensures.opened tells))
+
+pub returns-in-Some-Compact-clause-read_fault : goal.returns-in-Some-Compact-clause-read_fault
+returns-in-Some-Compact-clause-read_fault g c = λ e. absurd (changes_not c.compact.result statuses.ReadFault (compacts_changes c.compact.result c.compact.ensures.ends) (λ x. x) e)
+
+pub returns-in-Some-Compact-clause-write_fault : goal.returns-in-Some-Compact-clause-write_fault
+returns-in-Some-Compact-clause-write_fault g c = λ e. absurd (changes_not c.compact.result statuses.WriteFault (compacts_changes c.compact.result c.compact.ensures.ends) (λ x. x) e)
+
+pub returns-in-Some-Compact-clause-pattern : goal.returns-in-Some-Compact-clause-pattern
+returns-in-Some-Compact-clause-pattern g c = λ e. absurd (changes_no_pattern c.compact.result (compacts_changes c.compact.result c.compact.ensures.ends) e)
