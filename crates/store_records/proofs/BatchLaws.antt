@@ -1,6 +1,6 @@
 -- Batches by the lines of their points.
-use Rattle.std.proofs.Common.{◌≡◌, ℕ, zero, suc, ◌+◌, ◌-◌, ◌<◌, Bool, true, false, not, cond, ◌&&◌, List, [], ◌∷◌, ◌++◌, length, Option, Some, None, refl, sym, ap, ◌∙◌, subst, arith}
-use Rattle.std.specs.Prelude.{◌==◌, IsTrue, IsUtf8, Ok, Err, Result, bytes_eq, is_some}
+use Rattle.std.proofs.Common.{◌≡◌, ℕ, zero, suc, ◌+◌, ◌-◌, ◌<◌, Bool, true, false, not, cond, ◌&&◌, List, [], ◌∷◌, ◌++◌, length, Option, Some, None, refl, sym, ap, ◌∙◌, arith}
+use Rattle.std.specs.Prelude.{◌==◌, IsUtf8, Ok, Err, bytes_eq, is_some}
 use Rattle.std.specs.Int.{w32}
 use Rattle.std.specs.List.{list_all}
 use Rattle.std.specs.Str.{is_utf8}
@@ -11,19 +11,18 @@ use Rattle.std.proofs.lemmas.Str.{IsUtf8-from_is_utf8}
 use Rattle.kap_base.specs.Points.{PointValue}
 use Rattle.kap_base.specs.Texts.{has_line_feed, is_line}
 use Rattle.kap_base.proofs.ResultLaws.{same_pair}
-use Rattle.kap_base.proofs.TestLaws.{both, second_of}
+use Rattle.kap_base.proofs.TestLaws.{both}
 use Rattle.line_points.specs.Line.{stored_of}
 use Rattle.line_points.specs.Print.{Print}
 use Rattle.line_points.specs.declared.fault.LineFault.{LineFault}
 use Rattle.line_points.specs.declared.mode.Mode.TheVariants.{Recording}
 use Rattle.line_points.proofs.WholeLaws.{stored_spelled, stored_valid}
 use Rattle.state_code.specs.Spelling.{AllFit, IsBytes, Reading, read_as, read_bytes, read_list, read_many, read_number, read_then, value_then}
-use Rattle.state_code.specs.Texts.{read_text}
 use Rattle.state_code.proofs.Loops.{goes_on, with_front}
 use Rattle.store_records.specs.Batches.{ArePoints, IsBatchOf}
 use Rattle.store_records.specs.Combining.{found_then, parted}
-use Rattle.store_records.specs.Lines.{FitsPoint, are_lines, canonical_point, if_canonical, is_of, read_names, read_point}
-use Rattle.store_records.specs.Records.{FitsRecord, HasForm, IsBodyOf, IsNoBody, batch_of, read_record}
+use Rattle.store_records.specs.Lines.{FitsPoint, canonical_point, is_of, read_names, read_point}
+use Rattle.store_records.specs.Records.{FitsRecord, HasForm, IsNoBody, batch_of, read_record}
 use Rattle.store_records.specs.declared.rec.Rec.{Rec}
 use Rattle.store_records.specs.declared.rec.Rec.TheVariants as kinds
 use Rattle.store_records.proofs.BodyLaws.{body_reads, is_body, none_is_none}
@@ -50,6 +49,10 @@ gone b x e = rw e refl
 -- bytes that are no text are no line
 pub no_line : (bytes : List ℕ) → ¬ (IsUtf8 bytes) → is_line bytes ≡ false
 no_line bytes other = second_false (not (has_line_feed bytes)) (is_utf8 bytes) (is_false (is_utf8 bytes) (λ e. other (IsUtf8-from_is_utf8 bytes e)))
+
+pub no_value : {A : Type 0} (o : Option A) → ((x : A) → o ≡ Some x → ⊥) → o ≡ None
+no_value None not_some = refl
+no_value (Some x) not_some = absurd (not_some x refl)
 
 -- ---- the database and the policy
 
@@ -239,6 +242,18 @@ all_of_these db rp (p ∷ points) fits = both (is_of db rp p) (list_all (is_of d
 -- a batch that has a body is of its form
 pub batch_form : (db rp : List ℕ) (points : List PointValue) → FitsRecord (kinds.Batch db rp points) → HasForm (kinds.Batch db rp points)
 batch_form db rp points fits = (fits.0.1, all_of_these db rp points fits.1.1)
+
+-- behind the byte of its kind there are bytes
+pub with_byte : (bytes : List ℕ) → IsBytes bytes → IsBytes (5 ∷ bytes)
+with_byte bytes are zero = omega arith
+with_byte bytes are (suc i) = are i
+
+pub batch_is : (db rp : List ℕ) (points all : List PointValue) (r : Rec) → ◌≡◌ {A = Option (List PointValue)} (Some points) (Some all) → kinds.Batch db rp all ≡ r
+    → ◌≡◌ {A = Option Rec} (Some (kinds.Batch db rp points)) (Some r)
+batch_is db rp points all r same is =
+    let same_points : points ≡ all = cc in
+    let same_record : kinds.Batch db rp points ≡ r = ap (λ (l : List PointValue). kinds.Batch db rp l) same_points ∙ is in
+    ap (λ (q : Rec). let o : Option Rec = Some q in o) same_record
 
 module _ (bytes : List ℕ) where
   pub without_names : read_names bytes ≡ None → IsNoBody (5 ∷ bytes)

@@ -1,5 +1,5 @@
 -- What the body of a record is asked: whether it is that of a batch, and of how many points, or of which other record.
-use Rattle.std.specs.Prelude.{◌≡◌, ℕ, Bool, true, false, List, [], ◌∷◌, length, Option, Some, None, Result, Ok, Err, ⊤}
+use Rattle.std.specs.Prelude.{◌≡◌, ℕ, Bool, true, false, List, [], length, Option, Some, None, Result, Ok, Err, ⊤}
 use Rattle.kap_base.specs.Points.{PointValue}
 use Rattle.kap_base.specs.declared.memory.NoMemory.{NoMemory}
 use Rattle.state_code.specs.Spelling.{read_many, value_then}

@@ -1,5 +1,4 @@
-use Rattle.std.proofs.Common.{◌≡◌, Option, Some, None, sym, ◌∙◌}
-use Rattle.kap_base.specs.Points.{PointValue}
+use Rattle.std.proofs.Common.{sym, ◌∙◌}
 use Rattle.store_records.proofs.BatchLaws.{next_line, no_line_there, one_read}
 use Rattle.store_records.proofs.batches.known_points.Goals as goal
 
