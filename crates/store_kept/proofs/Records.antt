@@ -1,13 +1,19 @@
 -- A record that is taken in, or may not follow.
-use Rattle.std.proofs.Common.{◌≡◌, ℕ, true, false, List, [], ◌∷◌, ◌++◌, map, sym, ap, ◌∙◌, subst, Option}
+use Rattle.std.proofs.Common.{◌≡◌, ℕ, true, false, List, [], ◌∷◌, ◌++◌, length, map, sym, ap, ◌∙◌, subst, Option, append-nil}
 use Rattle.std.specs.Prelude.{IfSome}
+use Rattle.std.specs.List.{list_all}
+use Rattle.kap_base.specs.Points.{PointValue}
+use Rattle.kap_base.proofs.TestLaws.{both}
 use Rattle.state_code.specs.Laws.{once}
 use Rattle.topic_core.specs.Topics.{StandsFor, TopicsValue, event_of}
 use Rattle.topic_core.specs.declared.transition.Transition.{Transition}
+use Rattle.store_records.specs.Batches.{IsBatchOf}
 use Rattle.store_records.specs.Held.{Held, MayFollow, transitions_in}
 use Rattle.store_records.specs.Histories.{end_of, held}
+use Rattle.store_records.specs.Lines.{are_lines, is_of}
 use Rattle.store_records.specs.Records.{IsBodyOf, record_spelled}
 use Rattle.store_records.specs.declared.rec.Rec.{Rec}
+use Rattle.store_records.specs.declared.rec.Rec.TheVariants as kinds
 use Rattle.store_kept.specs.Changing.{ArePartsFor, IsMarkAt, kept_with}
 use Rattle.store_kept.specs.Keeping.{KeepsRecords, KeptValue}
 use Rattle.store_kept.specs.Taking.{Holds, Takes, follows}
@@ -54,3 +60,15 @@ committed rs r body gate k mid later topics more parts holds at is may mid_is ar
     let later_is = puts (end_of rs) (subst (λ (m : KeptValue). ArePartsFor (end_of rs) r m parts) (sym mid_is) there)
     ∙ ap (λ (m : KeptValue). kept_with (end_of rs) r parts.mark m) mid_is in
     taken rs r body k later topics more parts.mark holds is may later_is there.mark stands
+
+-- the parts of a batch were put in, whose points are so many
+pub batch_committed : (rs : List Rec) (body : List ℕ) (count gate : ℕ) (k mid later : KeptValue) (topics : TopicsValue) (parts : Parts) → Holds rs k topics → gate ≡ end_of rs
+    → IsBatchOf count body → mid ≡ k
+    → ((db rp : List ℕ) (points : List PointValue) → length points ≡ count → ArePartsFor gate (kinds.Batch db rp points) k parts)
+    → ((at : ℕ) (db rp : List ℕ) (points : List PointValue) → ArePartsFor at (kinds.Batch db rp points) mid parts → later ≡ kept_with at (kinds.Batch db rp points) parts.mark mid)
+    → Takes rs body later topics
+batch_committed rs body count gate k mid later topics parts holds at batch mid_is are puts =
+    committed rs (kinds.Batch batch.db batch.rp batch.points) body gate k mid later topics topics parts holds at batch.body_of
+    (sym (both (are_lines (batch.db, batch.rp)) (list_all (is_of batch.db batch.rp) batch.points) batch.form.0 batch.form.1))
+    mid_is (are batch.db batch.rp batch.points batch.count_is) (λ n. puts n batch.db batch.rp batch.points)
+    (subst (λ (ts : List Transition). StandsFor (map event_of ts) topics) (sym (append-nil (held rs).transitions)) holds.topics_are)

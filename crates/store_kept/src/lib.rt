@@ -9,5 +9,5 @@ mod taking;
 mod tasks;
 
 pub use kept::{Kept, Mark};
-pub use parts::{Parts, commit, commit_batch, prepare, prepare_batch};
+pub use parts::{Parts, commit, commit_batch, prepare, prepare_batch, prepare_count};
 pub use taking::take_body;

@@ -133,20 +133,32 @@ pub fn prepare(alloc: Global, kept: &mut Kept, at: u64, rec: &Rec) -> Result<Par
     Ok(parts)
 }
 
-/// What a batch of these points adds, whatever its database and policy.
-fn batch_parts(kept: &Kept, at: u64, points: &[Point]) -> Result<Parts, NoMemory>
-    ensures { (db rp : List ℕ)
-        → IfOk result (ArePartsFor at (Rec.Batch db rp points.now) (kept_of kept.now)) }
+/// What a batch of so many points adds, whatever these, its database and its policy.
+fn batch_parts(kept: &Kept, at: u64, count: u64) -> Result<Parts, NoMemory>
+    ensures { (db rp : List ℕ) (points : List PointValue) → length points ≡ count
+        → IfOk result (ArePartsFor at (Rec.Batch db rp points) (kept_of kept.now)) }
 {
     Ok(Parts {
         task: None,
         life: None,
         snap: None,
         mark: due_mark(kept, at),
-        points: total(kept.points, points.len() as u64)?,
+        points: total(kept.points, count)?,
         transitions: kept.transitions,
         changes: total(kept.changes, 1)?,
     })
+}
+
+/// As `prepare`, for a batch of so many points, whatever these, its database and its policy.
+pub fn prepare_count(kept: &mut Kept, at: u64, count: u64) -> Result<Parts, NoMemory>
+    ensures parts { (db rp : List ℕ) (points : List PointValue) → length points ≡ count
+        → IfOk result (ArePartsFor at (Rec.Batch db rp points) (kept_of kept.old)) }
+    ensures room { OnOk result (HasRoom kept.new) }
+    ensures same { kept_of kept.new ≡ kept_of kept.old }
+{
+    reserve(kept)?;
+    let parts = batch_parts(kept, at, count)?;
+    Ok(parts)
 }
 
 /// As `prepare`, for a batch of points that are lent, whatever its database and policy.
@@ -156,9 +168,7 @@ pub fn prepare_batch(kept: &mut Kept, at: u64, points: &[Point]) -> Result<Parts
     ensures room { OnOk result (HasRoom kept.new) }
     ensures same { kept_of kept.new ≡ kept_of kept.old }
 {
-    reserve(kept)?;
-    let parts = batch_parts(kept, at, points)?;
-    Ok(parts)
+    prepare_count(kept, at, points.len() as u64)
 }
 
 fn put_mark(marks: &mut Vec<Mark>, mark: Option<Mark>)
@@ -202,7 +212,7 @@ pub fn commit(kept: &mut Kept, rec: &Rec, parts: Parts)
     kept.changes = changes;
 }
 
-/// Puts in what a batch adds, by the parts that `prepare_batch` made for it. It takes no memory.
+/// Puts in what a batch adds, by the parts that `prepare_batch` or `prepare_count` made for it. It takes no memory.
 pub fn commit_batch(kept: &mut Kept, parts: Parts)
     requires { HasRoom kept.old }
     ensures { (at : ℕ) (db rp : List ℕ) (points : List PointValue)

@@ -1,21 +1,23 @@
 //! Taking in the next record, by its body.
 
-ghost use Rattle.std.specs.Prelude.{◌≡◌, ◌++◌, List, IfOk, IsTrue, length, map};
+ghost use Rattle.std.specs.Prelude.{◌≡◌, ◌++◌, ℕ, List, IfOk, IsTrue, OnOk, length, map};
+ghost use Rattle.store_records.specs.Batches.{IsBatchOf};
 ghost use Rattle.store_records.specs.Held.{may_define, transitions_in};
 ghost use Rattle.store_records.specs.Histories.{end_of};
 ghost use Rattle.store_records.specs.Orders.{DefinesValid, IsValid};
+ghost use Rattle.store_records.specs.Records.{IsBodyOf};
 ghost use Rattle.store_records.specs.declared.rec.Rec.{Rec};
-ghost use Rattle.topic_core.specs.Topics.{StandsFor, event_of};
+ghost use Rattle.topic_core.specs.Topics.{StandsFor, TopicsValue, event_of};
 ghost use Rattle.topic_core.specs.declared.transition.Transition.{Transition};
 ghost use Rattle.store_kept.specs.Keeping.{AreValid, kept_of};
-ghost use Rattle.store_kept.specs.Taking.{Holds, TakesOrNot, follows};
+ghost use Rattle.store_kept.specs.Taking.{Holds, Takes, TakesOrNot, follows};
 
 use crate::kept::Kept;
-use crate::parts::{commit, prepare};
+use crate::parts::{commit, commit_batch, prepare, prepare_count};
 use kap_base::{NoMemory, Text};
 use std::alloc::Global;
 use store_records::{
-    Rec, StoredTask, has_task, is_batch, may_define, read_record, take_transitions,
+    Checked, Rec, StoredTask, check_record, has_task, is_batch, may_define, take_transitions,
 };
 use topic_core::Topics;
 
@@ -52,9 +54,43 @@ fn may_follow(alloc: Global, kept: &Kept, topics: &mut Topics, rec: &Rec) -> Res
     }
 }
 
+/// Takes in the next record, whose gate stands at this offset, where it may follow; else `false`.
+fn take_record(
+    alloc: Global,
+    gate: u64,
+    rec: &Rec,
+    kept: &mut Kept,
+    topics: &mut Topics,
+) -> Result<bool, NoMemory>
+    ensures takes { (rs : List Rec) (body : List ℕ) → IsBodyOf rec.now body
+        → Holds rs (kept_of kept.old) topics.old → gate ≡ end_of rs
+        → IfOk result (TakesOrNot rs body (kept_of kept.new) topics.new) }
+    ensures valid { AreValid (kept_of kept.old) → AreValid (kept_of kept.new) }
+{
+    if !may_follow(alloc, kept, topics, rec)? {
+        return Ok(false);
+    }
+    let parts = prepare(alloc, kept, gate, rec)?;
+    commit(kept, rec, parts);
+    Ok(true)
+}
+
+/// Takes in a batch of so many points, whose gate stands at this offset: it may always follow.
+fn take_batch(gate: u64, count: u64, kept: &mut Kept) -> Result<(), NoMemory>
+    ensures takes { (rs : List Rec) (body : List ℕ) (topics : TopicsValue) → IsBatchOf count body
+        → Holds rs (kept_of kept.old) topics → gate ≡ end_of rs
+        → OnOk result (Takes rs body (kept_of kept.new) topics) }
+    ensures valid { (body : List ℕ) → IsBatchOf count body
+        → AreValid (kept_of kept.old) → AreValid (kept_of kept.new) }
+{
+    let parts = prepare_count(kept, gate, count)?;
+    commit_batch(kept, parts);
+    Ok(())
+}
+
 /// Takes in the next record, whose gate stands at this offset, where the body is that of one that may follow;
 /// else `false`. The topics are those of the transitions before. Whatever is kept, tasks and lives that are
-/// valid stay so.
+/// valid stay so. Of a batch the points are counted, and none is kept.
 pub fn take_body(
     alloc: Global,
     gate: u64,
@@ -66,13 +102,12 @@ pub fn take_body(
         → IfOk result (TakesOrNot rs body.now (kept_of kept.new) topics.new) }
     ensures valid { AreValid (kept_of kept.old) → AreValid (kept_of kept.new) }
 {
-    let Some(rec) = read_record(alloc, body)? else {
-        return Ok(false);
-    };
-    if !may_follow(alloc, kept, topics, &rec)? {
-        return Ok(false);
+    match check_record(alloc, body)? {
+        Some(Checked::Batch(count)) => {
+            take_batch(gate, count, kept)?;
+            Ok(true)
+        }
+        Some(Checked::Other(rec)) => take_record(alloc, gate, &rec, kept, topics),
+        None => Ok(false),
     }
-    let parts = prepare(alloc, kept, gate, &rec)?;
-    commit(kept, &rec, parts);
-    Ok(true)
 }

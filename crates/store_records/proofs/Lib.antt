@@ -1,3 +1,4 @@
+pub mod BatchLaws
 pub mod BodyLaws
 pub mod FollowLaws
 pub mod LineLaws

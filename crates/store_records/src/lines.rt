@@ -9,7 +9,7 @@ ghost use Rattle.state_code.specs.Spelling.{FitsList, read_list, read_many, spel
 ghost use Rattle.store_records.specs.Lines.{FitsPoint, canonical_point, is_of, read_point, spell_point};
 
 use kap_base::{Bytes, NoMemory, Point, Points, Text};
-use line_points::{LineFault, print_line, read_stored};
+use line_points::{LineFault, print_line, put_line, read_stored};
 use state_code::{CodeFault, Cursor, put_bytes, put_u32};
 use std::alloc::Global;
 
@@ -81,11 +81,12 @@ pub(crate) fn put_points(
     Ok(())
 }
 
-/// Whether the line is the point's canonical one.
-fn is_canonical(alloc: Global, line: &[u8], point: &Point) -> Result<bool, NoMemory>
+/// Whether the line is the point's canonical one. The point is printed into this room.
+pub(crate) fn is_printed(line: &[u8], point: &Point, printed: &mut Bytes) -> Result<bool, NoMemory>
     ensures { IfOk result (λ same. same ≡ bytes_eq (Print point.now) line.now) }
 {
-    let printed = print_line(alloc, point)?;
+    printed.clear();
+    put_line(point, printed)?;
     Ok(is_bytes(printed.as_slice(), line))
 }
 
@@ -105,7 +106,7 @@ fn canonical_point(
     }
     match read_stored(alloc, line.bytes(), db, rp) {
         Ok(point) => {
-            if is_canonical(alloc, line.bytes(), &point)? {
+            if is_printed(line.bytes(), &point, &mut Bytes::new(alloc))? {
                 Ok(Some(point))
             } else {
                 Ok(None)

@@ -63,18 +63,21 @@ pub none_there : (behind : List Rec) (gate : ℕ) → BodyOrNot (Ok None) (map s
 none_there [] gate none = refl
 none_there (r ∷ behind) gate none = absurd cc
 
-pub record_there : (rs before behind : List Rec) (gate next : ℕ) (body : List ℕ) (r : Rec) → Follow rs → rs ≡ before ++ behind → gate ≡ end_of before
-    → BodyOrNot (Ok (Some (body, next))) (map spell_record behind) gate → IsBodyOf r body → RecordOrNot (Ok (Some (r, next))) before behind
-record_there rs before [] gate next body r follow split at there is = absurd there
-record_there rs before (q ∷ behind) gate next body r follow split at there is = (
-  same_record r q body is (body_of rs before q behind body follow split there.0),
-  omega (arith, there.1, at, end_more first_gate before q, ap (λ (b : List ℕ). length b) there.0),
-)
+-- the record that was read from a body of which it is known that it is one's
+pub known_there : (rs before behind : List Rec) (gate next : ℕ) (body : List ℕ) (r : Rec) → Follow rs → rs ≡ before ++ behind → gate ≡ end_of before
+    → BodyOrNot (Ok (Some (body, next))) (map spell_record behind) gate → ((q : Rec) → IsBodyOf q body → ◌≡◌ {A = Option Rec} (Some r) (Some q))
+    → RecordOrNot (Ok (Some (r, next))) before behind
+known_there rs before [] gate next body r follow split at there known = absurd there
+known_there rs before (q ∷ behind) gate next body r follow split at there known =
+    let same : r ≡ q = cc (known q (body_of rs before q behind body follow split there.0)) in
+    (same, omega (arith, there.1, at, end_more first_gate before q, ap (λ (b : List ℕ). length b) there.0))
 
-pub no_body : (rs before behind : List Rec) (gate next : ℕ) (body : List ℕ) → Follow rs → rs ≡ before ++ behind
-    → BodyOrNot (Ok (Some (body, next))) (map spell_record behind) gate → IsNoBody body → ⊥
-no_body rs before [] gate next body follow split there none = there
-no_body rs before (q ∷ behind) gate next body follow split there none = none q (body_of rs before q behind body follow split there.0)
+-- a record is read from such a body
+pub known_some : (rs before behind : List Rec) (gate next : ℕ) (body : List ℕ) → Follow rs → rs ≡ before ++ behind
+    → BodyOrNot (Ok (Some (body, next))) (map spell_record behind) gate → ((q : Rec) → IsBodyOf q body → ◌≡◌ {A = Option Rec} None (Some q)) → ⊥
+known_some rs before [] gate next body follow split there known = there
+known_some rs before (q ∷ behind) gate next body follow split there known =
+    let none : ◌≡◌ {A = Option Rec} None (Some q) = known q (body_of rs before q behind body follow split there.0) in absurd cc
 
 pub fault_there : (before behind : List Rec) (gate : ℕ) (fault : StoreFault) → BodyOrNot (Err fault) (map spell_record behind) gate
     → RecordOrNot (Err fault) before behind

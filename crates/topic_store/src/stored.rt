@@ -16,7 +16,7 @@ use gate_log::Log;
 use kap_base::Bytes;
 use kap_io::Disk;
 use std::alloc::Global;
-use store_records::{Rec, read_record};
+use store_records::{Rec, known_record};
 
 /// That no record of a store stands at this gate of the log, on a disk that doesn't tell what a read gives.
 pub(crate) fn no_record(log: &Log, gate: u64) -> StoreFault
@@ -49,7 +49,8 @@ pub(crate) fn body_at<D: Disk>(
     }
 }
 
-/// The record behind a gate of a store's log, and the next gate; none at the closed gate.
+/// The record behind a gate of a store's log, and the next gate; none at the closed gate. That the body is a
+/// record's was seen when the store was opened, and isn't tested again.
 pub(crate) fn record_at<D: Disk>(
     alloc: Global,
     log: &Log,
@@ -68,7 +69,7 @@ pub(crate) fn record_at<D: Disk>(
     let Some((body, next)) = body_at(log, disk, gate)? else {
         return Ok(None);
     };
-    match read_record(alloc, body.as_slice())? {
+    match known_record(alloc, body.as_slice())? {
         Some(rec) => Ok(Some((rec, next))),
         None => Err(no_record(log, gate)),
     }
