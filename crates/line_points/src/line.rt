@@ -153,6 +153,24 @@ pub fn read_recorded(
     Ok(placed)
 }
 
+/// As `read_stored`, in this room.
+pub fn read_stored_in(
+    alloc: Global,
+    line: &[u8],
+    db: &Text,
+    rp: &Text,
+    room: &mut Room,
+) -> Result<Point, LineFault>
+    requires line { IsTrue (not (has_line_feed line.now)) }
+    requires db { IsTrue (not (has_line_feed db.now)) }
+    requires rp { IsTrue (not (has_line_feed rp.now)) }
+    ensures read { Answers LineFault.NoMemory result (
+        stored_of db.now rp.now Mode.Recording line.now) }
+    ensures no_limit { IfErr result (λ f. f ≢ LineFault.Long) }
+{
+    stored_point(alloc, line, db, rp, &Mode::Recording, room)
+}
+
 /// The point of a line of any length, read as in Recording mode, of this database and policy and ungrouped;
 /// else the line's first fault, which is never `Long`.
 pub fn read_stored(alloc: Global, line: &[u8], db: &Text, rp: &Text) -> Result<Point, LineFault>
@@ -167,5 +185,5 @@ pub fn read_stored(alloc: Global, line: &[u8], db: &Text, rp: &Text) -> Result<P
     ensures meaning { result ≢ Err LineFault.NoMemory →
         StoredMeans db.now rp.now line.now result }
 {
-    stored_point(alloc, line, db, rp, &Mode::Recording, &mut Room::new(alloc))
+    read_stored_in(alloc, line, db, rp, &mut Room::new(alloc))
 }

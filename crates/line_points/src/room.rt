@@ -13,7 +13,7 @@ pub const SPARE_LIMIT: usize = 1_280;
 
 /// Room for the tags and the fields of a point that is to be read. What it held counts for nothing.
 #[derive(Drop)]
-pub(crate) struct Room {
+pub struct Room {
     tags: Vec<(Text, Text)>,
     fields: Vec<(Text, Value)>,
 }
@@ -38,15 +38,15 @@ fn emptied<T: Drop>(
 
 impl Room {
     /// No room yet.
-    pub(crate) fn new(alloc: Global) -> Room {
+    pub fn new(alloc: Global) -> Room {
         Room {
             tags: Vec::new(alloc),
             fields: Vec::new(alloc),
         }
     }
 
-    /// The room that a point took.
-    fn of_point(point: Point) -> Room {
+    /// The room that a point took, which nobody needs any more.
+    pub fn of_point(point: Point) -> Room {
         let Point { tags, fields, .. } = point;
         Room {
             tags: tags.into_entries(),
