@@ -14,7 +14,7 @@ use crate::fronts::{NamesFront, bytes_front, names_front, number_front};
 use crate::lines::is_printed;
 use crate::rec::Rec;
 use kap_base::{Bytes, NoMemory, Point, Points, Text};
-use line_points::{LineFault, read_stored};
+use line_points::{LineFault, Room, read_stored, read_stored_in};
 use std::alloc::Global;
 
 /// Whether no byte is a line feed. It looks at each of them, so that it can look at many at once.
@@ -28,13 +28,14 @@ fn is_one_line(bytes: &[u8]) -> bool
     !found
 }
 
-/// Whether the line is the canonical one of a point of this database and policy. The point is printed into
-/// this room.
+/// Whether the line is the canonical one of a point of this database and policy. The point is read in this
+/// room, and printed into these bytes.
 fn is_point_line(
     alloc: Global,
     line: &[u8],
     db: &Text,
     rp: &Text,
+    room: &mut Room,
     printed: &mut Bytes,
 ) -> Result<bool, NoMemory>
     requires db { IsTrue (is_line db.now) }
@@ -44,8 +45,12 @@ fn is_point_line(
     if !is_one_line(line) {
         return Ok(false);
     }
-    match read_stored(alloc, line, db, rp) {
-        Ok(point) => is_printed(line, &point, printed),
+    match read_stored_in(alloc, line, db, rp, room) {
+        Ok(point) => {
+            let same = is_printed(line, &point, printed)?;
+            *room = Room::of_point(point);
+            Ok(same)
+        }
         Err(LineFault::NoMemory) => Err(NoMemory),
         Err(_) => Ok(false),
     }
@@ -64,13 +69,14 @@ fn are_points(
     requires rp { IsTrue (is_line rp.now) }
     ensures { IfOk result (ArePointsOrNot db.now rp.now count bytes.now) }
 {
+    let mut room = Room::new(alloc);
     let mut printed = Bytes::new(alloc);
     let mut rest = bytes;
     'checking: for _ in 0..count {
         let Some((line, behind)) = bytes_front(rest) else {
             return Ok(false);
         };
-        if !is_point_line(alloc, line, db, rp, &mut printed)? {
+        if !is_point_line(alloc, line, db, rp, &mut room, &mut printed)? {
             return Ok(false);
         }
         rest = behind;
