@@ -2,13 +2,25 @@
 
 use crate::answers::answer;
 use crate::fault::CaseFault;
-use crate::ways::{outcome_by, words_with};
+use crate::ways::{Ways, outcome_by, words_with};
 use case_text::Holding;
 use kap_base::Bytes;
+use kap_io::Gate;
 use net_run::NumberingNode;
 use node_set::ScriptNode;
 use std::alloc::Global;
+use std::sync::atomic::{AtomicU64, Ordering};
 use std::thread::Threads;
+
+/// A gate that counts the turns of all workers, and at which nobody waits.
+#[derive(Drop)]
+struct Counting(AtomicU64);
+
+impl Gate for Counting {
+    fn pass(&self, _worker: u32, _turn: u64) {
+        self.0.fetch_add(1, Ordering::SeqCst);
+    }
+}
 
 /// The options by which a replay has so many workers, on edges with room for one message.
 fn options_of(workers: u32) -> &'static [&'static str] {
@@ -56,5 +68,24 @@ pub fn gated_answer<R: Threads + Sync, N: ScriptNode + NumberingNode + Send>(
     let outcome = outcome_by::<R, Holding, N>(rt, alloc, &words, input, &gate)?;
     let mut told = answer(alloc, &outcome)?;
     put_turns(alloc, &gate, turns, &mut told)?;
+    Ok(told)
+}
+
+/// What a command writes on the first disk, and whether its workers had more turns than a line says.
+pub fn counted_answer<R: Threads + Sync, N: ScriptNode + NumberingNode + Send>(
+    rt: &R,
+    alloc: Global,
+    words: &[String],
+    input: &[u8],
+    ways: &mut Ways,
+    text: &str,
+) -> Result<Bytes, CaseFault> {
+    let most = text.parse::<u64>().ok().ok_or(CaseFault::NoWorkers)?;
+    let gate = Counting(AtomicU64::new(0));
+    let outcome = ways.outcome_at::<R, Counting, N>(rt, alloc, words, input, &gate)?;
+    let mut told = answer(alloc, &outcome)?;
+    let few = gate.0.load(Ordering::SeqCst) <= most;
+    let found: &[u8] = if few { b"^ no more\n" } else { b"^ more\n" };
+    told.append(found)?;
     Ok(told)
 }
