@@ -2,14 +2,14 @@
 """Measures what a compaction costs and saves: bench/compact.py [KAPD] [POINTS] [BATCH]
 
 Makes a store of POINTS points (1,000,000 if none is given) in batches of BATCH (5,000), by the built program KAPD
-(crates/kapd/out/kapd, which `rt run` in crates/kapd builds), in a folder of its own: two tasks with alerts, one that is
-disabled and enabled now and then, and with each batch one that is defined and deleted and never had a life, one that had
-one, and changes that change nothing. Copies of it at a tenth of the batches and at all are compacted. It prints, a line
-each, with the most that it should be: the peaks of an opening and of a compaction in KiB, at the tenth and at all; how much
-the latter two differ; the processor seconds of the compaction by those of an opening; and, without a most, its seconds by
-the clock and the bytes of the log before and behind it. It ends with status 1 where a figure is above its most, or the
-lists aren't byte for byte what they were, or the new log isn't byte for byte the records of the old one that are to stay,
-or the head doesn't name it. It needs GNU time as /usr/bin/time."""
+(crates/kapd/out/kapd, which `rt run` in crates/kapd builds), in a folder of its own: with two tasks, one that is disabled
+and enabled now and then, tasks that are deleted, with a life behind them or without one, and changes that change nothing.
+A tenth of it, and all of it, are compacted. It prints, a line each, with the most that it should be: the peaks of an
+opening and of the compaction in KiB, the processor seconds of the compaction by those of the opening, its seconds by the
+clock, the bytes and records of the log before and behind it; and by how much the peaks of the two compactions differ. It
+ends with status 1 where a figure is above its most, or the lists aren't byte for byte what they were, or the new log isn't
+byte for byte the records of the old one that are to stay, or the head doesn't name it, or where any of that isn't so behind
+a second compaction. It needs GNU time as /usr/bin/time."""
 import os
 import shutil
 import subprocess
@@ -52,17 +52,18 @@ def lines(first, count):
 
 
 def change(folder, number):
-    """What comes before a batch: records that are needed no more, and some that are."""
-    call(folder, ["define", "never"], SHORT.encode())
-    call(folder, ["disable", "never"])
-    call(folder, ["delete", "never"])
-    call(folder, ["enable", "high"])
-    if number % 10 == 5:
+    """What comes before some batches: records that are needed no more, and some that are."""
+    if number % 10 == 0:
+        call(folder, ["define", "never"], SHORT.encode())
+        call(folder, ["disable", "never"])
+        call(folder, ["delete", "never"])
+        call(folder, ["enable", "high"])
+    if number % 20 == 5:
         call(folder, ["disable", "often"])
         call(folder, ["disable", "often"])
         call(folder, ["define", "short"], SHORT.encode())
         call(folder, ["enable", "short"])
-    if number % 10 == 7:
+    if number % 20 == 15:
         call(folder, ["enable", "often"])
         call(folder, ["delete", "short"])
 
@@ -136,7 +137,7 @@ def compacted(store, points):
     stay = staying(records(old)[0])
     tell(f"KiB of an opening of {points} points", opening)
     tell("KiB of its compaction", peak, 32_768)
-    tell("its processor seconds by those of the opening", taken / max(opened, 0.01), 4)
+    tell("its processor seconds by those of the opening", taken / max(opened, 0.01), 3)
     tell("its seconds", clock)
     tell("bytes of the log before", len(old))
     tell("bytes of the log behind", len(new), len(old))
