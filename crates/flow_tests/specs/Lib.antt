@@ -1,5 +1,4 @@
--- nodes of the tests
-pub mod Relays
+-- a node of the tests
 pub mod Taps
 -- nets that are stopped at a barrier, and nets that go on there
 pub mod Captures

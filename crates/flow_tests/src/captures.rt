@@ -32,14 +32,14 @@ use std::test::Fail;
 use task_run::LifePlan;
 
 /// What the tap that isn't quiet does with the three points.
-pub const ALL: &str = "1 3.1.0 10 plain\n1 3.1.1 10 plain\n2 3.1.0 20 plain\n2 3.1.1 20 plain\n\
-     3 3.1.0 30 plain\n3 3.1.1 30 plain\n";
+const ALL: &str = "1 3.1.0 10\n1 3.1.1 10\n2 3.1.0 20\n2 3.1.1 20\n\
+     3 3.1.0 30\n3 3.1.1 30\n";
 
 /// Up to the second one.
-const BEFORE: &str = "1 3.1.0 10 plain\n1 3.1.1 10 plain\n2 3.1.0 20 plain\n2 3.1.1 20 plain\n";
+const BEFORE: &str = "1 3.1.0 10\n1 3.1.1 10\n2 3.1.0 20\n2 3.1.1 20\n";
 
 /// And behind it.
-const BEHIND: &str = "3 3.1.0 30 plain\n3 3.1.1 30 plain\n";
+const BEHIND: &str = "3 3.1.0 30\n3 3.1.1 30\n";
 
 /// The steps by which the second cell passes the inner barrier.
 const TO_BARRIER: [Step; 12] = [

@@ -8,7 +8,7 @@ use std::process::Abort;
 use std::test::Fail;
 
 /// The point of a line, of database and policy `d`.
-pub fn point(rt: &(impl AllocGlobal + Abort), line: &str) -> Result<Point, Fail> {
+fn point(rt: &(impl AllocGlobal + Abort), line: &str) -> Result<Point, Fail> {
     let name = Text::from_str(rt.alloc(), "d")?;
     Ok(point_of(rt.alloc(), line.as_bytes(), &name, &name).map_err(|_| "no point")?)
 }
@@ -22,39 +22,25 @@ pub fn three_points(rt: &(impl AllocGlobal + Abort)) -> Result<Vec<Shared<Point>
     Ok(points)
 }
 
-/// A hundred points, at the times 1 to 100.
-pub fn hundred_points(rt: &(impl AllocGlobal + Abort)) -> Result<Vec<Shared<Point>>, Fail> {
-    let mut points = Vec::new(rt.alloc());
-    for time in 1u32..101 {
-        let line = format!(in rt.alloc(); "m x=1i {time}")?;
-        points.push(Shared::new(rt.alloc(), point(rt, &line)?)?)?;
-    }
-    Ok(points)
-}
-
-/// The time of the point that is logged, and whether it is marked; nothing of an event.
-fn logged(what: &What) -> (i64, &'static str) {
+/// The time of the point that is logged; 0 of an event.
+fn logged(what: &What) -> i64 {
     match what {
-        What::Line(point) if point.value().by_name => (point.value().time, "marked"),
-        What::Line(point) => (point.value().time, "plain"),
-        What::Event(_) => (0, "event"),
+        What::Line(point) => point.value().time,
+        What::Event(_) => 0,
     }
 }
 
-/// Adds an effect: its stamp, life, node and number, and what is logged.
+/// Adds an effect: its stamp, life, node and number, and the time of what is logged.
 fn put_effect(alloc: Global, effect: &Effect, text: &mut Bytes) -> Result<(), Fail> {
     let (life, node, seq) = (effect.life, effect.node, effect.seq);
-    let (time, mark) = logged(&effect.what);
-    let line = format!(in alloc;
-        "{} {}.{}.{} {} {}\n",
-        effect.stamp.0, life, node, seq, time, mark
-    )?;
+    let time = logged(&effect.what);
+    let line = format!(in alloc; "{} {}.{}.{} {}\n", effect.stamp.0, life, node, seq, time)?;
     text.append(line.as_bytes())?;
     Ok(())
 }
 
 /// Effects, one a line.
-pub fn text_of(alloc: Global, effects: &Effects) -> Result<Bytes, Fail> {
+fn text_of(alloc: Global, effects: &Effects) -> Result<Bytes, Fail> {
     let mut text = Bytes::new(alloc);
     for effect in effects.as_slice() {
         put_effect(alloc, effect, &mut text)?;

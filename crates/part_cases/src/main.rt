@@ -3,14 +3,7 @@
 #![tactic(auto)]
 
 mod answers;
-mod codes;
-mod disks;
-mod heads;
-mod lambdas;
 mod links;
-mod log_calls;
-mod logs;
-mod patterns;
 mod pieces;
 mod polled;
 mod readers;
@@ -21,7 +14,6 @@ mod store_calls;
 mod stored;
 mod stores;
 mod texts;
-mod topics;
 
 use anyhow::Result;
 use case_text::answer_lines;

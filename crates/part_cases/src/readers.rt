@@ -4,11 +4,11 @@
 
 use crate::store_calls::{next_piece, open, topics_behind};
 use crate::texts::put_number;
-use crate::topics::put_level;
 use kap_base::{Bytes, NoMemory, Point, Shared, Text};
 use kap_io::MemDisk;
 use line_points::print_line;
 use std::alloc::Global;
+use topic_core::Topics;
 use topic_store::{PointsReader, Store, StoreFault};
 
 /// How many pieces are read at most.
@@ -64,6 +64,14 @@ pub fn put_read(
         }
     }
     Ok(())
+}
+
+/// Adds the level of a topic.
+fn put_level(topics: &Topics, topic: &Text, to: &mut Bytes) -> Result<(), NoMemory> {
+    match topics.level(topic) {
+        Some(level) => to.append(level.name().as_bytes()),
+        None => to.append(b"no topic"),
+    }
 }
 
 /// Adds how many transitions there are behind the first ones, and the level of a topic then.

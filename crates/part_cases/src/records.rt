@@ -3,8 +3,8 @@
 ghost use Rattle.std.specs.Prelude.{IsTrue};
 ghost use Rattle.store_records.specs.Records.{HasForm};
 
-use case_text::{LineFault, bytes, first_of, level, number, point_of, signed, text};
-use kap_base::{Level, Points, Text};
+use case_text::{LineFault, first_of, number, point_of, text};
+use kap_base::{Level, Points};
 use std::alloc::Global;
 use store_records::{Rec, Transitions, is_batch};
 use topic_core::Transition;
@@ -20,28 +20,6 @@ pub fn has_form(rec: &Rec) -> bool
     }
 }
 
-/// `ID on SCRIPT`, or `ID off SCRIPT`.
-fn define(alloc: Global, line: &str) -> Result<Rec, LineFault> {
-    let (id, rest) = first_of(line);
-    let (state, script) = first_of(rest);
-    Ok(Rec::Define {
-        id: text(alloc, id)?,
-        script: text(alloc, script)?,
-        enabled: state == "on",
-    })
-}
-
-/// `DB RP LINE`: a batch of one point.
-fn batch(alloc: Global, line: &str) -> Result<Rec, LineFault> {
-    let (db, rest) = first_of(line);
-    let (rp, rest) = first_of(rest);
-    let db = text(alloc, db)?;
-    let rp = text(alloc, rp)?;
-    let mut points = Points::new(alloc);
-    points.push(point_of(alloc, &bytes(alloc, rest)?, &db, &rp)?)?;
-    Ok(Rec::Batch { db, rp, points })
-}
-
 /// `FIRST COUNT`: a batch of so many points `m x=1i`, with the times from the first on.
 fn many_points(alloc: Global, line: &str) -> Result<Rec, LineFault> {
     let (first, count) = first_of(line);
@@ -55,50 +33,6 @@ fn many_points(alloc: Global, line: &str) -> Result<Rec, LineFault> {
         time = time.saturating_add(1);
     }
     Ok(Rec::Batch { db, rp, points })
-}
-
-/// `OLD NEW TIME MESSAGE`: the transition of an id with these.
-fn with_levels(
-    alloc: Global,
-    number: u64,
-    topic: Text,
-    id: Text,
-    line: &str,
-) -> Result<Transition, LineFault> {
-    let (old, rest) = first_of(line);
-    let (new, rest) = first_of(rest);
-    let (time, message) = first_of(rest);
-    let old_level = level(old)?;
-    let new_level = level(new)?;
-    let time = signed(time)?;
-    let message = text(alloc, message)?;
-    Ok(Transition {
-        number,
-        topic,
-        id,
-        old_level,
-        new_level,
-        time,
-        message,
-    })
-}
-
-/// `NUMBER TOPIC ID OLD NEW TIME MESSAGE`.
-fn transition(alloc: Global, line: &str) -> Result<Transition, LineFault> {
-    let (word, rest) = first_of(line);
-    let (topic, rest) = first_of(rest);
-    let (id, rest) = first_of(rest);
-    let number = number(word)?;
-    let topic = text(alloc, topic)?;
-    let id = text(alloc, id)?;
-    with_levels(alloc, number, topic, id, rest)
-}
-
-/// One transition.
-fn told(alloc: Global, line: &str) -> Result<Rec, LineFault> {
-    let mut batch = Transitions::new(alloc);
-    batch.push(transition(alloc, line)?)?;
-    Ok(Rec::Trans(batch))
 }
 
 /// The transition of a number, from OK to CRITICAL where it is odd, and back.
@@ -135,19 +69,7 @@ fn many_told(alloc: Global, line: &str) -> Result<Rec, LineFault> {
 pub fn record_of(alloc: Global, line: &str) -> Result<Rec, LineFault> {
     let (kind, rest) = first_of(line);
     match kind {
-        "define" => define(alloc, rest),
-        "enable" => Ok(Rec::Enable {
-            id: text(alloc, rest)?,
-        }),
-        "disable" => Ok(Rec::Disable {
-            id: text(alloc, rest)?,
-        }),
-        "delete" => Ok(Rec::Delete {
-            id: text(alloc, rest)?,
-        }),
-        "batch" => batch(alloc, rest),
         "points" => many_points(alloc, rest),
-        "told" => told(alloc, rest),
         "many" => many_told(alloc, rest),
         _ => Err(LineFault::NoForm),
     }

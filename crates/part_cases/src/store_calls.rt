@@ -1,12 +1,12 @@
 //! The calls of stores, on any disk. A store that is spent answers as one whose disk fails.
 
 use crate::records::has_form;
-use kap_base::{Bytes, Point, Points, Shared};
+use kap_base::{Point, Points, Shared};
 use kap_io::Disk;
 use std::alloc::Global;
-use store_records::{LifeNumbers, Rec, Transitions};
+use store_records::{Rec, Transitions};
 use topic_core::Topics;
-use topic_store::{PointsReader, Store, StoreFault, make_store, open_store, open_with_topics};
+use topic_store::{PointsReader, Store, StoreFault, make_store, open_store};
 
 /// Makes a store.
 pub fn make<D: Disk>(alloc: Global, disk: &mut D) -> Result<(), StoreFault> {
@@ -16,12 +16,6 @@ pub fn make<D: Disk>(alloc: Global, disk: &mut D) -> Result<(), StoreFault> {
 /// Opens a store.
 pub fn open<D: Disk>(alloc: Global, disk: &mut D) -> Result<Store, StoreFault> {
     open_store(alloc, disk)
-}
-
-/// The topics that an opening gives.
-pub fn topics_of<D: Disk>(alloc: Global, disk: &mut D) -> Result<Topics, StoreFault> {
-    let (_, topics) = open_with_topics(alloc, disk)?;
-    Ok(topics)
 }
 
 /// What became of a record that was to be added.
@@ -89,17 +83,6 @@ pub fn topics_behind<D: Disk>(
         return Err(StoreFault::DiskFault);
     }
     store.topics_behind(disk, number)
-}
-
-/// The last snapshot: where it stands, the numbers of its lives, and their states.
-pub fn snap_of<D: Disk>(
-    disk: &mut D,
-    store: &Store,
-) -> Result<Option<(u64, LifeNumbers, Bytes)>, StoreFault> {
-    if store.spent() {
-        return Err(StoreFault::DiskFault);
-    }
-    store.snap(disk)
 }
 
 /// A piece that a reader of points gave, and the reader of the points behind it.

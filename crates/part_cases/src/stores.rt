@@ -1,20 +1,17 @@
-//! `store make`; `store add RECORD`; `store fill points SIZE COUNT` and `store fill many SIZE COUNT`: so many
-//! records of so many; `store open`: what it holds in numbers; `store tasks`, `store lives`, `store snap`;
-//! `store points`, `store transitions`, `store calls` (see `pieces.rt`), `store read`, `store behind` (see
-//! `readers.rt`); `store topics TOPIC`: the topic's level; `store crashes`: what a crash may leave.
+//! `store make`; `store fill points SIZE COUNT` and `store fill many SIZE COUNT`: so many records of so many;
+//! `store points`, `store transitions`, `store calls` (see `pieces.rt`); `store read`, `store behind` (see
+//! `readers.rt`).
 
-use crate::disks::{PICKS, crashed};
 use crate::pieces::put_pieces;
 use crate::readers::{put_read, put_topics};
 use crate::records::record_of;
-use crate::store_calls::{self, Added, add_record, open, snap_of, topics_of};
-use crate::texts::{put_number, put_numbers};
-use crate::topics::put_level;
-use case_text::{LineFault, first_of, name_of, number, numbers, put_shown, text};
-use kap_base::{Bytes, NoMemory, Text};
+use crate::store_calls::{self, Added, add_record, open};
+use crate::texts::put_number;
+use case_text::{LineFault, first_of, name_of, number, numbers, text};
+use kap_base::{Bytes, NoMemory};
 use kap_io::MemDisk;
 use std::alloc::Global;
-use store_records::{Life, Rec, StoredTask};
+use store_records::Rec;
 use topic_store::{Store, StoreFault};
 
 /// Adds a fault.
@@ -52,153 +49,6 @@ fn add_to(
         Added::Spent => to.append(b"spent"),
         Added::NoForm => to.append(b"no form"),
         Added::Fault(fault) => put_fault(alloc, fault, to),
-    }
-}
-
-/// Adds a record.
-fn add(alloc: Global, disk: &mut MemDisk, rec: &Rec, to: &mut Bytes) -> Result<(), NoMemory> {
-    match open(alloc, disk) {
-        Ok(mut store) => add_to(alloc, disk, &mut store, rec, to),
-        Err(fault) => put_fault(alloc, fault, to),
-    }
-}
-
-/// Adds the last snapshot's numbers.
-fn put_last_snap(alloc: Global, store: &Store, to: &mut Bytes) -> Result<(), NoMemory> {
-    match store.last_snap() {
-        Some((points, told)) => {
-            put_numbers(
-                alloc,
-                &[(", snapshot behind ", points), (" and ", told)],
-                to,
-            )
-        }
-        None => Ok(()),
-    }
-}
-
-/// Adds what a store holds, in numbers.
-fn put_store(alloc: Global, store: &Store, to: &mut Bytes) -> Result<(), NoMemory> {
-    to.append(name_of(store.part()).as_bytes())?;
-    let numbers = [
-        (": ", store.tasks().len() as u64),
-        (" tasks, ", store.lives().len() as u64),
-        (" lives, ", store.count()),
-        (" points, ", store.trans_count()),
-        (" transitions, ", store.changes()),
-    ];
-    put_numbers(alloc, &numbers, to)?;
-    to.append(b" changes")?;
-    put_last_snap(alloc, store, to)
-}
-
-/// Adds what a store holds, where one stands on a disk.
-fn put_opened(alloc: Global, disk: &mut MemDisk, to: &mut Bytes) -> Result<(), NoMemory> {
-    match open(alloc, disk) {
-        Ok(store) => put_store(alloc, &store, to),
-        Err(fault) => put_fault(alloc, fault, to),
-    }
-}
-
-/// Adds what a crash may leave.
-fn put_crashes(alloc: Global, disk: &MemDisk, to: &mut Bytes) -> Result<(), NoMemory> {
-    for (name, pick) in PICKS.iter() {
-        to.append(name.as_bytes())?;
-        to.append(b": ")?;
-        put_opened(alloc, &mut crashed(disk, *pick)?, to)?;
-        to.append(b". ")?;
-    }
-    Ok(())
-}
-
-/// Adds a task.
-fn put_task(alloc: Global, task: &StoredTask, to: &mut Bytes) -> Result<(), NoMemory> {
-    let text = format!(in alloc; "{} {} at {} ", task.id, task.enabled, task.define_at)?;
-    to.append(text.as_bytes())?;
-    put_shown(task.script.bytes(), to)?;
-    to.append(b"; ")
-}
-
-/// Adds the tasks.
-fn put_tasks(alloc: Global, tasks: &[StoredTask], to: &mut Bytes) -> Result<(), NoMemory> {
-    for task in tasks {
-        put_task(alloc, task, to)?;
-    }
-    Ok(())
-}
-
-/// Adds where a life ends.
-fn put_last(alloc: Global, last: Option<u64>, to: &mut Bytes) -> Result<(), NoMemory> {
-    match last {
-        Some(last) => {
-            put_number(alloc, " to ", last, to)?;
-            to.append(b"; ")
-        }
-        None => to.append(b" on; "),
-    }
-}
-
-/// Adds the lives.
-fn put_lives(alloc: Global, lives: &[Life], to: &mut Bytes) -> Result<(), NoMemory> {
-    for life in lives {
-        let text = format!(in alloc; "{} at {} from {}", life.task, life.define_at, life.first)?;
-        to.append(text.as_bytes())?;
-        put_last(alloc, life.last, to)?;
-    }
-    Ok(())
-}
-
-/// Adds the numbers of lives.
-fn put_life_numbers(alloc: Global, lives: &[u32], to: &mut Bytes) -> Result<(), NoMemory> {
-    for life in lives {
-        put_number(alloc, " ", u64::from(*life), to)?;
-    }
-    Ok(())
-}
-
-/// Adds the last snapshot.
-fn put_snap(
-    alloc: Global,
-    disk: &mut MemDisk,
-    store: &Store,
-    to: &mut Bytes,
-) -> Result<(), StoreFault> {
-    let Some((at, lives, states)) = snap_of(disk, store)? else {
-        to.append(b"none")?;
-        return Ok(());
-    };
-    put_number(alloc, "at ", at, to)?;
-    to.append(b" of lives")?;
-    put_life_numbers(alloc, lives.as_slice(), to)?;
-    to.append(b": ")?;
-    put_shown(states.as_slice(), to)?;
-    Ok(())
-}
-
-/// Adds the level of a topic, as a store's opening gives it.
-fn put_told(
-    alloc: Global,
-    disk: &mut MemDisk,
-    topic: &Text,
-    to: &mut Bytes,
-) -> Result<(), StoreFault> {
-    let topics = topics_of(alloc, disk)?;
-    put_level(&topics, topic, to)?;
-    Ok(())
-}
-
-/// Adds the tasks, the lives or the last snapshot of a store.
-fn put_held(
-    alloc: Global,
-    disk: &mut MemDisk,
-    kind: &str,
-    to: &mut Bytes,
-) -> Result<(), StoreFault> {
-    let store = open(alloc, disk)?;
-    match kind {
-        "tasks" => Ok(put_tasks(alloc, store.tasks(), to)?),
-        "lives" => Ok(put_lives(alloc, store.lives(), to)?),
-        _ => put_snap(alloc, disk, &store, to),
     }
 }
 
@@ -249,29 +99,6 @@ fn put_outcome(
     }
 }
 
-/// `RECORD`: opens a store and adds it.
-fn add_line(
-    alloc: Global,
-    disk: &mut MemDisk,
-    line: &str,
-    to: &mut Bytes,
-) -> Result<(), LineFault> {
-    let rec = record_of(alloc, line)?;
-    Ok(add(alloc, disk, &rec, to)?)
-}
-
-/// `TOPIC`: adds its level.
-fn put_topic_line(
-    alloc: Global,
-    disk: &mut MemDisk,
-    line: &str,
-    to: &mut Bytes,
-) -> Result<(), LineFault> {
-    let topic = text(alloc, line)?;
-    let outcome = put_told(alloc, disk, &topic, to);
-    put_outcome(alloc, outcome, to)
-}
-
 /// `NUMBERS`: adds the pieces behind them.
 fn put_pieces_line(
     alloc: Global,
@@ -311,27 +138,6 @@ fn put_behind_line(
     put_outcome(alloc, outcome, to)
 }
 
-/// Adds what is asked of a store that is opened.
-fn put_asked(
-    alloc: Global,
-    disk: &mut MemDisk,
-    kind: &str,
-    line: &str,
-    to: &mut Bytes,
-) -> Result<(), LineFault> {
-    match kind {
-        "topics" => put_topic_line(alloc, disk, line, to),
-        "tasks" | "lives" | "snap" => {
-            let outcome = put_held(alloc, disk, kind, to);
-            put_outcome(alloc, outcome, to)
-        }
-        "points" | "transitions" | "calls" => put_pieces_line(alloc, disk, kind, line, to),
-        "read" => put_read_line(alloc, disk, line, to),
-        "behind" => put_behind_line(alloc, disk, line, to),
-        _ => Err(LineFault::NoForm),
-    }
-}
-
 /// Adds the answer of a line `store`.
 pub fn answer_store(
     alloc: Global,
@@ -342,10 +148,10 @@ pub fn answer_store(
     let (kind, rest) = first_of(line);
     match kind {
         "make" => Ok(make(alloc, disk, to)?),
-        "add" => add_line(alloc, disk, rest, to),
         "fill" => fill_opened(alloc, disk, rest, to),
-        "open" => Ok(put_opened(alloc, disk, to)?),
-        "crashes" => Ok(put_crashes(alloc, disk, to)?),
-        _ => put_asked(alloc, disk, kind, rest, to),
+        "points" | "transitions" | "calls" => put_pieces_line(alloc, disk, kind, rest, to),
+        "read" => put_read_line(alloc, disk, rest, to),
+        "behind" => put_behind_line(alloc, disk, rest, to),
+        _ => Err(LineFault::NoForm),
     }
 }
