@@ -61,6 +61,17 @@ define_may id script tasks called free few short =
     let le : nat_le (length script) SCRIPT_LIMIT ≡ true = grind (arith, nat_tests) in
     both-true (is_task_id id) _ called (both-true (not (has_task id tasks)) _ (ap not free) (both-true (nat_lt (length tasks) TASK_LIMIT) (nat_le (length script) SCRIPT_LIMIT) lt le))
 
+module _ (id script i t : List ℕ) (enabled : Bool) (same_id : i ≡ id) (same_script : t ≡ script) where
+  -- a record with copies is the same
+  pub define_same : kinds.Define i t enabled ≡ kinds.Define id script enabled
+  define_same = ap (λ (j : List ℕ). kinds.Define j t enabled) same_id ∙ ap (λ (s : List ℕ). kinds.Define id s enabled) same_script
+
+  -- and may follow where the task may be defined
+  pub define_follows : (h : Held) (tasks : List StoredTask) → tasks ≡ h.tasks → is_task_id id ≡ true → has_task id tasks ≡ false → length tasks < TASK_LIMIT → length script ≤ SCRIPT_LIMIT → MayFollow h (kinds.Define i t enabled)
+  define_follows h tasks same called free few short =
+      subst (MayFollow h) (sym define_same)
+      (subst (λ (ts : List StoredTask). may_define id script ts ≡ true) same (define_may id script tasks called free few short))
+
 -- the script of a task that is kept is short
 pub stored_short : (kept : KeptValue) (tasks : List StoredTask) (place : ℕ) (task : StoredTask) → AreValid kept → tasks ≡ kept.tasks → slice_get tasks place ≡ Some task → length task.script ≤ SCRIPT_LIMIT
 stored_short kept tasks place task valid same at =
