@@ -41,7 +41,7 @@ fn fault_at(part: Part, offset: u64, fault: ScriptFault) -> EngineFault
 
 /// The record that deletes the task with this id, or that disables it.
 fn ending(id: Text, deletes: bool) -> Rec
-    ensures is { result ≡ ending deletes id }
+    ensures same { result ≡ ending deletes id }
     ensures changes { ChangesTask result }
     ensures valid { DefinesValid result }
 {
