@@ -32,7 +32,7 @@ returns-in_err-id-clause-any_moment g c = λ tells rs at.
 
 pub returns-clause-ended : goal.returns-clause-ended
 returns-clause-ended g c = λ tells rs at.
-    let is : c.ending.result ≡ ending c.args.deletes c.args.id.now = c.ending.ensures.same ∙ ap (ending c.args.deletes) c.in_ok-id.ensures.copy in
+    let is : c.ending-rec.result ≡ ending c.args.deletes c.args.id.now = c.ending-rec.ensures.same ∙ ap (ending c.args.deletes) c.in_ok-id.ensures.copy in
     let tasks_is = c.tasks.ensures ∙ ap (λ (v : EngineValue _). v.store.kept.tasks) c.self.view_is ∙ at.on.kept.keeps.tasks in
     let there = subst (λ (ts : List StoredTask). has_task c.args.id.now ts ≡ true) tasks_is (sym c.if-not-has_task.ensures) in
     subst (λ (r : Rec). OnOk c.add_change.result (IsEngine g.N.Node g.N.ScriptNode.planned (rs ++ r ∷ []) (g.D.Disk.seen c.add_change.new.disk) (g.D.Disk.may_leave c.add_change.new.disk) c.add_change.new.self)) is
@@ -41,7 +41,7 @@ returns-clause-ended g c = λ tells rs at.
 
 pub returns-clause-any_moment : goal.returns-clause-any_moment
 returns-clause-any_moment g c = λ tells rs at.
-    let is : c.ending.result ≡ ending c.args.deletes c.args.id.now = c.ending.ensures.same ∙ ap (ending c.args.deletes) c.in_ok-id.ensures.copy in
+    let is : c.ending-rec.result ≡ ending c.args.deletes c.args.id.now = c.ending-rec.ensures.same ∙ ap (ending c.args.deletes) c.in_ok-id.ensures.copy in
     let tasks_is = c.tasks.ensures ∙ ap (λ (v : EngineValue _). v.store.kept.tasks) c.self.view_is ∙ at.on.kept.keeps.tasks in
     let there = subst (λ (ts : List StoredTask). has_task c.args.id.now ts ≡ true) tasks_is (sym c.if-not-has_task.ensures) in
     subst (λ (r : Rec). Moments g.D.Disk.moment g.D.Disk.may_leave g.D.Disk.left_since c.args.disk.now c.add_change.new.disk (stands_full_before_or_after g.N.Node g.N.ScriptNode.planned rs r)) is
