@@ -8,6 +8,7 @@ use Rattle.kap_io.specs.declared.disk.Part.{Part}
 use Rattle.node_core.specs.declared.node.Node.{Ghosts}
 use Rattle.node_set.specs.Tasks.{Planned}
 use Rattle.store_compact.specs.Staying.{staying}
+use Rattle.store_compact.proofs.Total.{same_held}
 use Rattle.store_records.specs.declared.rec.Rec.{Rec}
 use Rattle.topic_store.proofs.Adding.{image_stands}
 use Rattle.topic_store.proofs.Apart.{no_store_apart, no_store_unique}
@@ -45,6 +46,7 @@ module _ {N P S : Type 0} (g : Ghosts N P S) (planned : Planned P) (rs : List Re
       records = made.records;
       more = made.more;
       added = made.added;
+      same = same_held made.records made.engine.on.stored.follow;
       full = f.full;
       stands = f.stands;
     })
@@ -68,6 +70,7 @@ module _ {N P S : Type 0} (g : Ghosts N P S) (planned : Planned P) (rs : List Re
     records = made.records;
     more = made.more;
     added = made.added;
+    same = same_held made.records made.engine.on.stored.follow;
     full = engine.full;
     reads = seen_stands seen images (staying made.records) after.store engine.on;
     leaves = image_stands (staying made.records) seen images after.store engine.on;
