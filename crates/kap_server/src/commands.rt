@@ -157,12 +157,12 @@ fn replay_pairs<
 ///   is current then. Left out are records that changed nothing, snapshots but the last, and the definition
 ///   and deletion of tasks that never had a life and are deleted.
 ///
-/// Those six read and check the whole input before they open the store, as the lists do; what the opening
-/// stores isn't written.
+/// Those six open the store as the lists do, once the whole input of `define` and of `write` is read and
+/// checked; what the opening stores isn't written.
 ///
 /// `now` is the time of now, in nanoseconds from 1970-01-01T00:00:00Z on. `rt` makes
 /// the threads of workers, and each of them passes `gate` before each of its turns. `ran` is None; at Ok of a
-/// replay, and of a `gen` for tasks, it is the net through which the points went.
+/// replay, of a `gen` for tasks and of a `write` it is the net through which the points went.
 pub fn command<
     S: Source,
     K: Sink,
