@@ -369,6 +369,10 @@ pub fn command<
         → Stands rs (D.seen disk.old) → IsGood N.Node N.planned rs → S.left input.old ≡ Some body
         → WritesTo db rp (Mode.Live (unit_of options) now) body status
         → IsUnlessStopped (P.refusals pats.old) (P.refusals pats.new) result status }
+    // But at Ok, and where a write to the output failed, it puts nothing there.
+    ensures write_kept { (options : WriteOptions) (db rp : List ℕ)
+        → AsksToWrite (map string_bytes words.now) options db rp
+        → result ≢ Status.Ok → result ≢ Status.WriteFault → out.new ≡ out.old }
     // Of a compaction of a right store: at Ok just the records that stay are there, of it with all
     // transitions that are due. At each moment each image is as it was, or stands for the right store with a
     // few of these more, or with all and just these records.

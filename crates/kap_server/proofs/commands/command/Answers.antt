@@ -323,6 +323,9 @@ returns-in-Some-Write-clause-write_status g c = λ options db rp body rs status 
     (write_rose g.N.Node g.N.ScriptNode.planned g.D.Disk.seen g.D.Disk.moment g.D.Disk.may_leave g.D.Disk.left_since c.in-Some-Write.db.now c.in-Some-Write.rp.now (modes.Live (unit_of c.in-Some-Write.options) (to_z w64 (of_z w64 c.args.now))) rs good (g.S.Source.left c.args.input.now) (g.K.Sink.written c.args.out.now) (g.K.Sink.written c.write.new.out) (g.P.Patterns.refusals c.args.pats.now) (g.P.Patterns.refusals c.write.new.pats) c.args.disk.now c.write.new.disk c.write.new.ran (c.write.new.disk ≡ c.args.disk.now) (c.write.new.out ≡ c.args.out.now) c.write.result (c.write.ensures.written tells rs good stands))
     (returns-in-Some-Write-clause-lines g c options db rp asks) to
 
+pub returns-in-Some-Write-clause-write_kept : goal.returns-in-Some-Write-clause-write_kept
+returns-in-Some-Write-clause-write_kept g c = λ options db rp asks not failed. c.write.ensures.unwritten not failed
+
 pub returns-in-Some-Write-clause-unopened : goal.returns-in-Some-Write-clause-unopened
 returns-in-Some-Write-clause-unopened g c = λ reads early. (c.write.ensures.unopened early).0
 
