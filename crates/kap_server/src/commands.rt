@@ -369,7 +369,7 @@ pub fn command<
         → Stands rs (D.seen disk.old) → IsGood N.Node N.planned rs → S.left input.old ≡ Some body
         → WritesTo db rp (Mode.Live (unit_of options) now) body status
         → IsUnlessStopped (P.refusals pats.old) (P.refusals pats.new) result status }
-    // But at Ok, and where a write to the output failed, it puts nothing there.
+    // Unless it is Ok, or a write to the output failed, nothing was written there, whatever the store.
     ensures write_kept { (options : WriteOptions) (db rp : List ℕ)
         → AsksToWrite (map string_bytes words.now) options db rp
         → result ≢ Status.Ok → result ≢ Status.WriteFault → out.new ≡ out.old }
@@ -408,8 +408,8 @@ pub fn command<
         → OpensBehind N.Node N.planned (P.refusals pats.old) (P.refusals pats.new)
         (P.refused pats.new) (Quiet D.seen D.moment D.may_leave D.left_since disk.old disk.new)
         (D.seen disk.old) result }
-    // Of a compaction the place that is told is that of no such store, and then nothing changed, or the store
-    // isn't right.
+    // Of a compaction: at Ok the files stood for such a store; where a place is told, they are none there, and
+    // then nothing changed, or one that isn't right.
     ensures compact_opened { AsksToCompact (map string_bytes words.now) → IsTrue D.tells
         → OpensToCompact N.Node N.planned (P.refusals pats.old) (P.refusals pats.new)
         (P.refused pats.new) (Quiet D.seen D.moment D.may_leave D.left_since disk.old disk.new)
