@@ -1,5 +1,5 @@
 -- What stands after a store was compacted.
-use Rattle.std.proofs.Common.{◌≡◌, ◌⊎◌, ℕ, List, Err, None, Some, inl, inr, refl, ap, ◌∙◌}
+use Rattle.std.proofs.Common.{◌≡◌, ◌⊎◌, ℕ, List, Err, None, Some, inl, inr, refl, ◌∙◌}
 use Rattle.std.specs.Prelude.{IsErrOf, Option}
 use Rattle.kap_base.specs.Words.{HasRisen}
 use Rattle.kap_io.specs.Disk.{Image}
@@ -11,10 +11,8 @@ use Rattle.store_compact.specs.Staying.{staying}
 use Rattle.store_compact.proofs.Total.{same_held}
 use Rattle.store_records.specs.declared.rec.Rec.{Rec}
 use Rattle.topic_store.proofs.Adding.{image_stands}
-use Rattle.topic_store.proofs.Apart.{no_store_apart, no_store_unique}
 use Rattle.topic_store.proofs.Found.{seen_stands}
-use Rattle.topic_store.specs.Stores.{IsNoStore}
-use Rattle.engine_store.specs.Faults.{IsNoGood, IsOfOpening, no_lives, no_store}
+use Rattle.engine_store.specs.Faults.{IsNoGood, IsOfOpening}
 use Rattle.engine_store.specs.Good.{IsGood, stays_or_good}
 use Rattle.engine_store.specs.declared.fault.EngineFault.{EngineFault}
 use Rattle.engine_store.specs.declared.fault.EngineFault.TheVariants as engines
@@ -167,34 +165,6 @@ module _ {N P S : Type 0} (g : Ghosts N P S) (planned : Planned P) (before after
   compact_asked (engines.NotStore part offset) may asked failed = inr (record { asked = asked; wrong = λ good. failed good })
   compact_asked engines.DiskFault may asked failed = tt
   compact_asked engines.NoMemory may asked failed = tt
-
-  -- where the files stand for no store, its place is told
-  module _ (part : Part) (offset : ℕ) (none : IsNoStore files part offset) where
-    not-asked : AreAsked g planned files → ⊥
-    not-asked asked = no_store_apart files part offset asked.records none asked.stands
-
-    told-here : (there : Part) (place : ℕ) → IsNoGood g planned before after refused files there place → statuses.NotStore there place ≡ statuses.NotStore part offset
-    told-here there place (no_store one) =
-        let same = no_store_unique files there part place offset one none in
-        ap (λ (p : Part). statuses.NotStore p place) same.0 ∙ ap (λ (n : ℕ). statuses.NotStore part n) same.1
-    told-here there place (no_lives rs stands named why) = absurd (no_store_apart files part offset rs none stands)
-
-    pub compact_nowhere : (result : Status) → OpensToCompact g planned before after refused still files result → IsUnlessDiskFailed result (statuses.NotStore part offset)
-    compact_nowhere statuses.Ok h = absurd (not-asked h)
-    compact_nowhere statuses.Usage h = absurd h
-    compact_nowhere (statuses.Script fault) h = absurd h
-    compact_nowhere (statuses.Line n fault) h = absurd h
-    compact_nowhere (statuses.Truncated n) h = absurd h
-    compact_nowhere (statuses.NotStore there place) (inl bad) = inl (told-here there place bad.0)
-    compact_nowhere (statuses.NotStore there place) (inr others) = absurd (not-asked others.asked)
-    compact_nowhere statuses.Exists h = absurd h
-    compact_nowhere statuses.NoTask h = absurd h
-    compact_nowhere statuses.TooManyTasks h = absurd h
-    compact_nowhere statuses.TooLong h = absurd h
-    compact_nowhere statuses.NoMemory h = inr (inl refl)
-    compact_nowhere statuses.ReadFault h = absurd h
-    compact_nowhere statuses.WriteFault h = absurd h
-    compact_nowhere statuses.DiskFault h = inr (inr refl)
 
 -- ---- the words
 

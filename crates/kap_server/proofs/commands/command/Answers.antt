@@ -11,9 +11,9 @@ use Rattle.kap_server.specs.Runs.{refusal_of}
 use Rattle.kap_server.specs.Words.{reads_input, request_in, runs_net}
 use Rattle.kap_server.specs.Writing.{ReadsLines, Writes}
 use Rattle.kap_server.specs.declared.words.Change.{Change}
-use Rattle.kap_server.proofs.CommandLaws.{behind_nowhere, change_answers, change_not_many, change_not_none, change_nowhere, changes_no_pattern, changes_not, define_answers, define_not_none, lines_no_pattern, lines_not, same_change, same_changed, same_defined, script_not, write_answers, write_as_asked, write_not_many, write_not_none, write_rose}
+use Rattle.kap_server.proofs.CommandLaws.{behind_nowhere, change_answers, change_not_many, change_not_none, change_nowhere, changes_no_pattern, changes_not, compact_nowhere, define_answers, define_not_none, lines_no_pattern, lines_not, same_change, same_changed, same_defined, script_not, write_answers, write_as_asked, write_not_many, write_not_none, write_rose}
 use Rattle.kap_server.proofs.CheckLaws.{check_answers}
-use Rattle.kap_server.proofs.CompactLaws.{compact_answers, compact_not_many, compact_not_none, compact_nowhere, compacts_changes}
+use Rattle.kap_server.proofs.CompactLaws.{compact_answers, compact_not_many, compact_not_none, compacts_changes}
 use Rattle.kap_server.proofs.GenLaws.{few_to_replay, few_to_summarize, summary_not_none, summed_as_asked, summed_not, summed_tells}
 use Rattle.kap_server.proofs.ListLaws.{never, no_pattern, same_listing, show_not_many, show_not_none, shows_asked, tells_place}
 use Rattle.kap_server.proofs.NetLaws.{net_as_asked, samples_as_asked}
