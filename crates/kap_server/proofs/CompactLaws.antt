@@ -27,6 +27,7 @@ use Rattle.kap_server.specs.Compacting.{CompactedTo, EndsCompaction, LeavesCompa
 use Rattle.kap_server.specs.Listing.{AreAsked}
 use Rattle.kap_server.specs.Statuses.{status_of_engine}
 use Rattle.kap_server.specs.Words.{Compact, Request, request_in}
+use Rattle.kap_server.proofs.ListLaws.{of_opening}
 
 -- ---- what is left
 
@@ -78,13 +79,7 @@ module _ {N P S : Type 0} (g : Ghosts N P S) (planned : Planned P) (rs : List Re
 
 -- where the store isn't opened, or a compaction fails, on any disk
 pub opening_compacts : (fault : EngineFault) → IsOfOpening fault → EndsCompaction (status_of_engine fault)
-opening_compacts (engines.Script fault) may = absurd may
-opening_compacts engines.NoTask may = absurd may
-opening_compacts engines.Exists may = absurd may
-opening_compacts engines.TooManyTasks may = absurd may
-opening_compacts (engines.NotStore part offset) may = tt
-opening_compacts engines.DiskFault may = tt
-opening_compacts engines.NoMemory may = tt
+opening_compacts fault may = of_opening {T = Unit {0}} EndsCompaction fault may (λ part offset is. tt) tt tt
 
 -- it ends as a change may
 pub compacts_changes : (s : Status) → EndsCompaction s → EndsChange s
@@ -107,13 +102,7 @@ module _ {N P S : Type 0} (g : Ghosts N P S) (planned : Planned P) (rs : List Re
   -- a right store isn't opened
   pub none_compacted : {T : Type 0} (fault : EngineFault) → IsOfOpening fault → ((part : Part) (offset : ℕ) → IsErrOf {T = T} (Err fault) (engines.NotStore part offset) → HasRisen before after)
       → CompactedTo g planned rs before after seen images (status_of_engine fault)
-  none_compacted (engines.Script fault) may rose = absurd may
-  none_compacted engines.NoTask may rose = absurd may
-  none_compacted engines.Exists may rose = absurd may
-  none_compacted engines.TooManyTasks may rose = absurd may
-  none_compacted (engines.NotStore part offset) may rose = rose part offset refl
-  none_compacted engines.DiskFault may rose = tt
-  none_compacted engines.NoMemory may rose = tt
+  none_compacted fault may rose = of_opening (CompactedTo g planned rs before after seen images) fault may rose tt tt
 
   -- or its compaction fails
   pub compact_failed : (fault : EngineFault) → IsFailure fault → CompactedTo g planned rs before after seen images (status_of_engine fault)
@@ -148,13 +137,7 @@ module _ {N P S : Type 0} (g : Ghosts N P S) (planned : Planned P) (before after
   -- none
   pub compact_none : {T : Type 0} (fault : EngineFault) → IsOfOpening fault → ((part : Part) (offset : ℕ) → IsErrOf {T = T} (Err fault) (engines.NotStore part offset) → IsNoGood g planned before after refused files part offset × still)
       → OpensToCompact g planned before after refused still files (status_of_engine fault)
-  compact_none (engines.Script fault) may why = absurd may
-  compact_none engines.NoTask may why = absurd may
-  compact_none engines.Exists may why = absurd may
-  compact_none engines.TooManyTasks may why = absurd may
-  compact_none (engines.NotStore part offset) may why = inl (why part offset refl)
-  compact_none engines.DiskFault may why = tt
-  compact_none engines.NoMemory may why = tt
+  compact_none fault may why = of_opening (OpensToCompact g planned before after refused still files) fault may (λ part offset is. inl (why part offset is)) tt tt
 
   -- where a compaction tells a place, the store wasn't right
   pub compact_asked : (fault : EngineFault) → IsOfOpening fault → (asked : AreAsked g planned files) → (IsGood g planned asked.records → IsFailure fault) → OpensToCompact g planned before after refused still files (status_of_engine fault)
