@@ -13,7 +13,7 @@ use Rattle.life_effects.proofs.FitLaws.{held_fits}
 use Rattle.node_core.specs.declared.node.Node.{Ghosts}
 use Rattle.node_set.specs.Tasks.{Planned}
 use Rattle.store_kept.specs.Keeping.{AreValid, KeptValue}
-use Rattle.store_records.specs.Held.{begun, ended, has_task, life_from, life_of, may_define, task_of}
+use Rattle.store_records.specs.Held.{Held, MayFollow, begun, ended, has_task, life_from, life_of, may_define, task_of}
 use Rattle.store_records.specs.Histories.{end_of, held}
 use Rattle.store_records.specs.Orders.{IsValid}
 use Rattle.store_records.specs.Records.{HasForm}
@@ -33,7 +33,7 @@ use Rattle.engine_runs.proofs.ChangeLaws.{run_later}
 use Rattle.engine_runs.proofs.PlaceLaws.{each_at}
 use Rattle.engine_runs.proofs.RunLaws.{ran_less}
 use Rattle.engine_store.specs.Good.{IsFull}
-use Rattle.kap_engine.specs.Changing.{AreNext, BeginsAs, ChangesTask, DefinesScript, HasBegun, IsNext, stands_full_before_or_after}
+use Rattle.kap_engine.specs.Changing.{AreNext, BeginsAs, ChangesTask, DefinesScript, HasBegun, IsNext, ending, stands_full_before_or_after}
 use Rattle.kap_engine.specs.Engines.{IsEngine}
 use Rattle.kap_engine.proofs.FullLaws.{full_behind, later, lives_are, new_lives, new_scripts, new_tasks, old_lives, same_points}
 use Rattle.kap_engine.proofs.TaskLaws.{LifeHasScript, ended_tasks, tasks_for}
@@ -61,10 +61,38 @@ define_may id script tasks called free few short =
     let le : nat_le (length script) SCRIPT_LIMIT ≡ true = grind (arith, nat_tests) in
     both-true (is_task_id id) _ called (both-true (not (has_task id tasks)) _ (ap not free) (both-true (nat_lt (length tasks) TASK_LIMIT) (nat_le (length script) SCRIPT_LIMIT) lt le))
 
+module _ (id script i t : List ℕ) (enabled : Bool) (same_id : i ≡ id) (same_script : t ≡ script) where
+  -- a record with copies is the same
+  pub define_same : kinds.Define i t enabled ≡ kinds.Define id script enabled
+  define_same = ap (λ (j : List ℕ). kinds.Define j t enabled) same_id ∙ ap (λ (s : List ℕ). kinds.Define id s enabled) same_script
+
+  -- and may follow where the task may be defined
+  pub define_follows : (h : Held) (tasks : List StoredTask) → tasks ≡ h.tasks → is_task_id id ≡ true → has_task id tasks ≡ false → length tasks < TASK_LIMIT → length script ≤ SCRIPT_LIMIT → MayFollow h (kinds.Define i t enabled)
+  define_follows h tasks same called free few short =
+      subst (MayFollow h) (sym define_same)
+      (subst (λ (ts : List StoredTask). may_define id script ts ≡ true) same (define_may id script tasks called free few short))
+
 -- the script of a task that is kept is short
 pub stored_short : (kept : KeptValue) (tasks : List StoredTask) (place : ℕ) (task : StoredTask) → AreValid kept → tasks ≡ kept.tasks → slice_get tasks place ≡ Some task → length task.script ≤ SCRIPT_LIMIT
 stored_short kept tasks place task valid same at =
     (each_at (λ (t : StoredTask). IsValid t.id t.script) tasks place task (subst (Each (λ (t : StoredTask). IsValid t.id t.script)) (sym same) valid.tasks) at).short
+
+module _ (deletes : Bool) (id : List ℕ) (r : Rec) (is : r ≡ ending deletes id) where
+  -- one that ends a task may follow where there is the task
+  pub ending_may : (h : Held) → has_task id h.tasks ≡ true → MayFollow h r
+  ending_may h there = subst (MayFollow h) (sym is) (may deletes)
+    where
+      may : (deletes : Bool) → MayFollow h (ending deletes id)
+      may true = there
+      may false = there
+
+  -- and defines none
+  pub ending_defines : DefinesScript r
+  ending_defines = subst DefinesScript (sym is) (none deletes)
+    where
+      none : (deletes : Bool) → DefinesScript (ending deletes id)
+      none true = tt
+      none false = tt
 
 -- ---- the life that begins
 
@@ -123,6 +151,14 @@ module _ {N P S : Type 0} (g : Ghosts N P S) (planned : Planned P) where
   one-begins n begun [] h next new are = absurd are
   one-begins n begun (life ∷ []) h next new are = record { life = life; task = h.0.0; is = refl; task_is = refl; accepted = h.0.1; new = new.0; planned_is = are }
   one-begins n begun (life ∷ other ∷ lives) h next new are = absurd are
+
+  -- none begins where a task ends
+  pub next_ending : (n many at : ℕ) (deletes : Bool) (id : List ℕ) (r : Rec) (tasks : List StoredTask) → r ≡ ending deletes id → AreNext g planned many (begun n at r tasks) None
+  next_ending n many at deletes id r tasks is = subst (λ (s : Rec). AreNext g planned many (begun n at s tasks) None) (sym is) (none deletes)
+    where
+      none : (deletes : Bool) → AreNext g planned many (begun n at (ending deletes id) tasks) None
+      none true = tt
+      none false = tt
 
   -- where the task that is enabled isn't so yet one begins, and else none does
   pub next_of : (n begun : ℕ) (found : Option StoredTask) (task : StoredTask) (next : TaskNames × PlanValue N) → found ≡ Some task → task.enabled ≡ false → IsNext g planned begun (life_from n task) next → AreNext g planned begun (life_of n found) (Some next)

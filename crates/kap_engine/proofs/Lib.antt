@@ -1,3 +1,4 @@
+pub mod ViewLaws
 pub mod MakeLaws
 pub mod LikeLaws
 pub mod BatchLaws

@@ -1,5 +1,5 @@
 -- What a change of a task leaves.
-use Rattle.std.specs.Prelude.{◌≡◌, ◌⊎◌, ℕ, ◌+◌, ◌≤◌, ⊤, true, false, List, [], ◌∷◌, ◌++◌, Option, None, Some, length}
+use Rattle.std.specs.Prelude.{◌≡◌, ◌⊎◌, ℕ, ◌+◌, ◌≤◌, ⊤, Bool, true, false, List, [], ◌∷◌, ◌++◌, Option, None, Some, length}
 use Rattle.kap_io.specs.Disk.{Image}
 use Rattle.kap_io.specs.declared.disk.Part.{Part}
 use Rattle.kap_base.specs.Points.{PointValue}
@@ -80,6 +80,11 @@ ChangesTask r = ⊤
 abbrev pub DefinesScript : Rec → Type 0
 DefinesScript (kinds.Define id script enabled) = IsScript script
 DefinesScript r = ⊤
+
+-- the record that deletes a task, or that disables it
+abbrev pub ending : Bool → List ℕ → Rec
+ending true id = kinds.Delete id
+ending false id = kinds.Disable id
 
 -- where a record can't be added, or the life that begins with it doesn't run, memory ran out or the disk failed
 abbrev pub IsFailure : EngineFault → Type 0

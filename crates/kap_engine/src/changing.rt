@@ -14,7 +14,7 @@ ghost use Rattle.tick_compile.specs.Tasks.{is_refusal};
 ghost use Rattle.engine_runs.specs.Scripts.{IsTaskOf};
 ghost use Rattle.engine_store.specs.Faults.{EngineCause};
 ghost use Rattle.engine_store.specs.declared.fault.EngineFault.TheVariants.{DiskFault as disk_failed};
-ghost use Rattle.kap_engine.specs.Changing.{AreNext, ChangesTask, DefinesScript, HasBegun, IsFailure, IsRefusal, IsWhyNoneDefined, IsWhyNoneEnabled, IsWhyNoneEnded, IsWhyNotPlanned, fault_at, stands_full_before_or_after};
+ghost use Rattle.kap_engine.specs.Changing.{AreNext, ChangesTask, DefinesScript, HasBegun, IsFailure, IsRefusal, IsWhyNoneDefined, IsWhyNoneEnabled, IsWhyNoneEnded, IsWhyNotPlanned, ending, fault_at, stands_full_before_or_after};
 ghost use Rattle.kap_engine.specs.Engines.{IsEngine};
 
 use crate::engine::Engine;
@@ -36,6 +36,19 @@ fn fault_at(part: Part, offset: u64, fault: ScriptFault) -> EngineFault
     match fault {
         ScriptFault::NoMemory => EngineFault::NoMemory,
         _ => EngineFault::NotStore { part, offset },
+    }
+}
+
+/// The record that deletes the task with this id, or that disables it.
+fn ending(id: Text, deletes: bool) -> Rec
+    ensures same { result ≡ ending deletes id }
+    ensures changes { ChangesTask result }
+    ensures valid { DefinesValid result }
+{
+    if deletes {
+        Rec::Delete { id }
+    } else {
+        Rec::Disable { id }
     }
 }
 
@@ -247,6 +260,41 @@ impl<N: ScriptNode + NumberingNode + Send> Engine<N> {
         self.add_change(alloc, disk, &Rec::Enable { id }, next)
     }
 
+    /// Deletes the task with this id, or disables it: where it is enabled, its life ends.
+    fn end_task<D: Disk>(
+        &mut self,
+        alloc: Global,
+        disk: &mut D,
+        id: &Text,
+        deletes: bool,
+    ) -> Result<(), EngineFault>
+        requires unspent { self.old.spent ≡ false }
+        ensures unspent { OnOk result (self.new.spent ≡ false) }
+        ensures ended { IsTrue D.tells → (rs : List Rec)
+            → IsEngine N.Node N.planned rs (D.seen disk.old) (D.may_leave disk.old) self.old
+            → OnOk result (IsEngine N.Node N.planned (rs ++ ending deletes id.now ∷ [])
+            (D.seen disk.new) (D.may_leave disk.new) self.new) }
+        ensures any_moment { IsTrue D.tells → (rs : List Rec)
+            → IsEngine N.Node N.planned rs (D.seen disk.old) (D.may_leave disk.old) self.old
+            → Moments D.moment D.may_leave D.left_since disk.old disk.new
+            (stands_full_before_or_after N.Node N.planned rs (ending deletes id.now)) }
+        ensures stored { OnOk result (self.new.stored ≡ []) }
+        ensures why { IfErr result (IsWhyNoneEnded id.now self.old.store.kept.tasks) }
+        ensures still { IfErr result (λ f. IsRefusal f
+            → (self.new ≡ self.old) × (disk.new ≡ disk.old)) }
+        ensures quiet { IfErr result (λ f. self.new.spent ≡ false
+            → (self.new ≡ self.old) × (disk.new ≡ disk.old)) }
+        ensures spends { IfErr result (λ f. f ≡ disk_failed → self.new.spent ≡ true) }
+        ensures cause { EngineCause (D.faults disk.old) (D.faults disk.new) result }
+    {
+        if !has_task(self.store.tasks(), id) {
+            return Err(EngineFault::NoTask);
+        }
+        let id = id.copy(alloc)?;
+        let rec = ending(id, deletes);
+        self.add_change(alloc, disk, &rec, None)
+    }
+
     /// Disables the task with this id: where it is enabled, its life ends. `NoTask` comes exactly where no
     /// task has the id, and changes nothing. All else is as `define` says.
     pub fn disable<D: Disk>(
@@ -274,11 +322,7 @@ impl<N: ScriptNode + NumberingNode + Send> Engine<N> {
         ensures spends { IfErr result (λ f. f ≡ disk_failed → self.new.spent ≡ true) }
         ensures cause { EngineCause (D.faults disk.old) (D.faults disk.new) result }
     {
-        if !has_task(self.store.tasks(), id) {
-            return Err(EngineFault::NoTask);
-        }
-        let id = id.copy(alloc)?;
-        self.add_change(alloc, disk, &Rec::Disable { id }, None)
+        self.end_task(alloc, disk, id, false)
     }
 
     /// Deletes the task with this id: where it is enabled, its life ends. `NoTask` comes exactly where no task
@@ -308,10 +352,6 @@ impl<N: ScriptNode + NumberingNode + Send> Engine<N> {
         ensures spends { IfErr result (λ f. f ≡ disk_failed → self.new.spent ≡ true) }
         ensures cause { EngineCause (D.faults disk.old) (D.faults disk.new) result }
     {
-        if !has_task(self.store.tasks(), id) {
-            return Err(EngineFault::NoTask);
-        }
-        let id = id.copy(alloc)?;
-        self.add_change(alloc, disk, &Rec::Delete { id }, None)
+        self.end_task(alloc, disk, id, true)
     }
 }

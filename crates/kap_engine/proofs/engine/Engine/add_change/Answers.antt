@@ -3,17 +3,18 @@ use Rattle.store_records.specs.Held.{begun}
 use Rattle.store_records.specs.Histories.{end_of, held}
 use Rattle.engine_store.proofs.CauseLaws.{cause_of}
 use Rattle.kap_engine.specs.Changing.{AreNext}
-use Rattle.kap_engine.specs.Engines.{EngineValue, IsEngine}
+use Rattle.kap_engine.specs.Engines.{EngineValue}
 use Rattle.kap_engine.proofs.AddLaws.{disk_rose, spent_of, still_of}
 use Rattle.kap_engine.proofs.ChangeLaws.{begun_turned, full_moments, turned_behind}
 use Rattle.kap_engine.proofs.RefusalLaws.{add_failed}
+use Rattle.kap_engine.proofs.ViewLaws.{engine_of}
 use Rattle.kap_engine.proofs.engine.Engine.add_change.Goals as goal
 
 -- ---- the record isn't added
 
 pub returns-in-Err-clause-any_moment : goal.returns-in-Err-clause-any_moment
 returns-in-Err-clause-any_moment g c = λ tells rs at may defines.
-    let e = subst (λ (v : EngineValue _). IsEngine g.N.Node g.N.ScriptNode.planned rs (g.D.Disk.seen c.args.disk.now) (g.D.Disk.may_leave c.args.disk.now) v) (sym c.self.view_is) at in
+    let e = engine_of g.N.Node g.N.ScriptNode.planned rs _ _ _ _ c.self.view_is at in
     full_moments g.N.Node g.N.ScriptNode.planned rs c.args.rec.now c.requires.changes defines e.full g.D.Disk.moment g.D.Disk.may_leave g.D.Disk.left_since _ _ (c.add.ensures.any_moment tells rs may e.on)
 
 pub returns-in-Err-clause-failed : goal.returns-in-Err-clause-failed
@@ -33,14 +34,14 @@ returns-in-Err-clause-cause g c = cause_of _ _ c.in-Err.fault c.from.result c.fr
 
 pub returns-in_err-begin_planned-clause-any_moment : goal.returns-in_err-begin_planned-clause-any_moment
 returns-in_err-begin_planned-clause-any_moment g c = λ tells rs at may defines.
-    let e = subst (λ (v : EngineValue _). IsEngine g.N.Node g.N.ScriptNode.planned rs (g.D.Disk.seen c.args.disk.now) (g.D.Disk.may_leave c.args.disk.now) v) (sym c.self.view_is) at in
+    let e = engine_of g.N.Node g.N.ScriptNode.planned rs _ _ _ _ c.self.view_is at in
     full_moments g.N.Node g.N.ScriptNode.planned rs c.args.rec.now c.requires.changes defines e.full g.D.Disk.moment g.D.Disk.may_leave g.D.Disk.left_since _ _ (c.add.ensures.any_moment tells rs may e.on)
 
 -- ---- all is done
 
 pub returns-clause-changed : goal.returns-clause-changed
 returns-clause-changed g c = λ tells rs at may defines are.
-    let e = subst (λ (v : EngineValue _). IsEngine g.N.Node g.N.ScriptNode.planned rs (g.D.Disk.seen c.args.disk.now) (g.D.Disk.may_leave c.args.disk.now) v) (sym c.self.view_is) at in
+    let e = engine_of g.N.Node g.N.ScriptNode.planned rs _ _ _ _ c.self.view_is at in
     let here = subst (λ (v : EngineValue _). AreNext g.N.Node g.N.ScriptNode.planned (length v.run.names) (begun (length (held rs).points) (end_of rs) c.args.rec.now (held rs).tasks) c.args.next) (sym c.self.view_is) are in
     let t = begun_turned g.N.Node g.N.ScriptNode.planned rs c.args.rec.now c.requires.changes defines e.full c.self.inside.run e.runs e.numbered c.begin_planned.new.run c.args.next c.in_ok-begin_planned.ensures.begun here in
     turned_behind g.N.Node g.N.ScriptNode.planned rs c.args.rec.now c.requires.changes defines e.full _ _ _ _ _ _ _ _
@@ -48,5 +49,5 @@ returns-clause-changed g c = λ tells rs at may defines are.
 
 pub returns-clause-any_moment : goal.returns-clause-any_moment
 returns-clause-any_moment g c = λ tells rs at may defines.
-    let e = subst (λ (v : EngineValue _). IsEngine g.N.Node g.N.ScriptNode.planned rs (g.D.Disk.seen c.args.disk.now) (g.D.Disk.may_leave c.args.disk.now) v) (sym c.self.view_is) at in
+    let e = engine_of g.N.Node g.N.ScriptNode.planned rs _ _ _ _ c.self.view_is at in
     full_moments g.N.Node g.N.ScriptNode.planned rs c.args.rec.now c.requires.changes defines e.full g.D.Disk.moment g.D.Disk.may_leave g.D.Disk.left_since _ _ (c.add.ensures.any_moment tells rs may e.on)

@@ -1,8 +1,8 @@
-use Rattle.std.proofs.Common.{◌≡◌, ◌<◌, ◌≤◌, List, ℕ, [], ◌∷◌, ◌++◌, false, length, ap, subst, sym, ◌∙◌, arith}
+use Rattle.std.proofs.Common.{◌<◌, ◌≤◌, List, ℕ, [], ◌∷◌, ◌++◌, length, ap, subst, sym, ◌∙◌, arith}
 use Rattle.std.specs.Prelude.{◌≢◌, None, OnOk}
 use Rattle.kap_base.specs.declared.limits.TheConstants.{TASK_LIMIT}
 use Rattle.kap_io.specs.Moments.{Moments}
-use Rattle.store_records.specs.Held.{MayFollow, has_task, life_from}
+use Rattle.store_records.specs.Held.{has_task, life_from}
 use Rattle.store_records.specs.Histories.{end_of, held}
 use Rattle.store_records.specs.declared.rec.Rec.{Rec}
 use Rattle.store_records.specs.declared.rec.Rec.TheVariants as kinds
@@ -12,7 +12,7 @@ use Rattle.tick_compile.specs.Tasks.{refusal_in}
 use Rattle.tick_compile.specs.declared.script_fault.ScriptFault.TheVariants as scripts
 use Rattle.kap_engine.specs.Changing.{stands_full_before_or_after}
 use Rattle.kap_engine.specs.Engines.{EngineValue, IsEngine}
-use Rattle.kap_engine.proofs.ChangeLaws.{define_may, still_moments}
+use Rattle.kap_engine.proofs.ChangeLaws.{define_follows, define_same, still_moments}
 use Rattle.kap_engine.proofs.RefusalLaws.{defined_rose, defined_why, failed_defined, failed_rose, failed_still}
 use Rattle.kap_engine.proofs.engine.Engine.define.Goals as goal
 
@@ -76,39 +76,31 @@ returns-in_err-script-clause-any_moment g c = λ tells rs at.
 
 pub returns-clause-defined : goal.returns-clause-defined
 returns-clause-defined g c = λ tells rs at.
-    let id = c.in_ok-id.id in
-    let script = c.in_ok-script.script in
     let one = c.in_ok-id.ensures.copy in
     let two = c.in_ok-script.ensures.copy in
-    let same : kinds.Define id script c.args.enabled ≡ kinds.Define c.args.id.now c.args.script.now c.args.enabled =
-    ap (λ (i : List ℕ). kinds.Define i script c.args.enabled) one ∙ ap (λ (s : List ℕ). kinds.Define c.args.id.now s c.args.enabled) two in
-    let tasks_is = c.tasks.ensures ∙ ap (λ (v : EngineValue _). v.store.kept.tasks) c.self.view_is ∙ at.on.kept.keeps.tasks in
-    let free = ap (has_task c.args.id.now) (sym tasks_is) ∙ sym c.if-has_task.ensures in
-    let as_many = ap (λ (ts : List StoredTask). length ts) (c.tasks-2.ensures ∙ ap (λ (v : EngineValue _). v.store.kept.tasks) c.self.view_is ∙ at.on.kept.keeps.tasks) in
+    let store_is = ap (λ (v : EngineValue _). v.store.kept.tasks) c.self.view_is in
+    let free = ap (has_task c.args.id.now) (sym (c.tasks.ensures ∙ store_is)) ∙ sym c.if-has_task.ensures in
+    let as_many = ap (λ (ts : List StoredTask). length ts) (c.tasks-2.ensures ∙ store_is) in
     let below = c.if-tasks-ge-TASK_LIMIT.false in
-    let few : length (held rs).tasks < TASK_LIMIT = omega (arith, as_many, below) in
-    let may = subst (MayFollow (held rs)) (sym same) (define_may c.args.id.now c.args.script.now (held rs).tasks c.requires.id free few c.requires.short) in
+    let few : length c.args.self.now.store.kept.tasks < TASK_LIMIT = omega (arith, as_many, below) in
+    let may = define_follows _ _ _ _ c.args.enabled one two (held rs) _ at.on.kept.keeps.tasks c.requires.id free few c.requires.short in
     let accepts = subst (λ (text : List ℕ). Accepts None text c.in-Ok.task) (c.bytes.ensures.bytes ∙ sym two) c.in-Ok.ensures.task in
-    let is_next = c.in_ok-next.ensures.next (life_from (length (held rs).points) (record { id = id; script = script; enabled = c.args.enabled; define_at = end_of rs })) one accepts in
-    subst (λ (r : Rec). OnOk c.add_change.result (IsEngine g.N.Node g.N.ScriptNode.planned (rs ++ r ∷ []) (g.D.Disk.seen c.add_change.new.disk) (g.D.Disk.may_leave c.add_change.new.disk) c.add_change.new.self)) same
+    let is_next = c.in_ok-next.ensures.next (life_from (length (held rs).points) (record { id = c.in_ok-id.id; script = c.in_ok-script.script; enabled = c.args.enabled; define_at = end_of rs })) one accepts in
+    subst (λ (r : Rec). OnOk c.add_change.result (IsEngine g.N.Node g.N.ScriptNode.planned (rs ++ r ∷ []) (g.D.Disk.seen c.add_change.new.disk) (g.D.Disk.may_leave c.add_change.new.disk) c.add_change.new.self)) (define_same _ _ _ _ c.args.enabled one two)
     (c.add_change.ensures.changed tells rs at may (c.in-Ok.task, accepts) is_next)
 
 pub returns-clause-any_moment : goal.returns-clause-any_moment
 returns-clause-any_moment g c = λ tells rs at.
-    let id = c.in_ok-id.id in
-    let script = c.in_ok-script.script in
     let one = c.in_ok-id.ensures.copy in
     let two = c.in_ok-script.ensures.copy in
-    let same : kinds.Define id script c.args.enabled ≡ kinds.Define c.args.id.now c.args.script.now c.args.enabled =
-    ap (λ (i : List ℕ). kinds.Define i script c.args.enabled) one ∙ ap (λ (s : List ℕ). kinds.Define c.args.id.now s c.args.enabled) two in
-    let tasks_is = c.tasks.ensures ∙ ap (λ (v : EngineValue _). v.store.kept.tasks) c.self.view_is ∙ at.on.kept.keeps.tasks in
-    let free = ap (has_task c.args.id.now) (sym tasks_is) ∙ sym c.if-has_task.ensures in
-    let as_many = ap (λ (ts : List StoredTask). length ts) (c.tasks-2.ensures ∙ ap (λ (v : EngineValue _). v.store.kept.tasks) c.self.view_is ∙ at.on.kept.keeps.tasks) in
+    let store_is = ap (λ (v : EngineValue _). v.store.kept.tasks) c.self.view_is in
+    let free = ap (has_task c.args.id.now) (sym (c.tasks.ensures ∙ store_is)) ∙ sym c.if-has_task.ensures in
+    let as_many = ap (λ (ts : List StoredTask). length ts) (c.tasks-2.ensures ∙ store_is) in
     let below = c.if-tasks-ge-TASK_LIMIT.false in
-    let few : length (held rs).tasks < TASK_LIMIT = omega (arith, as_many, below) in
-    let may = subst (MayFollow (held rs)) (sym same) (define_may c.args.id.now c.args.script.now (held rs).tasks c.requires.id free few c.requires.short) in
+    let few : length c.args.self.now.store.kept.tasks < TASK_LIMIT = omega (arith, as_many, below) in
+    let may = define_follows _ _ _ _ c.args.enabled one two (held rs) _ at.on.kept.keeps.tasks c.requires.id free few c.requires.short in
     let accepts = subst (λ (text : List ℕ). Accepts None text c.in-Ok.task) (c.bytes.ensures.bytes ∙ sym two) c.in-Ok.ensures.task in
-    subst (λ (r : Rec). Moments g.D.Disk.moment g.D.Disk.may_leave g.D.Disk.left_since c.args.disk.now c.add_change.new.disk (stands_full_before_or_after g.N.Node g.N.ScriptNode.planned rs r)) same
+    subst (λ (r : Rec). Moments g.D.Disk.moment g.D.Disk.may_leave g.D.Disk.left_since c.args.disk.now c.add_change.new.disk (stands_full_before_or_after g.N.Node g.N.ScriptNode.planned rs r)) (define_same _ _ _ _ c.args.enabled one two)
     (c.add_change.ensures.any_moment tells rs at may (c.in-Ok.task, accepts))
 
 pub returns-clause-why : goal.returns-clause-why

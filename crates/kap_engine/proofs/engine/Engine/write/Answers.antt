@@ -1,25 +1,19 @@
-use Rattle.std.proofs.Common.{◌≡◌, ◌+◌, inr, List, [], ◌∷◌, ◌++◌, length, ap, subst, sym, ◌∙◌, arith}
+use Rattle.std.proofs.Common.{inr, length, ap, ◌∙◌, arith}
 use Rattle.std.proofs.lemmas.Result.{err_from_is_err_and}
-use Rattle.kap_base.specs.Points.{PointValue}
-use Rattle.life_effects.proofs.FitLaws.{held_fits}
-use Rattle.store_records.specs.Histories.{held}
-use Rattle.store_records.specs.declared.rec.Rec.TheVariants as kinds
-use Rattle.topic_store.specs.Stores.{IsOn}
-use Rattle.engine_runs.specs.Running.{HasRun}
-use Rattle.kap_engine.specs.Engines.{EngineValue}
 use Rattle.engine_store.proofs.CauseLaws.{cause_later, cause_none, cause_of, cause_other, cause_same}
 use Rattle.kap_engine.proofs.AddLaws.{disk_rose, fault_of, none_placed, spent_of, still_of}
-use Rattle.kap_engine.proofs.BatchLaws.{batch_good, batch_held, ran_all}
-use Rattle.kap_engine.proofs.WriteLaws.{batch_moments, due_moments, written}
+use Rattle.kap_engine.proofs.BatchLaws.{batch_held}
+use Rattle.kap_engine.proofs.ViewLaws.{engine_of}
+use Rattle.kap_engine.proofs.WriteLaws.{batch_moments, due_moments, good_batch, ran_batch, written}
 use Rattle.kap_engine.proofs.engine.Engine.write.Goals as goal
 
 -- ---- the batch isn't stored
 
 pub returns-in-Err-clause-any_moment : goal.returns-in-Err-clause-any_moment
 returns-in-Err-clause-any_moment g c = λ tells rs at.
-    let stood = subst (λ (v : EngineValue _). IsOn rs (g.D.Disk.seen c.args.disk.now) (g.D.Disk.may_leave c.args.disk.now) v.store) (sym c.self.view_is) at.on in
+    let e = engine_of g.N.Node g.N.ScriptNode.planned rs _ _ _ _ c.self.view_is at in
     batch_moments g.N.Node g.N.ScriptNode.planned rs c.args.db.now c.args.rp.now c.args.points c.as_slice.result.now c.as_slice.ensures at.full c.effects_come_behind.ensures
-    g.D.Disk.moment g.D.Disk.may_leave g.D.Disk.left_since _ _ (c.add_batch.ensures.any_moment tells rs stood)
+    g.D.Disk.moment g.D.Disk.may_leave g.D.Disk.left_since _ _ (c.add_batch.ensures.any_moment tells rs e.on)
 
 pub returns-in-Err-clause-still : goal.returns-in-Err-clause-still
 returns-in-Err-clause-still g c = λ unspent.
@@ -38,9 +32,9 @@ returns-in-Err-clause-cause g c = cause_of _ _ c.in-Err.fault c.from.result c.fr
 
 pub returns-in_err-text-clause-any_moment : goal.returns-in_err-text-clause-any_moment
 returns-in_err-text-clause-any_moment g c = λ tells rs at.
-    let stood = subst (λ (v : EngineValue _). IsOn rs (g.D.Disk.seen c.args.disk.now) (g.D.Disk.may_leave c.args.disk.now) v.store) (sym c.self.view_is) at.on in
+    let e = engine_of g.N.Node g.N.ScriptNode.planned rs _ _ _ _ c.self.view_is at in
     batch_moments g.N.Node g.N.ScriptNode.planned rs c.args.db.now c.args.rp.now c.args.points c.as_slice.result.now c.as_slice.ensures at.full c.effects_come_behind.ensures
-    g.D.Disk.moment g.D.Disk.may_leave g.D.Disk.left_since _ _ (c.add_batch.ensures.any_moment tells rs stood)
+    g.D.Disk.moment g.D.Disk.may_leave g.D.Disk.left_since _ _ (c.add_batch.ensures.any_moment tells rs e.on)
 
 pub returns-in_err-text-clause-faults : goal.returns-in_err-text-clause-faults
 returns-in_err-text-clause-faults g c =
@@ -56,18 +50,12 @@ returns-in_err-text-clause-cause g c =
 
 pub returns-in_err-self-inside-clause-any_moment : goal.returns-in_err-self-inside-clause-any_moment
 returns-in_err-self-inside-clause-any_moment g c = λ tells rs at.
-    let behind = c.effects_come_behind.ensures in
-    let stood = subst (λ (v : EngineValue _). IsOn rs (g.D.Disk.seen c.args.disk.now) (g.D.Disk.may_leave c.args.disk.now) v.store) (sym c.self.view_is) at.on in
-    let runs = subst (λ (v : EngineValue _). HasRun g.N.Node g.N.ScriptNode.planned (held rs).lives at.full.good.tasks (held rs).points 1 v.run) (sym c.self.view_is) at.runs in
-    let h = c.open_lives_run.ensures.run (held rs).lives at.full.good.tasks (held rs).points (length c.args.points + 1) c.self.inside.run (held_fits rs) runs in
-    let ran = c.in_ok-text.ensures.runs (held rs).lives at.full.good.tasks (held rs).points 1 h in
-    let told = c.in_ok-text.ensures.tells (held rs).lives at.full.good.tasks (held rs).points 1 h in
-    let b = batch_held rs c.args.db.now c.args.rp.now c.args.points in
-    let good = batch_good g.N.Node g.N.ScriptNode.planned rs _ c.args.points at.full b behind in
-    let all = ran_all g.N.Node g.N.ScriptNode.planned rs _ c.args.points at.full b c.run_points.new.run c.in_ok-text.text c.in_ok-text.told.items ran told in
-    let on = subst (λ (ps : List PointValue). IsOn (rs ++ kinds.Batch c.args.db.now c.args.rp.now ps ∷ []) (g.D.Disk.seen c.add_batch.new.disk) (g.D.Disk.may_leave c.add_batch.new.disk) c.add_batch.new.self) c.as_slice.ensures (c.in_default.ensures.added tells rs stood) in
-    due_moments g.N.Node g.N.ScriptNode.planned rs c.args.db.now c.args.rp.now c.args.points c.as_slice.result.now c.as_slice.ensures at.full behind g.D.Disk.moment g.D.Disk.may_leave g.D.Disk.left_since _ _ _
-    (c.add_batch.ensures.any_moment tells rs stood) (c.store_due.ensures.any_moment tells _ good on all c.in_ok-text.ensures.few)
+    let e = engine_of g.N.Node g.N.ScriptNode.planned rs _ _ _ _ c.self.view_is at in
+    let ran = ran_batch g.N.Node g.N.ScriptNode.planned c.args.points rs c.args.db.now c.args.rp.now _ _ _ _ _ _ c.self.view_is at c.as_slice.result.now c.as_slice.ensures _
+    (c.in_default.ensures.added tells rs) c.open_lives_run.ensures.run _ c.in_ok-text.ensures.runs _ _ c.in_ok-text.ensures.tells in
+    let good = good_batch g.N.Node g.N.ScriptNode.planned c.args.points rs c.args.db.now c.args.rp.now at.full c.effects_come_behind.ensures in
+    due_moments g.N.Node g.N.ScriptNode.planned rs c.args.db.now c.args.rp.now c.args.points c.as_slice.result.now c.as_slice.ensures at.full c.effects_come_behind.ensures g.D.Disk.moment g.D.Disk.may_leave g.D.Disk.left_since _ _ _
+    (c.add_batch.ensures.any_moment tells rs e.on) (c.store_due.ensures.any_moment tells _ good ran.on ran.all c.in_ok-text.ensures.few)
 
 pub returns-in_err-self-inside-clause-faults : goal.returns-in_err-self-inside-clause-faults
 returns-in_err-self-inside-clause-faults g c =
@@ -83,34 +71,22 @@ returns-in_err-self-inside-clause-cause g c =
 
 pub returns-clause-written : goal.returns-clause-written
 returns-clause-written g c = λ tells rs at.
-    let behind = c.effects_come_behind.ensures in
-    let stood = subst (λ (v : EngineValue _). IsOn rs (g.D.Disk.seen c.args.disk.now) (g.D.Disk.may_leave c.args.disk.now) v.store) (sym c.self.view_is) at.on in
-    let runs = subst (λ (v : EngineValue _). HasRun g.N.Node g.N.ScriptNode.planned (held rs).lives at.full.good.tasks (held rs).points 1 v.run) (sym c.self.view_is) at.runs in
-    let h = c.open_lives_run.ensures.run (held rs).lives at.full.good.tasks (held rs).points (length c.args.points + 1) c.self.inside.run (held_fits rs) runs in
-    let ran = c.in_ok-text.ensures.runs (held rs).lives at.full.good.tasks (held rs).points 1 h in
-    let told = c.in_ok-text.ensures.tells (held rs).lives at.full.good.tasks (held rs).points 1 h in
-    let b = batch_held rs c.args.db.now c.args.rp.now c.args.points in
-    let good = batch_good g.N.Node g.N.ScriptNode.planned rs _ c.args.points at.full b behind in
-    let all = ran_all g.N.Node g.N.ScriptNode.planned rs _ c.args.points at.full b c.run_points.new.run c.in_ok-text.text c.in_ok-text.told.items ran told in
-    let on = subst (λ (ps : List PointValue). IsOn (rs ++ kinds.Batch c.args.db.now c.args.rp.now ps ∷ []) (g.D.Disk.seen c.add_batch.new.disk) (g.D.Disk.may_leave c.add_batch.new.disk) c.add_batch.new.self) c.as_slice.ensures (c.in_default.ensures.added tells rs stood) in
-    let named = ap length c.in_ok-text.ensures.names ∙ subst (λ (v : EngineValue _). length v.run.names ≡ length (held rs).lives) (sym c.self.view_is) at.numbered in
-    written g.N.Node g.N.ScriptNode.planned rs _ c.args.points at.full b c.run_points.new.run c.in_ok-text.text c.in_ok-text.told.items _ c.in_ok-self-inside.ensures.same _ _ _
-    (c.in_ok-self-inside.ensures.stored tells _ good on all c.in_ok-text.ensures.few) ran named told
+    let e = engine_of g.N.Node g.N.ScriptNode.planned rs _ _ _ _ c.self.view_is at in
+    let ran = ran_batch g.N.Node g.N.ScriptNode.planned c.args.points rs c.args.db.now c.args.rp.now _ _ _ _ _ _ c.self.view_is at c.as_slice.result.now c.as_slice.ensures _
+    (c.in_default.ensures.added tells rs) c.open_lives_run.ensures.run _ c.in_ok-text.ensures.runs _ _ c.in_ok-text.ensures.tells in
+    let good = good_batch g.N.Node g.N.ScriptNode.planned c.args.points rs c.args.db.now c.args.rp.now at.full c.effects_come_behind.ensures in
+    let named = ap length c.in_ok-text.ensures.names ∙ e.numbered in
+    written g.N.Node g.N.ScriptNode.planned rs _ c.args.points at.full (batch_held rs c.args.db.now c.args.rp.now c.args.points) c.run_points.new.run c.in_ok-text.text c.in_ok-text.told.items _ c.in_ok-self-inside.ensures.same _ _ _
+    (c.in_ok-self-inside.ensures.stored tells _ good ran.on ran.all c.in_ok-text.ensures.few) ran.ran named ran.told_is
 
 pub returns-clause-any_moment : goal.returns-clause-any_moment
 returns-clause-any_moment g c = λ tells rs at.
-    let behind = c.effects_come_behind.ensures in
-    let stood = subst (λ (v : EngineValue _). IsOn rs (g.D.Disk.seen c.args.disk.now) (g.D.Disk.may_leave c.args.disk.now) v.store) (sym c.self.view_is) at.on in
-    let runs = subst (λ (v : EngineValue _). HasRun g.N.Node g.N.ScriptNode.planned (held rs).lives at.full.good.tasks (held rs).points 1 v.run) (sym c.self.view_is) at.runs in
-    let h = c.open_lives_run.ensures.run (held rs).lives at.full.good.tasks (held rs).points (length c.args.points + 1) c.self.inside.run (held_fits rs) runs in
-    let ran = c.in_ok-text.ensures.runs (held rs).lives at.full.good.tasks (held rs).points 1 h in
-    let told = c.in_ok-text.ensures.tells (held rs).lives at.full.good.tasks (held rs).points 1 h in
-    let b = batch_held rs c.args.db.now c.args.rp.now c.args.points in
-    let good = batch_good g.N.Node g.N.ScriptNode.planned rs _ c.args.points at.full b behind in
-    let all = ran_all g.N.Node g.N.ScriptNode.planned rs _ c.args.points at.full b c.run_points.new.run c.in_ok-text.text c.in_ok-text.told.items ran told in
-    let on = subst (λ (ps : List PointValue). IsOn (rs ++ kinds.Batch c.args.db.now c.args.rp.now ps ∷ []) (g.D.Disk.seen c.add_batch.new.disk) (g.D.Disk.may_leave c.add_batch.new.disk) c.add_batch.new.self) c.as_slice.ensures (c.in_default.ensures.added tells rs stood) in
-    due_moments g.N.Node g.N.ScriptNode.planned rs c.args.db.now c.args.rp.now c.args.points c.as_slice.result.now c.as_slice.ensures at.full behind g.D.Disk.moment g.D.Disk.may_leave g.D.Disk.left_since _ _ _
-    (c.add_batch.ensures.any_moment tells rs stood) (c.store_due.ensures.any_moment tells _ good on all c.in_ok-text.ensures.few)
+    let e = engine_of g.N.Node g.N.ScriptNode.planned rs _ _ _ _ c.self.view_is at in
+    let ran = ran_batch g.N.Node g.N.ScriptNode.planned c.args.points rs c.args.db.now c.args.rp.now _ _ _ _ _ _ c.self.view_is at c.as_slice.result.now c.as_slice.ensures _
+    (c.in_default.ensures.added tells rs) c.open_lives_run.ensures.run _ c.in_ok-text.ensures.runs _ _ c.in_ok-text.ensures.tells in
+    let good = good_batch g.N.Node g.N.ScriptNode.planned c.args.points rs c.args.db.now c.args.rp.now at.full c.effects_come_behind.ensures in
+    due_moments g.N.Node g.N.ScriptNode.planned rs c.args.db.now c.args.rp.now c.args.points c.as_slice.result.now c.as_slice.ensures at.full c.effects_come_behind.ensures g.D.Disk.moment g.D.Disk.may_leave g.D.Disk.left_since _ _ _
+    (c.add_batch.ensures.any_moment tells rs e.on) (c.store_due.ensures.any_moment tells _ good ran.on ran.all c.in_ok-text.ensures.few)
 
 pub returns-clause-cause : goal.returns-clause-cause
 returns-clause-cause g c = cause_none _ _ _ (omega (arith, c.add_batch.ensures.later, c.store_due.ensures.cause.later))
