@@ -43,6 +43,7 @@ use Rattle.kap_server.specs.Listing.{AreAsked, LeavesFull}
 use Rattle.kap_server.specs.ReadingIn.{IsAll, IsShort}
 use Rattle.kap_server.specs.Readying.{is_pattern_refused}
 use Rattle.kap_server.specs.Statuses.{status_of_engine, status_of_script}
+use Rattle.kap_server.proofs.ListLaws.{of_opening}
 
 -- each text that one script answers is refused for no fault
 abbrev pub Apart : Type 0
@@ -308,22 +309,10 @@ engine_rose before after engines.NoMemory rose told = absurd cc
 -- ---- an opening that fails
 
 pub opening_defines : (refused text : List ℕ) (fault : EngineFault) → IsOfOpening fault → EndsDefinition refused text (status_of_engine fault)
-opening_defines refused text (engines.Script fault) may = absurd may
-opening_defines refused text engines.NoTask may = absurd may
-opening_defines refused text engines.Exists may = absurd may
-opening_defines refused text engines.TooManyTasks may = absurd may
-opening_defines refused text (engines.NotStore part offset) may = tt
-opening_defines refused text engines.DiskFault may = tt
-opening_defines refused text engines.NoMemory may = tt
+opening_defines refused text fault may = of_opening {T = Unit {0}} (EndsDefinition refused text) fault may (λ part offset is. tt) tt tt
 
 pub opening_changes : (fault : EngineFault) → IsOfOpening fault → EndsChange (status_of_engine fault)
-opening_changes (engines.Script fault) may = absurd may
-opening_changes engines.NoTask may = absurd may
-opening_changes engines.Exists may = absurd may
-opening_changes engines.TooManyTasks may = absurd may
-opening_changes (engines.NotStore part offset) may = tt
-opening_changes engines.DiskFault may = tt
-opening_changes engines.NoMemory may = tt
+opening_changes fault may = of_opening {T = Unit {0}} EndsChange fault may (λ part offset is. tt) tt tt
 
 -- it is of no pattern
 pub opening_pattern : (fault : EngineFault) → IsOfOpening fault → is_pattern_refused (status_of_engine fault) ≡ true → ⊥
@@ -338,23 +327,11 @@ opening_pattern engines.NoMemory may told = absurd cc
 module _ {N P S : Type 0} (g : Ghosts N P S) (planned : Planned P) (rs : List Rec) (id : List ℕ) (r : Rec) (before after : ℕ) (seen : Image) (images : Image → Type 0) where
   pub none_defined : {T : Type 0} (fault : EngineFault) → IsOfOpening fault → ((part : Part) (offset : ℕ) → IsErrOf {T = T} (Err fault) (engines.NotStore part offset) → HasRisen before after)
       → DefinedTo g planned rs id r before after seen images (status_of_engine fault)
-  none_defined (engines.Script fault) may rose = absurd may
-  none_defined engines.NoTask may rose = absurd may
-  none_defined engines.Exists may rose = absurd may
-  none_defined engines.TooManyTasks may rose = absurd may
-  none_defined (engines.NotStore part offset) may rose = rose part offset refl
-  none_defined engines.DiskFault may rose = tt
-  none_defined engines.NoMemory may rose = tt
+  none_defined fault may rose = of_opening (DefinedTo g planned rs id r before after seen images) fault may rose tt tt
 
   pub none_changed : {T : Type 0} (fault : EngineFault) → IsOfOpening fault → ((part : Part) (offset : ℕ) → IsErrOf {T = T} (Err fault) (engines.NotStore part offset) → HasRisen before after)
       → ChangedTo g planned rs id r before after seen images (status_of_engine fault)
-  none_changed (engines.Script fault) may rose = absurd may
-  none_changed engines.NoTask may rose = absurd may
-  none_changed engines.Exists may rose = absurd may
-  none_changed engines.TooManyTasks may rose = absurd may
-  none_changed (engines.NotStore part offset) may rose = rose part offset refl
-  none_changed engines.DiskFault may rose = tt
-  none_changed engines.NoMemory may rose = tt
+  none_changed fault may rose = of_opening (ChangedTo g planned rs id r before after seen images) fault may rose tt tt
 
 -- ---- which files were opened
 
@@ -379,13 +356,7 @@ module _ {N P S : Type 0} (g : Ghosts N P S) (planned : Planned P) (before after
   -- those of no right store
   pub behind_none : {T : Type 0} (fault : EngineFault) → IsOfOpening fault → ((part : Part) (offset : ℕ) → IsErrOf {T = T} (Err fault) (engines.NotStore part offset) → IsNoGood g planned before after refused files part offset × still)
       → OpensBehind g planned before after refused still files (status_of_engine fault)
-  behind_none (engines.Script fault) may why = absurd may
-  behind_none engines.NoTask may why = absurd may
-  behind_none engines.Exists may why = absurd may
-  behind_none engines.TooManyTasks may why = absurd may
-  behind_none (engines.NotStore part offset) may why = why part offset refl
-  behind_none engines.DiskFault may why = tt
-  behind_none engines.NoMemory may why = tt
+  behind_none fault may why = of_opening (OpensBehind g planned before after refused still files) fault may why tt tt
 
   -- or of one, where no task is defined
   pub behind_asked : (last id script : List ℕ) (tasks : List StoredTask) (fault : EngineFault) → IsWhyNoneDefined last id script tasks fault → AreAsked g planned files
@@ -406,13 +377,7 @@ module _ {N P S : Type 0} (g : Ghosts N P S) (planned : Planned P) (before after
     -- the same of a change
     pub change_none : {T : Type 0} (fault : EngineFault) → IsOfOpening fault → ((part : Part) (offset : ℕ) → IsErrOf {T = T} (Err fault) (engines.NotStore part offset) → IsNoGood g planned before after refused files part offset × still)
         → OpensToChange g planned before after refused still files now id (status_of_engine fault)
-    change_none (engines.Script fault) may why = absurd may
-    change_none engines.NoTask may why = absurd may
-    change_none engines.Exists may why = absurd may
-    change_none engines.TooManyTasks may why = absurd may
-    change_none (engines.NotStore part offset) may why = inl (why part offset refl)
-    change_none engines.DiskFault may why = tt
-    change_none engines.NoMemory may why = tt
+    change_none fault may why = of_opening (OpensToChange g planned before after refused still files now id) fault may (λ part offset is. inl (why part offset is)) tt tt
 
     -- where none is changed, the log and the tasks are those of the records, where these are right
     pub change_asked : (log : Part) (tasks : List StoredTask) (fault : EngineFault) → IsWhyNoneEnabled before after refused log id tasks fault → (asked : AreAsked g planned files)

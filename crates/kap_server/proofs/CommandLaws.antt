@@ -33,7 +33,8 @@ use Rattle.kap_server.specs.declared.words.Change.{Change}
 use Rattle.kap_server.specs.declared.writing.TheConstants.{BODY_LIMIT}
 use Rattle.kap_server.specs.Changing.{ChangedTo, DefinedTo, Defines, DefinesTo, EndsChange, EndsReading, IsRefusedThere, IsTaskScript, OpensBehind, OpensToChange, ReadsScript}
 use Rattle.kap_server.specs.Command.{AsksForTooMany, HasFailed, IsToldRefused, IsUnlessDiskFailed, IsUnlessStopped, change_status}
-use Rattle.kap_server.specs.Listing.{AreAsked}
+use Rattle.kap_server.specs.Compacting.{OpensToCompact}
+use Rattle.kap_server.specs.Listing.{AreAsked, AreOthers}
 use Rattle.kap_server.specs.Readying.{is_pattern_refused}
 use Rattle.kap_server.specs.Runs.{refusal_of}
 use Rattle.kap_server.specs.Words.{ChangeTask, Define, Request, Write, request_in}
@@ -163,6 +164,27 @@ module _ {N P S : Type 0} (g : Ghosts N P S) (planned : Planned P) (before after
   change_nowhere now id statuses.ReadFault h = absurd h
   change_nowhere now id statuses.WriteFault h = absurd h
   change_nowhere now id statuses.DiskFault h = inr (inr refl)
+
+  -- so does a compaction
+  pub compact_nowhere : (result : Status) → OpensToCompact g planned before after refused still files result → IsUnlessDiskFailed result (statuses.NotStore part offset)
+  compact_nowhere statuses.Ok h = absurd (not-asked h)
+  compact_nowhere statuses.Usage h = absurd h
+  compact_nowhere (statuses.Script fault) h = absurd h
+  compact_nowhere (statuses.Line n fault) h = absurd h
+  compact_nowhere (statuses.Truncated n) h = absurd h
+  compact_nowhere (statuses.NotStore there place) h = by h
+    where
+      by : (IsNoGood g planned before after refused files there place × still) ⊎ AreOthers g planned files → IsUnlessDiskFailed (statuses.NotStore there place) (statuses.NotStore part offset)
+      by (inl bad) = inl (told-here there place bad.0)
+      by (inr others) = absurd (not-asked others.asked)
+  compact_nowhere statuses.Exists h = absurd h
+  compact_nowhere statuses.NoTask h = absurd h
+  compact_nowhere statuses.TooManyTasks h = absurd h
+  compact_nowhere statuses.TooLong h = absurd h
+  compact_nowhere statuses.NoMemory h = inr (inl refl)
+  compact_nowhere statuses.ReadFault h = absurd h
+  compact_nowhere statuses.WriteFault h = absurd h
+  compact_nowhere statuses.DiskFault h = inr (inr refl)
 
   -- so does a command that reads the input first, unless what it read was refused
   pub behind_nowhere : (R : Type 0) → R → (result : Status) → OpensBehind g planned before after refused still files result → (R × EndsReading result) ⊎ IsUnlessDiskFailed result (statuses.NotStore part offset)

@@ -1,5 +1,5 @@
 -- What stands after a store was compacted.
-use Rattle.std.proofs.Common.{◌≡◌, ◌⊎◌, ℕ, List, Err, None, Some, inl, inr, refl, ap, ◌∙◌}
+use Rattle.std.proofs.Common.{◌≡◌, ◌⊎◌, ℕ, List, Err, None, Some, inl, inr, refl, ◌∙◌}
 use Rattle.std.specs.Prelude.{IsErrOf, Option}
 use Rattle.kap_base.specs.Words.{HasRisen}
 use Rattle.kap_io.specs.Disk.{Image}
@@ -8,12 +8,11 @@ use Rattle.kap_io.specs.declared.disk.Part.{Part}
 use Rattle.node_core.specs.declared.node.Node.{Ghosts}
 use Rattle.node_set.specs.Tasks.{Planned}
 use Rattle.store_compact.specs.Staying.{staying}
+use Rattle.store_compact.proofs.Total.{same_held}
 use Rattle.store_records.specs.declared.rec.Rec.{Rec}
 use Rattle.topic_store.proofs.Adding.{image_stands}
-use Rattle.topic_store.proofs.Apart.{no_store_apart, no_store_unique}
 use Rattle.topic_store.proofs.Found.{seen_stands}
-use Rattle.topic_store.specs.Stores.{IsNoStore}
-use Rattle.engine_store.specs.Faults.{IsNoGood, IsOfOpening, no_lives, no_store}
+use Rattle.engine_store.specs.Faults.{IsNoGood, IsOfOpening}
 use Rattle.engine_store.specs.Good.{IsGood, stays_or_good}
 use Rattle.engine_store.specs.declared.fault.EngineFault.{EngineFault}
 use Rattle.engine_store.specs.declared.fault.EngineFault.TheVariants as engines
@@ -28,6 +27,7 @@ use Rattle.kap_server.specs.Compacting.{CompactedTo, EndsCompaction, LeavesCompa
 use Rattle.kap_server.specs.Listing.{AreAsked}
 use Rattle.kap_server.specs.Statuses.{status_of_engine}
 use Rattle.kap_server.specs.Words.{Compact, Request, request_in}
+use Rattle.kap_server.proofs.ListLaws.{of_opening}
 
 -- ---- what is left
 
@@ -45,6 +45,7 @@ module _ {N P S : Type 0} (g : Ghosts N P S) (planned : Planned P) (rs : List Re
       records = made.records;
       more = made.more;
       added = made.added;
+      same = same_held made.records made.engine.on.stored.follow;
       full = f.full;
       stands = f.stands;
     })
@@ -68,6 +69,7 @@ module _ {N P S : Type 0} (g : Ghosts N P S) (planned : Planned P) (rs : List Re
     records = made.records;
     more = made.more;
     added = made.added;
+    same = same_held made.records made.engine.on.stored.follow;
     full = engine.full;
     reads = seen_stands seen images (staying made.records) after.store engine.on;
     leaves = image_stands (staying made.records) seen images after.store engine.on;
@@ -77,13 +79,7 @@ module _ {N P S : Type 0} (g : Ghosts N P S) (planned : Planned P) (rs : List Re
 
 -- where the store isn't opened, or a compaction fails, on any disk
 pub opening_compacts : (fault : EngineFault) → IsOfOpening fault → EndsCompaction (status_of_engine fault)
-opening_compacts (engines.Script fault) may = absurd may
-opening_compacts engines.NoTask may = absurd may
-opening_compacts engines.Exists may = absurd may
-opening_compacts engines.TooManyTasks may = absurd may
-opening_compacts (engines.NotStore part offset) may = tt
-opening_compacts engines.DiskFault may = tt
-opening_compacts engines.NoMemory may = tt
+opening_compacts fault may = of_opening {T = Unit {0}} EndsCompaction fault may (λ part offset is. tt) tt tt
 
 -- it ends as a change may
 pub compacts_changes : (s : Status) → EndsCompaction s → EndsChange s
@@ -106,13 +102,7 @@ module _ {N P S : Type 0} (g : Ghosts N P S) (planned : Planned P) (rs : List Re
   -- a right store isn't opened
   pub none_compacted : {T : Type 0} (fault : EngineFault) → IsOfOpening fault → ((part : Part) (offset : ℕ) → IsErrOf {T = T} (Err fault) (engines.NotStore part offset) → HasRisen before after)
       → CompactedTo g planned rs before after seen images (status_of_engine fault)
-  none_compacted (engines.Script fault) may rose = absurd may
-  none_compacted engines.NoTask may rose = absurd may
-  none_compacted engines.Exists may rose = absurd may
-  none_compacted engines.TooManyTasks may rose = absurd may
-  none_compacted (engines.NotStore part offset) may rose = rose part offset refl
-  none_compacted engines.DiskFault may rose = tt
-  none_compacted engines.NoMemory may rose = tt
+  none_compacted fault may rose = of_opening (CompactedTo g planned rs before after seen images) fault may rose tt tt
 
   -- or its compaction fails
   pub compact_failed : (fault : EngineFault) → IsFailure fault → CompactedTo g planned rs before after seen images (status_of_engine fault)
@@ -147,13 +137,7 @@ module _ {N P S : Type 0} (g : Ghosts N P S) (planned : Planned P) (before after
   -- none
   pub compact_none : {T : Type 0} (fault : EngineFault) → IsOfOpening fault → ((part : Part) (offset : ℕ) → IsErrOf {T = T} (Err fault) (engines.NotStore part offset) → IsNoGood g planned before after refused files part offset × still)
       → OpensToCompact g planned before after refused still files (status_of_engine fault)
-  compact_none (engines.Script fault) may why = absurd may
-  compact_none engines.NoTask may why = absurd may
-  compact_none engines.Exists may why = absurd may
-  compact_none engines.TooManyTasks may why = absurd may
-  compact_none (engines.NotStore part offset) may why = inl (why part offset refl)
-  compact_none engines.DiskFault may why = tt
-  compact_none engines.NoMemory may why = tt
+  compact_none fault may why = of_opening (OpensToCompact g planned before after refused still files) fault may (λ part offset is. inl (why part offset is)) tt tt
 
   -- where a compaction tells a place, the store wasn't right
   pub compact_asked : (fault : EngineFault) → IsOfOpening fault → (asked : AreAsked g planned files) → (IsGood g planned asked.records → IsFailure fault) → OpensToCompact g planned before after refused still files (status_of_engine fault)
@@ -164,34 +148,6 @@ module _ {N P S : Type 0} (g : Ghosts N P S) (planned : Planned P) (before after
   compact_asked (engines.NotStore part offset) may asked failed = inr (record { asked = asked; wrong = λ good. failed good })
   compact_asked engines.DiskFault may asked failed = tt
   compact_asked engines.NoMemory may asked failed = tt
-
-  -- where the files stand for no store, its place is told
-  module _ (part : Part) (offset : ℕ) (none : IsNoStore files part offset) where
-    not-asked : AreAsked g planned files → ⊥
-    not-asked asked = no_store_apart files part offset asked.records none asked.stands
-
-    told-here : (there : Part) (place : ℕ) → IsNoGood g planned before after refused files there place → statuses.NotStore there place ≡ statuses.NotStore part offset
-    told-here there place (no_store one) =
-        let same = no_store_unique files there part place offset one none in
-        ap (λ (p : Part). statuses.NotStore p place) same.0 ∙ ap (λ (n : ℕ). statuses.NotStore part n) same.1
-    told-here there place (no_lives rs stands named why) = absurd (no_store_apart files part offset rs none stands)
-
-    pub compact_nowhere : (result : Status) → OpensToCompact g planned before after refused still files result → IsUnlessDiskFailed result (statuses.NotStore part offset)
-    compact_nowhere statuses.Ok h = absurd (not-asked h)
-    compact_nowhere statuses.Usage h = absurd h
-    compact_nowhere (statuses.Script fault) h = absurd h
-    compact_nowhere (statuses.Line n fault) h = absurd h
-    compact_nowhere (statuses.Truncated n) h = absurd h
-    compact_nowhere (statuses.NotStore there place) (inl bad) = inl (told-here there place bad.0)
-    compact_nowhere (statuses.NotStore there place) (inr others) = absurd (not-asked others.asked)
-    compact_nowhere statuses.Exists h = absurd h
-    compact_nowhere statuses.NoTask h = absurd h
-    compact_nowhere statuses.TooManyTasks h = absurd h
-    compact_nowhere statuses.TooLong h = absurd h
-    compact_nowhere statuses.NoMemory h = inr (inl refl)
-    compact_nowhere statuses.ReadFault h = absurd h
-    compact_nowhere statuses.WriteFault h = absurd h
-    compact_nowhere statuses.DiskFault h = inr (inr refl)
 
 -- ---- the words
 

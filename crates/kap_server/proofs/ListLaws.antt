@@ -133,15 +133,20 @@ shows_fault lists.DiskFault text w v h = h
 shows_fault lists.WriteFault text w v h = h
 shows_fault lists.NoMemory text w v h = h
 
+-- An opening that fails has one of three statuses: what holds of each of them holds of its own.
+pub of_opening : {T : Type 0} (Q : Status → Type 0) (fault : EngineFault) → IsOfOpening fault
+    → ((part : Part) (offset : ℕ) → IsErrOf {T = T} (Err fault) (engines.NotStore part offset) → Q (statuses.NotStore part offset)) → Q statuses.DiskFault → Q statuses.NoMemory → Q (status_of_engine fault)
+of_opening Q (engines.Script fault) may place failed full = absurd may
+of_opening Q engines.NoTask may place failed full = absurd may
+of_opening Q engines.Exists may place failed full = absurd may
+of_opening Q engines.TooManyTasks may place failed full = absurd may
+of_opening Q (engines.NotStore part offset) may place failed full = place part offset refl
+of_opening Q engines.DiskFault may place failed full = failed
+of_opening Q engines.NoMemory may place failed full = full
+
 -- the store wasn't opened
 pub shows_none : (fault : EngineFault) (text : List ℕ) (w : Option (List ℕ)) → IsOfOpening fault → Shows text (status_of_engine fault) w w
-shows_none (engines.Script fault) text w may = absurd may
-shows_none engines.NoTask text w may = absurd may
-shows_none engines.Exists text w may = absurd may
-shows_none engines.TooManyTasks text w may = absurd may
-shows_none (engines.NotStore part offset) text w may = keeps_same w
-shows_none engines.DiskFault text w may = none-written w text
-shows_none engines.NoMemory text w may = none-written w text
+shows_none fault text w may = of_opening {T = Unit {0}} (λ (s : Status). Shows text s w w) fault may (λ part offset is. keeps_same w) (none-written w text) (none-written w text)
 
 -- a list that was written tells no place
 pub no_place : (fault : ListFault) (part : Part) (offset : ℕ) (text : List ℕ) (w v : Option (List ℕ)) → Lists {T = Unit {0}} (Err fault) text w v → status_of_list fault ≡ statuses.NotStore part offset → ⊥
@@ -153,13 +158,7 @@ no_place lists.NoMemory part offset text w v h e = absurd cc
 -- why it wasn't
 pub opens_none : {N P S T : Type 0} (g : Ghosts N P S) (planned : Planned P) (before after : ℕ) (refused : List ℕ) (files : Image) (fault : EngineFault) → IsOfOpening fault
     → ((part : Part) (offset : ℕ) → IsErrOf {T = T} (Err fault) (engines.NotStore part offset) → IsNoGood g planned before after refused files part offset) → Opens g planned before after refused files (status_of_engine fault)
-opens_none g planned before after refused files (engines.Script fault) may why = absurd may
-opens_none g planned before after refused files engines.NoTask may why = absurd may
-opens_none g planned before after refused files engines.Exists may why = absurd may
-opens_none g planned before after refused files engines.TooManyTasks may why = absurd may
-opens_none g planned before after refused files (engines.NotStore part offset) may why = inl (why part offset refl)
-opens_none g planned before after refused files engines.DiskFault may why = tt
-opens_none g planned before after refused files engines.NoMemory may why = tt
+opens_none g planned before after refused files fault may why = of_opening (Opens g planned before after refused files) fault may (λ part offset is. inl (why part offset is)) tt tt
 
 -- it was, and the list has a fault
 pub opens_asked : {N P S : Type 0} (g : Ghosts N P S) (planned : Planned P) (before after : ℕ) (refused : List ℕ) (files : Image) (fault : ListFault) (asked : AreAsked g planned files)
@@ -221,13 +220,7 @@ shows_asked g planned rs good a b result w v same h = subst (λ (l : Listing). S
 -- ---- how it ends, on any disk
 
 pub engine_ends : (fault : EngineFault) → IsOfOpening fault → IsOfList (status_of_engine fault)
-engine_ends (engines.Script fault) may = absurd may
-engine_ends engines.NoTask may = absurd may
-engine_ends engines.Exists may = absurd may
-engine_ends engines.TooManyTasks may = absurd may
-engine_ends (engines.NotStore part offset) may = tt
-engine_ends engines.DiskFault may = tt
-engine_ends engines.NoMemory may = tt
+engine_ends fault may = of_opening {T = Unit {0}} IsOfList fault may (λ part offset is. tt) tt tt
 
 pub list_ends : (fault : ListFault) → IsOfList (status_of_list fault)
 list_ends (lists.NotStore part offset) = tt

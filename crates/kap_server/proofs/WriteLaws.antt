@@ -39,20 +39,19 @@ use Rattle.topic_store.proofs.Found.{seen_stands}
 use Rattle.engine_runs.specs.Running.{life_events}
 use Rattle.engine_runs.specs.Scripts.{AreTasksOf, graphs_from, names_from}
 use Rattle.engine_store.specs.Adding.{HasAdded}
-use Rattle.engine_store.specs.Faults.{IsNoGood, IsOfOpening}
+use Rattle.engine_store.specs.Faults.{IsOfOpening}
 use Rattle.engine_store.specs.Good.{IsGood, StandsGood, stays_or_good}
 use Rattle.engine_store.specs.declared.fault.EngineFault.{EngineFault}
 use Rattle.engine_store.specs.declared.fault.EngineFault.TheVariants as engines
 use Rattle.kap_engine.specs.Engines.{EngineValue, IsEngineBehind}
 use Rattle.kap_engine.specs.Writing.{HasNoPoints, HasPoints, HasSnapped, HasWritten, StandsWriting, TellsOf, stands_writing}
 use Rattle.kap_engine.proofs.ShotLaws.{snapped_same}
-use Rattle.kap_server.specs.Changing.{OpensBehind}
 use Rattle.kap_server.specs.ReadingIn.{IsAll}
 use Rattle.kap_server.specs.Statuses.{status_of_engine}
 use Rattle.kap_server.specs.Writing.{AreOfBody, LeavesWritten, Wrote, WrittenTo, stays_or_writing}
 use Rattle.kap_server.specs.declared.status.Status.{Status}
 use Rattle.kap_server.specs.declared.status.Status.TheVariants as statuses
-use Rattle.kap_server.proofs.ListLaws.{tasks_same}
+use Rattle.kap_server.proofs.ListLaws.{of_opening, tasks_same}
 use Rattle.kap_server.proofs.RunLaws.{keeps_same}
 
 -- ---- the points of lines
@@ -241,21 +240,4 @@ module _ {N P S T : Type 0} (g : Ghosts N P S) (planned : Planned P) (before aft
   -- then nothing was written, and a place is told only where a pattern was refused
   pub none_opened : (rs : List Rec) (good : IsGood g planned rs) (new : List PointValue) (seen : Image) (images : Image → Type 0) (w : Option (List ℕ)) (ran : Option (NetValue N)) (fault : EngineFault) → IsOfOpening fault
       → ((part : Part) (offset : ℕ) → IsErrOf {T = T} (Err fault) (engines.NotStore part offset) → HasRisen before after) → WrittenTo g planned rs good new before after seen images w w ran (status_of_engine fault)
-  none_opened rs good new seen images w ran (engines.Script fault) may rose = absurd may
-  none_opened rs good new seen images w ran engines.NoTask may rose = absurd may
-  none_opened rs good new seen images w ran engines.Exists may rose = absurd may
-  none_opened rs good new seen images w ran engines.TooManyTasks may rose = absurd may
-  none_opened rs good new seen images w ran (engines.NotStore part offset) may rose = (rose part offset refl, keeps_same w)
-  none_opened rs good new seen images w ran engines.DiskFault may rose = keeps_same w
-  none_opened rs good new seen images w ran engines.NoMemory may rose = keeps_same w
-
-  -- and why it wasn't
-  pub opens_none_behind : (refused : List ℕ) (still : Type 0) (files : Image) (fault : EngineFault) → IsOfOpening fault
-      → ((part : Part) (offset : ℕ) → IsErrOf {T = T} (Err fault) (engines.NotStore part offset) → IsNoGood g planned before after refused files part offset × still) → OpensBehind g planned before after refused still files (status_of_engine fault)
-  opens_none_behind refused still files (engines.Script fault) may why = absurd may
-  opens_none_behind refused still files engines.NoTask may why = absurd may
-  opens_none_behind refused still files engines.Exists may why = absurd may
-  opens_none_behind refused still files engines.TooManyTasks may why = absurd may
-  opens_none_behind refused still files (engines.NotStore part offset) may why = why part offset refl
-  opens_none_behind refused still files engines.DiskFault may why = tt
-  opens_none_behind refused still files engines.NoMemory may why = tt
+  none_opened rs good new seen images w ran fault may rose = of_opening (λ (s : Status). WrittenTo g planned rs good new before after seen images w w ran s) fault may (λ part offset is. (rose part offset is, keeps_same w)) (keeps_same w) (keeps_same w)

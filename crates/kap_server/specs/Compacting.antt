@@ -5,7 +5,9 @@ use Rattle.kap_io.specs.Disk.{Image}
 use Rattle.kap_io.specs.Moments.{Moments}
 use Rattle.node_core.specs.declared.node.Node.{Ghosts}
 use Rattle.node_set.specs.Tasks.{Planned}
+use Rattle.store_compact.specs.Same.{HoldSame}
 use Rattle.store_compact.specs.Staying.{staying}
+use Rattle.store_records.specs.Histories.{held}
 use Rattle.store_records.specs.declared.rec.Rec.{Rec}
 use Rattle.topic_core.specs.declared.transition.Transition.{Transition}
 use Rattle.topic_store.specs.Stores.{Stands}
@@ -26,11 +28,13 @@ EndsCompaction other = ⊥
 
 module _ {N P S : Type 0} (g : Ghosts N P S) (planned : Planned P) where
   -- The files, and each image that a crash may leave, stand for those of the records that stay of a right store: one that
-  -- holds what these records do, and all transitions that are due.
+  -- holds what these records do, and all transitions that are due. What stays holds the same as all of them, but for the
+  -- places of the records.
   pub record LeavesCompacted (rs : List Rec) (seen : Image) (images : Image → Type 0) : Type 0 where
     pub records : List Rec
     pub more : List Transition
     pub added : HasAdded rs more records
+    pub same : HoldSame (held records) (held (staying records))
     pub full : IsFull g planned (staying records)
     pub reads : Stands (staying records) seen
     pub leaves : (files : Image) → images files → Stands (staying records) files
@@ -40,6 +44,7 @@ module _ {N P S : Type 0} (g : Ghosts N P S) (planned : Planned P) where
     pub records : List Rec
     pub more : List Transition
     pub added : HasAdded rs more records
+    pub same : HoldSame (held records) (held (staying records))
     pub full : IsFull g planned (staying records)
     pub stands : Stands (staying records) files
 

@@ -157,12 +157,12 @@ fn replay_pairs<
 ///   is current then. Left out are records that changed nothing, snapshots but the last, and the definition
 ///   and deletion of tasks that never had a life and are deleted.
 ///
-/// Those six read and check the whole input before they open the store, as the lists do; what the opening
-/// stores isn't written.
+/// Those six open the store as the lists do, once the whole input of `define` and of `write` is read and
+/// checked; what the opening stores isn't written.
 ///
 /// `now` is the time of now, in nanoseconds from 1970-01-01T00:00:00Z on. `rt` makes
 /// the threads of workers, and each of them passes `gate` before each of its turns. `ran` is None; at Ok of a
-/// replay, and of a `gen` for tasks, it is the net through which the points went.
+/// replay, of a `gen` for tasks and of a `write` it is the net through which the points went.
 pub fn command<
     S: Source,
     K: Sink,
@@ -369,6 +369,10 @@ pub fn command<
         → Stands rs (D.seen disk.old) → IsGood N.Node N.planned rs → S.left input.old ≡ Some body
         → WritesTo db rp (Mode.Live (unit_of options) now) body status
         → IsUnlessStopped (P.refusals pats.old) (P.refusals pats.new) result status }
+    // Unless it is Ok, or a write to the output failed, nothing was written there, whatever the store.
+    ensures write_kept { (options : WriteOptions) (db rp : List ℕ)
+        → AsksToWrite (map string_bytes words.now) options db rp
+        → result ≢ Status.Ok → result ≢ Status.WriteFault → out.new ≡ out.old }
     // Of a compaction of a right store: at Ok just the records that stay are there, of it with all
     // transitions that are due. At each moment each image is as it was, or stands for the right store with a
     // few of these more, or with all and just these records.
@@ -404,8 +408,8 @@ pub fn command<
         → OpensBehind N.Node N.planned (P.refusals pats.old) (P.refusals pats.new)
         (P.refused pats.new) (Quiet D.seen D.moment D.may_leave D.left_since disk.old disk.new)
         (D.seen disk.old) result }
-    // Of a compaction the place that is told is that of no such store, and then nothing changed, or the store
-    // isn't right.
+    // Of a compaction: at Ok the files stood for such a store; where a place is told, they are none there, and
+    // then nothing changed, or one that isn't right.
     ensures compact_opened { AsksToCompact (map string_bytes words.now) → IsTrue D.tells
         → OpensToCompact N.Node N.planned (P.refusals pats.old) (P.refusals pats.new)
         (P.refused pats.new) (Quiet D.seen D.moment D.may_leave D.left_since disk.old disk.new)

@@ -11,9 +11,9 @@ use Rattle.kap_server.specs.Runs.{refusal_of}
 use Rattle.kap_server.specs.Words.{reads_input, request_in, runs_net}
 use Rattle.kap_server.specs.Writing.{ReadsLines, Writes}
 use Rattle.kap_server.specs.declared.words.Change.{Change}
-use Rattle.kap_server.proofs.CommandLaws.{behind_nowhere, change_answers, change_not_many, change_not_none, change_nowhere, changes_no_pattern, changes_not, define_answers, define_not_none, lines_no_pattern, lines_not, same_change, same_changed, same_defined, script_not, write_answers, write_as_asked, write_not_many, write_not_none, write_rose}
+use Rattle.kap_server.proofs.CommandLaws.{behind_nowhere, change_answers, change_not_many, change_not_none, change_nowhere, changes_no_pattern, changes_not, compact_nowhere, define_answers, define_not_none, lines_no_pattern, lines_not, same_change, same_changed, same_defined, script_not, write_answers, write_as_asked, write_not_many, write_not_none, write_rose}
 use Rattle.kap_server.proofs.CheckLaws.{check_answers}
-use Rattle.kap_server.proofs.CompactLaws.{compact_answers, compact_not_many, compact_not_none, compact_nowhere, compacts_changes}
+use Rattle.kap_server.proofs.CompactLaws.{compact_answers, compact_not_many, compact_not_none, compacts_changes}
 use Rattle.kap_server.proofs.GenLaws.{few_to_replay, few_to_summarize, summary_not_none, summed_as_asked, summed_not, summed_tells}
 use Rattle.kap_server.proofs.ListLaws.{never, no_pattern, same_listing, show_not_many, show_not_none, shows_asked, tells_place}
 use Rattle.kap_server.proofs.NetLaws.{net_as_asked, samples_as_asked}
@@ -322,6 +322,9 @@ returns-in-Some-Write-clause-write_status g c = λ options db rp body rs status 
     write_answers db rp (modes.Live (unit_of options) c.args.now) body (g.P.Patterns.refusals c.args.pats.now) (g.P.Patterns.refusals c.write.new.pats) (g.S.Source.left c.write.new.input) c.write.result status (g.S.Source.left c.args.input.now) is
     (write_rose g.N.Node g.N.ScriptNode.planned g.D.Disk.seen g.D.Disk.moment g.D.Disk.may_leave g.D.Disk.left_since c.in-Some-Write.db.now c.in-Some-Write.rp.now (modes.Live (unit_of c.in-Some-Write.options) (to_z w64 (of_z w64 c.args.now))) rs good (g.S.Source.left c.args.input.now) (g.K.Sink.written c.args.out.now) (g.K.Sink.written c.write.new.out) (g.P.Patterns.refusals c.args.pats.now) (g.P.Patterns.refusals c.write.new.pats) c.args.disk.now c.write.new.disk c.write.new.ran (c.write.new.disk ≡ c.args.disk.now) (c.write.new.out ≡ c.args.out.now) c.write.result (c.write.ensures.written tells rs good stands))
     (returns-in-Some-Write-clause-lines g c options db rp asks) to
+
+pub returns-in-Some-Write-clause-write_kept : goal.returns-in-Some-Write-clause-write_kept
+returns-in-Some-Write-clause-write_kept g c = λ options db rp asks not failed. c.write.ensures.unwritten not failed
 
 pub returns-in-Some-Write-clause-unopened : goal.returns-in-Some-Write-clause-unopened
 returns-in-Some-Write-clause-unopened g c = λ reads early. (c.write.ensures.unopened early).0

@@ -3,7 +3,8 @@ use Rattle.kap_server.specs.Changing.{OpensBehind}
 use Rattle.kap_server.specs.Writing.{WrittenTo}
 use Rattle.kap_server.specs.declared.status.Status.{Status}
 use Rattle.kap_io.specs.Moments.{Quiet}
-use Rattle.kap_server.proofs.WriteLaws.{none_opened, opened_then_written, opened_to_write, opens_none_behind, written_out}
+use Rattle.kap_server.proofs.ChangeLaws.{behind_none}
+use Rattle.kap_server.proofs.WriteLaws.{none_opened, opened_then_written, opened_to_write, written_out}
 use Rattle.kap_server.proofs.writing.write_on.Goals as goal
 
 -- ---- no store was opened
@@ -30,7 +31,7 @@ returns-in-Err-clause-opened g c = λ tells.
     let still = Quiet g.D.Disk.seen g.D.Disk.moment g.D.Disk.may_leave g.D.Disk.left_since c.args.disk.now c.make_engine.new.disk in
     let files = g.D.Disk.seen c.args.disk.now in
     subst (λ (s : Status). OpensBehind g.N.Node g.N.ScriptNode.planned before after refused still files s) (sym c.from.ensures)
-    (opens_none_behind g.N.Node g.N.ScriptNode.planned before after refused still files c.in-Err.fault c.in-Err.ensures.faults
+    (behind_none g.N.Node g.N.ScriptNode.planned before after refused still files c.in-Err.fault c.in-Err.ensures.faults
     (λ part offset is. (c.in-Err.ensures.refused tells part offset is, c.in-Err.ensures.still tells part offset is)))
 
 -- ---- the points were written
