@@ -1,6 +1,6 @@
 -- Why lives don't run.
 use Rattle.std.proofs.Common.{◌≡◌, ℕ, true, List, refl}
-use Rattle.std.specs.Prelude.{◌≢◌, Contains}
+use Rattle.std.specs.Prelude.{◌≢◌}
 use Rattle.kap_base.specs.Words.{HasRisen}
 use Rattle.store_records.specs.declared.task.Life.{Life}
 use Rattle.tick_compile.specs.Scripts.{Refuses}
@@ -9,7 +9,7 @@ use Rattle.tick_compile.specs.declared.script_fault.ScriptFault.{ScriptFault}
 use Rattle.tick_compile.specs.declared.script_fault.ScriptFault.TheVariants as scripts
 use Rattle.engine_runs.specs.declared.fault.RunFault.{RunFault}
 use Rattle.engine_runs.specs.declared.fault.RunFault.TheVariants as runs
-use Rattle.engine_runs.specs.Faults.{IsWhy, IsWhyOne, fault_at}
+use Rattle.engine_runs.specs.Faults.{IsWhy, fault_at}
 
 module _ (before after : ℕ) (refused : List ℕ) where
   -- a script's first fault is why its life doesn't run, unless memory lacked
@@ -27,9 +27,3 @@ module _ (before after : ℕ) (refused : List ℕ) where
   why_at life (scripts.Graph fault) why rose = (refl, record { fault = scripts.Graph fault; why = why (λ e. absurd cc); rose = rose })
   why_at life scripts.NoFrom why rose = (refl, record { fault = scripts.NoFrom; why = why (λ e. absurd cc); rose = rose })
   why_at life scripts.NoMemory why rose = tt
-
-  -- why one of lives doesn't is why they don't
-  pub why_one : (lives : List Life) (life : Life) (f : RunFault) → Contains lives life → IsWhy before after refused life f → IsWhyOne before after refused lives f
-  why_one lives life (runs.Script at) among why = record { life = life; among = among; place = why.0; why = why.1 }
-  why_one lives life runs.States among why = why
-  why_one lives life runs.NoMemory among why = tt

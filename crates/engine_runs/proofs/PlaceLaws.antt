@@ -1,6 +1,6 @@
 -- What stands at the place of a life.
-use Rattle.std.proofs.Common.{◌≡◌, ℕ, zero, suc, ◌+◌, ◌-◌, ◌<◌, ◌≤◌, Bool, true, false, List, [], ◌∷◌, ◌++◌, drop, get_or, length, map, None, Some, refl, sym, ap, subst, ◌∙◌, arith}
-use Rattle.std.specs.Prelude.{Contains, slice_get, slice_index_or, nat_lt}
+use Rattle.std.proofs.Common.{◌≡◌, ℕ, zero, suc, ◌+◌, ◌-◌, ◌<◌, ◌≤◌, Bool, true, false, List, [], ◌∷◌, ◌++◌, drop, length, map, None, Some, refl, sym, ap, subst, ◌∙◌, arith}
+use Rattle.std.specs.Prelude.{slice_get, slice_index_or, nat_lt}
 use Rattle.std.specs.List.{AllByRecursion as Each, remove}
 use Rattle.std.proofs.lemmas.Bool.Decides.{nat_tests}
 use Rattle.kap_base.specs.Points.{PointValue}
@@ -36,20 +36,6 @@ pub each_at : {A : Type 0} (Q : A → Type 0) (xs : List A) (i : ℕ) (x : A) �
 each_at Q [] i x h at = absurd cc
 each_at Q (y ∷ xs) zero x h at = let same : y ≡ x = cc in subst Q same h.0
 each_at Q (y ∷ xs) (suc i) x h at = each_at Q xs i x h.1 at
-
--- which the list contains
-pub contains_at : {A : Type 0} (xs : List A) (i : ℕ) (x : A) → slice_get xs i ≡ Some x → Contains xs x
-contains_at xs i x at = (i, within xs i x at, found xs i x at)
-  where
-    within : {A : Type 0} (xs : List A) (i : ℕ) (x : A) → slice_get xs i ≡ Some x → i < length xs
-    within [] i x at = absurd cc
-    within (y ∷ xs) zero x at = omega arith
-    within (y ∷ xs) (suc i) x at = let rest = within xs i x at in omega (arith, rest)
-
-    found : {A : Type 0} (xs : List A) (i : ℕ) (x : A) → slice_get xs i ≡ Some x → get_or xs i x ≡ x
-    found [] i x at = absurd cc
-    found (y ∷ xs) zero x at = cc
-    found (y ∷ xs) (suc i) x at = found xs i x at
 
 pub map_remove : {A B : Type 0} (f : A → B) (xs : List A) (i : ℕ) → map f (remove xs i) ≡ remove (map f xs) i
 map_remove f [] zero = refl

@@ -1,5 +1,5 @@
 -- Lives that ran on more points.
-use Rattle.std.proofs.Common.{◌≡◌, ℕ, ◌+◌, ◌<◌, ◌≤◌, true, false, List, [], ◌++◌, length, map, drop, Option, None, Some, inl, inr, refl, sym, ap, subst, ◌∙◌, append-nil, append_assoc, arith}
+use Rattle.std.proofs.Common.{◌≡◌, ℕ, ◌+◌, ◌<◌, ◌≤◌, true, false, List, [], ◌++◌, length, map, drop, Option, None, Some, inl, inr, refl, sym, ap, subst, ◌∙◌, append-nil, arith}
 use Rattle.std.specs.Prelude.{slice_get}
 use Rattle.std.specs.List.{AllByRecursion as Each, AllZip}
 use Rattle.std.proofs.lemmas.List.{length-append}
@@ -175,27 +175,6 @@ module _ {N P S : Type 0} (g : Ghosts N P S) (planned : Planned P) (lives : List
     pub split : all ≡ passed ++ rest
     pub runs : Ran (before ++ passed) 0 r
     pub due_is : due ≡ due_behind g planned lives tasks stored before → due' ≡ due_behind g planned lives tasks stored (before ++ passed)
-
-  pub ran_none : (before all : List PointValue) (stored : ℕ) (due : List Transition) (r : RunValue N) → Ran before 0 r → RanSome before all all stored due r due
-  ran_none before all stored due r h = record {
-    passed = [];
-    split = refl;
-    runs = subst (λ (ps : List PointValue). Ran ps 0 r) (sym (append-nil before)) h;
-    due_is = λ is. is ∙ ap (due_behind g planned lives tasks stored) (sym (append-nil before));
-  }
-
-  pub ran_then : (before all rest piece behind : List PointValue) (stored : ℕ) (due due' due'' : List Transition) (r r' : RunValue N) → (s : RanSome before all rest stored due r due') → rest ≡ piece ++ behind
-      → Ran ((before ++ s.passed) ++ piece) 0 r'
-      → (due' ≡ due_behind g planned lives tasks stored (before ++ s.passed) → due'' ≡ due_behind g planned lives tasks stored ((before ++ s.passed) ++ piece))
-      → RanSome before all behind stored due r' due''
-  ran_then before all rest piece behind stored due due' due'' r r' s cut runs more =
-      let same : (before ++ s.passed) ++ piece ≡ before ++ (s.passed ++ piece) = append_assoc before s.passed piece in
-      record {
-        passed = s.passed ++ piece;
-        split = s.split ∙ ap (λ (l : List PointValue). s.passed ++ l) cut ∙ sym (append_assoc s.passed piece behind);
-        runs = subst (λ (ps : List PointValue). Ran ps 0 r') same runs;
-        due_is = λ is. more (s.due_is is) ∙ ap (due_behind g planned lives tasks stored) same;
-      }
 
   pub all_passed : (before all rest : List PointValue) (stored : ℕ) (due due' : List Transition) (r : RunValue N) → (s : RanSome before all rest stored due r due') → rest ≡ [] → s.passed ≡ all
   all_passed before all rest stored due due' r s e = sym (s.split ∙ ap (λ (l : List PointValue). s.passed ++ l) e ∙ append-nil s.passed)

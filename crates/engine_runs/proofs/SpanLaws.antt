@@ -176,12 +176,6 @@ there_more k n [] (other ∷ lives) life r h at is = let same : other ≡ life =
 there_more k n (s ∷ runs) [] life r h at is = absurd h
 there_more k n (s ∷ runs) (other ∷ lives) life r h at is = (h.0, there_more k n runs lives life r h.1 at is)
 
--- the others behind it
-pub away_next : (k n : ℕ) (runs : List Bool) (lives : List Life) (r : Bool) → Each (IsAway k n) (drop (length runs) lives) → Each (IsAway k n) (drop (length (runs ++ r ∷ [])) lives)
-away_next k n [] lives r h = each_drop (IsAway k n) 1 lives h
-away_next k n (s ∷ runs) [] r h = tt
-away_next k n (s ∷ runs) (life ∷ lives) r h = away_next k n runs lives r h
-
 -- the life at the place is the first of those behind
 pub away_at : (k n i : ℕ) (lives : List Life) (life : Life) → Each (IsAway k n) (drop i lives) → slice_get lives i ≡ Some life → IsAway k n life
 away_at k n zero [] life h at = absurd cc

@@ -1,8 +1,8 @@
 -- How many bytes the body of a record of transitions has.
-use Rattle.std.proofs.Common.{◌≡◌, ℕ, suc, zero, ◌+◌, ◌-◌, ◌<◌, ◌≤◌, ◌^◌, List, [], ◌∷◌, ◌++◌, length, min, refl, sym, ap, subst, ◌∙◌, arith, length-append, append-nil}
+use Rattle.std.proofs.Common.{◌≡◌, ℕ, suc, zero, ◌+◌, ◌-◌, ◌<◌, ◌≤◌, ◌^◌, List, [], ◌∷◌, ◌++◌, length, min, refl, sym, ap, ◌∙◌, arith, length-append, append-nil}
 use Rattle.std.specs.Prelude.{take, drop, flat_map, slice_get, Some}
 use Rattle.std.specs.Int.{w32}
-use Rattle.std.proofs.lemmas.List.{take-append-drop, take_at}
+use Rattle.std.proofs.lemmas.List.{take-append-drop}
 use Rattle.std.proofs.lemmas.List.Concat.{flat_map-append}
 use Rattle.state_code.specs.Spelling.{spell_number}
 use Rattle.store_records.specs.Transitions.{spell_transition}
@@ -50,17 +50,6 @@ len_less n ts =
 -- a record that didn't pass the limit is closed where no more come
 pub closed_at_end : (ts : List Transition) → body_len ts ≤ PIECE_LIMIT → IsClosed ts
 closed_at_end ts le = let less : body_len (take (length ts - 1) ts) ≤ body_len ts = len_less (length ts - 1) ts in omega (arith, le, less)
-
-without-last : (ts : List Transition) (t : Transition) → take (length (ts ++ t ∷ []) - 1) (ts ++ t ∷ []) ≡ ts
-without-last ts t =
-    let long : length (ts ++ t ∷ []) ≡ length ts + 1 = length-append ts (t ∷ []) in
-    let same : length (ts ++ t ∷ []) - 1 ≡ length ts = omega (arith, long) in
-    take_at ts (t ∷ []) (length (ts ++ t ∷ []) - 1) (sym same)
-
--- and one that passes it with the next
-pub closed_behind : (n : ℕ) (ts : List Transition) (t : Transition) → slice_get ts n ≡ Some t → body_len (take n ts) ≤ PIECE_LIMIT → IsClosed (take (n + 1) ts)
-closed_behind n ts t e le =
-    subst IsClosed (sym (take_more n ts t e)) (subst (λ (l : List Transition). body_len l ≤ PIECE_LIMIT) (sym (without-last (take n ts) t)) le)
 
 -- what is counted is the length, where it doesn't pass the limit
 pub counted : (size len spelled sum before after : ℕ) → spelled ≡ min len (2 ^ 64 - 1) → sum ≡ min (size + spelled) (2 ^ 64 - 1) → size ≡ before → after ≡ before + len → sum ≤ PIECE_LIMIT → sum ≡ after

@@ -16,7 +16,6 @@ use Rattle.store_kept.specs.Keeping.{AreValid, KeptValue}
 use Rattle.store_records.specs.Held.{Held, MayFollow, begun, ended, has_task, life_from, life_of, may_define, task_of}
 use Rattle.store_records.specs.Histories.{end_of, held}
 use Rattle.store_records.specs.Orders.{IsValid}
-use Rattle.store_records.specs.Records.{HasForm}
 use Rattle.store_records.specs.declared.rec.Rec.{Rec}
 use Rattle.store_records.specs.declared.rec.Rec.TheVariants as kinds
 use Rattle.store_records.specs.declared.task.Life.{Life}
@@ -39,16 +38,6 @@ use Rattle.kap_engine.proofs.FullLaws.{full_behind, later, lives_are, new_lives,
 use Rattle.kap_engine.proofs.TaskLaws.{LifeHasScript, ended_tasks, tasks_for}
 
 -- ---- the record
-
--- it has the form of its kind
-pub change_form : (r : Rec) → ChangesTask r → HasForm r
-change_form (kinds.Define id script enabled) c = tt
-change_form (kinds.Enable id) c = tt
-change_form (kinds.Disable id) c = tt
-change_form (kinds.Delete id) c = tt
-change_form (kinds.Batch db rp points) c = absurd c
-change_form (kinds.Trans ts) c = tt
-change_form (kinds.Snap points trans states) c = absurd c
 
 both-true : (a b : Bool) → a ≡ true → b ≡ true → (a && b) ≡ true
 both-true true b e f = f
@@ -167,17 +156,6 @@ module _ {N P S : Type 0} (g : Ghosts N P S) (planned : Planned P) where
       let same : found ≡ task = cc in
       subst (λ (t : StoredTask). AreNext g planned begun (life_of n (Some t)) (Some next)) (sym same)
       (subst (λ (b : Bool). AreNext g planned begun (cond b [] (life_from n task ∷ [])) (Some next)) (sym off) one)
-
-  pub next_none : (n begun : ℕ) (found : Option StoredTask) → found ≡ None → AreNext g planned begun (life_of n found) None
-  next_none n begun None e = tt
-  next_none n begun (Some task) e = absurd cc
-
-  pub next_enabled : (n begun : ℕ) (found : Option StoredTask) (task : StoredTask) → found ≡ Some task → task.enabled ≡ true → AreNext g planned begun (life_of n found) None
-  next_enabled n begun None task is on = tt
-  next_enabled n begun (Some found) task is on =
-      let same : found ≡ task = cc in
-      subst (λ (t : StoredTask). AreNext g planned begun (life_of n (Some t)) None) (sym same)
-      (subst (λ (b : Bool). AreNext g planned begun (cond b [] (life_from n task ∷ [])) None) (sym on) tt)
 
   none-begins : (begun : ℕ) (lives : List Life) → AreNext g planned begun lives None → lives ≡ []
   none-begins begun [] are = refl

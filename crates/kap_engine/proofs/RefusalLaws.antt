@@ -148,19 +148,6 @@ module _ {D : Type 0} (before after : D) (old new : StoreState) (rose : Type 0) 
   add_failed stores.Long f is added = subst IsFailure (sym is) tt
   add_failed stores.NoMemory f is added = subst IsFailure (sym is) tt
 
-  -- where the store can go on nothing has changed
-  pub add_quiet : (e : StoreFault) → AddFault (Err e) before after old new rose → new.log.spent ≡ false → after ≡ before
-  add_quiet (stores.NotStore part offset) added unspent = absurd added
-  add_quiet stores.DiskFault added unspent = absurd (cc (added.0, unspent))
-  add_quiet stores.Long added unspent = added.0
-  add_quiet stores.NoMemory added unspent = added.0
-
-  pub add_disk : (e : StoreFault) → AddFault (Err e) before after old new rose → e ≡ stores.DiskFault → rose
-  add_disk (stores.NotStore part offset) added is = absurd added
-  add_disk stores.DiskFault added is = added.1
-  add_disk stores.Long added is = absurd cc
-  add_disk stores.NoMemory added is = absurd cc
-
 -- ---- the task of an id
 
 module _ {A : Type 0} (p : A → Bool) where

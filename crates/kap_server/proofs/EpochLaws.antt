@@ -1,18 +1,10 @@
 -- Points are read one after the other.
-use Rattle.std.proofs.Common.{◌≡◌, ℕ, false, Option, List, [], ◌∷◌, ◌++◌, sym, ap, subst, ◌∙◌, append_assoc, append-nil, arith}
+use Rattle.std.proofs.Common.{◌≡◌, ℕ, false, Option, List, [], ◌∷◌, ◌++◌, sym, ap, subst, ◌∙◌, append_assoc, arith}
 use Rattle.std.proofs.lemmas.List.{length_push}
 use Rattle.kap_base.specs.Points.{PointValue}
 use Rattle.recording_file.specs.Reading.{Gives, ReaderReads, ReaderState}
 use Rattle.recording_file.proofs.ReadLaws.{read_more}
 use Rattle.kap_server.specs.Epochs.{GavePoints, GoesOn}
-
--- at the start there are none
-pub gave_none : (a : ReaderState) (t : Option (List ℕ)) → GavePoints a a t t []
-gave_none a t = record {
-  read = λ s h. h;
-  given = sym (append-nil a.given);
-  first = λ h. h;
-}
 
 -- one point more
 pub gave_more : (a b c : ReaderState) (t u v : Option (List ℕ)) (points : List PointValue) (p : PointValue) → GavePoints a b t u points → ReaderReads b c u v → Gives b c p

@@ -6,7 +6,6 @@ use Rattle.node_set.specs.Tasks.{Planned}
 use Rattle.flow_core.specs.Carried.{HasCarried}
 use Rattle.flow_core.specs.Nets.{NetValue}
 use Rattle.effect_text.specs.declared.names.TaskNames.{TaskNames}
-use Rattle.sample_points.specs.Samples.{samples}
 use Rattle.task_run.specs.Graphs.{Placed}
 use Rattle.task_run.specs.Plans.{PlanValue, graph_of}
 use Rattle.kap_server.specs.Nets.{HoldsNet, HoldsNetOf, HoldsNetOfSamples, HoldsNetOfTasks}
@@ -28,13 +27,6 @@ module _ {N P S : Type 0} (g : Ghosts N P S) where
       tasks = adds.tasks;
       are = adds.are;
       holds = subst (λ (ls : List (List (Placed P))). HoldsNetOf g ls input ran) adds.plans_are h;
-    }
-
-    pub holds_samples : (n : ℕ) → HoldsNet g (map (graph_of g.spec) plans) (samples n) ran → HoldsNetOfSamples g planned pairs n ran
-    holds_samples n h = record {
-      tasks = adds.tasks;
-      are = adds.are;
-      holds = subst (λ (ls : List (List (Placed P))). HoldsNet g ls (samples n) ran) adds.plans_are h;
     }
 
 -- ---- what the words ask for

@@ -1,10 +1,10 @@
 //! The command that writes points.
 
-ghost use Rattle.std.specs.Prelude.{◌≡◌, ◌≢◌, ◌⊎◌, ◌<◌, false, true, ℕ, Some, IfErr, IfOk, IsTrue, List, OnOk, IsUtf8, length};
+ghost use Rattle.std.specs.Prelude.{◌≡◌, ◌≢◌, ◌⊎◌, ◌<◌, false, true, ℕ, Some, IfErr, IfOk, IsTrue, List, OnOk, IsUtf8};
 ghost use Rattle.std.specs.List.{list_all};
-ghost use Rattle.std.specs.Io.KnownBytes.{Appends, Keeps};
+ghost use Rattle.std.specs.Io.KnownBytes.{Appends};
 ghost use Rattle.kap_base.specs.Points.{is_time};
-ghost use Rattle.kap_base.specs.Texts.{has_line_feed, is_line};
+ghost use Rattle.kap_base.specs.Texts.{has_line_feed};
 ghost use Rattle.kap_base.specs.Words.{HasRisen};
 ghost use Rattle.kap_io.specs.Moments.{Moments, Quiet};
 ghost use Rattle.kap_io.specs.Pieces.{AppendsPrefix};

@@ -1,14 +1,12 @@
 -- What the records behind a place leave as it is.
-use Rattle.std.proofs.Common.{◌≡◌, ◌⊎◌, inl, inr, ⊎_elim, ℕ, ◌+◌, ◌<◌, ◌≤◌, Bool, true, false, not, ◌&&◌, cond, List, [], ◌∷◌, ◌++◌, length, Option, None, Some, refl, sym, ap, ◌∙◌, subst, arith, true≢false}
-use Rattle.std.specs.Prelude.{◌||◌, ◌==◌, IfSome}
-use Rattle.std.specs.List.{AllByRecursion as Each, list_any}
+use Rattle.std.proofs.Common.{◌≡◌, ◌⊎◌, inl, inr, ⊎_elim, ℕ, ◌<◌, ◌≤◌, Bool, true, false, ◌&&◌, cond, List, [], ◌∷◌, length, Option, Some, refl, ◌∙◌, arith}
+use Rattle.std.specs.Prelude.{◌==◌}
+use Rattle.std.specs.List.{AllByRecursion as Each}
 use Rattle.std.specs.Str.{bytes_eq}
 use Rattle.std.proofs.lemmas.Bool.Decides.{nat_tests}
-use Rattle.std.proofs.lemmas.List.{append-nil}
 use Rattle.kap_base.proofs.TestLaws.{first_false, second_false}
-use Rattle.store_records.specs.Held.{Held, after, begun, end_life, ended, is_called, is_enabled, later_of, life_from, life_of, put_task, remove_task, set_enabled, snap_in, task_of, tasks_after}
+use Rattle.store_records.specs.Held.{Held, after, begun, end_life, ended, is_called, is_enabled, later_of, snap_in, tasks_after}
 use Rattle.store_records.specs.Histories.{held_from, next_gate}
-use Rattle.store_records.specs.Records.{spell_record}
 use Rattle.store_records.specs.declared.rec.Rec.{Rec}
 use Rattle.store_records.specs.declared.rec.Rec.TheVariants as kinds
 use Rattle.store_records.specs.declared.task.Life.{Life}

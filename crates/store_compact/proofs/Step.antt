@@ -1,19 +1,18 @@
 -- One more record, which stays or is left out.
-use Rattle.std.proofs.Common.{◌≡◌, ◌⊎◌, inl, inr, ⊎_elim, ℕ, ◌+◌, ◌<◌, ◌≤◌, Bool, true, false, not, ◌&&◌, cond, List, [], ◌∷◌, ◌++◌, length, map, Option, None, Some, refl, sym, ap, ◌∙◌, subst, arith, true≢false, IsTrue}
-use Rattle.std.specs.Prelude.{◌||◌, ◌==◌, IfSome, option_map, nat_le, nat_lt}
-use Rattle.std.specs.List.{AllByRecursion as Each, filter, list_any}
+use Rattle.std.proofs.Common.{◌≡◌, ◌⊎◌, ⊎_elim, ℕ, ◌+◌, ◌<◌, ◌≤◌, Bool, true, false, not, ◌&&◌, cond, List, [], ◌∷◌, ◌++◌, length, map, Option, None, Some, refl, sym, ap, ◌∙◌, subst, arith, true≢false}
+use Rattle.std.specs.Prelude.{◌||◌, ◌==◌, IfSome, option_map, nat_lt}
+use Rattle.std.specs.List.{AllByRecursion as Each, filter}
 use Rattle.std.specs.Option.{option_map_or}
 use Rattle.std.specs.Str.{bytes_eq}
 use Rattle.std.proofs.lemmas.Bool.Decides.{nat_tests}
 use Rattle.std.proofs.lemmas.List.{append-nil, length-map, map-append}
-use Rattle.kap_base.proofs.TestLaws.{both, first_false, first_of, not_false, not_true, second_false, second_of}
+use Rattle.kap_base.proofs.TestLaws.{both, first_of, not_false, not_true, second_false, second_of}
 use Rattle.kap_base.specs.Points.{PointValue}
 use Rattle.kap_base.specs.Texts.{is_task_id}
-use Rattle.kap_base.specs.declared.limits.TheConstants.{SCRIPT_LIMIT, TASK_LIMIT}
+use Rattle.kap_base.specs.declared.limits.TheConstants.{TASK_LIMIT}
 use Rattle.topic_core.specs.declared.transition.Transition.{Transition}
-use Rattle.store_records.specs.Held.{Held, MayFollow, after, are_next, begun, end_life, ended, has_task, is_called, is_enabled, later_of, life_from, life_of, may_define, open_from, put_task, remove_task, set_enabled, snap_in, task_of, tasks_after}
+use Rattle.store_records.specs.Held.{Held, MayFollow, after, are_next, end_life, has_task, is_called, is_enabled, life_from, life_of, may_define, open_from, put_task, remove_task, set_enabled, task_of}
 use Rattle.store_records.specs.Histories.{held_from, next_gate}
-use Rattle.store_records.specs.Orders.{IdsRise}
 use Rattle.store_records.specs.declared.rec.Rec.{Rec}
 use Rattle.store_records.specs.declared.rec.Rec.TheVariants as kinds
 use Rattle.store_records.specs.declared.task.Life.{Life}
@@ -21,11 +20,11 @@ use Rattle.store_records.specs.declared.task.Snapshot.{Snapshot}
 use Rattle.store_records.specs.declared.task.StoredTask.{StoredTask}
 use Rattle.store_kept.specs.Keeping.{Keeps, KeptValue}
 use Rattle.store_compact.specs.Deciding.{is_kept}
-use Rattle.store_compact.specs.Same.{unplaced, unplaced_life, unplaced_snap}
+use Rattle.store_compact.specs.Same.{unplaced, unplaced_life}
 use Rattle.store_compact.specs.Staying.{has_lived, is_snap_at, is_there, stays}
-use Rattle.store_compact.proofs.Later.{HasLater, IsOther, both_false, gone_later, lived_after, lived_later, not_there, other_number, own_number, snap_later}
+use Rattle.store_compact.proofs.Later.{IsOther, gone_later, lived_after, lived_later, not_there, other_number, own_number, snap_later}
 use Rattle.store_compact.proofs.Lives.{lived_back, unplaced_end, unplaced_numbers}
-use Rattle.store_compact.proofs.Tasks.{Found, each_found, each_putting, each_removing, each_setting, filter_few, filter_free, filter_none, filter_of, filter_put, filter_remove, filter_set, found_in, none_left, none_of_id, put_lost, remove_lost, same_id, set_same, there_has, unplaced_has, unplaced_of, unplaced_put, unplaced_remove, unplaced_set}
+use Rattle.store_compact.proofs.Tasks.{Found, each_found, filter_few, filter_free, filter_none, filter_of, filter_put, filter_remove, filter_set, found_in, none_left, none_of_id, put_lost, remove_lost, same_id, set_same, there_has, unplaced_has, unplaced_of, unplaced_put, unplaced_remove, unplaced_set}
 use Rattle.store_compact.proofs.Thin.{IsSteady, IsThin, last_of_all, remains}
 
 -- ---- tests

@@ -1,8 +1,7 @@
 -- Lists of tasks some of which are left out.
-use Rattle.std.proofs.Common.{◌≡◌, ℕ, suc, ◌+◌, ◌<◌, ◌≤◌, Bool, true, false, not, ◌&&◌, cond, List, [], ◌∷◌, ◌++◌, length, map, Option, None, Some, refl, sym, ap, ◌∙◌, subst, arith, true≢false}
-use Rattle.std.specs.Prelude.{◌||◌, IfSome, option_map}
-use Rattle.std.specs.List.{AllByRecursion as Each, filter, insert, list_any, position_or_len, remove}
-use Rattle.std.specs.Option.{option_map_or}
+use Rattle.std.proofs.Common.{◌≡◌, ℕ, suc, ◌+◌, ◌≤◌, Bool, true, false, not, cond, List, [], ◌∷◌, length, map, None, Some, refl, sym, ap, ◌∙◌, subst, arith, true≢false}
+use Rattle.std.specs.Prelude.{◌||◌, option_map}
+use Rattle.std.specs.List.{AllByRecursion as Each, filter, insert, position_or_len, remove}
 use Rattle.std.specs.Ordering.{is_eq, is_lt}
 use Rattle.std.specs.Str.{bytes_eq}
 use Rattle.std.specs.declared.cmp.Ordering.{Ordering}
@@ -10,9 +9,9 @@ use Rattle.std.specs.declared.cmp.Ordering.TheVariants.{Less, Equal, Greater}
 use Rattle.std.proofs.lemmas.Cmp.{nat_list_cmp_total}
 use Rattle.std.proofs.lemmas.Map.Text.{is_eq-slice_cmp}
 use Rattle.std.proofs.lemmas.Slice.Eq.{bytes_eq-Decides}
-use Rattle.kap_base.proofs.TestLaws.{first_false, first_of, not_true, second_false, second_of}
+use Rattle.kap_base.proofs.TestLaws.{first_false, second_false}
 use Rattle.kap_base.specs.Maps.{byte_order}
-use Rattle.store_records.specs.Held.{has_task, is_called, is_enabled, put_task, remove_task, set_enabled, task_of}
+use Rattle.store_records.specs.Held.{has_task, is_called, put_task, remove_task, set_enabled, task_of}
 use Rattle.store_records.specs.Orders.{IdsRise}
 use Rattle.store_records.specs.declared.task.StoredTask.{StoredTask}
 use Rattle.store_compact.specs.Same.{unplaced}

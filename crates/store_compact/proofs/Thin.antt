@@ -1,12 +1,9 @@
 -- What a store holds without the records that are left out.
-use Rattle.std.proofs.Common.{◌≡◌, ℕ, ◌+◌, ◌<◌, ◌≤◌, Bool, true, false, not, ◌&&◌, cond, List, [], ◌∷◌, ◌++◌, length, map, Option, None, Some, refl, sym, ap, ◌∙◌, subst, arith, true≢false, length-append}
-use Rattle.std.specs.Prelude.{◌||◌, ◌==◌, IfSome, option_map}
-use Rattle.std.specs.List.{AllByRecursion as Each, filter, list_any}
-use Rattle.std.specs.Option.{option_map_or}
-use Rattle.store_records.specs.Held.{Held, begun, ended, open_from}
+use Rattle.std.proofs.Common.{◌≡◌, ℕ, ◌<◌, Bool, true, cond, map, Option, None, Some}
+use Rattle.std.specs.Prelude.{◌||◌, IfSome, option_map}
+use Rattle.std.specs.List.{AllByRecursion as Each, filter}
+use Rattle.store_records.specs.Held.{Held}
 use Rattle.store_records.specs.Orders.{IdsRise}
-use Rattle.store_records.specs.declared.rec.Rec.{Rec}
-use Rattle.store_records.specs.declared.task.Life.{Life}
 use Rattle.store_records.specs.declared.task.Snapshot.{Snapshot}
 use Rattle.store_records.specs.declared.task.StoredTask.{StoredTask}
 use Rattle.store_compact.specs.Same.{unplaced, unplaced_life, unplaced_snap}

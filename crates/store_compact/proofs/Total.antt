@@ -1,11 +1,11 @@
 -- What stays of a store's records stands for the same.
-use Rattle.std.proofs.Common.{◌≡◌, ◌⊎◌, inl, inr, ℕ, ◌+◌, ◌<◌, ◌≤◌, Bool, true, false, not, ◌&&◌, cond, List, [], ◌∷◌, ◌++◌, length, map, Option, None, Some, refl, sym, ap, ◌∙◌, subst, append_assoc, arith, true≢false}
+use Rattle.std.proofs.Common.{◌≡◌, ℕ, ◌+◌, ◌<◌, ◌≤◌, Bool, true, false, ◌&&◌, cond, List, [], ◌∷◌, ◌++◌, length, map, Option, None, Some, refl, sym, ap, ◌∙◌, subst, append_assoc, arith, true≢false}
 use Rattle.std.specs.Prelude.{◌||◌, ◌==◌, IfSome, option_map}
 use Rattle.std.specs.List.{AllByRecursion as Each, filter}
 use Rattle.std.specs.Str.{bytes_eq}
 use Rattle.std.proofs.lemmas.List.{append-nil}
 use Rattle.std.proofs.lemmas.Slice.Eq.{bytes_eq-Decides}
-use Rattle.store_records.specs.Held.{Held, MayFollow, after, begun, later_of, life_from, life_of, nothing, snap_in, task_of, tasks_after}
+use Rattle.store_records.specs.Held.{Held, MayFollow, after, later_of, life_from, life_of, nothing, snap_in, task_of, tasks_after}
 use Rattle.store_records.specs.Histories.{Follow, FollowFrom, end_from, end_of, first_gate, held, held_from, next_gate}
 use Rattle.store_records.specs.Orders.{IdsRise}
 use Rattle.store_records.specs.Records.{FitsRecord}

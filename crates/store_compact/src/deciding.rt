@@ -1,7 +1,6 @@
 //! Whether a record stays, by what is kept in memory.
 
 ghost use Rattle.std.specs.Prelude.{◌≡◌, ◌==◌, ◌&&◌, ◌||◌};
-ghost use Rattle.std.specs.List.{list_any};
 ghost use Rattle.store_records.specs.Held.{is_called, is_enabled};
 ghost use Rattle.store_kept.specs.Keeping.{kept_of};
 ghost use Rattle.store_compact.specs.Deciding.{is_kept};

@@ -15,7 +15,7 @@ use Rattle.store_lists.specs.Faults.{list_fault}
 use Rattle.store_lists.specs.Writing.{HasWritten, Lists, PutsLines}
 use Rattle.store_lists.specs.declared.fault.ListFault.{ListFault}
 use Rattle.store_lists.specs.declared.fault.ListFault.TheVariants.{NotStore, DiskFault, WriteFault, NoMemory}
-use Rattle.store_lists.proofs.WriteLaws.{lists_rest, written_cut, written_none, written_prefix, written_then}
+use Rattle.store_lists.proofs.WriteLaws.{lists_rest, written_cut, written_prefix, written_then}
 
 pub nil_of : {A : Type 0} (xs : List A) → length xs ≡ 0 → xs ≡ []
 nil_of [] e = refl
@@ -31,9 +31,6 @@ module _ {A : Type 0} (f : A → List ℕ) (all : List A) where
     pub others : List A
     pub split : all ≡ passed ++ others
     pub written : HasWritten (flat_map f passed) due w v
-
-  abbrev pub listing_none : (w : Option (List ℕ)) → IsListing [] w w
-  listing_none w = record { passed = []; others = all; split = refl; written = written_none [] w }
 
   -- the next piece is passed
   abbrev pub listing_next : (due due' : List ℕ) (w v x : Option (List ℕ)) (piece : List A) (s : IsListing due w v) → piece ≡ take 4096 s.others → HasWritten (due ++ flat_map f piece) due' v x → IsListing due' w x

@@ -1,29 +1,29 @@
 -- Records that are copied from one log into another.
-use Rattle.std.proofs.Common.{◌≡◌, ◌⊎◌, inl, inr, ⊎_elim, ℕ, ◌+◌, ◌<◌, ◌≤◌, Bool, true, false, List, [], ◌∷◌, ◌++◌, length, map, refl, sym, ap, ◌∙◌, subst, arith, append_assoc, true≢false, Ok, Err}
-use Rattle.std.specs.Prelude.{Option, Some, None, IfSome, Result}
+use Rattle.std.proofs.Common.{◌≡◌, ℕ, ◌+◌, ◌≤◌, Bool, true, false, List, [], ◌∷◌, ◌++◌, length, map, refl, sym, ap, ◌∙◌, subst, arith, append_assoc, Ok, Err}
+use Rattle.std.specs.Prelude.{Option, Some, None, IfSome}
 use Rattle.std.proofs.lemmas.List.{append-nil, map-append}
-use Rattle.kap_io.specs.Disk.{Elsewhere, Image, On, Reached}
+use Rattle.kap_io.specs.Disk.{Elsewhere, Image, On}
 use Rattle.kap_io.specs.Moments.{Moments, Quiet, then_run}
 use Rattle.kap_io.specs.declared.disk.Part.{Part}
 use Rattle.gate_log.specs.Logs.{LogState, Rests}
 use Rattle.gate_log.specs.declared.log.TheConstants.{BODY_LIMIT}
 use Rattle.gate_log.proofs.Beside.{DiffersIn, rests_elsewhere}
 use Rattle.gate_log.proofs.Quietly.{rests_quietly}
-use Rattle.store_records.specs.Held.{Held, MayFollow, nothing}
+use Rattle.store_records.specs.Held.{Held, MayFollow}
 use Rattle.store_records.specs.Histories.{end_of, first_gate, held}
 use Rattle.store_records.specs.Orders.{DefinesValid}
-use Rattle.store_records.specs.Records.{FitsRecord, IsBodyOf, spell_record}
+use Rattle.store_records.specs.Records.{IsBodyOf, spell_record}
 use Rattle.store_records.specs.declared.rec.Rec.{Rec}
 use Rattle.store_records.specs.declared.rec.Rec.TheVariants as kinds
 use Rattle.store_records.proofs.OrderLaws.{defines_valid}
-use Rattle.store_kept.specs.Changing.{ArePartsFor, IsMarkAt, kept_with}
-use Rattle.store_kept.specs.Keeping.{KeepsRecords, KeptValue, kept_nothing}
+use Rattle.store_kept.specs.Changing.{IsMarkAt, kept_with}
+use Rattle.store_kept.specs.Keeping.{KeepsRecords, KeptValue}
 use Rattle.store_kept.specs.declared.kept.Mark.{Mark}
 use Rattle.store_kept.proofs.Keeping.{end_more, keeps_push}
 use Rattle.store_compact.specs.Deciding.{is_kept}
 use Rattle.store_compact.specs.Staying.{if_stays, staying, staying_of, stays}
 use Rattle.store_compact.proofs.Total.{decides_at, follows_there, staying_push}
-use Rattle.topic_store.specs.Rewriting.{CopiesOrNot, HasPut, IsCopying, IsSource, StoredOrNot}
+use Rattle.topic_store.specs.Rewriting.{HasPut, IsCopying, IsSource, StoredOrNot}
 use Rattle.topic_store.specs.Stored.{BodyOrNot}
 use Rattle.topic_store.specs.Stores.{AreShort, AreStored}
 use Rattle.topic_store.specs.declared.fault.StoreFault.{StoreFault}
@@ -108,25 +108,6 @@ put_behind_log ks r body seen images log new k mid later mark n before left put 
     }
 
 -- ---- a copy on its way
-
--- nothing is put there yet
-pub keeps_none : KeepsRecords [] kept_nothing
-keeps_none = record {
-  keeps = record { tasks = refl; lives = refl; points = refl; transitions = refl; changes = refl; snap = refl };
-  marks = tt;
-}
-
-pub none_copied : (rs : List Rec) (seen : Image) (images : Image → Type 0) (old log : LogState) (all k : KeptValue) → IsSource rs seen images old all
-    → Rests [] seen images log → (old.part ≡ log.part → ⊥) → k ≡ kept_nothing → IsCopying rs first_gate seen images old all log k
-none_copied rs seen images old log all k source rests apart is = record {
-  before = [];
-  behind = rs;
-  split = refl;
-  at_gate = refl;
-  source = source;
-  apart = apart;
-  put = record { rests = rests; keeps = subst (KeepsRecords []) (sym is) keeps_none };
-}
 
 module _ {D : Type 0} (seen : D → Image) (moment : D → ℕ) (may_leave : D → Image → Type 0) (left_since : D → ℕ → Image → Type 0) (old_disk new_disk : D)
     (quiet : Quiet seen moment may_leave left_since old_disk new_disk) where

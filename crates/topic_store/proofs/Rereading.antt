@@ -11,11 +11,10 @@ use Rattle.gate_log.specs.declared.fault.LogFault.TheVariants as log
 use Rattle.kap_io.specs.declared.disk.Part.{Part}
 use Rattle.store_records.specs.Held.{Held, after, nothing}
 use Rattle.store_records.specs.Histories.{Follow, FollowFrom, end_of, first_gate, next_gate}
-use Rattle.store_records.specs.Records.{FitsRecord, IsBodyOf, IsNoBody, spell_record}
+use Rattle.store_records.specs.Records.{FitsRecord, IsBodyOf, spell_record}
 use Rattle.store_records.specs.declared.rec.Rec.{Rec}
 use Rattle.store_records.specs.declared.rec.Rec.TheVariants as kinds
 use Rattle.store_kept.proofs.Keeping.{end_more}
-use Rattle.store_kept.proofs.Records.{same_record}
 use Rattle.topic_store.specs.Faults.{fault_in}
 use Rattle.topic_store.specs.Snapshots.{LastSnap, StatesOrNot, states_in}
 use Rattle.topic_store.specs.Stored.{BodyOrNot, RecordOrNot}

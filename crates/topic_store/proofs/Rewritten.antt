@@ -1,30 +1,27 @@
 -- A store on its other log.
-use Rattle.std.proofs.Common.{◌≡◌, ◌⊎◌, inl, inr, ⊎_elim, ℕ, suc, ◌+◌, ◌<◌, ◌≤◌, Bool, true, false, List, [], ◌∷◌, ◌++◌, length, map, refl, sym, ap, ◌∙◌, subst, arith, Ok, Err}
-use Rattle.std.specs.Prelude.{Result, ◌%◌, ◌==◌, if◌then◌else◌}
-use Rattle.kap_io.specs.Disk.{Elsewhere, Image, On, OnlyIn, Reached}
+use Rattle.std.proofs.Common.{◌≡◌, ◌⊎◌, inl, inr, ⊎_elim, ℕ, ◌+◌, ◌<◌, ◌≤◌, Bool, true, false, List, [], ◌∷◌, ◌++◌, length, map, refl, sym, ap, ◌∙◌, subst, arith}
+use Rattle.std.specs.Prelude.{◌%◌, ◌==◌, if◌then◌else◌}
+use Rattle.kap_io.specs.Disk.{Elsewhere, Image, On}
 use Rattle.kap_io.specs.Moments.{Moments, Quiet, Same, then_run, weaker}
 use Rattle.kap_io.specs.declared.disk.Part.{Part}
 use Rattle.kap_io.specs.declared.disk.Part.TheVariants.{Head, Left, Right}
 use Rattle.gate_log.specs.Bodies.{IsLog}
 use Rattle.gate_log.specs.Head.{IsHead, IsRunOrNext, IsSettledHead}
-use Rattle.gate_log.specs.Logs.{LogState, Rests}
+use Rattle.gate_log.specs.Logs.{LogState}
 use Rattle.gate_log.specs.declared.log.TheConstants.{BODY_LIMIT}
 use Rattle.gate_log.proofs.Beside.{DiffersIn, rests_elsewhere}
 use Rattle.gate_log.proofs.Unique.{head_unique}
 use Rattle.std.proofs.lemmas.Bool.Decides.{nat_tests}
 use Rattle.store_records.specs.Held.{Held, after}
-use Rattle.store_records.specs.Histories.{end_of, held, next_gate}
+use Rattle.store_records.specs.Histories.{held, next_gate}
 use Rattle.store_records.specs.Records.{spell_record}
 use Rattle.store_records.specs.declared.rec.Rec.{Rec}
-use Rattle.store_kept.specs.Keeping.{KeepsRecords, KeptValue}
+use Rattle.store_kept.specs.Keeping.{KeptValue}
 use Rattle.store_compact.specs.Staying.{if_stays, staying, staying_from, stays}
 use Rattle.store_compact.proofs.Total.{staying_follow}
-use Rattle.topic_store.specs.Rewriting.{HasPut, IsSource, IsWritten, RewritesOrNot, other_log, stands_old_or_new}
+use Rattle.topic_store.specs.Rewriting.{HasPut, IsSource, other_log, stands_old_or_new}
 use Rattle.topic_store.specs.Stores.{AreShort, AreStored, IsOn, Stands, StoreState, current}
-use Rattle.topic_store.specs.declared.fault.StoreFault.{StoreFault}
-use Rattle.topic_store.specs.declared.fault.StoreFault.TheVariants.{NotStore, DiskFault, Long, NoMemory}
 use Rattle.topic_store.proofs.Adding.{head_apart, image_stands}
-use Rattle.topic_store.proofs.Quietly.{on_elsewhere}
 
 -- ---- the records that stay
 
@@ -94,11 +91,6 @@ module _ (rs : List Rec) (seen : Image) (images : Image → Type 0) (store : Sto
 
   pub no_head : Head ≡ other_log store.log.part → ⊥
   no_head e = other_no_head on.run (e ∙ other_is)
-
-  -- the store is as before while the other log changes
-  pub on_still : (becomes : List ℕ → List ℕ → Type 0) (later : Image) (left : Image → Type 0) → Elsewhere (other_log store.log.part) seen later
-      → DiffersIn (other_log store.log.part) becomes images left → IsOn rs later left store
-  on_still becomes later left elsewhere reached = on_elsewhere (other_log store.log.part) becomes seen later images left rs store no_head log_apart elsewhere reached on
 
   pub settled : IsSettledHead on.run seen images
   settled = record { head = on.head; durable = on.durable }

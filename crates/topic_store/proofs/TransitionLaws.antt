@@ -9,7 +9,7 @@ use Rattle.store_records.specs.Held.{Held, MayFollow, after, are_next, is_next, 
 use Rattle.store_records.specs.Histories.{Follow, FollowFrom, first_gate, held, held_from, next_gate}
 use Rattle.store_records.specs.declared.rec.Rec.{Rec}
 use Rattle.store_records.specs.declared.rec.Rec.TheVariants as kinds
-use Rattle.topic_store.specs.Behind.{AreBehind, TakesMoreOrNot, TopicsOrNot}
+use Rattle.topic_store.specs.Behind.{AreBehind, TakesMoreOrNot}
 use Rattle.topic_store.specs.Pieces.{PieceOrNot, piece_behind}
 use Rattle.topic_store.specs.declared.fault.StoreFault.{StoreFault}
 use Rattle.topic_store.specs.declared.fault.StoreFault.TheVariants.{NotStore, DiskFault, Long, NoMemory}
@@ -108,9 +108,3 @@ taken_fault ts piece topics (NotStore part offset) found = found
 taken_fault ts piece topics DiskFault found = tt
 taken_fault ts piece topics Long found = found
 taken_fault ts piece topics NoMemory found = tt
-
-pub topics_fault : (ts : List Transition) (topics : TopicsValue) (n : ℕ) (fault : StoreFault) → TakesMoreOrNot ts topics (Err fault) → TopicsOrNot ts n (Err fault)
-topics_fault ts topics n (NotStore part offset) found = found
-topics_fault ts topics n DiskFault found = tt
-topics_fault ts topics n Long found = found
-topics_fault ts topics n NoMemory found = tt

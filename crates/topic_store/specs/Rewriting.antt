@@ -1,5 +1,5 @@
 -- Rewriting a store into its other log.
-use Rattle.std.specs.Prelude.{◌≡◌, ◌⊎◌, ℕ, ◌≤◌, true, List, [], ◌∷◌, ◌++◌, length, map, Option, Some, None, Result, Ok, Err, ⊤}
+use Rattle.std.specs.Prelude.{◌≡◌, ◌⊎◌, ℕ, ◌≤◌, true, List, [], ◌∷◌, ◌++◌, map, Option, Some, None, Result, Ok, Err, ⊤}
 use Rattle.kap_base.specs.Words.{HasRisen}
 use Rattle.kap_io.specs.Disk.{Image}
 use Rattle.kap_io.specs.declared.disk.Part.{Part}
@@ -12,7 +12,7 @@ use Rattle.store_kept.specs.Keeping.{KeepsRecords, KeptValue}
 use Rattle.store_compact.specs.Staying.{staying, staying_of}
 use Rattle.topic_store.specs.Stores.{AreStored, IsOn, Stands, StoreState}
 use Rattle.topic_store.specs.declared.fault.StoreFault.{StoreFault}
-use Rattle.topic_store.specs.declared.fault.StoreFault.TheVariants.{NotStore, DiskFault, Long, NoMemory}
+use Rattle.topic_store.specs.declared.fault.StoreFault.TheVariants.{DiskFault, Long, NoMemory}
 
 -- the other one of the two logs
 abbrev pub other_log : Part → Part

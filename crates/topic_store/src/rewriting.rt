@@ -1,6 +1,6 @@
 //! Rewriting a store into its other log.
 
-ghost use Rattle.std.specs.Prelude.{◌≡◌, ◌+◌, ◌%◌, ◌==◌, ◌≤◌, ℕ, List, false, IfOk, IsTrue, OnOk};
+ghost use Rattle.std.specs.Prelude.{◌≡◌, ◌+◌, ◌%◌, ◌==◌, ℕ, List, false, IfOk, IsTrue};
 ghost use Rattle.kap_io.specs.Disk.{Elsewhere, On};
 ghost use Rattle.kap_io.specs.Moments.{Moments, Quiet};
 ghost use Rattle.gate_log.specs.Head.{IsHead};

@@ -1,4 +1,4 @@
-use Rattle.std.proofs.Common.{ℕ, ◌∙◌, subst, sym, arith}
+use Rattle.std.proofs.Common.{ℕ, ◌∙◌, subst, arith}
 use Rattle.std.specs.Prelude.{Option, Ok}
 use Rattle.kap_io.specs.Disk.{Elsewhere}
 use Rattle.kap_io.specs.declared.disk.Part.{Part}

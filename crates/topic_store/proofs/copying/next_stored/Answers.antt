@@ -1,9 +1,7 @@
-use Rattle.std.proofs.Common.{◌≡◌, List, ℕ, map, subst, sym, ◌∙◌}
+use Rattle.std.proofs.Common.{List, ℕ, map, subst, sym, ◌∙◌}
 use Rattle.std.specs.Prelude.{Option, Ok}
 use Rattle.std.proofs.lemmas.Result.{err_from_is_err_and}
 use Rattle.store_records.specs.Records.{IsBodyOf, spell_record}
-use Rattle.store_records.specs.declared.rec.Rec.{Rec}
-use Rattle.gate_log.specs.declared.log.TheConstants.{BODY_LIMIT}
 use Rattle.topic_store.specs.Stored.{BodyOrNot}
 use Rattle.topic_store.proofs.Copies.{next_there, none_is_none, short_body, stored_fault, stored_there}
 use Rattle.topic_store.proofs.Rereading.{gate_split, none_of, none_there, rests_split}

@@ -1,8 +1,6 @@
-use Rattle.std.proofs.Common.{ℕ, subst, sym}
 use Rattle.kap_io.specs.Moments.{weaker}
 use Rattle.store_records.specs.Records.{spell_record}
 use Rattle.std.proofs.Common.{map}
-use Rattle.store_kept.specs.Changing.{ArePartsFor}
 use Rattle.store_kept.specs.Keeping.{kept_of}
 use Rattle.store_kept.proofs.Keeping.{valid_put}
 use Rattle.topic_store.proofs.Adding.{kept_put}

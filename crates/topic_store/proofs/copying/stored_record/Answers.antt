@@ -1,7 +1,7 @@
-use Rattle.std.proofs.Common.{◌≡◌, true≢false, sym, ◌∙◌, ap, subst, Some}
+use Rattle.std.proofs.Common.{true≢false, sym, ◌∙◌, ap, subst, Some}
 use Rattle.std.specs.Prelude.{Option, Ok}
 use Rattle.store_records.specs.Orders.{DefinesValid}
-use Rattle.store_records.specs.Records.{IsBodyOf, RecordOf}
+use Rattle.store_records.specs.Records.{RecordOf}
 use Rattle.store_records.specs.declared.rec.Rec.{Rec}
 use Rattle.store_kept.proofs.Records.{same_record}
 use Rattle.topic_store.proofs.copying.stored_record.Goals as goal

@@ -1,4 +1,4 @@
-use Rattle.std.proofs.Common.{◌≡◌, true≢false, sym, ◌∙◌, ap}
+use Rattle.std.proofs.Common.{true≢false, sym, ◌∙◌, ap}
 use Rattle.topic_store.specs.Stores.{current}
 use Rattle.topic_store.proofs.rewriting.read_run.Goals as goal
 

@@ -2,7 +2,6 @@ use Rattle.std.proofs.Common.{List, ℕ, map, sym, ◌∙◌, subst}
 use Rattle.std.specs.Prelude.{Option, Ok}
 use Rattle.std.proofs.lemmas.Result.{err_from_is_err_and}
 use Rattle.store_records.specs.Records.{IsBodyOf, spell_record}
-use Rattle.store_records.specs.declared.rec.Rec.{Rec}
 use Rattle.topic_store.specs.Stored.{BodyOrNot}
 use Rattle.topic_store.proofs.Rereading.{fault_there, gate_split, known_some, known_there, none_of, none_there, rests_split}
 use Rattle.topic_store.proofs.stored.record_at.Goals as goal
