@@ -19,12 +19,13 @@ use Rattle.store_records.specs.declared.task.Life.{Life}
 use Rattle.store_records.specs.declared.task.Snapshot.{Snapshot}
 use Rattle.store_records.specs.declared.task.StoredTask.{StoredTask}
 use Rattle.store_kept.specs.Keeping.{Keeps, KeptValue}
+use Rattle.store_records.proofs.OrderLaws.{same_id}
 use Rattle.store_compact.specs.Deciding.{is_kept}
 use Rattle.store_compact.specs.Same.{unplaced, unplaced_life}
 use Rattle.store_compact.specs.Staying.{has_lived, is_snap_at, is_there, stays}
 use Rattle.store_compact.proofs.Later.{IsOther, gone_later, lived_after, lived_later, not_there, other_number, own_number, snap_later}
 use Rattle.store_compact.proofs.Lives.{lived_back, unplaced_end, unplaced_numbers}
-use Rattle.store_compact.proofs.Tasks.{Found, each_found, filter_few, filter_free, filter_none, filter_of, filter_put, filter_remove, filter_set, found_in, none_left, none_of_id, put_lost, remove_lost, same_id, set_same, there_has, unplaced_has, unplaced_of, unplaced_put, unplaced_remove, unplaced_set}
+use Rattle.store_compact.proofs.Tasks.{Found, each_found, filter_few, filter_free, filter_none, filter_of, filter_put, filter_remove, filter_set, found_in, none_left, none_of_id, put_lost, remove_lost, set_same, there_has, unplaced_has, unplaced_of, unplaced_put, unplaced_remove, unplaced_set}
 use Rattle.store_compact.proofs.Thin.{IsSteady, IsThin, last_of_all, remains}
 
 -- ---- tests

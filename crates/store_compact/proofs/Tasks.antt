@@ -1,68 +1,19 @@
 -- Lists of tasks some of which are left out.
-use Rattle.std.proofs.Common.{◌≡◌, ℕ, suc, ◌+◌, ◌≤◌, Bool, true, false, not, cond, List, [], ◌∷◌, length, map, None, Some, refl, sym, ap, ◌∙◌, subst, arith, true≢false}
+use Rattle.std.proofs.Common.{◌≡◌, ℕ, ◌≤◌, Bool, true, false, cond, List, [], ◌∷◌, length, map, None, Some, refl, sym, ap, ◌∙◌, subst, arith, true≢false}
 use Rattle.std.specs.Prelude.{◌||◌, option_map}
-use Rattle.std.specs.List.{AllByRecursion as Each, filter, insert, position_or_len, remove}
-use Rattle.std.specs.Ordering.{is_eq, is_lt}
+use Rattle.std.specs.List.{AllByRecursion as Each, filter}
+use Rattle.std.specs.Ordering.{is_lt}
 use Rattle.std.specs.Str.{bytes_eq}
 use Rattle.std.specs.declared.cmp.Ordering.{Ordering}
 use Rattle.std.specs.declared.cmp.Ordering.TheVariants.{Less, Equal, Greater}
 use Rattle.std.proofs.lemmas.Cmp.{nat_list_cmp_total}
-use Rattle.std.proofs.lemmas.Map.Text.{is_eq-slice_cmp}
-use Rattle.std.proofs.lemmas.Slice.Eq.{bytes_eq-Decides}
 use Rattle.kap_base.proofs.TestLaws.{first_false, second_false}
 use Rattle.kap_base.specs.Maps.{byte_order}
 use Rattle.store_records.specs.Held.{has_task, is_called, put_task, remove_task, set_enabled, task_of}
 use Rattle.store_records.specs.Orders.{IdsRise}
 use Rattle.store_records.specs.declared.task.StoredTask.{StoredTask}
+use Rattle.store_records.proofs.OrderLaws.{each_out, each_put, less_apart, out_is, put_in, put_is, same_id, take_out}
 use Rattle.store_compact.specs.Same.{unplaced}
-
--- ---- ids
-
-pub same_id : (a b : List ℕ) → bytes_eq a b ≡ true → a ≡ b
-same_id a b e = (bytes_eq-Decides a b).0 e
-
--- of two ids one stands below the other
-less_apart : (a b : List ℕ) → byte_order a b ≡ Less → bytes_eq b a ≡ false
-less_apart a b less = elim (bytes_eq b a) as (λ t. bytes_eq b a ≡ t → t ≡ false) [
-  | true ↦ λ same.
-      let tied : bytes_eq a b ≡ true = (bytes_eq-Decides a b).1 (sym (same_id b a same)) in
-      absurd (true≢false (sym tied ∙ sym (is_eq-slice_cmp a b) ∙ ap is_eq less))
-  | false ↦ λ other. refl
-] refl
-
--- ---- put in and taken out
-
--- the task put before the first whose id is greater
-abbrev put_in : StoredTask → List StoredTask → List StoredTask
-put_in t [] = t ∷ []
-put_in t (x ∷ xs) = cond (is_lt (byte_order t.id x.id)) (t ∷ x ∷ xs) (x ∷ put_in t xs)
-
-insert_more : (x t : StoredTask) (xs : List StoredTask) (n : ℕ) → insert (x ∷ xs) (1 + n) t ≡ x ∷ insert xs n t
-insert_more x t xs n = let e : 1 + n ≡ suc n = omega arith in rw e refl
-
-put_is : (t : StoredTask) (xs : List StoredTask) → put_task t xs ≡ put_in t xs
-put_is t [] = refl
-put_is t (x ∷ xs) = elim (is_lt (byte_order t.id x.id)) as
-    (λ b. insert (x ∷ xs) (cond (not b) (1 + position_or_len (λ other. is_lt (byte_order t.id other.id)) xs) 0) t ≡ cond b (t ∷ x ∷ xs) (x ∷ put_in t xs)) [
-      | true ↦ refl
-      | false ↦ insert_more x t xs (position_or_len (λ other. is_lt (byte_order t.id other.id)) xs) ∙ ap (λ (l : List StoredTask). x ∷ l) (put_is t xs)
-    ]
-
--- the tasks without the first of this id
-abbrev take_out : List ℕ → List StoredTask → List StoredTask
-take_out id [] = []
-take_out id (x ∷ xs) = cond (is_called id x) xs (x ∷ take_out id xs)
-
-remove_more : (x : StoredTask) (xs : List StoredTask) (n : ℕ) → remove (x ∷ xs) (1 + n) ≡ x ∷ remove xs n
-remove_more x xs n = let e : 1 + n ≡ suc n = omega arith in rw e refl
-
-out_is : (id : List ℕ) (xs : List StoredTask) → remove_task id xs ≡ take_out id xs
-out_is id [] = refl
-out_is id (x ∷ xs) = elim (is_called id x) as
-    (λ b. remove (x ∷ xs) (cond (not b) (1 + position_or_len (is_called id) xs) 0) ≡ cond b xs (x ∷ take_out id xs)) [
-      | true ↦ refl
-      | false ↦ remove_more x xs (position_or_len (is_called id) xs) ∙ ap (λ (l : List StoredTask). x ∷ l) (out_is id xs)
-    ]
 
 -- ---- the task of an id
 
@@ -101,25 +52,11 @@ module _ (P : StoredTask → Type 0) where
     | false ↦ λ e. each_found id xs t e each.1
   ] e
 
-  each_put : (t : StoredTask) (xs : List StoredTask) → P t → Each P xs → Each P (put_in t xs)
-  each_put t [] is each = (is, tt)
-  each_put t (x ∷ xs) is each = elim (is_lt (byte_order t.id x.id)) as (λ b. Each P (cond b (t ∷ x ∷ xs) (x ∷ put_in t xs))) [
-    | true ↦ (is, each)
-    | false ↦ (each.0, each_put t xs is each.1)
-  ]
-
-  each_out : (id : List ℕ) (xs : List StoredTask) → Each P xs → Each P (take_out id xs)
-  each_out id [] each = tt
-  each_out id (x ∷ xs) each = elim (is_called id x) as (λ b. Each P (cond b xs (x ∷ take_out id xs))) [
-    | true ↦ each.1
-    | false ↦ (each.0, each_out id xs each.1)
-  ]
-
   pub each_putting : (t : StoredTask) (xs : List StoredTask) → P t → Each P xs → Each P (put_task t xs)
-  each_putting t xs is each = subst (Each P) (sym (put_is t xs)) (each_put t xs is each)
+  each_putting t xs is each = subst (Each P) (sym (put_is t xs)) (each_put P t xs is each)
 
   pub each_removing : (id : List ℕ) (xs : List StoredTask) → Each P xs → Each P (remove_task id xs)
-  each_removing id xs each = subst (Each P) (sym (out_is id xs)) (each_out id xs each)
+  each_removing id xs each = subst (Each P) (sym (out_is id xs)) (each_out P id xs each)
 
   -- where the task of the id is enabled or isn't
   pub each_setting : (id : List ℕ) (e : Bool) (xs : List StoredTask) → ((t : StoredTask) → task_of id xs ≡ Some t → P (record t { enabled = e })) → Each P xs → Each P (set_enabled id e xs)

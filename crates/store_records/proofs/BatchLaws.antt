@@ -1,11 +1,11 @@
 -- Batches by the lines of their points.
 use Rattle.std.proofs.Common.{◌≡◌, ℕ, zero, suc, ◌+◌, ◌-◌, ◌<◌, Bool, true, false, not, cond, ◌&&◌, List, [], ◌∷◌, ◌++◌, length, Option, Some, None, refl, sym, ap, ◌∙◌, arith}
-use Rattle.std.specs.Prelude.{◌==◌, IsUtf8, Ok, Err, bytes_eq, is_some}
+use Rattle.std.specs.Prelude.{◌==◌, IsUtf8, Ok, bytes_eq, is_some}
 use Rattle.std.specs.Int.{w32}
 use Rattle.std.specs.List.{list_all}
 use Rattle.std.specs.Str.{is_utf8}
 use Rattle.std.specs.Cmp.Lexicographic.{bytes_decides}
-use Rattle.std.proofs.lemmas.Bool.{eq-eqb, eqb-true, false≢true}
+use Rattle.std.proofs.lemmas.Bool.{eq-eqb, false≢true}
 use Rattle.std.proofs.lemmas.List.{append-nil}
 use Rattle.std.proofs.lemmas.Str.{IsUtf8-from_is_utf8}
 use Rattle.kap_base.specs.Points.{PointValue}
@@ -14,7 +14,6 @@ use Rattle.kap_base.proofs.ResultLaws.{same_pair}
 use Rattle.kap_base.proofs.TestLaws.{both}
 use Rattle.line_points.specs.Line.{stored_of}
 use Rattle.line_points.specs.Print.{Print}
-use Rattle.line_points.specs.declared.fault.LineFault.{LineFault}
 use Rattle.line_points.specs.declared.mode.Mode.TheVariants.{Recording}
 use Rattle.line_points.proofs.WholeLaws.{stored_spelled, stored_valid}
 use Rattle.state_code.specs.Spelling.{AllFit, IsBytes, Reading, read_as, read_bytes, read_list, read_many, read_number, read_then, value_then}
@@ -26,7 +25,6 @@ use Rattle.store_records.specs.Records.{FitsRecord, HasForm, IsNoBody, batch_of,
 use Rattle.store_records.specs.declared.rec.Rec.{Rec}
 use Rattle.store_records.specs.declared.rec.Rec.TheVariants as kinds
 use Rattle.store_records.proofs.BodyLaws.{body_reads, is_body, none_is_none}
-use Rattle.store_records.proofs.FollowLaws.{nil_of}
 
 same_then : {A : Type 0} (x y : A) (r t : List ℕ) → value_then x r ≡ value_then y t → (x ≡ y) × (r ≡ t)
 same_then {A} x y r t e =
@@ -79,16 +77,6 @@ module _ (bytes first behind : List ℕ) (one : read_bytes bytes ≡ value_then 
 -- ---- the line of a point
 
 module _ (db rp line : List ℕ) where
-  pub broken_line : has_line_feed line ≡ true → canonical_point db rp line ≡ None
-  broken_line e = rw e refl
-
-  pub faulty_line : (f : LineFault) → stored_of db rp Recording line ≡ Err f → canonical_point db rp line ≡ None
-  faulty_line f e = by (is_line line) refl
-    where
-      by : (b : Bool) → is_line line ≡ b → canonical_point db rp line ≡ None
-      by true g = rw (g, e) refl
-      by false g = rw g refl
-
   pub read_line : (p : PointValue) → has_line_feed line ≡ false → stored_of db rp Recording line ≡ Ok p → canonical_point db rp line ≡ cond (bytes_eq (Print p) line) (Some p) None
   read_line p one e = rw (one, stored_valid db rp Recording line p e, e) refl
 
@@ -128,9 +116,6 @@ front_none None = refl
 front_none (Some r) = refl
 
 module _ (db rp : List ℕ) (count : ℕ) (bytes : List ℕ) where
-  pub none_checked : Checking db rp count bytes 0 bytes
-  none_checked = record { points = []; reads = let all : count - 0 ≡ count = omega arith in rw all (front_none (read_many (read_point db rp) count bytes)) }
-
   -- one more was checked
   pub one_checked : (i : ℕ) (rest line behind : List ℕ) → i < count → read_bytes rest ≡ value_then line behind → true ≡ is_some (canonical_point db rp line)
       → Checking db rp count bytes i rest → Checking db rp count bytes (i + 1) behind
@@ -154,12 +139,6 @@ module _ (db rp : List ℕ) (count : ℕ) (bytes : List ℕ) where
   at_end i rest all so_far =
       let none : count - i ≡ 0 = omega arith in
       sym (rw none at so_far.reads) ∙ ap (λ (xs : List PointValue). value_then xs rest) (append-nil so_far.points)
-
-  -- all were checked
-  pub all_checked : (i : ℕ) (rest : List ℕ) → i ≡ count → true ≡ (length rest == 0) → Checking db rp count bytes i rest → ArePoints db rp count bytes
-  all_checked i rest all done so_far =
-      let none : rest ≡ [] = nil_of rest (eqb-true _ _ (sym done)) in
-      record { points = so_far.points; reads = at_end i rest all so_far ∙ ap (λ (t : List ℕ). value_then so_far.points t) none }
 
   -- all were checked, and there are bytes behind them
   pub more_behind : (i : ℕ) (rest : List ℕ) → i ≡ count → false ≡ (length rest == 0) → Checking db rp count bytes i rest → ArePoints db rp count bytes → ⊥

@@ -24,15 +24,6 @@ pub record Taking (start : TopicsValue) (base : ℕ) (all : List Transition) (to
   pub split : all ≡ taken ++ rest
   pub same : (before : List Transition) → StandsFor (map event_of before) start → base ≡ length before → are_next before all ≡ are_next (before ++ taken) rest
 
-pub none_taken : (start : TopicsValue) (base : ℕ) (all : List Transition) → Taking start base all start base all
-none_taken start base all = record {
-  taken = [];
-  count_is = omega arith;
-  stands = λ before h. subst (λ (l : List Transition). StandsFor (map event_of l) start) (sym (append-nil before)) h;
-  split = refl;
-  same = λ before h long. ap (λ (l : List Transition). are_next l all) (sym (append-nil before));
-}
-
 module _ (start : TopicsValue) (base : ℕ) (all : List Transition) (topics : TopicsValue) (count : ℕ) (t : Transition) (others : List Transition) (so_far : Taking start base all topics count (t ∷ others)) where
   behind : (before : List Transition) → base ≡ length before → count ≡ length (before ++ so_far.taken)
   behind before long = omega (arith, so_far.count_is, length-append before so_far.taken)

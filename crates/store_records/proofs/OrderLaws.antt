@@ -28,7 +28,7 @@ use Rattle.store_records.specs.declared.task.StoredTask.{StoredTask}
 
 -- ---- ids
 
-same_id : (a b : List ℕ) → bytes_eq a b ≡ true → a ≡ b
+pub same_id : (a b : List ℕ) → bytes_eq a b ≡ true → a ≡ b
 same_id a b e = (bytes_eq-Decides a b).0 e
 
 is_same : (a b : List ℕ) → a ≡ b → bytes_eq a b ≡ true
@@ -48,7 +48,7 @@ less_is Equal e = absurd (true≢false (sym e))
 less_is Greater e = absurd (true≢false (sym e))
 
 -- of two ids one stands below the other
-less_apart : (a b : List ℕ) → byte_order a b ≡ Less → bytes_eq b a ≡ false
+pub less_apart : (a b : List ℕ) → byte_order a b ≡ Less → bytes_eq b a ≡ false
 less_apart a b less = by_ids (bytes_eq b a ≡ false) b a
     (λ same. let tied : bytes_eq a b ≡ true = is_same a b (sym (same_id b a same)) in
     absurd (true≢false (sym tied ∙ sym (is_eq-slice_cmp a b) ∙ ap is_eq less)))
@@ -66,14 +66,14 @@ greater_other a b not_less other = elim (byte_order a b) as (λ o. byte_order a 
 -- ---- tasks one after the other
 
 -- the task put before the first whose id is greater
-abbrev put_in : StoredTask → List StoredTask → List StoredTask
+abbrev pub put_in : StoredTask → List StoredTask → List StoredTask
 put_in t [] = t ∷ []
 put_in t (x ∷ xs) = cond (is_lt (byte_order t.id x.id)) (t ∷ x ∷ xs) (x ∷ put_in t xs)
 
 insert_more : (x t : StoredTask) (xs : List StoredTask) (n : ℕ) → insert (x ∷ xs) (1 + n) t ≡ x ∷ insert xs n t
 insert_more x t xs n = let e : 1 + n ≡ suc n = omega arith in rw e refl
 
-put_is : (t : StoredTask) (xs : List StoredTask) → put_task t xs ≡ put_in t xs
+pub put_is : (t : StoredTask) (xs : List StoredTask) → put_task t xs ≡ put_in t xs
 put_is t [] = refl
 put_is t (x ∷ xs) = elim (is_lt (byte_order t.id x.id)) as
     (λ b. insert (x ∷ xs) (cond (not b) (1 + position_or_len (λ other. is_lt (byte_order t.id other.id)) xs) 0) t ≡ cond b (t ∷ x ∷ xs) (x ∷ put_in t xs)) [
@@ -82,14 +82,14 @@ put_is t (x ∷ xs) = elim (is_lt (byte_order t.id x.id)) as
     ]
 
 -- the tasks without the first of this id
-abbrev take_out : List ℕ → List StoredTask → List StoredTask
+abbrev pub take_out : List ℕ → List StoredTask → List StoredTask
 take_out id [] = []
 take_out id (x ∷ xs) = cond (is_called id x) xs (x ∷ take_out id xs)
 
 remove_more : (x : StoredTask) (xs : List StoredTask) (n : ℕ) → remove (x ∷ xs) (1 + n) ≡ x ∷ remove xs n
 remove_more x xs n = let e : 1 + n ≡ suc n = omega arith in rw e refl
 
-out_is : (id : List ℕ) (xs : List StoredTask) → remove_task id xs ≡ take_out id xs
+pub out_is : (id : List ℕ) (xs : List StoredTask) → remove_task id xs ≡ take_out id xs
 out_is id [] = refl
 out_is id (x ∷ xs) = elim (is_called id x) as
     (λ b. remove (x ∷ xs) (cond (not b) (1 + position_or_len (is_called id) xs) 0) ≡ cond b xs (x ∷ take_out id xs)) [
@@ -98,14 +98,14 @@ out_is id (x ∷ xs) = elim (is_called id x) as
     ]
 
 module _ (P : StoredTask → Type 0) where
-  each_put : (t : StoredTask) (xs : List StoredTask) → P t → Each P xs → Each P (put_in t xs)
+  pub each_put : (t : StoredTask) (xs : List StoredTask) → P t → Each P xs → Each P (put_in t xs)
   each_put t [] is each = (is, tt)
   each_put t (x ∷ xs) is each = elim (is_lt (byte_order t.id x.id)) as (λ b. Each P (cond b (t ∷ x ∷ xs) (x ∷ put_in t xs))) [
     | true ↦ (is, each)
     | false ↦ (each.0, each_put t xs is each.1)
   ]
 
-  each_out : (id : List ℕ) (xs : List StoredTask) → Each P xs → Each P (take_out id xs)
+  pub each_out : (id : List ℕ) (xs : List StoredTask) → Each P xs → Each P (take_out id xs)
   each_out id [] each = tt
   each_out id (x ∷ xs) each = elim (is_called id x) as (λ b. Each P (cond b xs (x ∷ take_out id xs))) [
     | true ↦ each.1

@@ -1,12 +1,11 @@
 -- States one behind the other, as a loop gathers them.
-use Rattle.std.proofs.Common.{◌≡◌, ℕ, ◌+◌, ◌-◌, ◌<◌, List, [], ◌∷◌, ◌++◌, length, sym, ap, ◌∙◌, arith, length-append}
-use Rattle.std.proofs.lemmas.List.{append-nil, flat_map_more}
+use Rattle.std.proofs.Common.{◌≡◌, ℕ, ◌+◌, ◌-◌, ◌<◌, List, [], ◌∷◌, ◌++◌, length, ap, ◌∙◌, arith, length-append}
+use Rattle.std.proofs.lemmas.List.{flat_map_more}
 use Rattle.std.specs.Int.{w32}
 use Rattle.std.specs.List.{flat_map}
 use Rattle.state_code.specs.Places.{Passes, Place}
-use Rattle.state_code.specs.Spelling.{read_bytes, spell_bytes, spell_number, value_then}
+use Rattle.state_code.specs.Spelling.{read_bytes, spell_bytes, spell_number}
 use Rattle.state_code.proofs.Loops.{Taken, one_taken}
-use Rattle.store_records.specs.States.{Gathered}
 
 -- i of count states were taken
 pub record Gathering (count i : ℕ) (first from : Place) (states : List ℕ) : Type 0 where
@@ -23,16 +22,4 @@ one_gathered count i first from after states more cell lt passed is so_far = rec
   taken = one_taken read_bytes count i so_far.cells cell first from after lt passed so_far.taken;
   is = is ∙ ap (λ (t : List ℕ). t ++ spell_bytes cell) so_far.is ∙ flat_map_more spell_bytes (spell_number w32 count) so_far.cells cell;
   long = omega (arith, length-append so_far.cells (cell ∷ []), so_far.long);
-}
-
--- all were taken
-pub all_gathered : (count i : ℕ) (first from : Place) (states : List ℕ) → i ≡ count → Gathering count i first from states → Gathered count first from states
-all_gathered count i first from states all so_far = record {
-  cells = so_far.cells;
-  reads =
-      let none : count - i ≡ 0 = omega arith in
-      sym (rw none at so_far.taken.reads) ∙ ap (λ (xs : List (List ℕ)). value_then xs from.rest) (append-nil so_far.cells);
-  is = so_far.is;
-  long = so_far.long ∙ all;
-  offset = so_far.taken.offset;
 }
