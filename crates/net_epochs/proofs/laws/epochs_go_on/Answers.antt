@@ -1,3 +1,4 @@
+use Rattle.net_epochs.proofs.CarryLaws.{lives_carried}
 use Rattle.net_epochs.proofs.NetLaws.{net_went}
 use Rattle.net_epochs.proofs.RiseLaws.{later_rise}
 use Rattle.net_epochs.proofs.laws.epochs_go_on.Goals as goal
@@ -10,3 +11,6 @@ returns-clause-did g c = λ n new upto marks courses before after last are ends 
 
 pub returns-clause-rises : goal.returns-clause-rises
 returns-clause-rises g c = λ n k low courses numbers are. later_rise g.N.Node.answer g.N.Node.life g.N.Node.number g.met.N.Node.stamped numbers n k low courses are
+
+pub returns-clause-carried : goal.returns-clause-carried
+returns-clause-carried g c = lives_carried g.N.Node g.met.N.Node.stamped g.met.N.Node.folds

@@ -6,7 +6,7 @@ use Rattle.task_run.specs.Courses.{grown, later_effects}
 use Rattle.flow_core.specs.Gathering.{LivesRise}
 use Rattle.flow_core.proofs.GatheredLaws.{gathered_loaded, gathered_moved}
 use Rattle.flow_core.specs.Nets.{HasStreamsCarried, IsLifeIn, IsResting, numbers_of, plans_in, specs_in}
-use Rattle.flow_core.specs.Ran.{effects_in}
+use Rattle.flow_core.specs.Done.{effects_in}
 use Rattle.flow_core.specs.Rooms.{rooms_in}
 use Rattle.flow_core.proofs.UniqueLaws.{sorted_is}
 use Rattle.net_epochs.specs.Epochs.{IsOnCourse}
