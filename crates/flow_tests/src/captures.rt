@@ -66,9 +66,7 @@ fn load_new<N: Node>(
     marks: &[Stamp],
 ) -> Result<Net<N>, NoMemory>
     requires few { HasFewParents plan }
-    requires first { AreFirstNodes N.spec N.state N.first plan.nodes }
     requires last { last.0 ≡ length points.now }
-    requires marks { AreMarksOf points.now last marks.now }
     ensures { IfOk result (IsLoadedNew N.Node plan points.now last marks.now) }
 {
     effects_are_gathered::<N>();
@@ -89,7 +87,6 @@ fn stop_inside<N: Node>(
     steps: &[Step],
 ) -> Result<Option<(Net<N>, Bytes)>, NoMemory>
     requires few { HasFewParents plan }
-    requires first { AreFirstNodes N.spec N.state N.first plan.nodes }
     requires steady { HasSteadyStream N.Node plan }
     requires last { last.0 ≡ length points.now }
     requires marks { AreMarksOf points.now last (mark ∷ []) }
@@ -116,7 +113,6 @@ fn stop_at_rest<N: Node>(
     last: Stamp,
 ) -> Result<Option<(Net<N>, Bytes)>, NoMemory>
     requires few { HasFewParents plan }
-    requires first { AreFirstNodes N.spec N.state N.first plan.nodes }
     requires last { last.0 ≡ length points.now }
     ensures stopped { IfOk result (λ both. IfSome both (λ stopped.
         Stopped N.Node plan points.now last [] last stopped.0 stopped.1)) }
