@@ -34,13 +34,6 @@ pub each_append : (P : Effect → Type 0) (xs ys : List Effect) → Each P xs �
 each_append P [] ys a b = b
 each_append P (x ∷ xs) ys a b = (a.0, each_append P xs ys a.1 b)
 
-each-with : (P : Effect → Type 0) (s : ℕ) (xs : List Effect) → Each P xs → Each P (effects_with s xs)
-each-with P s [] h = tt
-each-with P s (x ∷ xs) h = elim (x.stamp.0 == s) as (λ b. Each P (cond b (x ∷ effects_with s xs) (effects_with s xs))) [
-  | true ↦ (h.0, each-with P s xs h.1)
-  | false ↦ each-with P s xs h.1
-]
-
 pub each-map : (P Q : Effect → Type 0) (xs : List Effect) → ((x : Effect) → P x → Q x) → Each P xs → Each Q xs
 each-map P Q [] f h = tt
 each-map P Q (x ∷ xs) f h = (f x h.0, each-map P Q xs f h.1)
@@ -48,13 +41,6 @@ each-map P Q (x ∷ xs) f h = (f x h.0, each-map P Q xs f h.1)
 before-each : (P : Effect → Type 0) (a : Effect) (ys : List Effect) → ((y : Effect) → P y → GoesBefore a (y ∷ [])) → Each P ys → GoesBefore a ys
 before-each P a [] f h = tt
 before-each P a (y ∷ ys) f h = ((f y h.0).0, before-each P a ys f h.1)
-
-have-stamp : (s : ℕ) (xs : List Effect) → Each (λ e. e.stamp.0 ≡ s) (effects_with s xs)
-have-stamp s [] = tt
-have-stamp s (x ∷ xs) = elim (x.stamp.0 == s) as (λ b. (x.stamp.0 == s) ≡ b → Each (λ e. e.stamp.0 ≡ s) (cond b (x ∷ effects_with s xs) (effects_with s xs))) [
-  | true ↦ λ t. let same : x.stamp.0 ≡ s = grind (arith, nat_tests) in (same, have-stamp s xs)
-  | false ↦ λ t. have-stamp s xs
-] refl
 
 -- ---- where effects stand
 
