@@ -1,7 +1,6 @@
 -- One epoch behind others, of lives that all began at the first point.
 use Rattle.std.proofs.Common.{◌≡◌, ℕ, ◌+◌, List, [], ◌∷◌, ◌++◌, IsPermutation, false, inl, length, map, refl, sym, ap, subst, ◌∙◌, arith, length-append}
 use Rattle.std.specs.List.{AllByRecursion as Each, AllZip}
-use Rattle.std.proofs.lemmas.List.Sorted.{IsPermutation-sym, IsPermutation-trans}
 use Rattle.kap_base.specs.Points.{PointValue}
 use Rattle.kap_base.specs.declared.items.Effect.{Effect}
 use Rattle.kap_base.specs.declared.items.Stamp.{Stamp}
@@ -18,11 +17,10 @@ use Rattle.flow_core.specs.Gathering.{LivesRise, NumbersEffects}
 use Rattle.flow_core.specs.Messages.{load_messages}
 use Rattle.flow_core.specs.Nets.{IsLifeIn, IsResting, NetValue, plans_from, plans_in, specs_in}
 use Rattle.flow_core.specs.Sorting.{AreSorted}
-use Rattle.flow_core.proofs.UniqueLaws.{sorted_is}
 use Rattle.net_epochs.specs.Epochs.{IsOnCourse, nodes_in}
 use Rattle.net_epochs.proofs.CarryLaws.{first_ends, first_grown, lives_carried}
 use Rattle.net_epochs.proofs.NetLaws.{grown_nodes, net_went}
-use Rattle.net_epochs.proofs.RiseLaws.{later_rise}
+use Rattle.net_epochs.proofs.RiseLaws.{later_sorted}
 use Rattle.net_run.specs.Epochs.{Stands}
 
 -- each has seen the points of the epoch too
@@ -66,9 +64,7 @@ module _ {N P S : Type 0} (g : Ghosts N P S) (stamped : (p : P) (before : List I
       let went = net_went g stamped folds (length before) new upto [] (from_first before nodes) net.lives rested.lives own tt (first_ends before nodes) s.lives plans specs kept rest in
       let due = later_effects g.answer (length before) (length new) (map (grown new) (from_first before nodes)) in
       let rise : LivesRise g.life g.number 1 (nodes_in (map (grown new) (from_first before nodes))) = subst (LivesRise g.life g.number 1) (sym (grown_nodes new (from_first before nodes) ∙ first-nodes before nodes)) s.rise in
-      let is : result ≡ due =
-      sorted_is due result (later_rise g.answer g.life g.number stamped numbers (length before) (length new) 1 (map (grown new) (from_first before nodes)) rise)
-      (IsPermutation-trans due (effects_in rested.lives) result (IsPermutation-sym (effects_in rested.lives) due went.did) all) sorted in
+      let is : result ≡ due = later_sorted g.answer g.life g.number stamped numbers (length before) (length new) 1 (map (grown new) (from_first before nodes)) (effects_in rested.lives) result rise went.did all sorted in
       sym (effects_from_first g.answer nodes (before ++ new))
       ∙ ap (λ (m : ℕ). course_effects g.answer m (from_first (before ++ new) nodes)) (length-append before new)
       ∙ ap (course_effects g.answer (length before + length new)) (sym (first_grown before new nodes))
