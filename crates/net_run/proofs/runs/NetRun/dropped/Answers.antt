@@ -10,10 +10,11 @@ use Rattle.net_run.proofs.runs.NetRun.dropped.Goals as goal
 pub returns : goal.returns
 returns g c =
     let node = g.N.Node in
+    let met = g.met.N.Node g.world.𝓛 g.world.𝓜 g.world.𝓡 (λ s x. x, λ x. x, λ x. x, λ x. x) in
     let fresh : c.self.inside.spent ≡ false = ap (λ (r : NetRunValue g.row.N-Spec.Denot). r.spent) c.self.view_is ∙ c.requires in
     let stood = (c.self.invariant fresh).1 in
     if_ok c.counts.result
     (λ counts is. is
-    ∙ lives_dropped node g.met.N.Node.stamped g.met.N.Node.folds g.met.N.Node.counts (points_of c.self.inside.trail) (map (graph_of node.spec) c.self.inside.plans.value.items) _ stood.lives
+    ∙ lives_dropped node met.stamped met.folds met.counts (points_of c.self.inside.trail) (map (graph_of node.spec) c.self.inside.plans.value.items) _ stood.lives
     ∙ ap (λ (r : NetRunValue g.row.N-Spec.Denot). dropped_of node.answer r.lives r.points) c.self.view_is)
     c.counts.ensures
