@@ -19,7 +19,7 @@ use Rattle.flow_core.specs.Nets.{IsLifeIn, IsResting, NetValue, plans_from, plan
 use Rattle.flow_core.specs.Sorting.{AreSorted}
 use Rattle.net_epochs.specs.Epochs.{IsOnCourse, nodes_in}
 use Rattle.net_epochs.proofs.CarryLaws.{first_ends, first_grown, lives_carried}
-use Rattle.net_epochs.proofs.NetLaws.{grown_nodes, net_went}
+use Rattle.net_epochs.proofs.NetLaws.{NetWent, grown_nodes, net_went}
 use Rattle.net_epochs.proofs.RiseLaws.{later_sorted}
 use Rattle.net_run.specs.Epochs.{Stands}
 
@@ -39,10 +39,12 @@ module _ {N P S : Type 0} (g : Ghosts N P S) (stamped : (p : P) (before : List I
   own : upto.0 ≡ length before + length new
   own = let was : net.last.0 ≡ length before = s.last in omega (arith, was, last)
 
+  went : NetWent g stamped folds (length before) new (from_first before nodes) rested.lives
+  went = net_went g stamped folds (length before) new upto [] (from_first before nodes) net.lives rested.lives own tt (first_ends before nodes) s.lives plans specs kept rest
+
   -- behind it a net of the same lives stands
   pub stands_on : (net' : NetValue N) → net'.lives ≡ rested.lives → net'.last ≡ upto → net'.gathered ≡ [] → net'.spent ≡ false → Stands g nodes (before ++ new) net'
   stands_on net' same at none unspent =
-      let went = net_went g stamped folds (length before) new upto [] (from_first before nodes) net.lives rested.lives own tt (first_ends before nodes) s.lives plans specs kept rest in
       let carried = lives_carried g stamped folds before new upto [] nodes net.lives rested.lives own tt s.lives s.carried.lives_are plans specs kept rest in
       record {
         last = ap (λ (t : Stamp). t.0) at ∙ own ∙ sym (length-append before new);
@@ -61,7 +63,6 @@ module _ {N P S : Type 0} (g : Ghosts N P S) (stamped : (p : P) (before : List I
   pub effects_on : ((p : P) → NumbersEffects (g.answer p)) → (result : List Effect) → IsPermutation (effects_in rested.lives) result → AreSorted result
       → effects_of g.answer nodes (before ++ new) ≡ effects_of g.answer nodes before ++ result
   effects_on numbers result all sorted =
-      let went = net_went g stamped folds (length before) new upto [] (from_first before nodes) net.lives rested.lives own tt (first_ends before nodes) s.lives plans specs kept rest in
       let due = later_effects g.answer (length before) (length new) (map (grown new) (from_first before nodes)) in
       let rise : LivesRise g.life g.number 1 (nodes_in (map (grown new) (from_first before nodes))) = subst (LivesRise g.life g.number 1) (sym (grown_nodes new (from_first before nodes) ∙ first-nodes before nodes)) s.rise in
       let is : result ≡ due = later_sorted g.answer g.life g.number stamped numbers (length before) (length new) 1 (map (grown new) (from_first before nodes)) (effects_in rested.lives) result rise went.did all sorted in
