@@ -56,12 +56,11 @@ static int turn_at(const char *call, const char *file) {
 }
 
 static int turn(const char *call, int fd) {
-    const char *standard[] = {"standard input", "standard output", "standard error"};
     char link[40], file[4200] = "";
+    if (fd == STDIN_FILENO || fd == STDOUT_FILENO)
+        return turn_at(call, fd == STDIN_FILENO ? "standard input" : "standard output");
     snprintf(link, sizeof link, "/proc/self/fd/%d", fd);
-    if (fd > 2 && syscall(SYS_readlinkat, AT_FDCWD, link, file, sizeof file - 1) < 0)
-        return GO;
-    return turn_at(call, fd > 2 ? file : standard[fd < 0 ? 2 : fd]);
+    return syscall(SYS_readlinkat, AT_FDCWD, link, file, sizeof file - 1) < 0 ? GO : turn_at(call, file);
 }
 
 #define UNLESS_FAILING(why) int fails = (why); if (fails > 0) { errno = fails; return -1; }

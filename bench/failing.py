@@ -8,15 +8,17 @@ Then it is run again for each kind of call, with the first, the second and so on
 half of the bytes, or with half and a full disk behind it, up to a number at which none is left. It asks of each run:
 
 - the status is 73 where a call on a file failed, 71 where a read of the input did, 72 where a write of the output did, and
-  0 where the call was to be made again (RETRIED) or only half of the bytes went. No other status comes, and none of 70;
-- at 0 the output is what the whole command writes; else it is a beginning of that;
+  0 where the call was made again (EINTR of those RETRIED) or only half of the bytes went; and standard error says so. No
+  other status comes, nor is memory ever wanted (70);
+- at 0 the output is what the whole command writes, else a beginning of that;
 - the store opens, and the lists (`tasks`, `topics`, `alerts`, `export`) are those before the command or those behind it: at
   0 and 72 those behind it, at 71 those before it, at 73 either. Opening it again changes no byte of the files. Behind an
   `init` that failed, `init` makes the store, or says that it exists;
 - those lists themselves are right: `alerts` is what a replay of `export` prints of the same tasks.
 
-And of the runs in which nothing fails: what was written or cut was synced before the end, and a file that was made is
-followed by a sync of the folder. So a sync that does nothing is refused here. It ends with status 1 if anything isn't so."""
+And of the runs in which nothing fails: what was written is synced before the file is written again, and before the end, and
+a file's first sync is followed by one of the folder. So a sync that does nothing is refused here. It ends with status 1 if
+anything isn't so."""
 import collections
 import hashlib
 import os
@@ -43,7 +45,7 @@ HOWS = {name: ["EIO", "EINTR"] for name in ("fsync", "fdatasync", "flock", "stat
 HOWS.update({name: ["EIO", "EINTR", "HALF"] for name in ("pread", "read")})
 HOWS.update({name: ["EIO", "ENOSPC", "EINTR", "HALF", "FULL"] for name in ("pwrite", "write")})
 HOWS.update({name: ["EIO", "ENOSPC", "EINTR"] for name in ("open", "ftruncate")})
-RETRIED = {"pwrite", "open", "fsync", "fdatasync", "ftruncate", "flock", "read", "write"}
+RETRIED = {"pwrite", "open", "fsync", "fdatasync", "ftruncate", "flock"}
 WRONG, LOOKED, RUNS = [], {}, collections.Counter()
 
 
@@ -170,26 +172,29 @@ def right_statuses(calls):
     failed = [(name, how, file) for name, how, file in calls if how != "-"]
     right = set()
     for name, how, file in failed:
-        status = {"standard input": 71, "standard output": 72, "standard error": 0}.get(file, 73)
+        status = {"standard input": 71, "standard output": 72}.get(file, 73)
         is_whole = how == "HALF" or (how == "EINTR" and name in RETRIED)
         right |= {0} if is_whole else {0, status} if how == "FULL" and len(failed) == 1 else {status}
     return right
 
 
 def look_at_syncs(name, calls, folder):
-    """That what is written is synced before the end, and the folder where a file is made."""
-    open_writes, made, known = set(), set(), set()
+    """That what is written is synced before the file is written again, and before the end, and the folder where a file is
+    made: so nothing that was acknowledged waits for a later sync, and no gate opens before its record."""
+    waiting, made, known = set(), set(), set()
     for kind, _, file in calls:
         if kind in ("pwrite", "ftruncate"):
-            open_writes.add(file)
+            if kind == "pwrite" and (kind, file) in waiting:
+                WRONG.append(f"{name}: {file} is written before what was written is synced")
+            waiting.add((kind, file))
         elif kind == "fdatasync":
-            open_writes.discard(file)
+            waiting -= {("pwrite", file), ("ftruncate", file)}
             made |= {file} - known
             known.add(file)
         elif kind == "fsync" and file == folder:
             made.clear()
-    if open_writes or made or not any(kind == "fdatasync" for kind, _, _ in calls):
-        WRONG.append(f"{name}: not synced: {open_writes} {made}")
+    if waiting or made or not known:
+        WRONG.append(f"{name}: not synced: {waiting} {made}")
 
 
 def fail_each(store, words, given):
