@@ -25,6 +25,20 @@ struct Polled {
     end: Option<LinkEnd>,
 }
 
+/// What a connection reads, as a line says.
+fn link_of(
+    alloc: Global,
+    step: &str,
+    waits: &str,
+    fails: &str,
+    all: Vec<u8>,
+) -> Result<MemPollLink, LineFault> {
+    let step = step_of(step)?;
+    let waits = calls(alloc, waits)?;
+    let fails = calls(alloc, fails)?;
+    Ok(MemPollLink::new(alloc, all, step, waits, fails))
+}
+
 /// A connection that reads what a line says.
 fn polled_of(
     alloc: Global,
@@ -33,11 +47,9 @@ fn polled_of(
     fails: &str,
     all: Vec<u8>,
 ) -> Result<Polled, LineFault> {
-    let step = step_of(step)?;
-    let waits = calls(alloc, waits)?;
-    let fails = calls(alloc, fails)?;
+    let link = link_of(alloc, step, waits, fails, all)?;
     Ok(Polled {
-        link: MemPollLink::new(alloc, all, step, waits, fails),
+        link,
         dialog: Dialog::new(alloc),
         serve: Answers { served: 0 },
         steps: 0,
@@ -101,10 +113,22 @@ struct Two {
     other: Polled,
 }
 
+/// A connection that reads these bytes so many times.
+fn polled_times(
+    alloc: Global,
+    step: &str,
+    waits: &str,
+    all: &[u8],
+    times: u64,
+) -> Result<Polled, LineFault> {
+    let all = repeated(alloc, all, times)?;
+    polled_of(alloc, step, waits, "-", all)
+}
+
 /// Two connections that read what a line says, the second one twice.
 fn two_of(alloc: Global, step: &str, waits: &str, all: &[u8]) -> Result<Two, LineFault> {
-    let one = polled_of(alloc, step, waits, "-", repeated(alloc, all, 1)?)?;
-    let other = polled_of(alloc, step, waits, "-", repeated(alloc, all, 2)?)?;
+    let one = polled_times(alloc, step, waits, all, 1)?;
+    let other = polled_times(alloc, step, waits, all, 2)?;
     Ok(Two { one, other })
 }
 

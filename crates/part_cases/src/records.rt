@@ -4,7 +4,7 @@ ghost use Rattle.std.specs.Prelude.{IsTrue};
 ghost use Rattle.store_records.specs.Records.{HasForm};
 
 use case_text::{LineFault, first_of, number, point_of, text};
-use kap_base::{Level, Points};
+use kap_base::{Level, Point, Points, Text};
 use std::alloc::Global;
 use store_records::{Rec, Transitions, is_batch};
 use topic_core::Transition;
@@ -20,28 +20,63 @@ pub fn has_form(rec: &Rec) -> bool
     }
 }
 
+/// The point `m x=1i` at a time.
+fn point_at(alloc: Global, time: u64, db: &Text, rp: &Text) -> Result<Point, LineFault> {
+    let line = format!(in alloc; "m x=1i {time}")?;
+    point_of(alloc, line.as_bytes(), db, rp)
+}
+
+/// Adds the point at a time.
+fn add_point(
+    alloc: Global,
+    time: u64,
+    db: &Text,
+    rp: &Text,
+    points: &mut Points,
+) -> Result<(), LineFault> {
+    let point = point_at(alloc, time, db, rp)?;
+    points.push(point)?;
+    Ok(())
+}
+
+/// So many points, with the times from the first on.
+fn points_from(
+    alloc: Global,
+    first: u64,
+    count: u64,
+    db: &Text,
+    rp: &Text,
+) -> Result<Points, LineFault> {
+    let mut points = Points::new(alloc);
+    let mut time = first;
+    for _ in 0..count {
+        add_point(alloc, time, db, rp, &mut points)?;
+        time = time.saturating_add(1);
+    }
+    Ok(points)
+}
+
 /// `FIRST COUNT`: a batch of so many points `m x=1i`, with the times from the first on.
 fn many_points(alloc: Global, line: &str) -> Result<Rec, LineFault> {
     let (first, count) = first_of(line);
     let db = text(alloc, "d")?;
     let rp = text(alloc, "r")?;
-    let mut points = Points::new(alloc);
-    let mut time = number(first)?;
-    for _ in 0..number(count)? {
-        let line = format!(in alloc; "m x=1i {time}")?;
-        points.push(point_of(alloc, line.as_bytes(), &db, &rp)?)?;
-        time = time.saturating_add(1);
-    }
+    let points = points_from(alloc, number(first)?, number(count)?, &db, &rp)?;
     Ok(Rec::Batch { db, rp, points })
+}
+
+/// The level before the transition of a number, and the one behind it.
+fn levels_in_turn(number: u64) -> (Level, Level) {
+    if number.is_multiple_of(2) {
+        (Level::Critical, Level::Fine)
+    } else {
+        (Level::Fine, Level::Critical)
+    }
 }
 
 /// The transition of a number, from OK to CRITICAL where it is odd, and back.
 fn in_turn(alloc: Global, number: u64) -> Result<Transition, LineFault> {
-    let (old_level, new_level) = if number.is_multiple_of(2) {
-        (Level::Critical, Level::Fine)
-    } else {
-        (Level::Fine, Level::Critical)
-    };
+    let (old_level, new_level) = levels_in_turn(number);
     Ok(Transition {
         number,
         topic: text(alloc, "t")?,

@@ -58,6 +58,11 @@ fn fault_bytes(name: &str) -> Result<&'static [u8], LineFault> {
     }
 }
 
+/// The bytes behind so many.
+fn behind(bytes: &[u8], count: usize) -> &[u8] {
+    bytes.split_at(count.min(bytes.len())).1
+}
+
 /// Writes until all is written, and adds where a write failed.
 fn write_all<L: Link>(
     alloc: Global,
@@ -71,7 +76,7 @@ fn write_all<L: Link>(
             return Ok(());
         }
         match link.write(rest) {
-            Ok(count) => rest = rest.split_at(count.min(rest.len())).1,
+            Ok(count) => rest = behind(rest, count),
             Err(Failed) => {
                 put_number(alloc, "failed with ", rest.len() as u64, to)?;
                 to.append(b" left; ")?;

@@ -17,16 +17,18 @@ use std::alloc::Global;
 /// How many reads are made at most.
 const MOST: u32 = 1_000_000;
 
+/// Adds the names under which points are to be written.
+fn put_names(alloc: Global, write: &WriteAsk, to: &mut Bytes) -> Result<(), NoMemory> {
+    let text = format!(in alloc; "write '{}' '{}' ", write.db, write.rp)?;
+    put_shown(text.as_bytes(), to)
+}
+
 /// Adds the text of points to be written: their names, their precision and how many bytes they have.
 fn put_write(alloc: Global, write: &WriteAsk, to: &mut Bytes) -> Result<(), NoMemory> {
-    let text = format!(in alloc;
-        "write '{}' '{}' {:?} {}",
-        write.db,
-        write.rp,
-        write.precision,
-        write.body.len()
-    )?;
-    put_shown(text.as_bytes(), to)
+    put_names(alloc, write, to)?;
+    let text = format!(in alloc; "{:?} ", write.precision)?;
+    put_shown(text.as_bytes(), to)?;
+    put_number(alloc, "", write.body.len() as u64, to)
 }
 
 /// Adds the text of a task to be defined.
@@ -165,12 +167,17 @@ fn take_all(alloc: Global, held: &mut Bytes, to: &mut Bytes) -> Result<bool, NoM
     Ok(false)
 }
 
+/// So many bytes at the front.
+fn first_bytes(bytes: &[u8], count: usize) -> &[u8] {
+    bytes.split_at(count.min(bytes.len())).0
+}
+
 /// Adds what a read gives, and says how many bytes that is; none where it fails.
 fn read_piece<L: Link>(link: &mut L, held: &mut Bytes) -> Result<Option<usize>, NoMemory> {
     let mut piece = [0u8; 1024];
     match link.read(&mut piece) {
         Ok(count) => {
-            held.append(piece.split_at(count.min(1024)).0)?;
+            held.append(first_bytes(&piece, count))?;
             Ok(Some(count))
         }
         Err(Failed) => Ok(None),
