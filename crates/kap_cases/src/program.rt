@@ -40,6 +40,7 @@ pub trait Program {
 }
 
 /// `command` over nodes of a type.
+#[derive(Drop)]
 pub struct Commands<'a, R: Threads + Sync, N: ScriptNode + NumberingNode + Send> {
     rt: &'a R,
     of: PhantomData<N>,
