@@ -157,13 +157,12 @@ def looked(folder, wrongs):
 
 
 def look_at_alerts(name, lists):
-    """That the alerts are those of a replay of the export, where each life began before the first point."""
-    open_lives = [line.split()[0] for line in lists[0].decode().splitlines() if line.endswith(" enabled")]
-    if not lists[3] or not open_lives:
+    """That the alerts are those of a replay of the export, where just the two tasks are enabled that saw all points."""
+    enabled = [line.split()[0] for line in lists[0].decode().splitlines() if line.endswith(" enabled")]
+    if not lists[3] or enabled != sorted(SCRIPTS):
         return
-    words = [word for task in open_lives for word in (task, SCRIPTS[task])]
-    told = [line for line in call("-", ["replay", *words], lists[3]).splitlines() if line.startswith(b"alert ")]
-    if len(open_lives) == len(SCRIPTS) and lists[2].splitlines() != told:
+    told = [line for line in call("-", ["replay", *PAIRS], lists[3]).splitlines() if line.startswith(b"alert ")]
+    if lists[2].splitlines() != told:
         WRONG.append(f"{name}: the alerts aren't those of a replay of the export")
 
 
