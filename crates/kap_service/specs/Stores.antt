@@ -5,6 +5,7 @@ use Rattle.kap_http.specs.ReplyValues.{ReplyValue}
 use Rattle.kap_http.specs.declared.ask.Ask.{Ask}
 use Rattle.topic_core.specs.declared.transition.Transition.{Transition}
 use Rattle.kap_service.specs.Asks.{IsFailed, change_of}
+use Rattle.kap_service.specs.Causes.{AreLater}
 use Rattle.kap_service.specs.Values.{Decisions, Engines, Stores}
 
 -- a store that one of these becomes
@@ -48,6 +49,17 @@ pub record AreBehind (stored : List Transition) (after : ℕ) (some : List Trans
 -- all was posted, or all but what the last change stored
 abbrev pub IsAlmostPosted : List Transition → List Transition → List Transition → Type 0
 IsAlmostPosted posted own stored = (posted ≡ stored) ⊎ (posted ++ own ≡ stored)
+
+-- A reading of an engine changes nothing of what it keeps, and no store is left that wasn't before; its faults are
+-- counted.
+pub record HasRead {E : Type 0} (value : E → Engines) (right : E → Type 0) (leaves : E → Stores → Type 0) (old new : E)
+    : Type 0 where
+  pub later : AreLater (value old).faults (value new).faults
+  pub changes : (value new).changes ≡ (value old).changes
+  pub spent : (value new).spent ≡ (value old).spent
+  pub own : (value new).own ≡ (value old).own
+  pub stays_right : right old → right new
+  pub stores : right old → (store : Stores) → leaves new store → leaves old store
 
 -- ---- decisions
 

@@ -21,7 +21,7 @@ pub trait Engine: Drop {
     ghost use Rattle.topic_core.specs.declared.transition.Transition.{Transition};
     ghost use Rattle.kap_service.specs.Asks.{IsFailed};
     ghost use Rattle.kap_service.specs.Causes.{AreLater, HasFailed};
-    ghost use Rattle.kap_service.specs.Stores.{AreBehind, IsDecided, IsDueReply, IsMadeAgain, Reached};
+    ghost use Rattle.kap_service.specs.Stores.{AreBehind, HasRead, IsDecided, IsDueReply, IsMadeAgain, Reached};
     ghost use Rattle.kap_service.specs.Values.{Engines, Stores};
     ghost use Rattle.kap_service.specs.declared.fault.ShareFault.TheVariants.{DiskFault, NotStore};
 
@@ -95,17 +95,11 @@ pub trait Engine: Drop {
         requires unspent { (value self.old).spent ≡ false }
         ensures behind { right self.old → (store : Stores) → leaves self.old store
             → IfOk result (AreBehind store.stored after) }
-        ensures later { AreLater (value self.old).faults (value self.new).faults }
+        ensures read { HasRead value right leaves self.old self.new }
         ensures disk { IsErrOf result DiskFault
             → HasRisen (value self.old).faults.disk (value self.new).faults.disk }
         ensures told { right self.old → (part : Part) (offset : ℕ)
-            → IsErrOf result (NotStore part offset) → ⊥ }
-        ensures changes { (value self.new).changes ≡ (value self.old).changes }
-        ensures spent { (value self.new).spent ≡ (value self.old).spent }
-        ensures own { (value self.new).own ≡ (value self.old).own }
-        ensures right { right self.old → right self.new }
-        ensures stores { right self.old → (store : Stores) → leaves self.new store
-            → leaves self.old store };
+            → IsErrOf result (NotStore part offset) → ⊥ };
 
     /// Some store is left.
     ghost some: { (e : Self) → right e → (store : Stores) × leaves e store };

@@ -7,14 +7,8 @@ mod decided;
 mod engine;
 mod fault;
 mod judged;
-mod seat;
-mod shared;
 mod showing;
-mod state;
 
 pub use decided::{Decided, decide};
 pub use engine::Engine;
 pub use fault::ShareFault;
-pub use seat::Seat;
-pub use shared::{Closed, Lock, Shared, Unshared};
-pub use state::Since;
