@@ -1,2 +1,3 @@
 pub mod StoreLaws
 pub mod PostLaws
+pub mod KeptLaws

@@ -19,6 +19,7 @@ use std::sync::ledger::{Book, Ledger, Share};
 pub(crate) fn failed_reply(alloc: Global, fault: ShareFault) -> Reply
     ensures failed { IsFailed result.status }
     ensures store { result.status ≡ 500 → fault ≢ no_memory }
+    ensures memory { fault ≡ no_memory → result.status ≡ 503 }
 {
     match fault {
         ShareFault::NoMemory => Refusal::NoMemory.reply(alloc),

@@ -7,8 +7,12 @@ mod decided;
 mod engine;
 mod fault;
 mod judged;
+mod seat;
 mod showing;
+mod state;
 
 pub use decided::{Decided, decide};
 pub use engine::Engine;
 pub use fault::ShareFault;
+pub use seat::Seat;
+pub use state::Since;
