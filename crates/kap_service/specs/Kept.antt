@@ -4,7 +4,7 @@ use mathlib.Core.List.{IsPrefix}
 use Rattle.topic_core.specs.declared.transition.Transition.{Transition}
 use Rattle.topic_board.specs.Values.{Posts}
 use Rattle.kap_service.specs.Causes.{AreCaused}
-use Rattle.kap_service.specs.Values.{Engines, Faults, Stores}
+use Rattle.kap_service.specs.Values.{Faults, Seats, Stores}
 
 -- the transitions that were posted
 abbrev pub posted : Posts → List Transition
@@ -27,3 +27,10 @@ pub record IsKept (before : Faults) (faults : Faults) (right : Type 0) (leaves :
   pub right_is : right
   pub stores : (store : Stores) → leaves store → IsTold first second short posts store
   pub caused : AreCaused before faults second
+
+-- a seat that was never answered
+pub record IsNewSeat (seat : Seats) : Type 0 where
+  pub changes : seat.changes ≡ 0
+  pub faults : seat.faults ≡ 0
+  pub answers : seat.answers ≡ 0
+  pub status : seat.status ≡ 0

@@ -8,6 +8,7 @@ mod engine;
 mod fault;
 mod judged;
 mod seat;
+mod shared;
 mod showing;
 mod state;
 
@@ -15,4 +16,5 @@ pub use decided::{Decided, decide};
 pub use engine::Engine;
 pub use fault::ShareFault;
 pub use seat::Seat;
+pub use shared::{Closed, Lock, Shared, Unshared};
 pub use state::Since;

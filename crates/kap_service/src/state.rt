@@ -3,6 +3,9 @@
 ghost use Rattle.std.specs.Prelude.{◌≡◌, ◌≢◌, ◌+◌, ◌-◌, ◌^◌, ◌≤◌, false, min, IfErr, IfOk, IsTrue};
 ghost use Rattle.kap_base.specs.Points.{is_time};
 ghost use Rattle.kap_service.specs.Asks.{IsFailed, change_of, fault_of, status_of};
+ghost use Rattle.kap_service.specs.Causes.{AreLater};
+ghost use Rattle.kap_service.specs.Kept.{posted};
+ghost use Rattle.kap_service.specs.Values.{Stores};
 
 use crate::asks::changes;
 use crate::decided::Decided;
@@ -83,6 +86,33 @@ impl<E: Engine, J: Naming, O: Drop, T: Shown<J, O>, R: Wait + Drop, L1: Ledger, 
 }
 
 impl<E: Engine, J: Naming, O: Drop, T: Shown<J, O>, R: Wait + Drop, L1: Ledger, L2: Since> State<E, J, O, T, R, L1, L2> {
+    /// Where the engine stands as the service begins, and all is posted.
+    pub(crate) fn new(
+        engine: E,
+        poster: Poster<J, O, T, R>,
+        first: Book<L1>,
+        second: Book<L2>,
+        began: u64,
+    ) -> State<E, J, O, T, R, L1, L2>
+        requires unspent { (E.value engine).spent ≡ false }
+        requires books { (first.total ≡ began) × (second.total ≡ 0) }
+        requires began { began ≡ (E.value engine).changes }
+        requires faults { AreLater L2.before (E.value engine).faults }
+        requires owned { IsTrue L2.owned → E.right engine }
+        requires posted { IsTrue L2.owned → (store : Stores) → E.leaves engine store
+            → posted poster ≡ store.stored }
+    {
+        State {
+            engine,
+            poster,
+            first,
+            second,
+            firsts: began,
+            seconds: 0,
+            short: false,
+        }
+    }
+
     /// Answers an ask of a seat, enters the answer in the ledgers, and shows what was stored. Where a book
     /// is full the answer is 503.
     pub(crate) fn answer<'a>(
