@@ -112,3 +112,11 @@ none_begun old stored one other = (
   stored,
   ap (λ (z : List Transition). (z ++ old.pending) ++ stored) one ∙ ap (λ (z : List Transition). ([] ++ z) ++ stored) other,
 )
+
+-- all that was posted is published
+pub all_published : (old new : Posts) → new.published ≡ old.published ++ old.pending → new.pending ≡ []
+    → posted new ≡ posted old
+all_published old new published none =
+    ap (λ (z : List Transition). z ++ new.pending) published
+    ∙ ap (λ (z : List Transition). (old.published ++ old.pending) ++ z) none
+    ∙ append-nil (old.published ++ old.pending)
