@@ -1,11 +1,12 @@
 -- What the lock keeps, behind an answer.
-use Rattle.std.proofs.Common.{◌≡◌, ◌⊎◌, ℕ, ◌+◌, ◌-◌, ◌^◌, ◌≤◌, ◌==◌, min, cond, Bool, true, false, List, ◌++◌, inl, inr, refl, sym, ap, subst, ◌∙◌, arith}
+use Rattle.std.proofs.Common.{◌≡◌, ◌⊎◌, ℕ, ◌+◌, ◌-◌, ◌^◌, ◌≤◌, ◌==◌, min, if◌then◌else◌, Bool, true, false, List, ◌++◌, inl, inr, refl, sym, ap, subst, ◌∙◌, arith}
 use mathlib.Core.List.{IsPrefix}
 use Rattle.kap_base.specs.Words.{HasRisen}
 use Rattle.kap_http.specs.declared.ask.Ask.{Ask}
 use Rattle.topic_core.specs.declared.transition.Transition.{Transition}
 use Rattle.topic_board.specs.Values.{Posts}
-use Rattle.kap_service.specs.Asks.{IsFailed, change_of, fault_of}
+use Rattle.reply_bodies.specs.Asks.{IsFailed, change_of}
+use Rattle.kap_service.specs.Asks.{fault_of}
 use Rattle.kap_service.specs.Causes.{AreCaused, AreLater, HasFailed}
 use Rattle.kap_service.specs.Kept.{IsTold, posted}
 use Rattle.kap_service.specs.Stores.{HasOwn, IsAlmostPosted, IsAnswered}
@@ -56,7 +57,7 @@ caused_more before old new replies c later (inr rose) = record {
 -- behind a reply that says that the store failed, or another one
 pub caused_on : (failed : Bool) (before old mid new : Faults) (replies : ℕ) → AreCaused before old replies
     → AreLater old mid → (failed ≡ true → HasFailed old mid) → AreLater mid new
-    → AreCaused before new (replies + cond failed 1 0)
+    → AreCaused before new (replies + (if failed then 1 else 0))
 caused_on true before old mid new replies c later rose behind =
     caused_later before mid new (replies + 1) (caused_more before old mid replies c later (rose refl)) behind
 caused_on false before old mid new replies c later rose behind =

@@ -1,3 +1,4 @@
 pub mod StoreLaws
 pub mod PostLaws
 pub mod KeptLaws
+pub mod DoorLaws

@@ -1,28 +1,11 @@
--- Asks and the statuses of their replies.
-use Rattle.std.specs.Prelude.{◌≡◌, ◌≢◌, ◌⊎◌, ℕ, ◌==◌, Bool, true, false, cond, ◌&&◌, ◌||◌, Result, Ok, Err}
+-- Asks, and the statuses of their answers.
+use Rattle.std.specs.Prelude.{ℕ, ◌==◌, Bool, true, false, if◌then◌else◌, Result, Ok, Err}
 use Rattle.kap_http.specs.ReplyValues.{ReplyValue}
 use Rattle.kap_http.specs.declared.ask.Ask.{Ask}
 use Rattle.kap_http.specs.declared.ask.Ask.TheVariants as asks
-use Rattle.kap_http.specs.declared.ask.TaskAct.{TaskAct}
-use Rattle.kap_http.specs.declared.ask.TaskAct.TheVariants as acts
+use Rattle.reply_bodies.specs.Bodies.{IsDueOrShort, topic_reply, topics_reply}
+use Rattle.topic_core.specs.Topics.{TopicsValue}
 use Rattle.kap_service.specs.Values.{Decisions}
-
--- to do this with a task is a change
-abbrev pub is_changing_act : TaskAct → Bool
-is_changing_act acts.Show = false
-is_changing_act acts.Enable = true
-is_changing_act acts.Disable = true
-is_changing_act acts.Delete = true
-
--- the ask is for a change: points are written, or a task is defined, enabled, disabled or deleted
-abbrev pub is_changing : Ask → Bool
-is_changing asks.Ping = false
-is_changing (asks.Write w) = true
-is_changing asks.Tasks = false
-is_changing (asks.Define d) = true
-is_changing (asks.Task t) = is_changing_act t.act
-is_changing asks.Topics = false
-is_changing (asks.Topic t) = false
 
 -- the ask is about topics
 abbrev pub is_topic : Ask → Bool
@@ -34,21 +17,15 @@ is_topic (asks.Task t) = false
 is_topic asks.Topics = true
 is_topic (asks.Topic t) = true
 
--- the status says that what was asked is done
-abbrev pub is_done : ℕ → Bool
-is_done status = status == 200 || status == 204
-
--- 1 where a change that was asked for is done
-abbrev pub change_of : Ask → ℕ → ℕ
-change_of ask status = cond (is_changing ask && is_done status) 1 0
+-- the reply to an ask about topics, where these are the topics; or there was no memory for it
+abbrev pub IsTopicReply : Ask → TopicsValue → ReplyValue → Type 0
+IsTopicReply asks.Topics topics reply = IsDueOrShort (topics_reply topics) reply
+IsTopicReply (asks.Topic t) topics reply = IsDueOrShort (topic_reply topics t.name) reply
+IsTopicReply ask topics reply = ⊥
 
 -- 1 where the status says that the store failed
 abbrev pub fault_of : ℕ → ℕ
-fault_of status = cond (status == 500) 1 0
-
--- the status says that the store failed, or that memory ran out
-abbrev pub IsFailed : ℕ → Type 0
-IsFailed status = (status ≡ 500) ⊎ (status ≡ 503)
+fault_of status = if status == 500 then 1 else 0
 
 -- the status of an answer: that of a decision, or that of a reply without one
 abbrev pub status_of : Result Decisions ReplyValue → ℕ

@@ -10,3 +10,5 @@ pub mod Stores
 pub mod Kept
 -- what a desk answers
 pub mod Desks
+-- what doors tell behind serving
+pub mod Posts

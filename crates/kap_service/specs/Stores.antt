@@ -4,7 +4,7 @@ use mathlib.Core.List.{IsPrefix}
 use Rattle.kap_http.specs.ReplyValues.{ReplyValue}
 use Rattle.kap_http.specs.declared.ask.Ask.{Ask}
 use Rattle.topic_core.specs.declared.transition.Transition.{Transition}
-use Rattle.kap_service.specs.Asks.{IsFailed, change_of}
+use Rattle.reply_bodies.specs.Asks.{IsFailed, change_of}
 use Rattle.kap_service.specs.Causes.{AreLater}
 use Rattle.kap_service.specs.Values.{Decisions, Engines, Stores}
 

@@ -1,7 +1,8 @@
 //! Which asks are for changes, and which are about topics.
 
 ghost use Rattle.std.specs.Prelude.{◌≡◌, ◌&&◌};
-ghost use Rattle.kap_service.specs.Asks.{is_changing, is_done, is_topic};
+ghost use Rattle.reply_bodies.specs.Asks.{is_changing, is_done};
+ghost use Rattle.kap_service.specs.Asks.{is_topic};
 
 use kap_http::{Ask, TaskAct};
 

@@ -2,7 +2,7 @@
 
 ghost use Rattle.std.specs.Prelude.{◌≡◌, false, IsTrue};
 ghost use Rattle.kap_base.specs.Points.{is_time};
-ghost use Rattle.kap_service.specs.Asks.{IsFailed};
+ghost use Rattle.reply_bodies.specs.Asks.{IsFailed};
 ghost use Rattle.kap_service.specs.Causes.{AreLater, HasFailed};
 ghost use Rattle.kap_service.specs.Stores.{IsDecided, IsDecision, IsDueReply, Reached};
 ghost use Rattle.kap_service.specs.Values.{Stores};

@@ -19,7 +19,7 @@ pub trait Engine: Drop {
     ghost use Rattle.kap_http.specs.declared.ask.Ask.{Ask as AskValue};
     ghost use Rattle.kap_io.specs.declared.disk.Part.{Part};
     ghost use Rattle.topic_core.specs.declared.transition.Transition.{Transition};
-    ghost use Rattle.kap_service.specs.Asks.{IsFailed};
+    ghost use Rattle.reply_bodies.specs.Asks.{IsFailed};
     ghost use Rattle.kap_service.specs.Causes.{AreLater, HasFailed};
     ghost use Rattle.kap_service.specs.Stores.{AreBehind, HasRead, IsDecided, IsDueReply, IsMadeAgain, Reached};
     ghost use Rattle.kap_service.specs.Values.{Engines, Stores};

@@ -1,8 +1,9 @@
 //! What is answered under the lock.
 
-ghost use Rattle.std.specs.Prelude.{◌≡◌, ◌≢◌, ℕ, ◌+◌, ◌<◌, ◌≤◌, ◌==◌, cond, false, IfErr, IfOk, IsTrue, OnOk};
+ghost use Rattle.std.specs.Prelude.{◌≡◌, ◌≢◌, ℕ, ◌+◌, ◌<◌, ◌≤◌, ◌==◌, if◌then◌else◌, false, IfErr, IfOk, IsTrue, OnOk};
 ghost use Rattle.kap_base.specs.Points.{is_time};
-ghost use Rattle.kap_service.specs.Asks.{IsFailed, status_of};
+ghost use Rattle.reply_bodies.specs.Asks.{IsFailed};
+ghost use Rattle.kap_service.specs.Asks.{status_of};
 ghost use Rattle.kap_service.specs.Causes.{AreLater, HasFailed};
 ghost use Rattle.kap_service.specs.Stores.{IsAnswered, IsMadeAgain, Reached};
 ghost use Rattle.kap_service.specs.Values.{Stores};
@@ -108,10 +109,10 @@ pub(crate) fn enter<L: Ledger>(
     so: bool,
 )
     requires { (0 < share.old.parts) × (count.old < 18446744073709551615) }
-    ensures total { book.new.total ≡ book.old.total + cond so 1 0 }
-    ensures amount { share.new.amount ≡ share.old.amount + cond so 1 0 }
+    ensures total { book.new.total ≡ book.old.total + (if so then 1 else 0) }
+    ensures amount { share.new.amount ≡ share.old.amount + (if so then 1 else 0) }
     ensures parts { share.new.parts ≡ share.old.parts }
-    ensures count { count.new ≡ count.old + cond so 1 0 }
+    ensures count { count.new ≡ count.old + (if so then 1 else 0) }
 {
     if so {
         book.add(share, 1);

@@ -4,17 +4,21 @@
 
 mod asks;
 mod decided;
+mod desk;
 mod engine;
 mod fault;
 mod judged;
+mod posts;
 mod seat;
 mod shared;
 mod showing;
 mod state;
 
 pub use decided::{Decided, decide};
+pub use desk::Desk;
 pub use engine::Engine;
 pub use fault::ShareFault;
+pub use posts::{Post, Served, serve};
 pub use seat::Seat;
 pub use shared::{Closed, Lock, Shared, Unshared};
 pub use state::Since;

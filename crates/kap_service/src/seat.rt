@@ -1,11 +1,14 @@
 //! A seat: what one thread keeps of its answers, and its look.
 
-ghost use Rattle.std.specs.Prelude.{◌≡◌, ◌⊎◌, [], IfErr, IfNone, IfOk, IfSome};
+ghost use Rattle.std.specs.Prelude.{◌≡◌, ◌⊎◌, IfNone, IfOk, IfSome, IsTrue, OnErr};
 ghost use mathlib.Core.List.{IsPrefix};
 ghost use Rattle.kap_base.specs.Words.{HasRisen};
+ghost use Rattle.kap_service.specs.Asks.{IsTopicReply, is_topic};
 ghost use Rattle.topic_core.specs.Topics.{topics_after};
 
 use kap_base::NoMemory;
+use kap_http::{Ask, Reply};
+use reply_bodies::{no_memory_reply, topics_reply};
 use std::alloc::Global;
 use std::marker::Model;
 use std::sync::ledger::{Ledger, Share};
@@ -141,6 +144,53 @@ impl<J: Naming, O: Drop, T: Shown<J, O>, L1: Ledger, L2: Ledger> Seat<J, O, T, L
             Ok(topics) => Some(Ok(topics)),
             Err(LookFault::NoMemory) => Some(Err(NoMemory)),
             Err(LookFault::Away) => None,
+        }
+    }
+}
+
+/// The reply to an ask about topics, where these are the topics.
+fn topic_reply(alloc: Global, topics: &Topics, ask: &Ask) -> Reply
+    requires { IsTrue (is_topic ask.now) }
+    ensures { IsTopicReply ask.now topics.now result }
+{
+    match ask {
+        Ask::Topics => topics_reply(alloc, topics),
+        Ask::Topic(topic) => reply_bodies::topic_reply(alloc, topics, &topic.name),
+        _ => unreachable!(),
+    }
+}
+
+/// The same, or that there was no memory for a copy of the topics.
+fn reply_of(alloc: Global, topics: Result<Topics, NoMemory>, ask: &Ask) -> Reply
+    requires { IsTrue (is_topic ask.now) }
+    ensures topics { IfOk topics (λ value. IsTopicReply ask.now value result) }
+    ensures short { OnErr topics (result.status ≡ 503) }
+{
+    match topics {
+        Ok(topics) => topic_reply(alloc, &topics, ask),
+        Err(NoMemory) => no_memory_reply(alloc),
+    }
+}
+
+impl<J: Naming, O: Drop, T: Shown<J, O>, L1: Ledger, L2: Ledger> Seat<J, O, T, L1, L2> {
+    /// The reply to an ask about topics, without the lock: of the topics after all that was published when
+    /// this seat was last answered under the lock, all that it learnt and all that it saw before, and maybe
+    /// more. It waits for nobody. 503 says that memory ran out. None only where its look was refused.
+    pub fn answer(&mut self, alloc: Global, ask: &Ask) -> Option<Reply>
+        requires topic { IsTrue (is_topic ask.now) }
+        ensures later { IsPrefix self.old.known self.new.known }
+        ensures own { IsPrefix self.old.told self.new.known }
+        ensures reply { IfSome result (λ reply.
+            IsTopicReply ask.now (topics_after self.new.known) reply) }
+        ensures none { IfNone result (HasRisen self.old.aways self.new.aways) }
+        ensures shares { (self.new.changes ≡ self.old.changes)
+            × (self.new.faults ≡ self.old.faults) }
+        ensures answers { (self.new.answers ≡ self.old.answers)
+            × (self.new.status ≡ self.old.status) × (self.new.told ≡ self.old.told) }
+    {
+        match self.topics(alloc) {
+            Some(topics) => Some(reply_of(alloc, topics, ask)),
+            None => None,
         }
     }
 }

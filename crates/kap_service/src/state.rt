@@ -2,7 +2,8 @@
 
 ghost use Rattle.std.specs.Prelude.{◌≡◌, ◌≢◌, ◌+◌, ◌-◌, ◌^◌, ◌≤◌, false, min, IfErr, IfOk, IsTrue};
 ghost use Rattle.kap_base.specs.Points.{is_time};
-ghost use Rattle.kap_service.specs.Asks.{IsFailed, change_of, fault_of, status_of};
+ghost use Rattle.reply_bodies.specs.Asks.{IsFailed, change_of};
+ghost use Rattle.kap_service.specs.Asks.{fault_of, status_of};
 ghost use Rattle.kap_service.specs.Causes.{AreLater};
 ghost use Rattle.kap_service.specs.Kept.{posted};
 ghost use Rattle.kap_service.specs.Values.{Stores};

@@ -1,6 +1,7 @@
-use Rattle.std.proofs.Common.{◌≡◌, ℕ, ◌+◌, ◌==◌, Bool, true, cond, ap, sym, subst, ◌∙◌, arith}
+use Rattle.std.proofs.Common.{◌≡◌, ℕ, ◌+◌, ◌==◌, Bool, true, if◌then◌else◌, ap, sym, subst, ◌∙◌, arith}
 use Rattle.std.proofs.lemmas.Bool.{eqb-true}
-use Rattle.kap_service.specs.Asks.{change_of, fault_of, status_of}
+use Rattle.reply_bodies.specs.Asks.{change_of}
+use Rattle.kap_service.specs.Asks.{fault_of, status_of}
 use Rattle.kap_service.specs.Causes.{AreCaused}
 use Rattle.kap_service.specs.Kept.{IsTold}
 use Rattle.kap_service.proofs.KeptLaws.{caused_on, not_failed, told_on}
@@ -16,8 +17,8 @@ invariant_of-self-2 g c =
     let same = c.status_in-status.ensures in
     let one : c.enter.new.book.total ≡ first + change_of ask status =
         subst (λ (n : ℕ). c.enter.new.book.total ≡ first + change_of ask n) same
-        (subst (λ (b : Bool). c.enter.new.book.total ≡ first + cond b 1 0) c.changes.ensures
-        (subst (λ (t : ℕ). c.enter.new.book.total ≡ t + cond c.changes.result 1 0) c.audit.ensures.total
+        (subst (λ (b : Bool). c.enter.new.book.total ≡ first + (if b then 1 else 0)) c.changes.ensures
+        (subst (λ (t : ℕ). c.enter.new.book.total ≡ t + (if c.changes.result then 1 else 0)) c.audit.ensures.total
         c.enter.ensures.total)) in
     let two : c.enter-2.new.book.total ≡ second + fault_of status =
         subst (λ (n : ℕ). c.enter-2.new.book.total ≡ second + fault_of n) same c.enter-2.ensures.total in
