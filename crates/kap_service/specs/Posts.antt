@@ -18,7 +18,7 @@ told_sum (Some n) None = None
 told_sum (Some n) (Some m) = Some (n + m)
 
 -- how many links are still to come at all doors, where all tell
-pub links_at : {P : Type 0} → (P → Option ℕ) → List P → Option ℕ
+unfoldable pub links_at : {P : Type 0} → (P → Option ℕ) → List P → Option ℕ
 links_at left [] = Some 0
 links_at left (p ∷ ps) = told_sum (left p) (links_at left ps)
 

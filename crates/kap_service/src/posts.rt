@@ -118,11 +118,57 @@ fn total<B: Drop, J: Naming, O: Drop, T: Shown<J, O>, L1: Ledger, L2: Ledger>(
     Served { links, door_failed }
 }
 
+/// Serves at the doors of all posts at once, each in a thread.
+fn serve_each<
+    L: Link + Drop + Send,
+    B: Door<L> + Drop + Send,
+    E: Engine + Send,
+    J: Naming + Send + Sync,
+    O: Drop + Send + Sync,
+    T: Shown<J, O> + Send + Sync,
+    R: Wait + Drop + Send + Sync,
+    L1: Ledger + Send + Sync,
+    L2: Since + Send + Sync,
+    C: Clock + Sync,
+    W: Threads + Wait + Sync,
+>(
+    rt: &W,
+    alloc: Global,
+    lock: &Lock<E, J, O, T, R, L1, L2>,
+    posts: &mut [Post<B, J, O, T, L1, L2>],
+    clock: &C,
+)
+    requires some { 0 < length posts.old }
+    ensures failed { (i : ℕ) (d : _) → i < length posts.old
+        → (slice_index_or posts.new i d).failed ≡ true
+        → HasRisen (B.faults (slice_index_or posts.old i d).door)
+        (B.faults (slice_index_or posts.new i d).door) }
+    ensures closed { (i : ℕ) (d : _) → i < length posts.old
+        → (slice_index_or posts.new i d).failed ≡ false
+        → IsClosed (B.left (slice_index_or posts.old i d).door)
+        (B.left (slice_index_or posts.new i d).door) }
+    ensures links { (i : ℕ) (d : _) → i < length posts.old
+        → (slice_index_or posts.new i d).failed ≡ false
+        → CameAll (B.left (slice_index_or posts.old i d).door)
+        (slice_index_or posts.new i d).links }
+{
+    let count = posts.len();
+    let at_door = |_: usize, post: &mut Post<B, J, O, T, L1, L2>|
+        ensures failed { post.exit.now.failed ≡ true
+            → HasRisen (B.faults post.entry.now.door) (B.faults post.exit.now.door) }
+        ensures closed { post.exit.now.failed ≡ false
+            → IsClosed (B.left post.entry.now.door) (B.left post.exit.now.door) }
+        ensures links { post.exit.now.failed ≡ false
+            → CameAll (B.left post.entry.now.door) post.exit.now.links }
+    { work::<L, B, E, J, O, T, R, L1, L2>(rt, alloc, lock, clock, post) };
+    thread::for_each_mut(rt, posts, count, &at_door);
+}
+
 /// Serves at the doors of all posts at once, each in a thread, until no more links come at a door or it fails.
 /// Each link is served by a desk of its post's seat. Where no door failed, each door that tells has no link
 /// left, and where all tell, `links` is how many they had.
 pub fn serve<
-    L: Link + Drop,
+    L: Link + Drop + Send,
     B: Door<L> + Drop + Send,
     E: Engine + Send,
     J: Naming + Send + Sync,
@@ -150,9 +196,6 @@ pub fn serve<
     ensures links { result.door_failed ≡ false
         → CameAll (links_at (λ p. B.left p.door) posts.old) result.links }
 {
-    let count = posts.len();
-    thread::for_each_mut(rt, posts, count, &|_, post| {
-        work::<L, B, E, J, O, T, R, L1, L2>(rt, alloc, lock, clock, post)
-    });
+    serve_each::<L, B, E, J, O, T, R, L1, L2, C, W>(rt, alloc, lock, posts, clock);
     total(posts)
 }
