@@ -37,3 +37,8 @@ came_at_all left links (x ∷ xs) (y ∷ ys) same each =
     let both = came_plus (left x) (links_at left xs) (links y) (min (sum_by links ys) (2 ^ 64 - 1)) here rest in
     let sum = sum_by-cons links y ys in
     subst (λ (n : ℕ). CameAll (links_at left (x ∷ xs)) n) (omega (arith, sum)) both
+
+-- what holds of two holds of their equals
+pub carried : {P : Type 0} {a other b another : P} → a ≡ other → b ≡ another → (R : P → P → Type 0) → R a b
+    → R other another
+carried {P} {a} {other} {b} {another} one two R r = subst (λ x. R x another) one (subst (λ y. R a y) two r)

@@ -1,17 +1,15 @@
-use Rattle.std.proofs.Common.{◌≡◌, ap, subst, ◌∙◌}
+use Rattle.std.proofs.Common.{◌≡◌, false}
 use Rattle.kap_service.specs.Posts.{CameAll, IsClosed}
+use Rattle.kap_service.proofs.DoorLaws.{carried}
 use Rattle.kap_service.proofs.posts.serve_each.Goals as goal
 
 pub returns-clause-closed : goal.returns-clause-closed
-returns-clause-closed g c i d lt fine =
+returns-clause-closed g c i d lt =
     let k = (c.for_each_mut.ensures i d lt).1 in
-    let here = k.call.1 (ap (λ p. p.failed) k.left ∙ fine) in
-    let new = subst (λ p. IsClosed (g.B.Door.left k.argument.now.door) (g.B.Door.left p.door)) k.left here in
-    subst (λ p. IsClosed (g.B.Door.left p.door) _) k.argument_is new
+    carried k.argument_is k.left
+    (λ x y. y.failed ≡ false → IsClosed (g.B.Door.left x.door) (g.B.Door.left y.door)) k.call.1.0
 
 pub returns-clause-links : goal.returns-clause-links
-returns-clause-links g c i d lt fine =
+returns-clause-links g c i d lt =
     let k = (c.for_each_mut.ensures i d lt).1 in
-    let here = k.call.2 (ap (λ p. p.failed) k.left ∙ fine) in
-    let new = subst (λ p. CameAll (g.B.Door.left k.argument.now.door) p.links) k.left here in
-    subst (λ p. CameAll (g.B.Door.left p.door) _) k.argument_is new
+    carried k.argument_is k.left (λ x y. y.failed ≡ false → CameAll (g.B.Door.left x.door) y.links) k.call.1.1
