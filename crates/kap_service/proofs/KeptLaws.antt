@@ -1,7 +1,6 @@
 -- What the lock keeps, behind an answer.
-use Rattle.std.proofs.Common.{◌≡◌, ◌⊎◌, ℕ, ◌+◌, ◌-◌, ◌^◌, ◌≤◌, ◌==◌, min, if◌then◌else◌, Bool, true, false, List, ◌++◌, inl, inr, refl, sym, ap, subst, ◌∙◌, arith}
+use Rattle.std.proofs.Common.{◌≡◌, ℕ, ◌+◌, if◌then◌else◌, Bool, true, false, List, ◌++◌, inl, inr, refl, sym, ap, subst, ◌∙◌, arith}
 use mathlib.Core.List.{IsPrefix}
-use Rattle.kap_base.specs.Words.{HasRisen}
 use Rattle.kap_http.specs.declared.ask.Ask.{Ask}
 use Rattle.topic_core.specs.declared.transition.Transition.{Transition}
 use Rattle.topic_board.specs.Values.{Posts}

@@ -1,5 +1,5 @@
 -- What a desk answers.
-use Rattle.std.specs.Prelude.{◌≡◌, ◌⊎◌, ℕ, ◌+◌, ◌-◌, ◌^◌, min, Bool, true, false, Result, Ok, Err}
+use Rattle.std.specs.Prelude.{◌≡◌, ◌⊎◌, ◌+◌, ◌-◌, ◌^◌, min, Bool, true, false, Result, Ok, Err}
 use mathlib.Core.List.{IsPrefix}
 use Rattle.kap_base.specs.Words.{HasRisen}
 use Rattle.kap_http.specs.ReplyValues.{ReplyValue}

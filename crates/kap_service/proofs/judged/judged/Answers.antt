@@ -1,5 +1,4 @@
-use Rattle.std.proofs.Common.{◌≡◌, subst}
-use Rattle.kap_service.specs.Values.{Stores}
+use Rattle.std.proofs.Common.{subst}
 use Rattle.kap_service.proofs.StoreLaws.{answered_again}
 use Rattle.kap_service.proofs.judged.judged.Goals as goal
 

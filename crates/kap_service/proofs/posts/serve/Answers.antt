@@ -1,4 +1,4 @@
-use Rattle.std.proofs.Common.{◌≡◌, ◌<◌, sym, subst}
+use Rattle.std.proofs.Common.{◌<◌, sym, subst}
 use Rattle.kap_service.specs.Posts.{CameAll, links_at}
 use Rattle.kap_service.proofs.DoorLaws.{came_at_all}
 use Rattle.kap_service.proofs.posts.serve.Goals as goal

@@ -1,4 +1,4 @@
-use Rattle.std.proofs.Common.{◌≤◌, ◌≡◌, arith}
+use Rattle.std.proofs.Common.{arith}
 use Rattle.kap_service.proofs.DoorLaws.{came_more}
 use Rattle.kap_service.proofs.posts.work.Goals as goal
 

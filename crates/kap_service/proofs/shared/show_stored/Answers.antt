@@ -1,4 +1,4 @@
-use Rattle.std.proofs.Common.{◌≡◌, ◌∙◌}
+use Rattle.std.proofs.Common.{◌∙◌}
 use Rattle.kap_service.proofs.PostLaws.{all_published, none_begun}
 use Rattle.kap_service.proofs.shared.show_stored.Goals as goal
 

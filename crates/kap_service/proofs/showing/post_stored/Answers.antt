@@ -1,5 +1,3 @@
-use Rattle.std.proofs.Common.{◌≡◌, ◌++◌, ℕ, List, take, subst}
-use Rattle.topic_core.specs.declared.transition.Transition.{Transition}
 use Rattle.kap_service.proofs.PostLaws.{err_begun, ok_begun}
 use Rattle.kap_service.proofs.StoreLaws.{read_stays, read_then}
 use Rattle.kap_service.proofs.showing.post_stored.Goals as goal

@@ -1,4 +1,4 @@
-use Rattle.std.proofs.Common.{◌≡◌, ◌+◌, ◌-◌, length}
+use Rattle.std.proofs.Common.{◌+◌, ◌-◌, length}
 use mathlib.Core.List.{IsPrefix}
 use Rattle.kap_service.specs.Kept.{posted}
 use Rattle.kap_service.specs.Stores.{HasRead}

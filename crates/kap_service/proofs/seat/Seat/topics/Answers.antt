@@ -1,4 +1,4 @@
-use Rattle.std.proofs.Common.{◌≡◌, List, ap, subst, ◌∙◌}
+use Rattle.std.proofs.Common.{List, ap, subst, ◌∙◌}
 use mathlib.Core.List.{IsPrefix}
 use Rattle.topic_core.specs.declared.transition.Transition.{Transition}
 use Rattle.kap_service.specs.Values.{Seats}

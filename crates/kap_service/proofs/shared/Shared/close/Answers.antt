@@ -1,4 +1,4 @@
-use Rattle.std.proofs.Common.{◌≡◌, ap, arith}
+use Rattle.std.proofs.Common.{ap, arith}
 use Rattle.kap_service.specs.Values.{Sharing}
 use Rattle.kap_service.proofs.shared.Shared.close.Goals as goal
 

@@ -1,4 +1,4 @@
-use Rattle.std.proofs.Common.{◌≡◌, ℕ, [], append-nil, sym, subst, ◌∙◌, arith}
+use Rattle.std.proofs.Common.{ℕ, [], append-nil, sym, subst, ◌∙◌, arith}
 use Rattle.kap_service.specs.Causes.{AreCaused}
 use Rattle.kap_service.specs.Kept.{posted}
 use Rattle.kap_service.proofs.KeptLaws.{caused_later, caused_none}
