@@ -10,11 +10,15 @@ use Rattle.store_records.specs.declared.task.StoredTask.{StoredTask}
 use Rattle.topic_core.specs.Topics.{greatest_level}
 use Rattle.reply_bodies.specs.Texts.{status_word}
 
--- a task
-abbrev pub task_value : List ℕ → List ℕ → Bool → Data
-task_value id script enabled =
+-- a task, of which this word says whether it is enabled
+abbrev pub worded_value : List ℕ → List ℕ → List ℕ → Data
+worded_value id script word =
     object (member (codes "id") (string id) (member (codes "script") (string script)
-    (member (codes "status") (string (status_word enabled)) (member (codes "type") (string (codes "stream")) no_members))))
+    (member (codes "status") (string word) (member (codes "type") (string (codes "stream")) no_members))))
+
+-- a task: its id, its script, and whether it is enabled
+abbrev pub task_value : List ℕ → List ℕ → Bool → Data
+task_value id script enabled = worded_value id script (status_word enabled)
 
 -- a task of a store
 abbrev pub stored_value : StoredTask → Data

@@ -10,6 +10,7 @@ ghost use Rattle.reply_bodies.specs.Values.{task_value, tasks_value, topic_value
 
 /// The law of the texts: what reads JSON finds in them the ids, scripts, names and levels as they were,
 /// whatever characters they have.
+#[tactic(auto, using(crate::proofs::ReadLaws::task_read, crate::proofs::ReadLaws::tasks_read, crate::proofs::ReadLaws::topics_read, crate::proofs::ReadLaws::topic_read))]
 pub fn texts_are_read_back()
     ensures task { (id script : List ℕ) (enabled : Bool) →
         read (task_text id script enabled) ≡ Some (task_value id script enabled) }

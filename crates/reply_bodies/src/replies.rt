@@ -1,7 +1,8 @@
 //! Replies with a body that was made, and replies without one.
 
-ghost use Rattle.std.specs.Prelude.{◌≡◌, [], false};
+ghost use Rattle.std.specs.Prelude.{◌≡◌, ◌∷◌, ◌++◌, [], false, OnOk};
 ghost use Rattle.json.specs.Print.{print};
+ghost use Rattle.json.specs.Token.{key, string};
 ghost use Rattle.kap_http.specs.Replies.{out_of_memory};
 ghost use Rattle.reply_bodies.specs.Bodies.{IsGiven, done_reply};
 
@@ -60,4 +61,15 @@ pub(crate) fn given_reply(alloc: Global, body: Result<Bytes, NoMemory>) -> Reply
         },
         Err(NoMemory) => no_memory_reply(alloc),
     }
+}
+
+/// Puts a member whose value is a text.
+pub(crate) fn put_text(writer: &mut Writer, name: &str, text: &str) -> Result<(), NoMemory>
+    ensures tokens { OnOk result (writer.new.tokens
+        ≡ writer.old.tokens ++ key name.now ∷ string text.now ∷ []) }
+    ensures before { writer.new.before ≡ writer.old.before }
+{
+    writer.key(name)?;
+    writer.string(text)?;
+    Ok(())
 }

@@ -1,14 +1,15 @@
 //! Tasks in replies.
 
-ghost use Rattle.std.specs.Prelude.{◌≡◌, ◌++◌, map, IfOk, OnOk};
+ghost use Rattle.std.specs.Prelude.{◌≡◌, ◌∷◌, ◌++◌, [], codes, map, IfOk, OnOk};
+ghost use Rattle.json.specs.Token.{end_object, key, string};
 ghost use Rattle.json.specs.Tree.{items_tokens, json_tokens};
 ghost use Rattle.serde_json.specs.View.{items_of};
 ghost use Rattle.serde_json.specs.Written.{items_outline, outline};
 ghost use Rattle.reply_bodies.specs.Bodies.{IsDueOrShort, given_reply, tasks_reply};
 ghost use Rattle.reply_bodies.specs.Texts.{status_word, task_text, tasks_text};
-ghost use Rattle.reply_bodies.specs.Values.{stored_value, task_value, tasks_value};
+ghost use Rattle.reply_bodies.specs.Values.{stored_value, tasks_value, worded_value};
 
-use crate::replies::{body_of, given_reply, new_body};
+use crate::replies::{body_of, given_reply, new_body, put_text};
 use json::Writer;
 use kap_base::{Bytes, NoMemory, Text};
 use kap_http::Reply;
@@ -22,23 +23,29 @@ fn status_word(enabled: bool) -> &'static str
     if enabled { "enabled" } else { "disabled" }
 }
 
-/// Puts the value of a task.
-fn put_task(writer: &mut Writer, id: &Text, script: &Text, enabled: bool) -> Result<(), NoMemory>
+/// Puts the members that say whether a task runs, by this word, and of which kind it is; and its end.
+fn put_status(writer: &mut Writer, word: &str) -> Result<(), NoMemory>
     ensures tokens { OnOk result (writer.new.tokens ≡ writer.old.tokens
-        ++ json_tokens (outline (task_value id.now script.now enabled))) }
+        ++ key (codes "status") ∷ string word.now
+        ∷ key (codes "type") ∷ string (codes "stream") ∷ end_object ∷ []) }
+    ensures before { writer.new.before ≡ writer.old.before }
+{
+    put_text(writer, "status", word)?;
+    put_text(writer, "type", "stream")?;
+    writer.end_object()?;
+    Ok(())
+}
+
+/// Puts the value of a task, of which this word says whether it runs.
+fn put_task(writer: &mut Writer, id: &Text, script: &Text, word: &str) -> Result<(), NoMemory>
+    ensures tokens { OnOk result (writer.new.tokens ≡ writer.old.tokens
+        ++ json_tokens (outline (worded_value id.now script.now word.now))) }
     ensures before { writer.new.before ≡ writer.old.before }
 {
     writer.begin_object()?;
-    writer.key("id")?;
-    writer.string(id.as_str())?;
-    writer.key("script")?;
-    writer.string(script.as_str())?;
-    writer.key("status")?;
-    writer.string(status_word(enabled))?;
-    writer.key("type")?;
-    writer.string("stream")?;
-    writer.end_object()?;
-    Ok(())
+    put_text(writer, "id", id.as_str())?;
+    put_text(writer, "script", script.as_str())?;
+    put_status(writer, word)
 }
 
 /// Puts the values of tasks, and the end of a list.
@@ -48,7 +55,7 @@ fn put_tasks(writer: &mut Writer, tasks: &[StoredTask]) -> Result<(), NoMemory>
     ensures before { writer.new.before ≡ writer.old.before }
 {
     'putting: for task in tasks {
-        put_task(writer, &task.id, &task.script, task.enabled)?;
+        put_task(writer, &task.id, &task.script, status_word(task.enabled))?;
     }
     writer.end_array()?;
     Ok(())
@@ -60,7 +67,7 @@ fn task_body(alloc: Global, id: &Text, script: &Text, enabled: bool) -> Result<B
     ensures { IfOk result (λ body. body ≡ task_text id.now script.now enabled) }
 {
     let mut writer = new_body(alloc);
-    put_task(&mut writer, id, script, enabled)?;
+    put_task(&mut writer, id, script, status_word(enabled))?;
     Ok(body_of(writer))
 }
 

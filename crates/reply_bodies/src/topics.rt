@@ -1,16 +1,19 @@
 //! Topics in replies.
 
-ghost use Rattle.std.specs.Prelude.{◌≡◌, ◌++◌, map, IfOk, OnOk};
+ghost use Rattle.std.specs.Prelude.{◌≡◌, ◌∷◌, ◌++◌, [], codes, map, IfOk, OnOk};
 ghost use Rattle.std.specs.FinMap.{entries};
+ghost use Rattle.json.specs.Token.{end_object, key, string};
 ghost use Rattle.json.specs.Tree.{items_tokens, json_tokens};
+ghost use Rattle.serde_json.specs.Data.{array};
 ghost use Rattle.serde_json.specs.View.{items_of};
 ghost use Rattle.serde_json.specs.Written.{items_outline, outline};
+ghost use Rattle.kap_base.specs.Levels.{level_name};
 ghost use Rattle.topic_core.specs.Topics.{greatest_level, worse_level, worst_level};
 ghost use Rattle.reply_bodies.specs.Bodies.{IsDueOrShort, given_reply, topic_reply, topics_reply};
 ghost use Rattle.reply_bodies.specs.Texts.{topic_text, topics_text};
-ghost use Rattle.reply_bodies.specs.Values.{entry_value, id_value, level_value};
+ghost use Rattle.reply_bodies.specs.Values.{entry_value, id_value, level_value, topic_value};
 
-use crate::replies::{body_of, given_reply, new_body};
+use crate::replies::{body_of, given_reply, new_body, put_text};
 use json::Writer;
 use kap_base::{Bytes, Level, NoMemory, Text};
 use kap_http::{Refusal, Reply};
@@ -36,6 +39,19 @@ fn greatest(ids: &TextTree<Level>) -> Level
     greatest
 }
 
+/// Puts the members that are a name and a level, and the end of what has them.
+fn put_members(writer: &mut Writer, name: &Text, level: Level) -> Result<(), NoMemory>
+    ensures tokens { OnOk result (writer.new.tokens ≡ writer.old.tokens
+        ++ key (codes "id") ∷ string name.now
+        ∷ key (codes "level") ∷ string (level_name level) ∷ end_object ∷ []) }
+    ensures before { writer.new.before ≡ writer.old.before }
+{
+    put_text(writer, "id", name.as_str())?;
+    put_text(writer, "level", level.name())?;
+    writer.end_object()?;
+    Ok(())
+}
+
 /// Puts the value of what has a level.
 fn put_level(writer: &mut Writer, name: &Text, level: Level) -> Result<(), NoMemory>
     ensures tokens { OnOk result (writer.new.tokens ≡ writer.old.tokens
@@ -43,12 +59,7 @@ fn put_level(writer: &mut Writer, name: &Text, level: Level) -> Result<(), NoMem
     ensures before { writer.new.before ≡ writer.old.before }
 {
     writer.begin_object()?;
-    writer.key("id")?;
-    writer.string(name.as_str())?;
-    writer.key("level")?;
-    writer.string(level.name())?;
-    writer.end_object()?;
-    Ok(())
+    put_members(writer, name, level)
 }
 
 /// Puts the values of topics, and the end of a list.
@@ -77,6 +88,17 @@ fn put_ids(writer: &mut Writer, ids: &TextTree<Level>) -> Result<(), NoMemory>
     Ok(())
 }
 
+/// Puts the member that has the ids of a topic.
+fn put_events(writer: &mut Writer, ids: &TextTree<Level>) -> Result<(), NoMemory>
+    ensures tokens { OnOk result (writer.new.tokens ≡ writer.old.tokens ++ key (codes "events")
+        ∷ json_tokens (outline (array (items_of (map id_value (entries ids.now)))))) }
+    ensures before { writer.new.before ≡ writer.old.before }
+{
+    writer.key("events")?;
+    writer.begin_array()?;
+    put_ids(writer, ids)
+}
+
 /// The text of topics.
 #[tactic(auto, using(crate::proofs::TextLaws::topics_printed))]
 fn topics_body(alloc: Global, levels: &Levels) -> Result<Bytes, NoMemory>
@@ -91,21 +113,24 @@ fn topics_body(alloc: Global, levels: &Levels) -> Result<Bytes, NoMemory>
     Ok(body_of(writer))
 }
 
+/// Puts the value of a topic.
+fn put_topic(writer: &mut Writer, name: &Text, ids: &TextTree<Level>) -> Result<(), NoMemory>
+    ensures tokens { OnOk result (writer.new.tokens ≡ writer.old.tokens
+        ++ json_tokens (outline (topic_value name.now ids.now))) }
+    ensures before { writer.new.before ≡ writer.old.before }
+{
+    writer.begin_object()?;
+    put_events(writer, ids)?;
+    put_members(writer, name, greatest(ids))
+}
+
 /// The text of a topic of this name, with these ids.
 #[tactic(auto, using(crate::proofs::TextLaws::topic_printed))]
 fn topic_body(alloc: Global, name: &Text, ids: &TextTree<Level>) -> Result<Bytes, NoMemory>
     ensures { IfOk result (λ body. body ≡ topic_text name.now ids.now) }
 {
     let mut writer = new_body(alloc);
-    writer.begin_object()?;
-    writer.key("events")?;
-    writer.begin_array()?;
-    put_ids(&mut writer, ids)?;
-    writer.key("id")?;
-    writer.string(name.as_str())?;
-    writer.key("level")?;
-    writer.string(greatest(ids).name())?;
-    writer.end_object()?;
+    put_topic(&mut writer, name, ids)?;
     Ok(body_of(writer))
 }
 
