@@ -1,5 +1,5 @@
 -- The texts are read back as their values.
-use Rattle.std.proofs.Common.{◌≡◌, ℕ, ◌≤◌, Bool, List, [], ◌∷◌, ◌++◌, map, Option, Some, option_and_then, option_map, refl, sym, ap, ◌∙◌, arith, append-nil}
+use Rattle.std.proofs.Common.{◌≡◌, ℕ, ◌≤◌, Bool, List, [], ◌∷◌, map, Option, Some, option_and_then, refl, sym, ap, ◌∙◌, arith, append-nil}
 use Rattle.std.specs.FinMap.{entries}
 use Rattle.json.specs.Json as json
 use Rattle.json.specs.Lex.{tokens}
@@ -10,7 +10,7 @@ use Rattle.json.proofs.Printed.Tokens.{tokens-print}
 use Rattle.json.proofs.Printed.Trees.{ArePrintable-json_tokens, value-json_tokens}
 use Rattle.kap_base.specs.Maps.{KeyMap}
 use Rattle.kap_base.specs.declared.items.Level.{Level}
-use Rattle.serde_json.specs.Data.{Data, array}
+use Rattle.serde_json.specs.Data.{Data}
 use Rattle.serde_json.specs.Read.{max_depth, of_items, of_json, read}
 use Rattle.serde_json.specs.View.{items_of}
 use Rattle.serde_json.specs.Written.{items_outline, outline}

@@ -1,5 +1,5 @@
 -- What is printed of the values are the texts.
-use Rattle.std.proofs.Common.{◌≡◌, ◌≢◌, ◌⊎◌, ℕ, ◌==◌, Bool, true, false, List, [], ◌∷◌, ◌++◌, codes, map, Result, Ok, Err, inl, inr, refl, sym, ap, ◌∙◌, append_assoc, eqb-true}
+use Rattle.std.proofs.Common.{◌≡◌, ◌≢◌, ℕ, ◌==◌, Bool, true, false, List, [], ◌∷◌, ◌++◌, codes, map, Result, Ok, Err, inl, inr, refl, sym, ap, ◌∙◌, append_assoc, eqb-true}
 use Rattle.std.proofs.lemmas.Bool.{false≢true}
 use Rattle.std.specs.Prelude.{IfOk}
 use Rattle.std.specs.FinMap.{entries}
@@ -11,7 +11,7 @@ use Rattle.kap_base.specs.Maps.{KeyMap}
 use Rattle.kap_base.specs.declared.items.Level.{Level}
 use Rattle.kap_http.specs.Replies.{out_of_memory}
 use Rattle.kap_http.specs.ReplyValues.{ReplyValue}
-use Rattle.serde_json.specs.Data.{Data, Items, array, no_items, item}
+use Rattle.serde_json.specs.Data.{Data}
 use Rattle.serde_json.specs.View.{items_of}
 use Rattle.serde_json.specs.Written.{compact_text, items_text, outline}
 use Rattle.serde_json.proofs.Texts.{print-outline}

@@ -8,7 +8,7 @@ use Rattle.kap_http.specs.ReplyValues.{ReplyValue}
 use Rattle.kap_http.specs.declared.refusal.Refusal.TheVariants as refusals
 use Rattle.store_records.specs.declared.task.StoredTask.{StoredTask}
 use Rattle.topic_core.specs.Topics.{TopicsValue}
-use Rattle.reply_bodies.specs.Texts.{task_text, tasks_text, topic_text, topics_text}
+use Rattle.reply_bodies.specs.Texts.{tasks_text, topic_text, topics_text}
 
 -- a reply that gives what was asked for; it isn't a last one
 abbrev pub given_reply : List ℕ → ReplyValue
