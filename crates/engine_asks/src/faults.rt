@@ -1,6 +1,6 @@
 //! The replies where an engine refuses, or lines are faulty.
 
-ghost use Rattle.std.specs.Prelude.{◌≡◌};
+ghost use Rattle.std.specs.Prelude.{◌≡◌, ◌≢◌};
 ghost use Rattle.kap_http.specs.Replies.{error_reply};
 ghost use Rattle.line_points.specs.FaultText.{fault_line};
 ghost use Rattle.tick_compile.specs.Texts.{text_of_fault};
@@ -37,7 +37,7 @@ fn script_reply(alloc: Global, fault: ScriptFault) -> Reply
 /// The reply to lines of which one is faulty.
 #[tactic(auto, using(crate::proofs::FaultLaws::told))]
 pub(crate) fn line_reply(alloc: Global, fault: BodyFault) -> Reply
-    ensures { fault.fault ≢ LineFault.NoMemory
+    ensures told { fault.fault ≢ LineFault.NoMemory
         → IsDueOrShort (error_reply 400 (fault_line fault)) result }
     ensures short { fault.fault ≡ LineFault.NoMemory → result.status ≡ 503 }
 {

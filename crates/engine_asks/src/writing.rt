@@ -1,6 +1,6 @@
 //! Points are written.
 
-ghost use Rattle.std.specs.Prelude.{◌≡◌, ◌⊎◌, ◌≤◌, false, true, Err, IfErr, IfOk, IsTrue, List, Ok};
+ghost use Rattle.std.specs.Prelude.{◌≡◌, ◌≢◌, ◌≤◌, false, Err, IfErr, IfOk, IsTrue, List, Ok};
 ghost use Rattle.std.specs.List.{list_all};
 ghost use Rattle.kap_base.specs.Points.{is_time};
 ghost use Rattle.kap_base.specs.Words.{HasRisen};
