@@ -1,3 +1,4 @@
+pub mod LineLaws
 pub mod FaultLaws
 pub mod NextLaws
-pub mod LineLaws
+pub mod DecisionLaws
