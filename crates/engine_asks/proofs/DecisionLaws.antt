@@ -123,7 +123,7 @@ module _ {N P S : Type 0} (g : Ghosts N P S) (planned : Planned P) (rs : List Re
   one-change r is has =
       let kept = has.engine.on.kept.keeps.changes in
       let pushed : (held (rs ++ r ∷ [])).changes ≡ (held rs).changes + (if is_change r then 1 else 0) = ap (λ (h : Held). h.changes) (held_push rs r) in
-      kept ∙ rw is at pushed pushed
+      kept ∙ pushed ∙ ap (λ (b : Bool). (held rs).changes + (if b then 1 else 0)) is
 
   act-changes : (id : List ℕ) (act : TaskAct) → NextOfAct g planned rs stored seen images e id act → e.store.kept.changes ≡ (held rs).changes + (if is_changing_act act then 1 else 0)
   act-changes id acts.Show next = same-changes next
@@ -140,11 +140,11 @@ module _ {N P S : Type 0} (g : Ghosts N P S) (planned : Planned P) (rs : List Re
   ask-changes asks.Topics now next = same-changes next
   ask-changes (asks.Topic t) now next = same-changes next
 
-  no-change : (a b : Bool) → b ≡ false → (if a && b then 1 else 0) ≡ 0
+  no-change : (a b : Bool) → b ≡ false → ◌≡◌ {A = ℕ} (if a && b then 1 else 0) 0
   no-change true b is = rw is refl
   no-change false b is = refl
 
-  a-change : (a b : Bool) → b ≡ true → (if a && b then 1 else 0) ≡ (if a then 1 else 0)
+  a-change : (a b : Bool) → b ≡ true → ◌≡◌ {A = ℕ} (if a && b then 1 else 0) (if a then 1 else 0)
   a-change true b is = rw is refl
   a-change false b is = refl
 

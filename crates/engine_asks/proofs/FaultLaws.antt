@@ -1,7 +1,7 @@
 -- What the replies to faults say.
 use Rattle.std.proofs.Common.{◌≡◌, ℕ, ◌==◌, Bool, true, false, List, [], ◌∷◌, Option, None, Some, Result, Ok, Err, cond, inl, inr, refl, sym, ap, subst, ◌∙◌, arith}
-use Rattle.std.specs.Prelude.{◌⊎◌, ⊤, IfOk}
-use Rattle.std.specs.List.{AllByRecursion as Each, list_any}
+use Rattle.std.specs.Prelude.{◌⊎◌, ⊤, ◌||◌, IfOk}
+use Rattle.std.specs.List.{AllByRecursion as Each}
 use Rattle.kap_base.specs.Words.{HasRisen}
 use Rattle.kap_io.specs.declared.disk.Part.{Part}
 use Rattle.kap_http.specs.AskValues.{DefineValue}
@@ -50,11 +50,10 @@ none_defined refused tasks d engines.NoMemory reply why (inr short) = inr (inr s
 -- where no task has an id, none is found
 none_found : (id : List ℕ) (tasks : List StoredTask) → has_task id tasks ≡ false → task_of id tasks ≡ None
 none_found id [] none = refl
-none_found id (t ∷ tasks) none = by (is_called id t) refl
-  where
-    by : (b : Bool) → is_called id t ≡ b → task_of id (t ∷ tasks) ≡ None
-    by true is = absurd (rw is at none cc)
-    by false is = rw is (none_found id tasks (rw is at none none))
+none_found id (t ∷ tasks) none = elim (is_called id t) as (λ b. (b || has_task id tasks) ≡ false → cond b (Some t) (task_of id tasks) ≡ None) [
+  | true ↦ λ is. absurd cc
+  | false ↦ λ is. none_found id tasks is
+] none
 
 -- what is found is one of them
 found_script : (id : List ℕ) (tasks : List StoredTask) (task : StoredTask) → Each (λ task. IsScript task.script) tasks → task_of id tasks ≡ Some task → IsScript task.script

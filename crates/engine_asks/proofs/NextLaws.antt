@@ -22,7 +22,7 @@ module _ {N P S : Type 0} (g : Ghosts N P S) (planned : Planned P) (rs : List Re
   -- where nothing has changed the engine stays
   pub stays_same : {D : Type 0} (seen : D → Image) (may_leave : D → Image → Type 0) (old new : D) (e f : EngineValue N) → IsEngine g planned rs (seen old) (may_leave old) e
       → (f ≡ e) × (new ≡ old) → Stays g planned rs e.stored (seen new) (may_leave new) f
-  stays_same seen may_leave old new e f at same =
+  stays_same {D = D} seen may_leave old new e f at same =
       subst (λ (d : D). Stays g planned rs e.stored (seen d) (may_leave d) f) (sym same.1)
       (subst (λ (x : EngineValue N). Stays g planned rs e.stored (seen old) (may_leave old) x) (sym same.0) (record { engine = at; same = refl }))
 

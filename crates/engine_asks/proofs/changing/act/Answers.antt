@@ -1,4 +1,4 @@
-use Rattle.std.proofs.Common.{◌≡◌, List, true, inr, sym, subst, rules}
+use Rattle.std.proofs.Common.{◌≡◌, List, true, Err, inr, sym, ap, subst, rules}
 use Rattle.std.specs.List.{AllByRecursion as Each}
 use Rattle.kap_http.specs.AskValues.{TaskValue}
 use Rattle.kap_io.specs.Moments.{Moments}
@@ -62,4 +62,5 @@ returns-in-Err-clause-cause g c = λ tells rs at is.
     let tasks = c.args.engine.now.store.kept.tasks in
     let scripts : Each (λ (t : StoredTask). IsScript t.script) tasks =
         subst (λ (ts : List StoredTask). Each (λ (t : StoredTask). IsScript t.script) ts) (sym at.on.kept.keeps.tasks) at.full.good.scripts.of_tasks in
-    acted_cause _ _ _ _ _ tasks c.scripts_have_one_answer.ensures.apart scripts c.in-Err.fault c.fault_reply.result c.in-Err.ensures.why c.in-Err.ensures.cause.failed c.fault_reply.ensures is
+    acted_cause _ _ _ _ _ tasks c.scripts_have_one_answer.ensures.apart scripts c.in-Err.fault c.fault_reply.result c.in-Err.ensures.why
+    (λ e. c.in-Err.ensures.cause.failed (ap Err e)) c.fault_reply.ensures is
