@@ -1,6 +1,6 @@
 -- What a decision says of the store.
 use Rattle.std.proofs.Common.{◌≡◌, ℕ, ℤ, ◌+◌, ◌<◌, Bool, true, false, List, [], ◌∷◌, ◌++◌, length, take, drop, inl, inr, refl, sym, ap, subst, ◌∙◌, arith}
-use Rattle.std.specs.Prelude.{◌⊎◌, ⊤, not, ◌&&◌, nat_le, nat_lt, if◌then◌else◌}
+use Rattle.std.specs.Prelude.{⊤, not, ◌&&◌, nat_le, nat_lt, if◌then◌else◌}
 use Rattle.std.specs.List.{AllByRecursion as Each, position_or_len}
 use Rattle.std.specs.Ordering.{is_lt}
 use Rattle.std.proofs.lemmas.Bool.Decides.{nat_tests}
@@ -77,7 +77,7 @@ module _ {N P S : Type 0} (g : Ghosts N P S) (planned : Planned P) (rs : List Re
       let place = end_of rs in
       let task : StoredTask = record { id = d.id; script = d.script; enabled = d.enabled; define_at = place } in
       let there : Each (λ (t : StoredTask). IsScript t.script) (put_task task (held rs).tasks) =
-          subst (λ (h : Held). Each (λ (t : StoredTask). IsScript t.script) h.tasks) (held_push rs (definition d)) at.full.good.scripts.of_tasks in
+      subst (λ (h : Held). Each (λ (t : StoredTask). IsScript t.script) h.tasks) (held_push rs (definition d)) at.full.good.scripts.of_tasks in
       subst (λ (tasks : List StoredTask). CanBeDefined tasks d) (sym tasks_are) (record {
         script = put-script task (held rs).tasks there;
         free = not-true (has_task d.id (held rs).tasks) (first_of (not (has_task d.id (held rs).tasks)) room behind);
@@ -106,7 +106,7 @@ module _ {N P S : Type 0} (g : Ghosts N P S) (planned : Planned P) (rs : List Re
       at : is_done reply.status ≡ true → IsEngine g planned (rs ++ definition d ∷ []) seen images e
       at done =
           let given : HasRecord g planned rs (definition d) seen images e =
-              subst (λ (b : Bool). IsNextIf g planned rs tasks stored seen images e b (asks.Define d) now) done (next (done_is_no_failure reply.status done)) in
+          subst (λ (b : Bool). IsNextIf g planned rs tasks stored seen images e b (asks.Define d) now) done (next (done_is_no_failure reply.status done)) in
           given.engine
   reply_due refused before topics tasks stored now (asks.Task t) reply tasks_are next (inl is) = inl is
   reply_due refused before topics tasks stored now asks.Topics reply tasks_are next (inl is) = inl is

@@ -1,8 +1,8 @@
 -- What stands behind an ask.
-use Rattle.std.specs.Prelude.{◌≡◌, ◌⊎◌, ℕ, ℤ, Bool, true, false, List, [], ◌∷◌, ◌++◌, Result, Ok, Err}
+use Rattle.std.specs.Prelude.{◌≡◌, ◌⊎◌, ℕ, ℤ, Bool, true, false, List, [], ◌∷◌, ◌++◌, Result, Ok}
 use Rattle.kap_base.specs.Points.{PointValue}
 use Rattle.kap_io.specs.Disk.{Image}
-use Rattle.kap_http.specs.AskValues.{DefineValue, TaskValue, WriteValue}
+use Rattle.kap_http.specs.AskValues.{DefineValue, WriteValue}
 use Rattle.kap_http.specs.declared.ask.Ask.{Ask}
 use Rattle.kap_http.specs.declared.ask.Ask.TheVariants as asks
 use Rattle.kap_http.specs.declared.ask.TaskAct.{TaskAct}
@@ -54,26 +54,26 @@ module _ {N P S : Type 0} (g : Ghosts N P S) (planned : Planned P) (rs : List Re
     NextOfAct id acts.Delete = HasRecord (kinds.Delete id) seen images e
 
   module _ (tasks : List Task) (stored : List Transition) (seen : Image) (images : Image → Type 0) (e : EngineValue N)
-      where
-    -- what stands behind an ask that was done
-    abbrev pub NextOf : Ask → ℤ → Type 0
-    NextOf asks.Ping now = Stays stored seen images e
-    NextOf (asks.Write w) now = HasPointsOf tasks (points_asked w now) seen images e
-    NextOf asks.Tasks now = Stays stored seen images e
-    NextOf (asks.Define d) now = HasRecord (definition d) seen images e
-    NextOf (asks.Task t) now = NextOfAct stored seen images e t.id t.act
-    NextOf asks.Topics now = Stays stored seen images e
-    NextOf (asks.Topic t) now = Stays stored seen images e
+    where
+      -- what stands behind an ask that was done
+      abbrev pub NextOf : Ask → ℤ → Type 0
+      NextOf asks.Ping now = Stays stored seen images e
+      NextOf (asks.Write w) now = HasPointsOf tasks (points_asked w now) seen images e
+      NextOf asks.Tasks now = Stays stored seen images e
+      NextOf (asks.Define d) now = HasRecord (definition d) seen images e
+      NextOf (asks.Task t) now = NextOfAct stored seen images e t.id t.act
+      NextOf asks.Topics now = Stays stored seen images e
+      NextOf (asks.Topic t) now = Stays stored seen images e
 
-    -- whether it was done or refused
-    abbrev pub IsNextIf : Bool → Ask → ℤ → Type 0
-    IsNextIf true ask now = NextOf ask now
-    IsNextIf false ask now = Stays stored seen images e
+      -- whether it was done or refused
+      abbrev pub IsNextIf : Bool → Ask → ℤ → Type 0
+      IsNextIf true ask now = NextOf ask now
+      IsNextIf false ask now = Stays stored seen images e
 
-    -- The store behind an ask that was answered with this status, where no failure was told: the change is there where it
-    -- was done, and else all is as before.
-    abbrev pub IsNext : Ask → ℤ → ℕ → Type 0
-    IsNext ask now status = IsNextIf (is_done status) ask now
+      -- The store behind an ask that was answered with this status, where no failure was told: the change is there where it
+      -- was done, and else all is as before.
+      abbrev pub IsNext : Ask → ℤ → ℕ → Type 0
+      IsNext ask now status = IsNextIf (is_done status) ask now
 
   -- ---- images
 

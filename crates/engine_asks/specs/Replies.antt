@@ -1,6 +1,6 @@
 -- The reply that is due to an ask (Kapacitor 1.6: HTTP API; InfluxDB 1.8: the write endpoint), by the tasks and the
 -- topics that a store has.
-use Rattle.std.specs.Prelude.{◌≡◌, ◌⊎◌, ◌<◌, ◌≤◌, ⊤, ℕ, ℤ, Bool, true, false, List, length, Option, Some, None, Result, Ok, Err}
+use Rattle.std.specs.Prelude.{◌≡◌, ◌⊎◌, ◌<◌, ◌≤◌, ⊤, ℕ, ℤ, true, false, List, length, Option, Some, None, Result, Ok, Err}
 use Rattle.kap_base.specs.Points.{PointValue}
 use Rattle.kap_base.specs.declared.limits.TheConstants.{TASK_LIMIT}
 use Rattle.kap_http.specs.AskValues.{DefineValue, WriteValue}

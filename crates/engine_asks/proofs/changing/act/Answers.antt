@@ -29,10 +29,10 @@ returns-in-Err-clause-answer g c =
     let tasks = c.args.engine.now.store.kept.tasks in
     let tasks_are : c.tasks.result.now ≡ tasks = search rules in
     let given : IsDueOrShort (reply_to_act c.ask.inside.act (task_of c.ask.inside.id tasks)) c.reply_of-reply.result =
-        subst (λ (ts : List StoredTask). IsDueOrShort (reply_to_act c.ask.inside.act (task_of c.ask.inside.id ts)) c.reply_of-reply.result) tasks_are c.reply_of-reply.ensures in
+    subst (λ (ts : List StoredTask). IsDueOrShort (reply_to_act c.ask.inside.act (task_of c.ask.inside.id ts)) c.reply_of-reply.result) tasks_are c.reply_of-reply.ensures in
     let done : is_done c.reply_of-reply.result.status ≡ true = search rules in
     let failed : IsFailed c.fault_reply.result.status =
-        acted_failed _ _ _ _ _ tasks c.ask.inside.act c.in-Err.fault c.reply_of-reply.result c.fault_reply.result c.in-Err.ensures.why given done c.fault_reply.ensures in
+    acted_failed _ _ _ _ _ tasks c.ask.inside.act c.in-Err.fault c.reply_of-reply.result c.fault_reply.result c.in-Err.ensures.why given done c.fault_reply.ensures in
     inr failed
 
 pub returns-in-Err-clause-still : goal.returns-in-Err-clause-still
@@ -40,10 +40,10 @@ returns-in-Err-clause-still g c = λ refused told.
     let tasks = c.args.engine.now.store.kept.tasks in
     let tasks_are : c.tasks.result.now ≡ tasks = search rules in
     let given : IsDueOrShort (reply_to_act c.ask.inside.act (task_of c.ask.inside.id tasks)) c.reply_of-reply.result =
-        subst (λ (ts : List StoredTask). IsDueOrShort (reply_to_act c.ask.inside.act (task_of c.ask.inside.id ts)) c.reply_of-reply.result) tasks_are c.reply_of-reply.ensures in
+    subst (λ (ts : List StoredTask). IsDueOrShort (reply_to_act c.ask.inside.act (task_of c.ask.inside.id ts)) c.reply_of-reply.result) tasks_are c.reply_of-reply.ensures in
     let done : is_done c.reply_of-reply.result.status ≡ true = search rules in
     let failed : IsFailed c.fault_reply.result.status =
-        acted_failed _ _ _ _ _ tasks c.ask.inside.act c.in-Err.fault c.reply_of-reply.result c.fault_reply.result c.in-Err.ensures.why given done c.fault_reply.ensures in
+    acted_failed _ _ _ _ _ tasks c.ask.inside.act c.in-Err.fault c.reply_of-reply.result c.fault_reply.result c.in-Err.ensures.why given done c.fault_reply.ensures in
     absurd (told failed)
 
 pub returns-in-Err-clause-usable : goal.returns-in-Err-clause-usable
@@ -51,16 +51,16 @@ returns-in-Err-clause-usable g c = λ told.
     let tasks = c.args.engine.now.store.kept.tasks in
     let tasks_are : c.tasks.result.now ≡ tasks = search rules in
     let given : IsDueOrShort (reply_to_act c.ask.inside.act (task_of c.ask.inside.id tasks)) c.reply_of-reply.result =
-        subst (λ (ts : List StoredTask). IsDueOrShort (reply_to_act c.ask.inside.act (task_of c.ask.inside.id ts)) c.reply_of-reply.result) tasks_are c.reply_of-reply.ensures in
+    subst (λ (ts : List StoredTask). IsDueOrShort (reply_to_act c.ask.inside.act (task_of c.ask.inside.id ts)) c.reply_of-reply.result) tasks_are c.reply_of-reply.ensures in
     let done : is_done c.reply_of-reply.result.status ≡ true = search rules in
     let failed : IsFailed c.fault_reply.result.status =
-        acted_failed _ _ _ _ _ tasks c.ask.inside.act c.in-Err.fault c.reply_of-reply.result c.fault_reply.result c.in-Err.ensures.why given done c.fault_reply.ensures in
+    acted_failed _ _ _ _ _ tasks c.ask.inside.act c.in-Err.fault c.reply_of-reply.result c.fault_reply.result c.in-Err.ensures.why given done c.fault_reply.ensures in
     absurd (told failed)
 
 pub returns-in-Err-clause-cause : goal.returns-in-Err-clause-cause
 returns-in-Err-clause-cause g c = λ tells rs at is.
     let tasks = c.args.engine.now.store.kept.tasks in
     let scripts : Each (λ (t : StoredTask). IsScript t.script) tasks =
-        subst (λ (ts : List StoredTask). Each (λ (t : StoredTask). IsScript t.script) ts) (sym at.on.kept.keeps.tasks) at.full.good.scripts.of_tasks in
+    subst (λ (ts : List StoredTask). Each (λ (t : StoredTask). IsScript t.script) ts) (sym at.on.kept.keeps.tasks) at.full.good.scripts.of_tasks in
     acted_cause _ _ _ _ _ tasks c.scripts_have_one_answer.ensures.apart scripts c.in-Err.fault c.fault_reply.result c.in-Err.ensures.why
     (λ e. c.in-Err.ensures.cause.failed (ap Err e)) c.fault_reply.ensures is
