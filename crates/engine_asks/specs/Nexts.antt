@@ -1,5 +1,5 @@
 -- What stands behind an ask.
-use Rattle.std.specs.Prelude.{◌≡◌, ◌⊎◌, ℕ, ℤ, Bool, true, false, List, [], ◌∷◌, ◌++◌, Result, Ok}
+use Rattle.std.specs.Prelude.{◌≡◌, ◌⊎◌, ◌≤◌, ℕ, ◌+◌, ℤ, Bool, true, false, if◌then◌else◌, List, [], ◌∷◌, ◌++◌, Result, Ok}
 use Rattle.kap_base.specs.Points.{PointValue}
 use Rattle.kap_io.specs.Disk.{Image}
 use Rattle.kap_http.specs.AskValues.{DefineValue, WriteValue}
@@ -10,14 +10,17 @@ use Rattle.kap_http.specs.declared.ask.TaskAct.TheVariants as acts
 use Rattle.line_points.specs.declared.fault.BodyFault.{BodyFault}
 use Rattle.node_core.specs.declared.node.Node.{Ghosts}
 use Rattle.node_set.specs.Tasks.{Planned}
+use Rattle.store_records.specs.Histories.{held}
 use Rattle.store_records.specs.declared.rec.Rec.{Rec}
 use Rattle.store_records.specs.declared.rec.Rec.TheVariants as kinds
 use Rattle.tick_compile.specs.declared.tasks.Task.{Task}
 use Rattle.topic_core.specs.declared.transition.Transition.{Transition}
+use Rattle.topic_store.specs.Stores.{Stands}
+use Rattle.engine_store.specs.Good.{IsGood}
 use Rattle.kap_engine.specs.Changing.{StandsFull, stands_full_before_or_after}
 use Rattle.kap_engine.specs.Engines.{EngineValue, IsEngine}
 use Rattle.kap_engine.specs.Writing.{HasWritten, StandsWriting}
-use Rattle.reply_bodies.specs.Asks.{is_done}
+use Rattle.reply_bodies.specs.Asks.{change_of, is_changing, is_done}
 use Rattle.engine_asks.specs.Replies.{points_asked}
 
 -- the record that defines a task
@@ -104,3 +107,30 @@ module _ {N P S : Type 0} (g : Ghosts N P S) (planned : Planned P) (rs : List Re
   before_or_next (asks.Task t) now old files = before_or_acted t.id t.act old files
   before_or_next asks.Topics now old files = StandsFull g planned rs files
   before_or_next (asks.Topic t) now old files = StandsFull g planned rs files
+
+  -- ---- how many changes and which transitions
+
+  -- What is counted behind an ask that was answered with this status, where no failure was told: the store has one change
+  -- more exactly where one was asked for and is done; and it has no transition more, or just those that are told of as
+  -- stored.
+  pub record IsCounted (ask : Ask) (status : ℕ) (seen : Image) (images : Image → Type 0) (e : EngineValue N) : Type 0 where
+    pub records : List Rec
+    pub engine : IsEngine g planned records seen images e
+    pub changes : (held records).changes ≡ (held rs).changes + change_of ask status
+    pub own : ((held records).transitions ≡ (held rs).transitions)
+        ⊎ ((held records).transitions ≡ (held rs).transitions ++ e.stored)
+
+  -- While an ask is decided, the files stand for a right store which has as many changes as before, or one more where the
+  -- ask is for one; and its transitions begin with those that were stored before.
+  pub record StandsCounted (ask : Ask) (files : Image) : Type 0 where
+    pub records : List Rec
+    pub stands : Stands records files
+    pub good : IsGood g planned records
+    pub least : (held rs).changes ≤ (held records).changes
+    pub most : (held records).changes ≤ (held rs).changes + (if is_changing ask then 1 else 0)
+    pub some : List Transition
+    pub transitions : (held records).transitions ≡ (held rs).transitions ++ some
+
+  -- whatever stood there before
+  abbrev pub stands_counted : Ask → Image → Image → Type 0
+  stands_counted ask old files = StandsCounted ask files

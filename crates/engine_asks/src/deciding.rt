@@ -8,7 +8,7 @@ ghost use Rattle.store_records.specs.declared.rec.Rec.{Rec};
 ghost use Rattle.kap_engine.specs.Engines.{IsEngine};
 ghost use Rattle.reply_bodies.specs.Asks.{IsFailed, change_of};
 ghost use Rattle.engine_asks.specs.Decisions.{IsAnswerOrFailed, IsReplyOrFailed};
-ghost use Rattle.engine_asks.specs.Nexts.{IsNext, before_or_next};
+ghost use Rattle.engine_asks.specs.Nexts.{IsCounted, IsNext, before_or_next, stands_counted};
 
 use crate::changing::act;
 use crate::decided::Decided;
@@ -113,7 +113,12 @@ pub fn decide<
         → (IsFailed result.reply.status → ⊥) → IsNext N.Node N.planned rs at.full.good.tasks
         engine.old.stored (D.seen disk.new) (D.may_leave disk.new) engine.new
         ask.now now result.reply.status }
-    // It has one change more exactly where one was asked for and is done.
+    // It has one change more exactly where one was asked for and is done. What was stored before stands in front
+    // of what is stored then, and behind it only what the engine tells of as stored.
+    ensures counted { IsTrue D.tells → (rs : List Rec)
+        → IsEngine N.Node N.planned rs (D.seen disk.old) (D.may_leave disk.old) engine.old
+        → (IsFailed result.reply.status → ⊥) → IsCounted N.Node N.planned rs ask.now
+        result.reply.status (D.seen disk.new) (D.may_leave disk.new) engine.new }
     ensures exact { IsTrue D.tells → (rs : List Rec)
         → IsEngine N.Node N.planned rs (D.seen disk.old) (D.may_leave disk.old) engine.old
         → (IsFailed result.reply.status → ⊥) → engine.new.store.kept.changes
@@ -123,6 +128,10 @@ pub fn decide<
         → IsEngine N.Node N.planned rs (D.seen disk.old) (D.may_leave disk.old) engine.old
         → Moments D.moment D.may_leave D.left_since disk.old disk.new
         (before_or_next N.Node N.planned rs ask.now now) }
+    ensures any_count { IsTrue D.tells → (rs : List Rec)
+        → IsEngine N.Node N.planned rs (D.seen disk.old) (D.may_leave disk.old) engine.old
+        → Moments D.moment D.may_leave D.left_since disk.old disk.new
+        (stands_counted N.Node N.planned rs ask.now) }
     ensures usable { (IsFailed result.reply.status → ⊥) → engine.new.spent ≡ false }
     ensures cause { IsTrue D.tells → (rs : List Rec)
         → IsEngine N.Node N.planned rs (D.seen disk.old) (D.may_leave disk.old) engine.old
