@@ -1,0 +1,4 @@
+pub mod LineLaws
+pub mod FaultLaws
+pub mod NextLaws
+pub mod DecisionLaws

@@ -1,0 +1,55 @@
+use Rattle.std.proofs.Common.{ℤ, sym, subst}
+use Rattle.std.specs.Int.{w64}
+use Rattle.std.proofs.lemmas.Int.{to_z-of_z}
+use Rattle.kap_http.specs.declared.ask.Ask.{Ask}
+use Rattle.kap_io.specs.Moments.{Moments}
+use Rattle.engine_asks.specs.Decisions.{IsAnswerOrFailed}
+use Rattle.engine_asks.specs.Nexts.{HasPointsOf, IsNext, before_or_next, before_or_written}
+use Rattle.engine_asks.specs.Replies.{points_asked}
+use Rattle.engine_asks.proofs.NextLaws.{next_if, stays_same}
+use Rattle.engine_asks.proofs.deciding.answer.Goals as goal
+
+pub returns-in-Write-clause-next : goal.returns-in-Write-clause-next
+returns-in-Write-clause-next g c = λ tells rs at told.
+    let tasks = at.full.good.tasks in
+    let stored = c.args.engine.now.stored in
+    let seen = g.D.Disk.seen c.write.new.disk in
+    let images = g.D.Disk.may_leave c.write.new.disk in
+    let status = c.write.result.status in
+    subst (λ (ask : Ask). IsNext g.N.Node g.N.ScriptNode.planned rs tasks stored seen images c.write.new.engine ask c.args.now status) (sym c.in-Write.is)
+    (next_if g.N.Node g.N.ScriptNode.planned rs tasks stored seen images c.write.new.engine _ c.args.now status
+    (λ done. subst (λ (t : ℤ). HasPointsOf g.N.Node g.N.ScriptNode.planned rs tasks (points_asked c.in-Write.ask t) seen images c.write.new.engine) (to_z-of_z w64 c.args.now c.ranges.now) (c.write.ensures.next tells rs at done))
+    (λ refused. stays_same g.N.Node g.N.ScriptNode.planned rs g.D.Disk.seen g.D.Disk.may_leave c.args.disk.now c.write.new.disk c.args.engine.now c.write.new.engine at (c.write.ensures.still refused told)))
+
+pub returns-in-Task-clause-next : goal.returns-in-Task-clause-next
+returns-in-Task-clause-next g c = λ tells rs at told.
+    let tasks = at.full.good.tasks in
+    let stored = c.args.engine.now.stored in
+    let seen = g.D.Disk.seen c.act.new.disk in
+    let images = g.D.Disk.may_leave c.act.new.disk in
+    let status = c.act.result.status in
+    subst (λ (ask : Ask). IsNext g.N.Node g.N.ScriptNode.planned rs tasks stored seen images c.act.new.engine ask c.args.now status) (sym c.in-Task.is)
+    (next_if g.N.Node g.N.ScriptNode.planned rs tasks stored seen images c.act.new.engine _ c.args.now status
+    (λ done. c.act.ensures.next tells rs at done)
+    (λ refused. stays_same g.N.Node g.N.ScriptNode.planned rs g.D.Disk.seen g.D.Disk.may_leave c.args.disk.now c.act.new.disk c.args.engine.now c.act.new.engine at (c.act.ensures.still refused told)))
+
+pub returns-in-Define-clause-answer : goal.returns-in-Define-clause-answer
+returns-in-Define-clause-answer g c =
+    subst (λ (ask : Ask). IsAnswerOrFailed (g.P.Patterns.refused c.define.new.pats) c.args.engine.now.store.kept c.args.engine.now.run.topics c.args.now ask c.define.result) (sym c.in-Define.is)
+    c.define.ensures.answer
+
+pub returns-in-Write-clause-any_moment : goal.returns-in-Write-clause-any_moment
+returns-in-Write-clause-any_moment g c = λ tells rs at.
+    subst (λ (ask : Ask). Moments g.D.Disk.moment g.D.Disk.may_leave g.D.Disk.left_since c.args.disk.now c.write.new.disk (before_or_next g.N.Node g.N.ScriptNode.planned rs ask c.args.now)) (sym c.in-Write.is)
+    (subst (λ (t : ℤ). Moments g.D.Disk.moment g.D.Disk.may_leave g.D.Disk.left_since c.args.disk.now c.write.new.disk (before_or_written g.N.Node g.N.ScriptNode.planned rs c.in-Write.ask t)) (to_z-of_z w64 c.args.now c.ranges.now)
+    (c.write.ensures.any_moment tells rs at))
+
+pub returns-in-Define-clause-any_moment : goal.returns-in-Define-clause-any_moment
+returns-in-Define-clause-any_moment g c = λ tells rs at.
+    subst (λ (ask : Ask). Moments g.D.Disk.moment g.D.Disk.may_leave g.D.Disk.left_since c.args.disk.now c.define.new.disk (before_or_next g.N.Node g.N.ScriptNode.planned rs ask c.args.now)) (sym c.in-Define.is)
+    (c.define.ensures.any_moment tells rs at)
+
+pub returns-in-Task-clause-any_moment : goal.returns-in-Task-clause-any_moment
+returns-in-Task-clause-any_moment g c = λ tells rs at.
+    subst (λ (ask : Ask). Moments g.D.Disk.moment g.D.Disk.may_leave g.D.Disk.left_since c.args.disk.now c.act.new.disk (before_or_next g.N.Node g.N.ScriptNode.planned rs ask c.args.now)) (sym c.in-Task.is)
+    (c.act.ensures.any_moment tells rs at)

@@ -1,0 +1,33 @@
+use Rattle.std.proofs.Common.{subst}
+use Rattle.std.specs.Prelude.{◌⊎◌, ⊤}
+use Rattle.kap_http.specs.AskValues.{DefineValue}
+use Rattle.kap_io.specs.Moments.{Moments}
+use Rattle.kap_engine.specs.Changing.{stands_full_before_or_after}
+use Rattle.reply_bodies.specs.Asks.{IsFailed}
+use Rattle.engine_asks.specs.Nexts.{HasRecord, definition}
+use Rattle.engine_asks.specs.Replies.{IsReplyToDefinition}
+use Rattle.engine_asks.proofs.FaultLaws.{none_defined}
+use Rattle.engine_asks.proofs.defining.define.Goals as goal
+
+pub returns-in-Ok-clause-next : goal.returns-in-Ok-clause-next
+returns-in-Ok-clause-next g c = λ tells rs at done.
+    subst (λ (d : DefineValue). HasRecord g.N.Node g.N.ScriptNode.planned rs (definition d) (g.D.Disk.seen c.define.new.disk) (g.D.Disk.may_leave c.define.new.disk) c.define.new.self) c.ask.view_is
+    (record { engine = c.in-Ok.ensures.defined tells rs at; none = c.in-Ok.ensures.stored })
+
+pub returns-in-Ok-clause-any_moment : goal.returns-in-Ok-clause-any_moment
+returns-in-Ok-clause-any_moment g c = λ tells rs at.
+    subst (λ (d : DefineValue). Moments g.D.Disk.moment g.D.Disk.may_leave g.D.Disk.left_since c.args.disk.now c.define.new.disk (stands_full_before_or_after g.N.Node g.N.ScriptNode.planned rs (definition d))) c.ask.view_is
+    (c.define.ensures.any_moment tells rs at)
+
+pub returns-in-Err-clause-answer : goal.returns-in-Err-clause-answer
+returns-in-Err-clause-answer g c =
+    let refused = g.P.Patterns.refused c.define.new.pats in
+    let tasks = c.args.engine.now.store.kept.tasks in
+    let reply = c.fault_reply.result in
+    subst (λ (d : DefineValue). IsReplyToDefinition ⊤ refused tasks d reply ⊎ IsFailed reply.status) c.ask.view_is
+    (none_defined refused tasks _ c.in-Err.fault reply c.in-Err.ensures.why c.fault_reply.ensures)
+
+pub returns-in-Err-clause-any_moment : goal.returns-in-Err-clause-any_moment
+returns-in-Err-clause-any_moment g c = λ tells rs at.
+    subst (λ (d : DefineValue). Moments g.D.Disk.moment g.D.Disk.may_leave g.D.Disk.left_since c.args.disk.now c.define.new.disk (stands_full_before_or_after g.N.Node g.N.ScriptNode.planned rs (definition d))) c.ask.view_is
+    (c.define.ensures.any_moment tells rs at)
