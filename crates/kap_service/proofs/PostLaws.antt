@@ -32,10 +32,10 @@ follows_begin : (xs stored some front back : List Transition) → IsPrefix xs st
 follows_begin xs stored some front back p f cut = (
   back ++ f.rest,
   append_assoc xs front (back ++ f.rest)
-  ∙ ap (λ (z : List Transition). xs ++ z)
-  (sym (append_assoc front back f.rest) ∙ ap (λ (z : List Transition). z ++ f.rest) cut ∙ sym f.behind
-  ∙ sym (rest_is xs stored p))
-  ∙ p.1,
+      ∙ ap (λ (z : List Transition). xs ++ z)
+      (sym (append_assoc front back f.rest) ∙ ap (λ (z : List Transition). z ++ f.rest) cut ∙ sym f.behind
+      ∙ sym (rest_is xs stored p))
+      ∙ p.1,
 )
 
 module _ (old new : Posts) (stored some : List Transition) (after : ℕ) where
@@ -45,7 +45,7 @@ module _ (old new : Posts) (stored some : List Transition) (after : ℕ) where
       → new.published ≡ old.published → new.pending ≡ old.pending ++ some → IsPrefix (posted new) stored
   ok_begun p at f same more =
       let here : AreBehind stored (length (posted old)) some =
-          subst (λ (n : ℕ). AreBehind stored n some) (at ∙ sym (size_of old)) f in
+      subst (λ (n : ℕ). AreBehind stored n some) (at ∙ sym (size_of old)) f in
       subst (λ (z : List Transition). IsPrefix z stored) (sym (posted_more old new some same more))
       (follows_begin (posted old) stored some some [] p here (append-nil some))
 
@@ -56,7 +56,7 @@ module _ (old new : Posts) (stored some : List Transition) (after : ℕ) where
       → IsPrefix (posted new) stored
   err_begun p at f same more =
       let here : AreBehind stored (length (posted old)) some =
-          subst (λ (n : ℕ). AreBehind stored n some) (at ∙ sym (size_of old)) f in
+      subst (λ (n : ℕ). AreBehind stored n some) (at ∙ sym (size_of old)) f in
       subst (λ (z : List Transition). IsPrefix z stored) (sym (posted_more old new (take more.0 some) same more.1))
       (follows_begin (posted old) stored some (take more.0 some) (drop more.0 some) p here
       (take-append-drop more.0 some))
@@ -74,7 +74,7 @@ pub none_behind : (old : Posts) (stored some : List Transition) (after : ℕ) �
     → posted old ≡ stored
 none_behind old stored some after p at f none =
     let here : p.0 ≡ some ++ f.rest = rest_is (posted old) stored p
-        ∙ ap (λ (n : ℕ). drop n stored) (size_of old ∙ sym at) ∙ f.behind in
+    ∙ ap (λ (n : ℕ). drop n stored) (size_of old ∙ sym at) ∙ f.behind in
     let all : p.0 ≡ [] = here ∙ ap (λ (z : List Transition). z ++ f.rest) none ∙ f.none none in
     sym (append-nil (posted old)) ∙ ap (λ (z : List Transition). posted old ++ z) (sym all) ∙ p.1
 
@@ -86,10 +86,10 @@ pub own_behind : (stored own before : List Transition) (after : ℕ) → stored 
 own_behind stored own before after is size = record {
   rest = [];
   behind =
-    let same : length before ≡ after =
-        (let whole = ap (λ (z : List Transition). length z) is ∙ length-append before own in omega arith) in
-    ap (λ (n : ℕ). drop n stored) (sym same) ∙ ap (λ (z : List Transition). drop (length before) z) is
-    ∙ drop_behind before own ∙ sym (append-nil own);
+      let same : length before ≡ after =
+      (let whole = ap (λ (z : List Transition). length z) is ∙ length-append before own in omega arith) in
+      ap (λ (n : ℕ). drop n stored) (sym same) ∙ ap (λ (z : List Transition). drop (length before) z) is
+      ∙ drop_behind before own ∙ sym (append-nil own);
   none = λ _. refl;
 }
 
@@ -102,7 +102,7 @@ unfolding own_behind
 own_whole old new stored own before after p is at size same more =
     let f = own_behind stored own before after is size in
     let rest : p.0 ≡ own = rest_is (posted old) stored p ∙ ap (λ (n : ℕ). drop n stored) (size_of old ∙ sym at)
-        ∙ f.behind ∙ append-nil own in
+    ∙ f.behind ∙ append-nil own in
     posted_more old new own same more ∙ ap (λ (z : List Transition). posted old ++ z) (sym rest) ∙ p.1
 
 -- nothing was posted yet

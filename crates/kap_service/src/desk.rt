@@ -24,7 +24,15 @@ use std::sync::ledger::Ledger;
 use topic_board::{Naming, Shown};
 
 /// The reply to an ask that goes to the lock.
-fn locked_reply<E: Engine, J: Naming, O: Drop, T: Shown<J, O>, R: Wait + Drop, L1: Ledger, L2: Since>(
+fn locked_reply<
+    E: Engine,
+    J: Naming,
+    O: Drop,
+    T: Shown<J, O>,
+    R: Wait + Drop,
+    L1: Ledger,
+    L2: Since,
+>(
     rt: &impl Wait,
     alloc: Global,
     lock: &Lock<E, J, O, T, R, L1, L2>,
@@ -84,7 +92,18 @@ fn served<E: Engine, J: Naming, O: Drop, T: Shown<J, O>, R: Wait + Drop, L1: Led
 /// topics gets the seat's reply, and goes to the lock only where the seat's look was refused; each other ask
 /// goes to the lock, at the moment that the clock tells.
 #[derive(Drop)]
-pub struct Desk<'a, E: Engine, J: Naming, O: Drop, T: Shown<J, O>, R: Wait + Drop, L1: Ledger, L2: Since, C: Clock, W: Wait> {
+pub struct Desk<
+    'a,
+    E: Engine,
+    J: Naming,
+    O: Drop,
+    T: Shown<J, O>,
+    R: Wait + Drop,
+    L1: Ledger,
+    L2: Since,
+    C: Clock,
+    W: Wait,
+> {
     /// What waits for the lock.
     pub rt: &'a W,
     /// The lock.
@@ -95,7 +114,18 @@ pub struct Desk<'a, E: Engine, J: Naming, O: Drop, T: Shown<J, O>, R: Wait + Dro
     pub clock: &'a C,
 }
 
-impl<'a, E: Engine, J: Naming, O: Drop, T: Shown<J, O>, R: Wait + Drop, L1: Ledger, L2: Since, C: Clock, W: Wait> Desk<'a, E, J, O, T, R, L1, L2, C, W> {
+impl<
+    'a,
+    E: Engine,
+    J: Naming,
+    O: Drop,
+    T: Shown<J, O>,
+    R: Wait + Drop,
+    L1: Ledger,
+    L2: Since,
+    C: Clock,
+    W: Wait,
+> Desk<'a, E, J, O, T, R, L1, L2, C, W> {
     /// The reply to a request.
     pub fn answer(&mut self, alloc: Global, request: &Request) -> Reply
         ensures { (routed : Result AskValue ReplyValue)
@@ -106,7 +136,18 @@ impl<'a, E: Engine, J: Naming, O: Drop, T: Shown<J, O>, R: Wait + Drop, L1: Ledg
     }
 }
 
-impl<'a, E: Engine, J: Naming, O: Drop, T: Shown<J, O>, R: Wait + Drop, L1: Ledger, L2: Since, C: Clock, W: Wait> Serve for Desk<'a, E, J, O, T, R, L1, L2, C, W> {
+impl<
+    'a,
+    E: Engine,
+    J: Naming,
+    O: Drop,
+    T: Shown<J, O>,
+    R: Wait + Drop,
+    L1: Ledger,
+    L2: Since,
+    C: Clock,
+    W: Wait,
+> Serve for Desk<'a, E, J, O, T, R, L1, L2, C, W> {
     ghost served = { λ _. None };
 
     fn serve(&mut self, alloc: Global, _number: u32, request: &Request) -> Reply {

@@ -87,11 +87,7 @@ pub trait Engine: Drop {
             → Reached (leaves self.old) IsMadeAgain store };
 
     /// The transitions behind the first so many: as many as it likes, and none only where there are no more.
-    fn transitions(
-        &mut self,
-        alloc: Global,
-        after: u64,
-    ) -> Result<ItemList<Transition>, ShareFault>
+    fn transitions(&mut self, alloc: Global, after: u64) -> Result<ItemList<Transition>, ShareFault>
         requires unspent { (value self.old).spent ≡ false }
         ensures behind { right self.old → (store : Stores) → leaves self.old store
             → IfOk result (AreBehind store.stored after) }

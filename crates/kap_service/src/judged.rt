@@ -102,12 +102,7 @@ pub(crate) fn status_in<E: Engine>(judged: &Result<Decided<'_, E>, Reply>) -> u1
 }
 
 /// One more in a ledger, where it is so.
-pub(crate) fn enter<L: Ledger>(
-    book: &mut Book<L>,
-    share: &mut Share<L>,
-    count: &mut u64,
-    so: bool,
-)
+pub(crate) fn enter<L: Ledger>(book: &mut Book<L>, share: &mut Share<L>, count: &mut u64, so: bool)
     requires { (0 < share.old.parts) × (count.old < 18446744073709551615) }
     ensures total { book.new.total ≡ book.old.total + (if so then 1 else 0) }
     ensures amount { share.new.amount ≡ share.old.amount + (if so then 1 else 0) }

@@ -43,7 +43,16 @@ pub struct Served {
 }
 
 /// Serves one link from a seat.
-fn serve_one<L: Link + Drop, E: Engine, J: Naming, O: Drop, T: Shown<J, O>, R: Wait + Drop, L1: Ledger, L2: Since>(
+fn serve_one<
+    L: Link + Drop,
+    E: Engine,
+    J: Naming,
+    O: Drop,
+    T: Shown<J, O>,
+    R: Wait + Drop,
+    L1: Ledger,
+    L2: Since,
+>(
     rt: &impl Wait,
     alloc: Global,
     lock: &Lock<E, J, O, T, R, L1, L2>,
@@ -62,7 +71,17 @@ fn serve_one<L: Link + Drop, E: Engine, J: Naming, O: Drop, T: Shown<J, O>, R: W
 }
 
 /// Serves at the door of one post until no more links come there, or it fails.
-fn work<L: Link + Drop, B: Door<L> + Drop, E: Engine, J: Naming, O: Drop, T: Shown<J, O>, R: Wait + Drop, L1: Ledger, L2: Since>(
+fn work<
+    L: Link + Drop,
+    B: Door<L> + Drop,
+    E: Engine,
+    J: Naming,
+    O: Drop,
+    T: Shown<J, O>,
+    R: Wait + Drop,
+    L1: Ledger,
+    L2: Since,
+>(
     rt: &impl Wait,
     alloc: Global,
     lock: &Lock<E, J, O, T, R, L1, L2>,

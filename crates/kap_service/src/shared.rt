@@ -28,11 +28,27 @@ use topic_board::{Front, Look, Naming, Poster, Shown};
 
 /// What threads share: the engine, the board and the books, under one lock.
 #[derive(Drop)]
-pub struct Lock<E: Engine, J: Naming, O: Drop, T: Shown<J, O>, R: Wait + Drop, L1: Ledger, L2: Since> {
+pub struct Lock<
+    E: Engine,
+    J: Naming,
+    O: Drop,
+    T: Shown<J, O>,
+    R: Wait + Drop,
+    L1: Ledger,
+    L2: Since,
+> {
     state: Mutex<State<E, J, O, T, R, L1, L2>>,
 }
 
-impl<E: Engine, J: Naming, O: Drop, T: Shown<J, O>, R: Wait + Drop, L1: Ledger, L2: Since> Lock<E, J, O, T, R, L1, L2> {
+impl<E: Engine, J: Naming, O: Drop, T: Shown<J, O>, R: Wait + Drop, L1: Ledger, L2: Since> Lock<
+    E,
+    J,
+    O,
+    T,
+    R,
+    L1,
+    L2,
+> {
     /// Takes the lock, makes the engine again where it is spent, and decides. What was stored is published
     /// then, unless memory is short. Behind it the seat's shares have risen: that of changes by one exactly
     /// where a changing ask got 200 or 204, that of faults exactly at 500; and the seat keeps what was
@@ -64,7 +80,15 @@ impl<E: Engine, J: Naming, O: Drop, T: Shown<J, O>, R: Wait + Drop, L1: Ledger, 
 /// The lock, with the shares that no seat has. It stays with its owner, since a share isn't `Sync`; threads
 /// borrow the lock.
 #[derive(Drop)]
-pub struct Shared<E: Engine, J: Naming, O: Drop, T: Shown<J, O>, R: Wait + Drop, L1: Ledger, L2: Since> {
+pub struct Shared<
+    E: Engine,
+    J: Naming,
+    O: Drop,
+    T: Shown<J, O>,
+    R: Wait + Drop,
+    L1: Ledger,
+    L2: Since,
+> {
     lock: Lock<E, J, O, T, R, L1, L2>,
     // its amount is the changes that the store had at the start
     first: Share<L1>,
@@ -72,7 +96,8 @@ pub struct Shared<E: Engine, J: Naming, O: Drop, T: Shown<J, O>, R: Wait + Drop,
     began: u64,
 }
 
-impl<E: Engine, J: Naming, O: Drop, T: Shown<J, O>, R: Wait + Drop, L1: Ledger, L2: Since> Model for Shared<E, J, O, T, R, L1, L2> {
+impl<E: Engine, J: Naming, O: Drop, T: Shown<J, O>, R: Wait + Drop, L1: Ledger, L2: Since> Model
+    for Shared<E, J, O, T, R, L1, L2> {
     ghost use Rattle.std.specs.Prelude.{◌≡◌};
     ghost use Rattle.kap_service.specs.Values.{Sharing};
 
@@ -132,7 +157,15 @@ fn show_stored<E: Engine, J: Naming, O: Drop, T: Shown<J, O>, R: Wait + Drop>(
     Ok(poster.tell())
 }
 
-impl<E: Engine, J: Naming, O: Drop, T: Shown<J, O>, R: Wait + Drop, L1: Ledger, L2: Since> Shared<E, J, O, T, R, L1, L2> {
+impl<E: Engine, J: Naming, O: Drop, T: Shown<J, O>, R: Wait + Drop, L1: Ledger, L2: Since> Shared<
+    E,
+    J,
+    O,
+    T,
+    R,
+    L1,
+    L2,
+> {
     /// Shares an engine by the empty board of this poster, with a seat for each of its looks, 1 to 64. All
     /// transitions that are stored are on the board then. The ledgers are new; each has more parts than there
     /// are seats. A refusal gives the engine back, whose store is unchanged: `DiskFault` comes only where the

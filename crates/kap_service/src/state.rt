@@ -53,7 +53,15 @@ fn is_short(before: bool, status: u16, lacks: bool) -> bool
 /// What lies under the lock: the engine, what posts to the board, and the two books, with what they say as
 /// numbers.
 #[derive(Drop)]
-pub(crate) struct State<E: Engine, J: Naming, O: Drop, T: Shown<J, O>, R: Wait + Drop, L1: Ledger, L2: Since> {
+pub(crate) struct State<
+    E: Engine,
+    J: Naming,
+    O: Drop,
+    T: Shown<J, O>,
+    R: Wait + Drop,
+    L1: Ledger,
+    L2: Since,
+> {
     pub(crate) engine: E,
     pub(crate) poster: Poster<J, O, T, R>,
     pub(crate) first: Book<L1>,
@@ -63,7 +71,8 @@ pub(crate) struct State<E: Engine, J: Naming, O: Drop, T: Shown<J, O>, R: Wait +
     pub(crate) short: bool,
 }
 
-impl<E: Engine, J: Naming, O: Drop, T: Shown<J, O>, R: Wait + Drop, L1: Ledger, L2: Since> Model for State<E, J, O, T, R, L1, L2> {
+impl<E: Engine, J: Naming, O: Drop, T: Shown<J, O>, R: Wait + Drop, L1: Ledger, L2: Since> Model
+    for State<E, J, O, T, R, L1, L2> {
     ghost use Rattle.std.specs.Prelude.{◌≡◌, false, IsTrue};
     ghost use Rattle.kap_service.specs.Kept.{IsKept};
     ghost use Rattle.kap_service.specs.Values.{States};
@@ -86,7 +95,15 @@ impl<E: Engine, J: Naming, O: Drop, T: Shown<J, O>, R: Wait + Drop, L1: Ledger, 
         (E.leaves s.engine) s.first.total s.second.total s.short s.poster) };
 }
 
-impl<E: Engine, J: Naming, O: Drop, T: Shown<J, O>, R: Wait + Drop, L1: Ledger, L2: Since> State<E, J, O, T, R, L1, L2> {
+impl<E: Engine, J: Naming, O: Drop, T: Shown<J, O>, R: Wait + Drop, L1: Ledger, L2: Since> State<
+    E,
+    J,
+    O,
+    T,
+    R,
+    L1,
+    L2,
+> {
     /// Where the engine stands as the service begins, and all is posted.
     pub(crate) fn new(
         engine: E,

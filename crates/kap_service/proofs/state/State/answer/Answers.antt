@@ -16,15 +16,14 @@ invariant_of-self-2 g c =
     let status = status_of c.judged-judged.result in
     let same = c.status_in-status.ensures in
     let one : c.enter.new.book.total ≡ first + change_of ask status =
-        subst (λ (n : ℕ). c.enter.new.book.total ≡ first + change_of ask n) same
-        (subst (λ (b : Bool). c.enter.new.book.total ≡ first + (if b then 1 else 0)) c.changes.ensures
-        (subst (λ (t : ℕ). c.enter.new.book.total ≡ t + (if c.changes.result then 1 else 0)) c.audit.ensures.total
-        c.enter.ensures.total)) in
+    subst (λ (n : ℕ). c.enter.new.book.total ≡ first + change_of ask n) same
+    (subst (λ (b : Bool). c.enter.new.book.total ≡ first + (if b then 1 else 0)) c.changes.ensures
+    (subst (λ (t : ℕ). c.enter.new.book.total ≡ t + (if c.changes.result then 1 else 0)) c.audit.ensures.total
+    c.enter.ensures.total)) in
     let two : c.enter-2.new.book.total ≡ second + fault_of status =
-        subst (λ (n : ℕ). c.enter-2.new.book.total ≡ second + fault_of n) same c.enter-2.ensures.total in
+    subst (λ (n : ℕ). c.enter-2.new.book.total ≡ second + fault_of n) same c.enter-2.ensures.total in
     let shorts = c.is_short-self-inside.ensures in
-    let read = c.show-lacks.ensures.read in
-    (
+    let read = c.show-lacks.ensures.read in (
       (let a = c.enter.ensures.count in let b = c.enter.ensures.total in let d = inv.0 in let e = c.audit.ensures.total in omega arith),
       (let a = c.enter-2.ensures.count in let b = c.enter-2.ensures.total in let d = inv.1 in omega arith),
       λ zero calm.
@@ -41,26 +40,26 @@ invariant_of-self-2 g c =
                 let here = read.stores right store left in
                 let j = c.judged-judged.ensures.stores k.right_is store here in
                 let t = told_on first second c.self.inside.short c.show-lacks.result
-                    (g.E.Engine.value c.self.inside.engine).spent
-                    (g.E.Engine.value c.judged-judged.new.engine).spent
-                    c.is_short-self-inside.result c.self.inside.poster c.show-lacks.new.poster ask status
-                    (g.E.Engine.value c.judged-judged.new.engine).own j.origin store (k.stores j.origin j.was) j.how
-                    inv.2 c.judged-judged.ensures.usable
-                    (λ calm. let s = shorts calm in (s.0, ((λ e. s.1.0 (same ∙ e)), s.1.1)))
-                    (c.show-lacks.ensures.begun right store here)
-                    (λ lacks unspent. c.show-lacks.ensures.whole lacks unspent right store here) in
+                (g.E.Engine.value c.self.inside.engine).spent
+                (g.E.Engine.value c.judged-judged.new.engine).spent
+                c.is_short-self-inside.result c.self.inside.poster c.show-lacks.new.poster ask status
+                (g.E.Engine.value c.judged-judged.new.engine).own j.origin store (k.stores j.origin j.was) j.how
+                inv.2 c.judged-judged.ensures.usable
+                (λ calm. let s = shorts calm in (s.0, ((λ e. s.1.0 (same ∙ e)), s.1.1)))
+                (c.show-lacks.ensures.begun right store here)
+                (λ lacks unspent. c.show-lacks.ensures.whole lacks unspent right store here) in
                 subst (λ (n : ℕ). IsTold n c.enter-2.new.book.total c.is_short-self-inside.result c.show-lacks.new.poster store)
                 (sym one)
                 (subst (λ (n : ℕ). IsTold (first + change_of ask status) n c.is_short-self-inside.result c.show-lacks.new.poster store)
                 (sym two) t);
             caused =
-              let so = c.status_in-status.result == 500 in
-              subst (λ (n : ℕ). AreCaused g.L2.Since.before (g.E.Engine.value c.show-lacks.new.engine).faults n)
-              (sym c.enter-2.ensures.total)
-              (caused_on so g.L2.Since.before (g.E.Engine.value c.self.inside.engine).faults
-              (g.E.Engine.value c.judged-judged.new.engine).faults (g.E.Engine.value c.show-lacks.new.engine).faults
-              second k.caused c.judged-judged.ensures.later
-              (λ e. c.judged-judged.ensures.cause k.right_is (sym same ∙ eqb-true c.status_in-status.result 500 e))
-              read.later);
+                let so = c.status_in-status.result == 500 in
+                subst (λ (n : ℕ). AreCaused g.L2.Since.before (g.E.Engine.value c.show-lacks.new.engine).faults n)
+                (sym c.enter-2.ensures.total)
+                (caused_on so g.L2.Since.before (g.E.Engine.value c.self.inside.engine).faults
+                (g.E.Engine.value c.judged-judged.new.engine).faults (g.E.Engine.value c.show-lacks.new.engine).faults
+                second k.caused c.judged-judged.ensures.later
+                (λ e. c.judged-judged.ensures.cause k.right_is (sym same ∙ eqb-true c.status_in-status.result 500 e))
+                read.later);
           },
     )
