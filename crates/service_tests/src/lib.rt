@@ -6,6 +6,4 @@ mod asks;
 #[cfg(test)]
 mod fake;
 #[cfg(test)]
-mod holds;
-#[cfg(test)]
 mod rows;
