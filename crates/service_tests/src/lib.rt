@@ -6,4 +6,6 @@ mod asks;
 #[cfg(test)]
 mod fake;
 #[cfg(test)]
+mod holds;
+#[cfg(test)]
 mod rows;

@@ -84,3 +84,14 @@ fn a_seat_reads_what_another_wrote(rt: HostRuntime) -> Result<(), Fail> {
     assert!(rt; row::<Brand, Brand, Brand, _>(&rt, rt.alloc(), Opened::new(), first, second, false, wanted)?);
     Ok(())
 }
+
+#[test]
+fn a_seat_tells_nothing_of_a_write_that_failed(rt: HostRuntime) -> Result<(), Fail> {
+    let wanted = Wanted {
+        status: 500,
+        topics: "{\"topics\":[]}",
+    };
+    let (first, second) = (Blank::new(3), Blank::new(3));
+    assert!(rt; row::<Brand, Brand, Brand, _>(&rt, rt.alloc(), Opened::new(), first, second, true, wanted)?);
+    Ok(())
+}
