@@ -12,6 +12,7 @@ mod posts;
 mod seat;
 mod shared;
 mod showing;
+mod start;
 mod state;
 
 pub use decided::{Decided, decide};
@@ -21,4 +22,5 @@ pub use fault::ShareFault;
 pub use posts::{Post, Served, serve};
 pub use seat::Seat;
 pub use shared::{Closed, Lock, Shared, Unshared};
+pub use start::{Service, make_shared};
 pub use state::Since;
