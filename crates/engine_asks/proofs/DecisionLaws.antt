@@ -219,7 +219,7 @@ module _ {N P S : Type 0} (g : Ghosts N P S) (planned : Planned P) (rs : List Re
   record-counted r is changes asked (inr full) =
       let one = pushed rs r is in
       let room : (held (rs ++ r ∷ [])).changes ≤ (held rs).changes + (if is_changing ask then 1 else 0) =
-          subst (λ (b : Bool). (held (rs ++ r ∷ [])).changes ≤ (held rs).changes + (if b then 1 else 0)) (sym asked) (omega (arith, one)) in
+      subst (λ (b : Bool). (held (rs ++ r ∷ [])).changes ≤ (held rs).changes + (if b then 1 else 0)) (sym asked) (omega (arith, one)) in
       record {
         records = rs ++ r ∷ [];
         stands = full.stands;
@@ -240,7 +240,7 @@ module _ {N P S : Type 0} (g : Ghosts N P S) (planned : Planned P) (rs : List Re
       by (inr all) =
           let one = all.changes in
           let room : (held w.records).changes ≤ (held rs).changes + (if is_changing ask then 1 else 0) =
-              subst (λ (b : Bool). (held w.records).changes ≤ (held rs).changes + (if b then 1 else 0)) (sym asked) (omega (arith, one)) in
+          subst (λ (b : Bool). (held w.records).changes ≤ (held rs).changes + (if b then 1 else 0)) (sym asked) (omega (arith, one)) in
           record { records = w.records; stands = w.stands; good = w.good; least = omega (arith, one); most = room; some = w.some; transitions = w.transitions }
 
 module _ {N P S : Type 0} (g : Ghosts N P S) (planned : Planned P) (rs : List Rec) (old files : Image) where
