@@ -1,21 +1,22 @@
 //! What the tests ask.
 
-use kap_base::{Bytes, NoMemory, Text};
-use kap_http::{Ask, Precision, WriteAsk};
+use kap_http::{Ask, read_request, route};
 use kap_service::{Engine, Lock, Seat, Since};
 use std::alloc::Global;
 use std::sync::Wait;
 use std::sync::ledger::Ledger;
 use topic_board::{Naming, Shown};
 
-/// A write without lines.
-pub fn write_ask(alloc: Global) -> Result<Ask, NoMemory> {
-    Ok(Ask::Write(WriteAsk {
-        db: Text::from_str(alloc, "main")?,
-        rp: Text::from_str(alloc, "")?,
-        precision: Precision::Ns,
-        body: Bytes::new(alloc),
-    }))
+/// A write without lines, as a client asks for it.
+pub fn write_ask(alloc: Global) -> Option<Ask> {
+    let read = read_request(alloc, b"POST /write?db=main HTTP/1.1\r\n\r\n");
+    let Ok(Some((request, _))) = read else {
+        return None;
+    };
+    match route(alloc, &request) {
+        Ok(ask) => Some(ask),
+        Err(_) => None,
+    }
 }
 
 /// Whether the seat's reply about topics is this one, without the lock.

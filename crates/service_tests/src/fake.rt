@@ -1,6 +1,7 @@
 //! An engine in memory.
 
-ghost use Rattle.std.specs.Prelude.{◌≡◌, ◌++◌, ◌≤◌, ◌⊎◌, ⊤, ap, drop, false, length, refl, sym, ◌∙◌, IfOk, List, OnErr, OnOk};
+ghost use Rattle.std.specs.Prelude.{◌≡◌, ◌++◌, ◌≤◌, ◌⊎◌, ⊤, drop, false, length, refl, IfOk, List, OnErr, OnOk};
+ghost use Rattle.std.proofs.Common.{ap, sym, ◌∙◌};
 ghost use Rattle.kap_base.specs.Words.{HasRisen};
 ghost use Rattle.kap_service.specs.Stores.{AreBehind};
 ghost use Rattle.kap_service.specs.Values.{Stores};
@@ -30,6 +31,11 @@ impl<'a, W: Wait> Hold<'a, W> {
         self.came.wait(self.rt);
         self.goes.wait(self.rt);
     }
+}
+
+/// Writes don't wait.
+pub fn no_hold<'a, W: Wait>(_rt: &'a W) -> Option<Hold<'a, W>> {
+    None
 }
 
 /// An engine in memory: each write stores a transition of one topic to CRITICAL.
@@ -92,10 +98,10 @@ fn one_from(
     ensures { IfOk result (AreBehind items.now at) }
 {
     let mut some = ItemList::new(alloc);
-    if at >= items.len() as u64 {
+    let Some((first, _)) = items_from(items, at as usize).split_first() else {
         return Ok(some);
-    }
-    some.push(items[at as usize].copy(alloc)?)?;
+    };
+    some.push(first.copy(alloc)?)?;
     Ok(some)
 }
 

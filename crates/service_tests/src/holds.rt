@@ -95,7 +95,9 @@ fn held<
     let (Some(other), Some(one)) = (seats.pop(), seats.pop()) else {
         return Ok(false);
     };
-    let ask = write_ask(alloc)?;
+    let Some(ask) = write_ask(alloc) else {
+        return Ok(false);
+    };
     Ok(both(rt, alloc, shared.lock(), (one, other), &ask, (&came, &goes)))
 }
 

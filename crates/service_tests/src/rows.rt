@@ -3,7 +3,7 @@
 ghost use Rattle.std.specs.Prelude.{◌≡◌, ◌<◌};
 
 use crate::asks::{answered, reads, write_ask};
-use crate::fake::FakeEngine;
+use crate::fake::{FakeEngine, no_hold};
 use kap_base::NoMemory;
 use kap_service::{Engine, Lock, Seat, Since, make_shared};
 use std::alloc::Global;
@@ -36,15 +36,18 @@ fn asked<E: Engine, J: Naming, O: Drop, T: Shown<J, O>, R: Wait + Drop, L1: Ledg
         return Ok(false);
     };
     let before = reads(alloc, second, "{\"topics\":[]}");
-    let status = answered(rt, alloc, lock, first, &write_ask(alloc)?);
+    let Some(ask) = write_ask(alloc) else {
+        return Ok(false);
+    };
+    let status = answered(rt, alloc, lock, first, &ask);
     second.learn(first.told());
     let behind = reads(alloc, second, wanted.topics);
     Ok(before && status == wanted.status && first.status() == status && behind)
 }
 
 /// The same over a new engine, whose first write fails or not; and whether the end tells the one write.
-fn row<J: Naming, L1: Ledger, L2: Since, R: Wait>(
-    rt: &R,
+fn row<'a, J: Naming, L1: Ledger, L2: Since, R: Wait>(
+    rt: &'a R,
     alloc: Global,
     opened: Opened,
     first: Blank,
@@ -58,16 +61,16 @@ fn row<J: Naming, L1: Ledger, L2: Since, R: Wait>(
     requires more { (2 < first.parts) × (2 < second.parts) }
     requires before { L2.before ≡ record { disk = 0; patterns = 0 } }
 {
-    let engine = FakeEngine::<R>::new(alloc, fails, None);
+    let engine = FakeEngine::new(alloc, fails, no_hold(rt));
     let (shared, seats) =
-        match make_shared::<FakeEngine<'_, R>, J, &R, L1, L2>(rt, alloc, opened, engine, first, second, 2) {
+        match make_shared::<FakeEngine<'a, R>, J, &'a R, L1, L2>(rt, alloc, opened, engine, first, second, 2) {
             Ok(made) => made,
             Err(_) => return Err(NoMemory),
         };
     let mut seats = seats;
     let fine = asked(rt, alloc, shared.lock(), seats.as_mut_slice(), wanted)?;
     let closed = shared.close(seats);
-    let counted = closed.changes + closed.faults == 1 && (closed.faults == 1) == fails;
+    let counted = closed.changes == u64::from(!fails) && closed.faults == u64::from(fails);
     Ok(fine && counted && !closed.short)
 }
 
