@@ -32,7 +32,15 @@ pub fn reads<J: Naming, O: Drop, T: Shown<J, O>, L1: Ledger, L2: Ledger>(
 }
 
 /// The status of the answer to an ask of this seat.
-pub fn answered<E: Engine, J: Naming, O: Drop, T: Shown<J, O>, R: Wait + Drop, L1: Ledger, L2: Since>(
+pub fn answered<
+    E: Engine,
+    J: Naming,
+    O: Drop,
+    T: Shown<J, O>,
+    R: Wait + Drop,
+    L1: Ledger,
+    L2: Since,
+>(
     rt: &impl Wait,
     alloc: Global,
     lock: &Lock<E, J, O, T, R, L1, L2>,

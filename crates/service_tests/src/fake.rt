@@ -90,11 +90,7 @@ fn items_from(items: &[Transition], at: usize) -> &[Transition]
 }
 
 /// A copy of the one at this place, where there is one.
-fn one_from(
-    alloc: Global,
-    items: &[Transition],
-    at: u64,
-) -> Result<ItemList<Transition>, NoMemory>
+fn one_from(alloc: Global, items: &[Transition], at: u64) -> Result<ItemList<Transition>, NoMemory>
     ensures { IfOk result (AreBehind items.now at) }
 {
     let mut some = ItemList::new(alloc);

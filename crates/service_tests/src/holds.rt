@@ -65,13 +65,7 @@ fn held<
     L1: Ledger + Send + Sync,
     L2: Since + Send + Sync,
     R: Threads + Wait + Sync,
->(
-    rt: &R,
-    alloc: Global,
-    opened: Opened,
-    first: Blank,
-    second: Blank,
-) -> Result<bool, NoMemory>
+>(rt: &R, alloc: Global, opened: Opened, first: Blank, second: Blank) -> Result<bool, NoMemory>
     requires book { opened ≡ J.book }
     requires names { (first.name ≡ L1.name) × (second.name ≡ L2.name) }
     requires parts { (first.parts ≡ L1.parts) × (second.parts ≡ L2.parts) }
@@ -86,11 +80,12 @@ fn held<
         goes: &goes,
     };
     let engine = FakeEngine::new(alloc, false, Some(hold));
-    let (shared, seats) =
-        match make_shared::<FakeEngine<'_, R>, J, &R, L1, L2>(rt, alloc, opened, engine, first, second, 2) {
-            Ok(made) => made,
-            Err(_) => return Err(NoMemory),
-        };
+    let (shared, seats) = match make_shared::<FakeEngine<'_, R>, J, &R, L1, L2>(
+        rt, alloc, opened, engine, first, second, 2,
+    ) {
+        Ok(made) => made,
+        Err(_) => return Err(NoMemory),
+    };
     let mut seats = seats;
     let (Some(other), Some(one)) = (seats.pop(), seats.pop()) else {
         return Ok(false);

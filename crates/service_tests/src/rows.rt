@@ -62,11 +62,12 @@ fn row<'a, J: Naming, L1: Ledger, L2: Since, R: Wait>(
     requires before { L2.before ≡ record { disk = 0; patterns = 0 } }
 {
     let engine = FakeEngine::new(alloc, fails, no_hold(rt));
-    let (shared, seats) =
-        match make_shared::<FakeEngine<'a, R>, J, &'a R, L1, L2>(rt, alloc, opened, engine, first, second, 2) {
-            Ok(made) => made,
-            Err(_) => return Err(NoMemory),
-        };
+    let (shared, seats) = match make_shared::<FakeEngine<'a, R>, J, &'a R, L1, L2>(
+        rt, alloc, opened, engine, first, second, 2,
+    ) {
+        Ok(made) => made,
+        Err(_) => return Err(NoMemory),
+    };
     let mut seats = seats;
     let fine = asked(rt, alloc, shared.lock(), seats.as_mut_slice(), wanted)?;
     let closed = shared.close(seats);
@@ -84,7 +85,9 @@ fn a_seat_reads_what_another_wrote(rt: HostRuntime) -> Result<(), Fail> {
         topics: CRITICAL,
     };
     let (first, second) = (Blank::new(3), Blank::new(3));
-    assert!(rt; row::<Brand, Brand, Brand, _>(&rt, rt.alloc(), Opened::new(), first, second, false, wanted)?);
+    assert!(rt;
+        row::<Brand, Brand, Brand, _>(&rt, rt.alloc(), Opened::new(), first, second, false, wanted)?
+    );
     Ok(())
 }
 
@@ -95,6 +98,8 @@ fn a_seat_tells_nothing_of_a_write_that_failed(rt: HostRuntime) -> Result<(), Fa
         topics: "{\"topics\":[]}",
     };
     let (first, second) = (Blank::new(3), Blank::new(3));
-    assert!(rt; row::<Brand, Brand, Brand, _>(&rt, rt.alloc(), Opened::new(), first, second, true, wanted)?);
+    assert!(rt;
+        row::<Brand, Brand, Brand, _>(&rt, rt.alloc(), Opened::new(), first, second, true, wanted)?
+    );
     Ok(())
 }

@@ -7,7 +7,7 @@ returns c =
     let tail = c.in-Some.field-0-1.now in
     let copy = c.in_ok-copy.field-0 in
     let pushed : c.push.new.self ≡ copy ∷ [] =
-        c.in_ok-push.ensures.ok ∙ ap (λ (z : List Transition). z ++ copy ∷ []) c.new-some.ensures in
+    c.in_ok-push.ensures.ok ∙ ap (λ (z : List Transition). z ++ copy ∷ []) c.new-some.ensures in
     let same : copy ≡ c.in-Some.first.now = c.in_ok-copy.ensures in
     let split : c.items_from.result.now ≡ c.in-Some.first.now ∷ tail = c.in-Some.ensures.cases.0 in
     record {

@@ -10,5 +10,5 @@ returns-clause-last g c =
     let xs = c.self.inside.stored.items in
     let same : xs ≡ c.args.self.now.stored = ap (λ (f : FakeValue). f.stored) c.self.view_is in
     let rest : drop n xs ≡ c.items_from.result.now =
-        sym (c.items_from.ensures ∙ ap (λ (z : List Transition). drop n z) c.as_slice.ensures.value) in
+    sym (c.items_from.ensures ∙ ap (λ (z : List Transition). drop n z) c.as_slice.ensures.value) in
     (take n xs, sym same ∙ sym (take-append-drop n xs) ∙ ap (λ (z : List Transition). take n xs ++ z) rest)
