@@ -4,6 +4,8 @@
 #[cfg(test)]
 mod asks;
 #[cfg(test)]
+mod doors;
+#[cfg(test)]
 mod fake;
 #[cfg(test)]
 mod holds;
