@@ -86,7 +86,19 @@ fn day<
         links: 0,
         failed: false,
     })?;
-    let served = serve::<MemLink, MemDoor, FakeEngine<'a, R>, J, Posted<J>, Published<J>, &'a R, L1, L2, FixedClock, R>(
+    let served = serve::<
+        MemLink,
+        MemDoor,
+        FakeEngine<'a, R>,
+        J,
+        Posted<J>,
+        Published<J>,
+        &'a R,
+        L1,
+        L2,
+        FixedClock,
+        R,
+    >(
         rt,
         alloc,
         shared.lock(),
