@@ -7,7 +7,7 @@ use Rattle.kap_base.specs.declared.items.Stamp.{Stamp}
 use Rattle.node_core.specs.declared.node.Node.{Ghosts}
 use Rattle.flow_core.specs.LifeLoads.{effects_since}
 use Rattle.flow_core.specs.Nets.{NetValue, NumberedLife}
-use Rattle.flow_core.specs.Ran.{HasGathered, effects_in, together}
+use Rattle.flow_core.specs.Done.{HasGathered, effects_in, together}
 use Rattle.flow_core.specs.Sorting.{AreRising, AreSorted, GoesBefore}
 use Rattle.flow_core.proofs.UniqueLaws.{sorted_is}
 use Rattle.barrier_snapshot.specs.Resuming.{DidTheRestOf, DidTheSame, effects_behind}

@@ -23,7 +23,7 @@ use Rattle.flow_core.specs.LifeLoads.{effects_since}
 use Rattle.flow_core.specs.Making.{AreLivesBehind, IsLifeBehind}
 use Rattle.flow_core.specs.Messages.{AreMarksOf, load_messages}
 use Rattle.flow_core.specs.Nets.{IsLifeIn, IsResting, NetValue, NumberedLife}
-use Rattle.flow_core.specs.Ran.{effects_in, together}
+use Rattle.flow_core.specs.Done.{effects_in, together}
 use Rattle.task_run.specs.Plans.{PlanValue}
 use Rattle.barrier_snapshot.specs.Barriers.{IsCaptureAt, WasAt, cells_in}
 use Rattle.barrier_snapshot.specs.Captures.{in_lives}

@@ -33,7 +33,8 @@ use Rattle.flow_core.specs.Messages.{AreMarksOf, load_messages}
 use Rattle.flow_core.specs.Nets.{IsLifeIn, IsResting, NetValue, NumberedLife, numbers_of}
 use Rattle.flow_core.proofs.PortLaws.{head_same}
 use Rattle.net_epochs.specs.Epochs.{AreNumberedBy, IsOnCourse, NumbersRise, StandsAt, nodes_in}
-use Rattle.net_epochs.proofs.StandLaws.{graph_behind, life_numbered}
+use Rattle.flow_core.proofs.LifeLaws.{graph_behind}
+use Rattle.net_epochs.proofs.StandLaws.{life_numbered}
 use Rattle.barrier_snapshot.specs.Barriers.{IsCaptureAt, WasAt, cells_in}
 use Rattle.barrier_snapshot.specs.Captures.{IsCapture, in_lives}
 use Rattle.barrier_snapshot.specs.Loading.{IsSameLife}

@@ -22,7 +22,7 @@ use Rattle.flow_core.specs.LifeLoads.{effects_since}
 use Rattle.flow_core.specs.Making.{IsLifeBehind}
 use Rattle.flow_core.specs.Messages.{AreMarksOf, load_messages}
 use Rattle.flow_core.specs.Nets.{IsLifeIn, IsResting, NumberedLife, plans_from, plans_in, specs_in}
-use Rattle.flow_core.specs.Ran.{effects_in}
+use Rattle.flow_core.specs.Done.{effects_in}
 use Rattle.task_run.specs.Plans.{PlanValue}
 
 -- messages behind a barrier: those of higher ranks

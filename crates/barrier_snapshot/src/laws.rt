@@ -12,7 +12,7 @@ ghost use Rattle.flow_life.specs.Loads.{has_inner};
 ghost use Rattle.flow_core.specs.Making.{AreLivesOf, IsLifeBehind};
 ghost use Rattle.flow_core.specs.Messages.{AreMarksOf, load_messages};
 ghost use Rattle.flow_core.specs.Nets.{IsResting, NetValue, NumberedLife, plans_from, plans_in, specs_in};
-ghost use Rattle.flow_core.specs.Ran.{HasGathered};
+ghost use Rattle.flow_core.specs.Done.{HasGathered};
 ghost use Rattle.flow_core.specs.Sorting.{AreRising, AreSorted};
 ghost use Rattle.merge_node.specs.Merge.{barriers};
 ghost use Rattle.task_run.specs.Plans.{AreFirstNodes, AreFirstStates, PlanValue};
@@ -184,7 +184,7 @@ pub fn nets_go_on<N: Node>()
 /// `in_order`: once all was collected of both, and of the restored one by one call, its list is that
 /// of the other one without the effects up to the barrier: the same effects in the same order. No two
 /// effects of the other one stand at one place in the order of `collect`; so it is where nodes number
-/// their effects (`rising` of `sorted_effects_are_whole`).
+/// their effects (`rises` of `net_epochs::epochs_go_on`).
 ///
 /// `same`, `same_in_order`: alike of nets that did the same since their load.
 pub fn nets_collect_alike<N: Node>()

@@ -74,6 +74,21 @@ fn a_file_that_cannot_be_synced_fails(rt: HostRuntime) -> Result<(), Fail> {
     Ok(())
 }
 
+/// The folder has another name by then, so that it can't be opened and synced, as the first sync of each file
+/// wants it.
+#[test]
+fn a_folder_that_cannot_be_synced_fails(rt: HostRuntime) -> Result<(), Fail> {
+    let mut disk = disk_in_new(rt, "kap_io_moved")?;
+    assert!(rt; cut(&mut disk, Part::Left, 1));
+    assert!(rt; cut(&mut disk, Part::Right, 1));
+    assert!(rt; syncs(&mut disk, Part::Left));
+    fs::rename(&rt, "kap_io_moved", "kap_io_gone")?;
+    assert!(rt; syncs(&mut disk, Part::Left));
+    assert!(rt; !syncs(&mut disk, Part::Right));
+    fs::remove_dir_all(&rt, "kap_io_gone")?;
+    Ok(())
+}
+
 #[test]
 fn clocks_tell_the_time(rt: HostRuntime) {
     assert!(rt; FixedClock(5).now() == 5);

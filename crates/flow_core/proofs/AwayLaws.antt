@@ -19,7 +19,7 @@ use Rattle.flow_core.specs.Away.{AreGivenBack, HasMovedLife, IsBack, IsGivenBack
 use Rattle.flow_core.proofs.DoneLaws.{gathers-behind, gathers-front, gathers_none, gathers_then, step_gathers}
 use Rattle.flow_core.specs.LifeLoads.{effects_since}
 use Rattle.flow_core.specs.Nets.{IsLifeIn, IsSound, NumberedLife, numbers_of, plans_in, specs_in}
-use Rattle.flow_core.specs.Ran.{effects_in, together}
+use Rattle.flow_core.specs.Done.{effects_in, together}
 use Rattle.flow_core.specs.Rooms.{rooms_in}
 use Rattle.flow_core.specs.Running.{ends_in}
 

@@ -12,7 +12,7 @@ use Rattle.flow_life.specs.Loads.{IsGathered, LoadsFrom}
 use Rattle.flow_life.specs.Nodes.{gathered_of}
 use Rattle.flow_core.specs.LifeLoads.{effects_since}
 use Rattle.flow_core.specs.Nets.{NumberedLife}
-use Rattle.flow_core.specs.Ran.{GathersAll, effects_in, together}
+use Rattle.flow_core.specs.Done.{GathersAll, effects_in, together}
 
 -- ---- in any order
 

@@ -3,7 +3,7 @@ use Rattle.std.proofs.Common.{◌≡◌, List, [], ◌++◌, IsPermutation, sym,
 use Rattle.std.proofs.lemmas.List.Sorted.{IsPermutation-append_left, IsPermutation-append_right, IsPermutation-refl, IsPermutation-trans}
 use Rattle.kap_base.specs.declared.items.Effect.{Effect}
 use Rattle.flow_core.specs.Nets.{NetValue}
-use Rattle.flow_core.specs.Ran.{GathersAll, HasGathered, effects_in}
+use Rattle.flow_core.specs.Done.{GathersAll, HasGathered, effects_in}
 
 module _ {N : Type 0} where
   -- behind a load of a net of which all was collected

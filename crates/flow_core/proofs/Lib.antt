@@ -6,11 +6,10 @@ pub mod MergedLaws
 pub mod RunLaws
 pub mod SpanLaws
 pub mod GraphLaws
-pub mod LoadedLaws
+pub mod OutLaws
 pub mod SortLaws
 pub mod UniqueLaws
 pub mod RisingLaws
-pub mod GatherLaws
 pub mod NumberLaws
 pub mod LifeLaws
 pub mod LivesLaws
@@ -18,7 +17,6 @@ pub mod PlanLaws
 pub mod DoneLaws
 pub mod GatheredLaws
 pub mod ReceivedLaws
-pub mod RanLaws
 pub mod CarriedLaws
 pub mod AwayLaws
 pub mod CountLaws

@@ -6,8 +6,7 @@ use Rattle.node_core.specs.declared.node.Node.{Ghosts}
 use Rattle.flow_life.proofs.RestLaws.{carries_streams}
 use Rattle.flow_core.proofs.DoneLaws.{gathers_none, gathers_stepped, gathers_then}
 use Rattle.flow_core.specs.Nets.{HasStreamsCarried, IsLifeIn, IsResting, NetValue, NumberedLife, numbers_of, plans_in, specs_in}
-use Rattle.flow_core.specs.Ran.{GathersAll, effects_in}
-use Rattle.flow_core.proofs.RanLaws.{run_stepped}
+use Rattle.flow_core.specs.Done.{GathersAll, effects_in}
 use Rattle.flow_core.specs.Rooms.{rooms_in}
 use Rattle.flow_core.specs.Running.{NetGoesOn, ends_in, steps_of, steps_onward}
 
@@ -23,7 +22,6 @@ module _ {N P S : Type 0} (g : Ghosts N P S) where
     rooms = ap rooms_in here ∙ rooms ∙ ap rooms_in same;
     steps = ap steps_of here ∙ ap (steps_onward 0) ends ∙ ap steps_of same;
     last = last;
-    runs = λ lives points collected. run_stepped g lives points collected net net' before now took same also here last plans specs gathers;
     gathers = gathers_stepped net.lives net'.lives before now net.gathered took net'.gathered same also here gathers;
   }
 
@@ -36,7 +34,6 @@ module _ {N P S : Type 0} (g : Ghosts N P S) where
     rooms = refl;
     steps = refl;
     last = refl;
-    runs = λ lives points collected h. h;
     gathers = gathers_none (effects_in net.lives) net.gathered;
   }
 
@@ -49,7 +46,6 @@ module _ {N P S : Type 0} (g : Ghosts N P S) where
     rooms = q.rooms ∙ p.rooms;
     steps = q.steps ∙ p.steps;
     last = q.last ∙ p.last;
-    runs = λ lives points collected h. q.runs lives points collected (p.runs lives points collected h);
     gathers = gathers_then (effects_in a.lives) (effects_in b.lives) (effects_in c.lives) a.gathered b.gathered c.gathered p.gathers q.gathers;
   }
 

@@ -1,20 +1,17 @@
--- The effects of lives, by stamp, life, node and number, rise.
-use Rattle.std.proofs.Common.{◌≡◌, ℕ, zero, suc, ◌+◌, ◌≤◌, ◌==◌, true, false, cond, List, [], ◌∷◌, ◌++◌, length, refl, sym, ◌∙◌, append-nil, inl, inr, arith}
-use Rattle.std.specs.Prelude.{flat_map}
+-- The effects of nodes, by stamp, life, node and number, rise.
+use Rattle.std.proofs.Common.{◌≡◌, ℕ, suc, ◌+◌, ◌≤◌, ◌==◌, true, false, cond, List, [], ◌∷◌, ◌++◌, refl, sym, ◌∙◌, inl, inr, arith}
 use Rattle.std.specs.List.{AllByRecursion as Each}
 use Rattle.std.proofs.lemmas.Bool.Decides.{nat_tests}
-use Rattle.std.proofs.lemmas.List.Concat.{flat_map-append}
-use Rattle.kap_base.specs.Points.{PointValue}
 use Rattle.kap_base.specs.declared.items.Item.{Item}
 use Rattle.kap_base.specs.declared.items.Effect.{Effect}
 use Rattle.node_core.specs.Meaning.{Answer, Given, Input, given_after}
 use Rattle.node_core.specs.Cut.{AreEffectsOf, IsStamped}
-use Rattle.task_run.specs.Merging.{merged, stamps}
-use Rattle.task_run.specs.Graphs.{Placed, gives_behind, graph_gives, lists_of, node_gives, outs_of, stamped_from}
+use Rattle.task_run.specs.Merging.{merged}
+use Rattle.task_run.specs.Graphs.{Placed, gives_behind, lists_of, node_gives, outs_of}
 use Rattle.task_run.specs.EffectOrder.{NodesNumbered}
-use Rattle.task_run.specs.Lives.{effects_of, effects_with, life_effects_with, node_effects_with}
+use Rattle.task_run.specs.Lives.{effects_with, node_effects_with}
 use Rattle.task_run.proofs.OrderLaws.{merged_ordered}
-use Rattle.flow_core.specs.Gathering.{AreNumbered, IsNumberedBelow, LivesRise, NumbersEffects}
+use Rattle.flow_core.specs.Gathering.{AreNumbered, IsNumberedBelow, NumbersEffects}
 use Rattle.flow_core.proofs.PortLaws.{ordered_rises}
 use Rattle.flow_core.specs.Sorting.{AreRising, GoesBefore}
 
@@ -37,13 +34,6 @@ pub each_append : (P : Effect → Type 0) (xs ys : List Effect) → Each P xs �
 each_append P [] ys a b = b
 each_append P (x ∷ xs) ys a b = (a.0, each_append P xs ys a.1 b)
 
-each-with : (P : Effect → Type 0) (s : ℕ) (xs : List Effect) → Each P xs → Each P (effects_with s xs)
-each-with P s [] h = tt
-each-with P s (x ∷ xs) h = elim (x.stamp.0 == s) as (λ b. Each P (cond b (x ∷ effects_with s xs) (effects_with s xs))) [
-  | true ↦ (h.0, each-with P s xs h.1)
-  | false ↦ each-with P s xs h.1
-]
-
 pub each-map : (P Q : Effect → Type 0) (xs : List Effect) → ((x : Effect) → P x → Q x) → Each P xs → Each Q xs
 each-map P Q [] f h = tt
 each-map P Q (x ∷ xs) f h = (f x h.0, each-map P Q xs f h.1)
@@ -51,13 +41,6 @@ each-map P Q (x ∷ xs) f h = (f x h.0, each-map P Q xs f h.1)
 before-each : (P : Effect → Type 0) (a : Effect) (ys : List Effect) → ((y : Effect) → P y → GoesBefore a (y ∷ [])) → Each P ys → GoesBefore a ys
 before-each P a [] f h = tt
 before-each P a (y ∷ ys) f h = ((f y h.0).0, before-each P a ys f h.1)
-
-have-stamp : (s : ℕ) (xs : List Effect) → Each (λ e. e.stamp.0 ≡ s) (effects_with s xs)
-have-stamp s [] = tt
-have-stamp s (x ∷ xs) = elim (x.stamp.0 == s) as (λ b. (x.stamp.0 == s) ≡ b → Each (λ e. e.stamp.0 ≡ s) (cond b (x ∷ effects_with s xs) (effects_with s xs))) [
-  | true ↦ λ t. let same : x.stamp.0 ≡ s = grind (arith, nat_tests) in (same, have-stamp s xs)
-  | false ↦ λ t. have-stamp s xs
-] refl
 
 -- ---- where effects stand
 
@@ -132,7 +115,7 @@ stamp-before n (e ∷ xs) rest low high =
     let le : e.stamp.0 ≤ n = low.0 in
     (before-each (λ y. y.stamp.0 ≡ suc n) e rest (λ y f. (inl (omega arith), tt)) high, stamp-before n xs rest low.1 high)
 
--- ---- nodes, lives and stamps
+-- ---- nodes
 
 module _ {P : Type 0} (answer : P → Answer) (life number : P → ℕ) (stamped : (p : P) (before : List Input) (x : Input) → IsStamped (life p) (number p) x.1.stamp.0 (answer p before x)) (numbers : (p : P) → NumbersEffects (answer p)) where
   gives-of : (which node n : ℕ) (points : List Item) (earlier : List Given) (d : Placed P) → life d.spec ≡ which → number d.spec ≡ node → Each (IsOf which node) (node_gives answer n points earlier d).effects
@@ -161,42 +144,3 @@ module _ {P : Type 0} (answer : P → Answer) (life number : P → ℕ) (stamped
       let rest = node_effects_with s (gives_behind answer n points (earlier ++ g ∷ []) nodes) in
       rising-append (effects_with s g.effects) rest (node-rising s which node g.effects of (gives-numbered n points earlier d)) (nodes-rising s which (node + 1) n points (earlier ++ g ∷ []) nodes are.1)
       (node-before s which node g.effects rest of (nodes-from s which (node + 1) (node + 1) n points (earlier ++ g ∷ []) nodes (omega arith) are.1))
-
-  lives-later : (s low : ℕ) (points : List PointValue) (lives : List (List (Placed P))) → LivesRise life number low lives → Each (IsLater s low) (life_effects_with answer s lives points)
-  lives-later s low points [] are = tt
-  lives-later s low points (nodes ∷ lives) are =
-      let which = are.0 in
-      let le : low ≤ which = are.1 in
-      each_append (IsLater s low) (node_effects_with s (graph_gives answer points nodes)) (life_effects_with answer s lives points)
-      (each-map (IsFrom s which 0) (IsLater s low) _ (λ e f. let at : e.life ≡ which = f.1 in (f.0, omega arith)) (nodes-from s which 0 0 (length points) (stamped_from 1 points) [] nodes (omega arith) are.2))
-      (each-map (IsLater s (which + 1)) (IsLater s low) _ (λ e f. let high : which + 1 ≤ e.life = f.1 in (f.0, omega arith)) (lives-later s (which + 1) points lives are.3))
-
-  lives-rising : (s low : ℕ) (points : List PointValue) (lives : List (List (Placed P))) → LivesRise life number low lives → AreRising (life_effects_with answer s lives points)
-  lives-rising s low points [] are = tt
-  lives-rising s low points (nodes ∷ lives) are =
-      let which = are.0 in
-      let one = node_effects_with s (graph_gives answer points nodes) in
-      let rest = life_effects_with answer s lives points in
-      rising-append one rest (nodes-rising s which 0 (length points) (stamped_from 1 points) [] nodes are.2) (lives-rising s (which + 1) points lives are.3)
-      (life-before s which one rest (nodes-from s which 0 0 (length points) (stamped_from 1 points) [] nodes (omega arith) are.2) (lives-later s (which + 1) points lives are.3))
-
-  stamps-low : (n low : ℕ) (points : List PointValue) (lives : List (List (Placed P))) → LivesRise life number low lives → Each (λ e. e.stamp.0 ≤ n) (flat_map (λ s. life_effects_with answer s lives points) (stamps n))
-  stamps-low zero low points lives are = tt
-  stamps-low (suc n) low points lives are =
-      rw (flat_map-append, append-nil)
-      (each_append (λ e. e.stamp.0 ≤ suc n) _ _
-      (each-map (λ e. e.stamp.0 ≤ n) (λ e. e.stamp.0 ≤ suc n) _ (λ e (le : e.stamp.0 ≤ n). omega arith) (stamps-low n low points lives are))
-      (each-map (IsLater (suc n) low) (λ e. e.stamp.0 ≤ suc n) _ (λ e f. let same : e.stamp.0 ≡ suc n = f.0 in omega arith) (lives-later (suc n) low points lives are)))
-
-  stamps-rising : (n low : ℕ) (points : List PointValue) (lives : List (List (Placed P))) → LivesRise life number low lives → AreRising (flat_map (λ s. life_effects_with answer s lives points) (stamps n))
-  stamps-rising zero low points lives are = tt
-  stamps-rising (suc n) low points lives are =
-      let earlier = flat_map (λ s. life_effects_with answer s lives points) (stamps n) in
-      let rest = life_effects_with answer (suc n) lives points in
-      rw (flat_map-append, append-nil)
-      (rising-append earlier rest (stamps-rising n low points lives are) (lives-rising (suc n) low points lives are)
-      (stamp-before n earlier rest (stamps-low n low points lives are) (each-map (IsLater (suc n) low) (λ e. e.stamp.0 ≡ suc n) rest (λ e f. f.0) (lives-later (suc n) low points lives are))))
-
-  -- by stamp, then by life, then by node, then by number
-  pub effects_rise : (low : ℕ) (points : List PointValue) (lives : List (List (Placed P))) → LivesRise life number low lives → AreRising (effects_of answer lives points)
-  effects_rise low points lives are = stamps-rising (length points) low points lives are

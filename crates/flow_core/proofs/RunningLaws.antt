@@ -13,7 +13,7 @@ use Rattle.flow_life.specs.Listing.{ends_of, steps_from}
 use Rattle.flow_life.proofs.ListingLaws.{put-listed, take-listed}
 use Rattle.flow_life.specs.Steps.{AreQuiet, IsEnabled, SomeEnabled}
 use Rattle.flow_life.specs.Trying.{SameEnabled}
-use Rattle.flow_core.proofs.DoneLaws.{gathers_none, gathers_then}
+use Rattle.flow_core.proofs.DoneLaws.{gathers_then}
 use Rattle.flow_core.proofs.LivesLaws.{some_here, some_later}
 use Rattle.flow_core.specs.Nets.{EnabledIn, IsLifeIn, IsResting, NumberedLife, SomeEnabledIn, cell_of, here, later, step_before, step_behind}
 use Rattle.flow_core.specs.Running.{AreOff, GoesOn, IsOff, SameEnabledIn, ends_in, left_in, steps_of, steps_onward}
@@ -89,17 +89,9 @@ module _ {N : Type 0} where
         back = λ next e. moved-behind l others' others next same.back e;
       })
 
-  -- what stays is the same
-  pub same_none : (lives : List (NumberedLife N)) → SameEnabledIn lives lives
-  same_none lives = record { forth = λ next e. e; back = λ next e. e }
-
   -- and the same again
   pub same_then : (a b c : List (NumberedLife N)) → SameEnabledIn a b → SameEnabledIn b c → SameEnabledIn a c
   same_then a b c p q = record { forth = λ next e. q.forth next (p.forth next e); back = λ next e. p.back next (q.back next e) }
-
-  -- none of no steps can be made
-  pub off_none : (lives : List (NumberedLife N)) → AreOff lives []
-  off_none lives = record { off = λ k d lt. absurd (omega (arith, lt)) }
 
   -- a step more that can't be made, as lives are now, where the same steps can be made as before
   pub off_more : (lives now : List (NumberedLife N)) (steps : List Step) (i : ℕ) (next d : Step) → i < length steps → next ≡ get_or steps i d → SameEnabledIn lives now → IsOff now next → AreOff lives (take i steps) → AreOff lives (take (i + 1) steps)
@@ -119,10 +111,6 @@ module _ {N : Type 0} where
 
 module _ {N P S : Type 0} (g : Ghosts N P S) where
   -- ---- lives go on
-
-  -- no step was made
-  pub goes_none : (lives : List (NumberedLife N)) (gathered : List Effect) → GoesOn g lives lives gathered gathered
-  goes_none lives gathered = record { numbers = refl; plans = refl; specs = refl; rooms = refl; ends = refl; left = omega arith; keeps = λ all. all; gathers = gathers_none (_) gathered }
 
   -- some steps, and then more
   pub goes_then : (a b c : List (NumberedLife N)) (x y z : List Effect) → GoesOn g a b x y → GoesOn g b c y z → GoesOn g a c x z

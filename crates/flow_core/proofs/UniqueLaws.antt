@@ -34,10 +34,6 @@ same-here a b s l n q =
     let q' : (a.seq == b.seq) ≡ true = grind (arith, nat_tests) in
     rw (s', l', n', q') refl
 
--- each stands at its own place
-pub same_itself : (a : Effect) → is_same a a ≡ true
-same_itself a = same-here a a refl refl refl refl
-
 last-below : (a b : ℕ) → (a ≡ b → ⊥) → (b < a → ⊥) → a < b
 last-below a b other back = ⊎_elim
     (λ (lt : a < b). lt)

@@ -12,7 +12,7 @@ use Rattle.flow_life.specs.Streams.{plans_of}
 use Rattle.flow_life.specs.Wired.{IsUnspent}
 use Rattle.flow_core.specs.LifeLoads.{effects_since}
 use Rattle.flow_core.specs.Nets.{IsLifeIn, IsSound, NetValue, NumberedLife, numbers_of, plans_in, specs_in}
-use Rattle.flow_core.specs.Ran.{GathersAll, effects_in, together}
+use Rattle.flow_core.specs.Done.{GathersAll, effects_in, together}
 use Rattle.flow_core.specs.Rooms.{rooms_in}
 use Rattle.flow_core.specs.Running.{ends_in}
 

@@ -1,10 +1,9 @@
 -- Effects that the nodes of lives gave, before they are sorted.
-use Rattle.std.specs.Prelude.{◌≡◌, ℕ, ◌+◌, ◌<◌, ◌≤◌, ⊤, List, [], ◌∷◌, flat_map}
-use Rattle.kap_base.specs.Points.{PointValue}
+use Rattle.std.specs.Prelude.{◌≡◌, ℕ, ◌+◌, ◌<◌, ◌≤◌, ⊤, List, [], ◌∷◌}
 use Rattle.kap_base.specs.declared.items.Effect.{Effect}
 use Rattle.node_core.specs.Meaning.{Answer, Input, given}
 use Rattle.task_run.specs.EffectOrder.{NodesNumbered}
-use Rattle.task_run.specs.Graphs.{Placed, graph_gives}
+use Rattle.task_run.specs.Graphs.{Placed}
 use Rattle.task_run.specs.Stamps.{StampsRise, of_input}
 
 -- those of these effects that have its stamp have a higher number
@@ -27,8 +26,3 @@ module _ {P : Type 0} (life number : P → ℕ) where
   LivesRise low [] = ⊤
   LivesRise low (nodes ∷ lives) =
       (which : ℕ) × (low ≤ which) × NodesNumbered life number which 0 nodes × LivesRise (which + 1) lives
-
--- all effects of lives, life by life and node by node
-abbrev pub effects_by_node : {P : Type 0} → (P → Answer) → List (List (Placed P)) → List PointValue → List Effect
-effects_by_node answer lives points =
-    flat_map (λ nodes. flat_map (λ g. g.effects) (graph_gives answer points nodes)) lives

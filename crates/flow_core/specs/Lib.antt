@@ -1,6 +1,6 @@
 -- the messages of a load
 pub mod Messages
--- what loads make of the nodes of a graph
+-- what a load makes of the nodes of a graph
 pub mod Loads
 -- in which order effects are gathered
 pub mod Sorting
@@ -12,8 +12,8 @@ pub mod LifeLoads
 pub mod Nets
 -- lives that are made from plans
 pub mod Making
--- what a net has run, and what was collected
-pub mod Ran
+-- what cells have done since the load, and what of it was gathered
+pub mod Done
 -- what the edges of a net have carried
 pub mod Carried
 -- cells that move by themselves
@@ -24,7 +24,7 @@ pub mod Drops
 pub mod Rooms
 -- all steps, made until none can be made
 pub mod Running
--- what a net at rest has carried and gathered
+-- what a net at rest has carried
 pub mod Wholes
 -- steps, one after the other
 pub mod Playing

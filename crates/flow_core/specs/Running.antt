@@ -6,10 +6,8 @@ use Rattle.node_core.specs.declared.node.Node.{Ghosts}
 use Rattle.flow_life.specs.declared.steps.Step.{Step}
 use Rattle.flow_life.specs.Left.{left_of}
 use Rattle.flow_life.specs.Listing.{ends_of, steps_from}
-use Rattle.task_run.specs.Graphs.{Placed}
-use Rattle.kap_base.specs.Points.{PointValue}
 use Rattle.flow_core.specs.Nets.{EnabledIn, IsLifeIn, NetValue, NumberedLife, numbers_of, plans_in, specs_in}
-use Rattle.flow_core.specs.Ran.{GathersAll, HasRun, effects_in}
+use Rattle.flow_core.specs.Done.{GathersAll, effects_in}
 use Rattle.flow_core.specs.Rooms.{rooms_in}
 
 -- the steps of lives whose cells are numbered from here on, life by life; of each life it is known how many inputs and
@@ -59,7 +57,7 @@ module _ {N P S : Type 0} (g : Ghosts N P S) where
     pub gathers : GathersAll (effects_in lives) (effects_in lives') gathered gathered'
 
   -- A net in which some moves were made, or none: its lives with their numbers, nodes, edges and steps stay, and so do
-  -- its load and its last barrier. What it had run it has run, and what was done more is gathered.
+  -- its load and its last barrier. What was done more is gathered.
   pub record NetGoesOn (net net' : NetValue N) : Type 0 where
     pub numbers : numbers_of net'.lives ≡ numbers_of net.lives
     pub plans : plans_in g net'.lives ≡ plans_in g net.lives
@@ -67,6 +65,4 @@ module _ {N P S : Type 0} (g : Ghosts N P S) where
     pub rooms : rooms_in net'.lives ≡ rooms_in net.lives
     pub steps : steps_of net'.lives ≡ steps_of net.lives
     pub last : net'.last ≡ net.last
-    pub runs : (lives : List (List (Placed P))) (points : List PointValue) (collected : List Effect)
-        → HasRun g lives points collected net → HasRun g lives points collected net'
     pub gathers : GathersAll (effects_in net.lives) (effects_in net'.lives) net.gathered net'.gathered

@@ -1,10 +1,7 @@
 //! How many inputs the nodes of lives dropped and counted.
 
-ghost use Rattle.std.specs.Prelude.{◌≡◌, false, IfOk, OnOk};
-ghost use Rattle.std.specs.List.{AllByRecursion as Each};
-ghost use Rattle.flow_life.specs.Lives.{IsLife};
+ghost use Rattle.std.specs.Prelude.{◌≡◌, IfOk};
 ghost use Rattle.flow_core.specs.Drops.{drops_in, drops_of};
-ghost use Rattle.flow_core.specs.Nets.{IsLifeIn, IsSound};
 
 use crate::lives::Numbered;
 use flow_life::Life;
@@ -15,8 +12,7 @@ use task_run::Counts;
 
 /// The count of each node of a life.
 fn counts_of_life<N: Node>(alloc: Global, life: &Life<N>) -> Result<ItemList<u64>, NoMemory>
-    ensures counts { IfOk result (λ counts. counts ≡ drops_of N.Node life.now.cells) }
-    ensures life { OnOk result (life.now.spent ≡ false → IsLife N.Node life.now.cells) }
+    ensures { IfOk result (λ counts. counts ≡ drops_of N.Node life.now.cells) }
 {
     let mut counts = ItemList::new(alloc);
     let mut cell: u32 = 0;
@@ -35,9 +31,7 @@ pub(crate) fn counts_of<N: Node>(
     alloc: Global,
     lives: &[Numbered<Life<N>>],
 ) -> Result<Counts, NoMemory>
-    requires { Each IsSound lives.now }
-    ensures counts { IfOk result (λ counts. counts ≡ drops_in N.Node lives.now) }
-    ensures lives { OnOk result (Each (IsLifeIn N.Node) lives.now) }
+    ensures { IfOk result (λ counts. counts ≡ drops_in N.Node lives.now) }
 {
     let mut counts = ItemList::new(alloc);
     'counting: for numbered in lives {

@@ -14,9 +14,7 @@ mod resting;
 
 pub use cells::Cells;
 pub use gathering::sort_effects;
-pub use laws::{
-    effects_are_gathered, lives_go_on, loads_go_on, loads_have_messages, sorted_effects_are_whole,
-};
+pub use laws::{effects_are_gathered, loads_have_messages, stamped_effects_are_numbered};
 pub use lives::Numbered;
 pub use loads::messages;
 pub use net::Net;

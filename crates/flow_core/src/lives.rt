@@ -16,7 +16,7 @@ ghost use Rattle.merge_node.specs.Merge.{IsClosed};
 ghost use Rattle.flow_core.specs.LifeLoads.{effects_since};
 ghost use Rattle.flow_core.specs.Nets.{EnabledIn, GrowsIn, HasCell, HasMovedTwice, HasPrefixes, HasStreamsCarried, IsLifeIn, IsResting, IsSound, SomeEnabledIn, cell_count, cell_of, moves_in, numbers_of, plans_from, plans_in, specs_in, step_behind};
 ghost use Rattle.flow_core.specs.Playing.{PlaysIn};
-ghost use Rattle.flow_core.specs.Ran.{GathersAll, effects_in, together};
+ghost use Rattle.flow_core.specs.Done.{GathersAll, effects_in, together};
 ghost use Rattle.flow_core.specs.Rooms.{rooms_in};
 ghost use Rattle.flow_core.specs.Running.{SameEnabledIn, ends_in, left_in};
 
@@ -179,7 +179,6 @@ fn load_life<N: Node>(
     requires sound { IsSound life.old }
     requires rest { IsResting life.old }
     requires closed { IsClosed source.items }
-    ensures kept { IsLifeIn N.Node life.old }
     ensures number { life.new.number ≡ life.old.number }
     ensures sound { OnOk result (IsSound life.new) }
     ensures plans { OnOk result (plans_of N.Node life.new.life.cells
@@ -208,7 +207,6 @@ pub(crate) fn load<N: Node>(
     requires sound { Each IsSound lives.old }
     requires rest { Each IsResting lives.old }
     requires closed { IsClosed source.items }
-    ensures kept { OnOk result (Each (IsLifeIn N.Node) lives.old) }
     ensures numbers { numbers_of lives.new ≡ numbers_of lives.old }
     ensures sound { OnOk result (Each IsSound lives.new) }
     ensures plans { OnOk result (plans_in N.Node lives.new

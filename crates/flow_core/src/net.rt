@@ -54,26 +54,22 @@ impl<N: Node> Model for Net<N> {
 }
 
 impl<N: Node> Net<N> {
-    ghost use Rattle.std.specs.Prelude.{◌≡◌, ◌+◌, ◌<◌, ◌≤◌, ℕ, false, true, [], ◌∷◌, ◌++◌, IfOk, Contains, IsFalse, IsPermutation, IsTrue, List, OnErr, OnOk, length, map};
+    ghost use Rattle.std.specs.Prelude.{◌≡◌, ◌+◌, ◌<◌, ◌≤◌, false, true, [], ◌∷◌, ◌++◌, IfOk, Contains, IsFalse, IsPermutation, IsTrue, List, OnErr, OnOk, length, map};
     ghost use Rattle.std.specs.List.{AllByRecursion as Each};
-    ghost use Rattle.kap_base.specs.Points.{PointValue};
     ghost use Rattle.kap_base.specs.declared.items.Effect.{Effect};
     ghost use Rattle.flow_cells.specs.declared.parts.CellParts.{CellParts};
     ghost use Rattle.flow_life.specs.Loads.{IsGathered};
     ghost use Rattle.flow_life.specs.Steps.{one_if};
     ghost use Rattle.flow_life.specs.declared.steps.Step.{Step};
-    ghost use Rattle.task_run.specs.Graphs.{Placed};
-    ghost use Rattle.task_run.specs.Lives.{dropped_of, effects_of};
-    ghost use Rattle.task_run.specs.Plans.{AreFirstStates, PlanValue, graph_of};
+    ghost use Rattle.task_run.specs.Plans.{graph_of};
     ghost use Rattle.flow_core.specs.Away.{AreBack, IsBack, with_lives};
     ghost use Rattle.flow_core.specs.Carried.{HasCarried};
+    ghost use Rattle.flow_core.specs.Done.{HasGathered, effects_in};
     ghost use Rattle.flow_core.specs.Drops.{drops_in};
-    ghost use Rattle.flow_core.specs.Gathering.{LivesRise, NumbersEffects, effects_by_node};
     ghost use Rattle.flow_core.specs.Making.{AreLivesBehind, AreLivesOf, Begins, Ends, HasFewParents};
-    ghost use Rattle.flow_core.specs.Messages.{AreMarksOf, load_messages};
+    ghost use Rattle.flow_core.specs.Messages.{load_messages};
     ghost use Rattle.flow_core.specs.Nets.{EnabledIn, GrowsIn, HasCell, HasMovedTwice, HasPrefixes, HaveMovedTwice, IsLifeIn, IsResting, IsSound, NumberedLife, SomeEnabledIn, cell_count, moves_in, numbers_of, plans_from, plans_in, specs_in};
     ghost use Rattle.flow_core.specs.Playing.{PlaysIn};
-    ghost use Rattle.flow_core.specs.Ran.{HasGathered, HasRun, IsNew, effects_in};
     ghost use Rattle.flow_core.specs.Rooms.{HasRoomIn, rooms_in};
     ghost use Rattle.flow_core.specs.Running.{NetGoesOn, SameEnabledIn, left_in, steps_of};
     ghost use Rattle.flow_core.specs.Sorting.{AreSorted};
@@ -103,10 +99,8 @@ impl<N: Node> Net<N> {
         ensures lives { IfOk result (λ net. AreLivesOf N.Node plans.items net.lives) }
         ensures rest { IfOk result (λ net. Each IsResting net.lives) }
         ensures gathered { IfOk result (λ net. net.gathered ≡ []) }
-        ensures new { IfOk result (λ net. AreFirstStates N.spec N.state N.first plans.items
-            → IsNew N.Node plans.items net) }
-        ensures carried { IfOk result (λ net. AreFirstStates N.spec N.state N.first plans.items
-            → HasCarried N.Node (map (graph_of N.spec) plans.items) [] net) }
+        ensures carried { IfOk result (λ net.
+            HasCarried N.Node (map (graph_of N.spec) plans.items) [] net) }
         ensures room { IfOk result (λ net. Each (HasRoomIn capacity) net.lives) }
         ensures last { IfOk result (λ net. net.last.0 ≡ 0) }
         ensures spent { IfOk result (λ net. net.spent ≡ false) }
@@ -224,14 +218,6 @@ impl<N: Node> Net<N> {
         ensures rooms { OnOk result (rooms_in self.new.lives ≡ rooms_in self.old.lives) }
         ensures steps { OnOk result (steps_of self.new.lives ≡ steps_of self.old.lives) }
         ensures count { OnOk result (moves_in self.new.lives ≡ 0) }
-        ensures first { OnOk result ((plans : List (PlanValue N)) → IsNew N.Node plans self.old
-            → upto.0 ≡ length points.now → AreMarksOf points.now upto marks.now
-            → HasRun N.Node (map (graph_of N.spec) plans) points.now [] self.new) }
-        ensures again { OnOk result ((lives : List (List (Placed N.Spec)))
-            (before : List PointValue) (collected : List Effect)
-            → HasRun N.Node lives before collected self.old
-            → upto.0 ≡ length (before ++ points.now) → AreMarksOf points.now upto marks.now
-            → HasRun N.Node lives (before ++ points.now) collected self.new) }
         ensures gathers { OnOk result (self.new.gathered
             ≡ self.old.gathered ++ effects_in self.new.lives) }
         ensures last { OnOk result (self.new.last ≡ upto) }
@@ -334,8 +320,7 @@ impl<N: Node> Net<N> {
 
     /// Whether nothing is pending, unsent, buffered or on an edge. While it isn't so, some step is enabled;
     /// where it is so, each edge has carried its stream, and the messages sent and received since the load
-    /// are twice the streams' length. Over all loads each edge has then carried, barriers aside, what its
-    /// parent gives out for all points so far.
+    /// are twice the streams' length.
     pub fn at_rest(&self) -> bool
         requires { self.now.spent ≡ false }
         ensures rest { IsTrue result → Each IsResting self.now.lives }
@@ -399,18 +384,8 @@ impl<N: Node> Net<N> {
     pub fn collect(&mut self, alloc: Global) -> Effects
         ensures same { IsPermutation self.old.gathered result }
         ensures sorted { AreSorted result }
-        ensures runs { (lives : List (List (Placed N.Spec))) (points : List PointValue)
-            (collected : List Effect) → HasRun N.Node lives points collected self.old
-            → HasRun N.Node lives points (collected ++ result) self.new }
         ensures gathers { (collected : List Effect) → HasGathered collected self.old
             → HasGathered (collected ++ result) self.new }
-        ensures whole { (numbers : (p : N.Spec) → NumbersEffects (N.answer p))
-            (lives : List (List (Placed N.Spec))) (old new : List PointValue) (lowest : ℕ)
-            (collected : List Effect) → LivesRise N.life N.number lowest lives
-            → IsPermutation (effects_by_node N.answer lives old) collected
-            → IsPermutation (effects_by_node N.answer lives (old ++ new))
-            (collected ++ self.old.gathered)
-            → effects_of N.answer lives (old ++ new) ≡ effects_of N.answer lives old ++ result }
         ensures none { self.new.gathered ≡ [] }
         ensures lives { self.new.lives ≡ self.old.lives }
         ensures last { self.new.last ≡ self.old.last }
@@ -429,19 +404,9 @@ impl<N: Node> Net<N> {
         dropped(&self.lives, cell)
     }
 
-    /// How many inputs each node of each life dropped and counted, life by life and node by node: at rest of
-    /// all points, and of none where nothing was loaded.
+    /// How many inputs each node of each life dropped and counted so far, life by life and node by node.
     pub fn counts(&self, alloc: Global) -> Result<Counts, NoMemory>
-        requires { self.now.spent ≡ false }
-        ensures counts { IfOk result (λ counts. counts ≡ drops_in N.Node self.now.lives) }
-        ensures new { IfOk result (λ counts. (plans : List (PlanValue N))
-            → IsNew N.Node plans self.now
-            → counts ≡ dropped_of N.answer (map (graph_of N.spec) plans) []) }
-        ensures ran { Each IsResting self.now.lives
-            → IfOk result (λ counts. (lives : List (List (Placed N.Spec)))
-            (points : List PointValue) (collected : List Effect)
-            → HasRun N.Node lives points collected self.now
-            → counts ≡ dropped_of N.answer lives points) }
+        ensures { IfOk result (λ counts. counts ≡ drops_in N.Node self.now.lives) }
     {
         counts_of(alloc, &self.lives)
     }

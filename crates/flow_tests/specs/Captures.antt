@@ -1,15 +1,16 @@
 -- Nets that were stopped at a barrier, and nets that go on there.
-use Rattle.std.specs.Prelude.{◌≡◌, ℕ, false, List, [], ◌∷◌}
+use Rattle.std.specs.Prelude.{◌≡◌, ℕ, false, List, [], ◌∷◌, IsPermutation, length}
 use Rattle.std.specs.List.{AllByRecursion as Each, AllZip}
 use Rattle.kap_base.specs.Points.{PointValue}
 use Rattle.kap_base.specs.declared.items.Msg.{Msg}
 use Rattle.kap_base.specs.declared.items.Stamp.{Stamp}
 use Rattle.node_core.specs.declared.node.Node.{Ghosts}
+use Rattle.task_run.specs.Courses.{from_first, later_effects}
 use Rattle.task_run.specs.Plans.{PlanValue, graph_of}
+use Rattle.flow_core.specs.Done.{HasGathered, effects_in}
 use Rattle.flow_core.specs.Making.{AreLivesOf}
 use Rattle.flow_core.specs.Messages.{load_messages}
 use Rattle.flow_core.specs.Nets.{IsResting, NetValue, NumberedLife, plans_from, plans_in, specs_in}
-use Rattle.flow_core.specs.Ran.{HasGathered, HasRun}
 use Rattle.barrier_snapshot.specs.Barriers.{IsCaptureAt, cells_in}
 use Rattle.barrier_snapshot.specs.Restoring.{Restores}
 use Rattle.barrier_snapshot.specs.Resuming.{AreLoadedWith, DidTheRestOf, DidTheSame}
@@ -23,7 +24,6 @@ module _ {N P S : Type 0} (g : Ghosts N P S) where
     pub plans : plans_in g net.lives ≡ plans_from g (load_messages points last marks) made
     pub specs : specs_in g net.lives ≡ specs_in g made
     pub gathered : HasGathered [] net
-    pub runs : HasRun g (graph_of g.spec plan ∷ []) points [] net
     pub there : net.last ≡ last
     pub unspent : net.spent ≡ false
 
@@ -35,7 +35,6 @@ module _ {N P S : Type 0} (g : Ghosts N P S) where
     pub loaded : AreLoadedWith g (load_messages points last marks) made net.lives
     pub capture : IsCaptureAt g upto (cells_in net.lives) bytes
     pub gathered : HasGathered [] net
-    pub runs : HasRun g (graph_of g.spec plan ∷ []) points [] net
     pub unspent : net.spent ≡ false
 
   -- lives were loaded with these messages, of which nothing is left to do
@@ -52,13 +51,13 @@ module _ {N P S : Type 0} (g : Ghosts N P S) where
     pub restores : Restores g (plan ∷ []) there bytes restored
     pub ran : HasRunLoad msgs restored.lives net
 
-  -- a net of a plan has run points, and another one did what it did behind a barrier
+  -- a net of a plan has done what its nodes do for points, and another one did what it did behind a barrier
   pub record RanBoth (plan : PlanValue N) (points : List PointValue) (mark : Stamp) (net other : NetValue N) : Type 0 where
     pub behind : DidTheRestOf g mark net.lives other.lives
-    pub rest : Each IsResting net.lives
     pub gathered : HasGathered [] net
     pub gathered_too : HasGathered [] other
-    pub runs : HasRun g (graph_of g.spec plan ∷ []) points [] net
+    pub did : IsPermutation (effects_in net.lives)
+        (later_effects g.answer 0 (length points) (from_first points (graph_of g.spec plan ∷ [])))
     pub unspent : net.spent ≡ false
     pub unspent_too : other.spent ≡ false
 

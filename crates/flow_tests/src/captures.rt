@@ -1,15 +1,14 @@
 //! Nets whose states are captured, and that go on in another net.
 
-ghost use Rattle.std.specs.Prelude.{◌≡◌, ℕ, ◌+◌, ◌<◌, ◌≤◌, [], ◌∷◌, false, IfOk, IfSome, IsPermutation, List, OnOk, length};
+ghost use Rattle.std.specs.Prelude.{◌≡◌, ◌+◌, ◌<◌, ◌≤◌, [], ◌∷◌, false, IfOk, IfSome, IsPermutation, List, OnOk, length};
 ghost use Rattle.std.specs.List.{AllByRecursion as Each, AllZip};
-ghost use Rattle.kap_base.specs.Points.{PointValue};
-ghost use Rattle.task_run.specs.Graphs.{Placed};
+ghost use Rattle.kap_base.specs.declared.items.Effect.{Effect};
 ghost use Rattle.task_run.specs.Plans.{AreFirstNodes, graph_of};
+ghost use Rattle.flow_core.specs.Done.{HasGathered, effects_in};
 ghost use Rattle.flow_core.specs.Gathering.{LivesRise, NumbersEffects};
 ghost use Rattle.flow_core.specs.Making.{HasFewParents};
 ghost use Rattle.flow_core.specs.Messages.{AreMarksOf, load_messages};
 ghost use Rattle.flow_core.specs.Nets.{IsResting};
-ghost use Rattle.flow_core.specs.Ran.{HasGathered, HasRun};
 ghost use Rattle.flow_core.specs.Sorting.{AreRising};
 ghost use Rattle.barrier_snapshot.specs.Loading.{IsSameLife};
 ghost use Rattle.barrier_snapshot.specs.Resuming.{DidTheRestOf, DidTheSame, effects_behind};
@@ -22,9 +21,10 @@ use barrier_snapshot::{
     capture, has_passed, has_passed_inside, lives_are_planned, lives_stand, nets_collect_alike,
     nets_go_on, restore, streams_are_steady,
 };
-use flow_core::{Net, effects_are_gathered, loads_have_messages, sorted_effects_are_whole};
+use flow_core::{Net, effects_are_gathered, loads_have_messages};
 use flow_life::Step;
 use kap_base::{Bytes, NoMemory, Point, Shared, Stamp};
+use net_epochs::epochs_go_on;
 use node_core::{Effects, Node};
 use std::alloc::Global;
 use std::process::Abort;
@@ -66,9 +66,7 @@ fn load_new<N: Node>(
     marks: &[Stamp],
 ) -> Result<Net<N>, NoMemory>
     requires few { HasFewParents plan }
-    requires first { AreFirstNodes N.spec N.state N.first plan.nodes }
     requires last { last.0 ≡ length points.now }
-    requires marks { AreMarksOf points.now last marks.now }
     ensures { IfOk result (IsLoadedNew N.Node plan points.now last marks.now) }
 {
     effects_are_gathered::<N>();
@@ -89,7 +87,6 @@ fn stop_inside<N: Node>(
     steps: &[Step],
 ) -> Result<Option<(Net<N>, Bytes)>, NoMemory>
     requires few { HasFewParents plan }
-    requires first { AreFirstNodes N.spec N.state N.first plan.nodes }
     requires steady { HasSteadyStream N.Node plan }
     requires last { last.0 ≡ length points.now }
     requires marks { AreMarksOf points.now last (mark ∷ []) }
@@ -116,7 +113,6 @@ fn stop_at_rest<N: Node>(
     last: Stamp,
 ) -> Result<Option<(Net<N>, Bytes)>, NoMemory>
     requires few { HasFewParents plan }
-    requires first { AreFirstNodes N.spec N.state N.first plan.nodes }
     requires last { last.0 ≡ length points.now }
     ensures stopped { IfOk result (λ both. IfSome both (λ stopped.
         Stopped N.Node plan points.now last [] last stopped.0 stopped.1)) }
@@ -201,6 +197,7 @@ fn goes_on<N: Node>(
         RanBoth N.Node plan points.now mark nets.0 nets.1)) }
 {
     effects_are_gathered::<N>();
+    epochs_go_on::<N>();
     let Some((mut net, bytes)) = stop_inside(alloc, plan, points, mark, last, steps)? else {
         return Ok(None);
     };
@@ -250,31 +247,25 @@ fn goes_on_at_rest<N: Node>(
 }
 
 /// What two nets collect, the second of which did what the first one did behind a barrier: the second one
-/// the effects of the first one with stamps above the barrier, and in the same order, where the nodes
-/// number their effects and the first one ran these points since it was made.
+/// the effects of the first one with stamps above the barrier, and in the same order, where no two effects
+/// of the first one stand at one place in the order of `collect`.
 fn collect_both<N: Node>(
     alloc: Global,
     net: &mut Net<N>,
     other: &mut Net<N>,
     mark: Stamp,
 ) -> (Effects, Effects)
-    requires unspent { net.old.spent ≡ false }
-    requires rest { Each IsResting net.old.lives }
     requires behind { DidTheRestOf N.Node mark net.old.lives other.old.lives }
     requires gathered { HasGathered [] net.old }
     requires gathered_too { HasGathered [] other.old }
     ensures behind { IsPermutation (effects_behind mark result.0) result.1 }
-    ensures in_order { (numbers : (p : N.Spec) → NumbersEffects (N.answer p))
-        (lives : List (List (Placed N.Spec))) (points : List PointValue) (first : ℕ)
-        → LivesRise N.life N.number first lives → HasRun N.Node lives points [] net.old
+    ensures in_order { (due : List Effect) → AreRising due
+        → IsPermutation (effects_in net.old.lives) due
         → result.1 ≡ effects_behind mark result.0 }
     ensures unspent { net.new.spent ≡ net.old.spent }
     ensures unspent_too { other.new.spent ≡ other.old.spent }
 {
-    sorted_effects_are_whole::<N>();
     nets_collect_alike::<N>();
-    // So its effects are those of all points.
-    let _ = net.at_rest();
     let all = net.collect(alloc);
     let late = other.collect(alloc);
     (all, late)
@@ -308,6 +299,7 @@ fn goes_on_and_collects<N: Node>(
     ensures in_order { IfOk result (λ both. IfSome both (λ nets.
         nets.3 ≡ effects_behind mark nets.2)) }
 {
+    epochs_go_on::<N>();
     let Some((mut net, mut other)) = goes_on(alloc, plan, again, points, cut, mark, last, steps)?
     else {
         return Ok(None);

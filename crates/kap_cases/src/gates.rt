@@ -2,15 +2,13 @@
 
 use crate::answers::answer;
 use crate::fault::CaseFault;
+use crate::program::Program;
 use crate::ways::{Ways, outcome_by, words_with};
 use case_text::Holding;
 use kap_base::Bytes;
 use kap_io::Gate;
-use net_run::NumberingNode;
-use node_set::ScriptNode;
 use std::alloc::Global;
 use std::sync::atomic::{AtomicU64, Ordering};
-use std::thread::Threads;
 
 /// A gate that counts the turns of all workers, and at which nobody waits.
 #[derive(Drop)]
@@ -55,8 +53,8 @@ fn put_turns(alloc: Global, gate: &Holding, turns: u64, to: &mut Bytes) -> Resul
 }
 
 /// What a command writes by workers, and what turns they had.
-pub fn gated_answer<R: Threads + Sync, N: ScriptNode + NumberingNode + Send>(
-    rt: &R,
+pub fn gated_answer<P: Program>(
+    program: &P,
     alloc: Global,
     words: &[String],
     input: &[u8],
@@ -65,15 +63,15 @@ pub fn gated_answer<R: Threads + Sync, N: ScriptNode + NumberingNode + Send>(
     let (workers, turns) = numbers_of(text).ok_or(CaseFault::NoWorkers)?;
     let words = words_with(alloc, words, options_of(workers))?;
     let gate = Holding::new(workers);
-    let outcome = outcome_by::<R, Holding, N>(rt, alloc, &words, input, &gate)?;
+    let outcome = outcome_by(program, alloc, &words, input, &gate)?;
     let mut told = answer(alloc, &outcome)?;
     put_turns(alloc, &gate, turns, &mut told)?;
     Ok(told)
 }
 
 /// What a command writes on the first disk, and whether its workers had more turns than a line says.
-pub fn counted_answer<R: Threads + Sync, N: ScriptNode + NumberingNode + Send>(
-    rt: &R,
+pub fn counted_answer<P: Program>(
+    program: &P,
     alloc: Global,
     words: &[String],
     input: &[u8],
@@ -82,7 +80,7 @@ pub fn counted_answer<R: Threads + Sync, N: ScriptNode + NumberingNode + Send>(
 ) -> Result<Bytes, CaseFault> {
     let most = text.parse::<u64>().ok().ok_or(CaseFault::NoWorkers)?;
     let gate = Counting(AtomicU64::new(0));
-    let outcome = ways.outcome_at::<R, Counting, N>(rt, alloc, words, input, &gate)?;
+    let outcome = ways.outcome_at(program, alloc, words, input, &gate)?;
     let mut told = answer(alloc, &outcome)?;
     let few = gate.0.load(Ordering::SeqCst) <= most;
     let found: &[u8] = if few { b"^ no more\n" } else { b"^ more\n" };

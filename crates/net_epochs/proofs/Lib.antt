@@ -1,4 +1,5 @@
 pub mod LifeLaws
 pub mod NetLaws
+pub mod CarryLaws
 pub mod RiseLaws
 pub mod StandLaws

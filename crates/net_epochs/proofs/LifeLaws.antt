@@ -1,18 +1,21 @@
 -- A life that was loaded with more points and is at rest is where these bring it.
-use Rattle.std.proofs.Common.{◌≡◌, ℕ, suc, ◌+◌, ◌-◌, ◌≤◌, List, [], ◌∷◌, ◌++◌, Some, map, length, refl, sym, ap, subst, ◌∙◌, length-append, arith}
+use Rattle.std.proofs.Common.{◌≡◌, ℕ, suc, ◌+◌, ◌-◌, ◌≤◌, List, [], ◌∷◌, ◌++◌, Some, map, length, get_or, refl, sym, ap, subst, ◌∙◌, length-append, arith}
 use Rattle.std.specs.Prelude.{slice_get}
 use Rattle.std.specs.List.{AllZip}
 use Rattle.kap_base.specs.Points.{PointValue}
 use Rattle.kap_base.specs.declared.items.Item.{Item}
+use Rattle.kap_base.specs.declared.items.Msg.{Msg}
 use Rattle.kap_base.specs.declared.items.Stamp.{Stamp}
 use Rattle.node_core.specs.declared.node.Node.{Ghosts}
 use Rattle.node_core.specs.Meaning.{Input, fold, given}
 use Rattle.node_core.specs.Cut.{IsStamped}
 use Rattle.task_run.specs.Active.{AreAt, placed}
 use Rattle.task_run.specs.Graphs.{Placed, gives_behind, stamped_from}
-use Rattle.task_run.specs.MoreLaws.{Part, olds, whole, wholes}
+use Rattle.task_run.specs.MoreLaws.{Part, mores, olds, out_at, whole, wholes}
 use Rattle.task_run.specs.PointLaws.{from-up_to}
 use Rattle.task_run.specs.Stamps.{IsStream as HasStamps, of_item}
+use Rattle.merge_node.specs.Merge.{items}
+use Rattle.flow_cells.specs.Outs.{item_msgs}
 use Rattle.flow_cells.specs.declared.parts.CellParts.{CellParts}
 use Rattle.flow_life.specs.GraphLaws.{graph_streams, life_graph}
 use Rattle.flow_life.specs.Graphs.{HasStreams}
@@ -21,11 +24,11 @@ use Rattle.flow_life.specs.Loads.{plan_now}
 use Rattle.flow_life.specs.Nodes.{specs_of}
 use Rattle.flow_life.proofs.RestLaws.{carries_streams}
 use Rattle.flow_life.specs.Steps.{AreQuiet}
-use Rattle.flow_life.specs.Streams.{CarriesStreams, Plan, plan_of, plans_of}
+use Rattle.flow_life.specs.Streams.{AreStreams, CarriesStreams, Plan, plan_of, plans_of}
 use Rattle.flow_core.proofs.GraphLaws.{graph_ran}
 use Rattle.flow_core.proofs.LifeLaws.{nodes_loaded, planned}
 use Rattle.flow_core.specs.LifeLoads.{acts_of, effects_since}
-use Rattle.flow_core.proofs.LoadedLaws.{from-append, from-low, from-rises}
+use Rattle.flow_core.proofs.OutLaws.{from-append, from-low, from-rises, items-carried}
 use Rattle.flow_core.specs.Loads.{Does, EndsIn, IsPlanOf}
 use Rattle.flow_core.proofs.MessageLaws.{messages_barriers, messages_closed, messages_items, messages_rise}
 use Rattle.flow_core.specs.Messages.{AreMarksOf, load_messages, stamped_up_to}
@@ -38,12 +41,17 @@ zipped R f h [] at = tt
 zipped R f h (x ∷ xs) at = (at 0 x refl, zipped R f h xs (λ j c e. at (suc j) c e))
 
 module _ {N P S : Type 0} (g : Ghosts N P S) (stamped : (p : P) (before : List Input) (x : Input) → IsStamped (g.life p) (g.number p) x.1.stamp.0 (g.answer p before x)) (folds : (p : P) (xs : List Input) → (fold (g.step p) (g.first p) xs).given ≡ given (g.answer p) xs) where
-  -- What an epoch made of a life: what each node gave before and gives more, what its cells have done since, and where it is.
+  -- What an epoch made of a life: what each node gave before and gives more, what its cells have done since, which streams
+  -- its edges carried, and where it is.
   pub record LifeWent (new : List PointValue) (c : Course P) (after : List (CellParts N)) : Type 0 where
     pub parts : List Part
     pub old : course_gives g.answer c ≡ olds parts
     pub now : course_gives g.answer (grown new c) ≡ wholes parts
     pub did : effects_since after ≡ map (λ (t : Part). t.more.effects) parts
+    pub streams : List (List Msg)
+    pub streams_are : AreStreams (plans_of g after) streams
+    pub carries : CarriesStreams g after
+    pub gave : (i : ℕ) → items (get_or streams i []) ≡ item_msgs (out_at (mores parts) i)
     pub where_is : IsWhere g.answer g.first g.step (grown new c) (acts_of g after)
 
   pub life_went : (c : Course P) (new : List PointValue) (upto : Stamp) (marks : List Stamp) (before after : List (CellParts N))
@@ -95,6 +103,10 @@ module _ {N P S : Type 0} (g : Ghosts N P S) (stamped : (p : P) (before : List I
         old = ap (λ (ds : List (Placed P)). gives_behind g.answer n olds_are [] ds) (sym is.nodes) ∙ ran.old;
         now = ap (λ (l : List Item). gives_behind g.answer m l [] c.nodes) (sym all) ∙ ap (λ (ds : List (Placed P)). gives_behind g.answer m (whole src).items [] ds) (sym is.nodes) ∙ ran.new;
         did = ran.does;
+        streams = s.streams;
+        streams_are = s.are;
+        carries = carries;
+        gave = λ i. items-carried n m bs ran.parts s.streams i ran.carries;
         where_is = record {
           nodes = same ∙ is.nodes;
           at = subst (λ (l : List Item). AreAt g.answer g.first g.step m l [] (acts_of g after)) all ran.at;

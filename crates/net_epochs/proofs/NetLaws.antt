@@ -22,7 +22,7 @@ use Rattle.flow_core.specs.LifeLoads.{effects_since}
 use Rattle.flow_core.specs.Messages.{AreMarksOf, load_messages}
 use Rattle.flow_core.specs.Nets.{IsLifeIn, IsResting, NumberedLife, plans_from, plans_in, specs_in}
 use Rattle.flow_core.proofs.PortLaws.{head_same}
-use Rattle.flow_core.specs.Ran.{effects_in, together}
+use Rattle.flow_core.specs.Done.{effects_in, together}
 use Rattle.task_run.specs.Courses.{Course, course_effects_with, course_gives, end_of, grown, items_of, later_effects, laters}
 use Rattle.task_run.proofs.LaterLaws.{each_kept, each_with, gives_streams, high-same, later_is, later_of}
 use Rattle.net_epochs.specs.Epochs.{IsOnCourse, nodes_in}
@@ -33,7 +33,7 @@ pub grown_nodes : {P : Type 0} (new : List PointValue) (courses : List (Course P
 grown_nodes new [] = refl
 grown_nodes {P} new (c ∷ courses) = ap (λ (ns : List (List (Placed P))). c.nodes ∷ ns) (grown_nodes new courses)
 
-none-more : {A : Type 0} (x : A) (xs : List A) → x ∷ xs ≡ [] → ⊥
+pub none-more : {A : Type 0} (x : A) (xs : List A) → x ∷ xs ≡ [] → ⊥
 none-more x xs e = absurd cc
 
 -- ---- stamp by stamp
@@ -99,10 +99,10 @@ module _ {N P S : Type 0} (g : Ghosts N P S) (stamped : (p : P) (before : List I
       subst (λ (es : List (List Effect)). IsPermutation (together es) (laters n k (λ s. node_effects_with s (course_gives g.answer (grown new c))))) (sym w.did)
       (subst (λ (gs : List Given). IsPermutation (together (map (λ (t : Part). t.more.effects) w.parts)) (laters n k (λ s. node_effects_with s gs))) (sym w.now) told)
 
-  first-plans : (source : List Msg) (lives lives' : List (NumberedLife N)) (l l' : NumberedLife N) → plans_in g (l' ∷ lives') ≡ plans_from g source (l ∷ lives) → plans_of g l'.life.cells ≡ map (plan_now g source) l.life.cells
+  pub first-plans : (source : List Msg) (lives lives' : List (NumberedLife N)) (l l' : NumberedLife N) → plans_in g (l' ∷ lives') ≡ plans_from g source (l ∷ lives) → plans_of g l'.life.cells ≡ map (plan_now g source) l.life.cells
   first-plans source lives lives' l l' e = head_same (plans_of g l'.life.cells) (map (plan_now g source) l.life.cells) (plans_in g lives') (plans_from g source lives) e
 
-  first-specs : (lives lives' : List (NumberedLife N)) (l l' : NumberedLife N) → specs_in g (l' ∷ lives') ≡ specs_in g (l ∷ lives) → specs_of g l'.life.cells ≡ specs_of g l.life.cells
+  pub first-specs : (lives lives' : List (NumberedLife N)) (l l' : NumberedLife N) → specs_in g (l' ∷ lives') ≡ specs_in g (l ∷ lives) → specs_of g l'.life.cells ≡ specs_of g l.life.cells
   first-specs lives lives' l l' e = head_same (specs_of g l'.life.cells) (specs_of g l.life.cells) (specs_in g lives') (specs_in g lives) e
 
   -- what an epoch made of lives

@@ -1,14 +1,17 @@
 -- The effects of courses, by stamp, life, node and number, rise.
-use Rattle.std.proofs.Common.{◌≡◌, ℕ, zero, suc, ◌+◌, ◌≤◌, List, [], ◌∷◌, arith}
+use Rattle.std.proofs.Common.{◌≡◌, ℕ, zero, suc, ◌+◌, ◌≤◌, List, [], ◌∷◌, IsPermutation, arith}
 use Rattle.std.specs.List.{AllByRecursion as Each}
+use Rattle.std.proofs.lemmas.List.Sorted.{IsPermutation-sym, IsPermutation-trans}
+use Rattle.kap_base.specs.declared.items.Effect.{Effect}
 use Rattle.node_core.specs.Meaning.{Answer, Input}
 use Rattle.node_core.specs.Cut.{IsStamped}
 use Rattle.task_run.specs.Lives.{node_effects_with}
 use Rattle.flow_core.specs.Gathering.{LivesRise, NumbersEffects}
-use Rattle.flow_core.specs.Sorting.{AreRising}
+use Rattle.flow_core.specs.Sorting.{AreRising, AreSorted}
 use Rattle.task_run.specs.Courses.{Course, course_effects_with, course_gives, end_of, items_of, later_effects}
 use Rattle.net_epochs.specs.Epochs.{nodes_in}
 use Rattle.flow_core.proofs.RisingLaws.{IsFrom, IsLater, each-map, each_append, life-before, nodes-from, nodes-rising, rising-append, stamp-before}
+use Rattle.flow_core.proofs.UniqueLaws.{sorted_is}
 
 module _ {P : Type 0} (answer : P → Answer) (life number : P → ℕ) (stamped : (p : P) (before : List Input) (x : Input) → IsStamped (life p) (number p) x.1.stamp.0 (answer p before x)) (numbers : (p : P) → NumbersEffects (answer p)) where
   courses-later : (s low : ℕ) (courses : List (Course P)) → LivesRise life number low (nodes_in courses) → Each (IsLater s low) (course_effects_with answer s courses)
@@ -44,3 +47,10 @@ module _ {P : Type 0} (answer : P → Answer) (life number : P → ℕ) (stamped
       let rest = course_effects_with answer (suc (n + k)) courses in
       rising-append earlier rest (later_rise n k low courses are) (courses-rising (suc (n + k)) low courses are)
       (stamp-before (n + k) earlier rest (later-low n k low courses are) (each-map (IsLater (suc (n + k)) low) (λ e. e.stamp.0 ≡ suc (n + k)) rest (λ e f. f.0) (courses-later (suc (n + k)) low courses are)))
+
+  -- what has these effects, in any order, is this list once it is sorted
+  pub later_sorted : (n k low : ℕ) (courses : List (Course P)) (done sorted : List Effect) → LivesRise life number low (nodes_in courses)
+      → IsPermutation done (later_effects answer n k courses) → IsPermutation done sorted → AreSorted sorted → sorted ≡ later_effects answer n k courses
+  later_sorted n k low courses done sorted are did same order =
+      let due = later_effects answer n k courses in
+      sorted_is due sorted (later_rise n k low courses are) (IsPermutation-trans due done sorted (IsPermutation-sym done due did) same) order

@@ -7,23 +7,19 @@ use Rattle.kap_base.specs.Points.{PointValue}
 use Rattle.kap_base.specs.declared.items.Stamp.{Stamp}
 use Rattle.node_core.specs.declared.node.Node.{Ghosts}
 use Rattle.node_core.specs.Meaning.{Answer, Given, Input, Move, fold}
-use Rattle.flow_cells.specs.declared.parts.CellParts.{CellParts}
-use Rattle.flow_cells.specs.declared.parts.InEdge.{InEdge}
-use Rattle.flow_life.specs.Making.{nodes_of}
 use Rattle.flow_life.proofs.PlaceLaws.{found-same}
-use Rattle.flow_life.specs.Wired.{parents_of}
 use Rattle.task_run.specs.Active.{Active, AreAt, AreFirst, placed}
 use Rattle.task_run.proofs.CourseLaws.{AllEmpty, gives-nothing, lists-empty, merged-empty, outs-more}
-use Rattle.task_run.specs.Courses.{Course, begun, end_of, grown}
+use Rattle.task_run.specs.Courses.{Course, begun, end_of, from_first, grown}
 use Rattle.task_run.specs.EffectOrder.{NodesNumbered}
-use Rattle.task_run.specs.Graphs.{Placed, lists_of, node_gives, outs_of}
+use Rattle.task_run.specs.Graphs.{lists_of, node_gives, outs_of}
 use Rattle.task_run.specs.Plans.{AreFirstNodes, AreFirstStates, AreNodesFrom, IsPlan, PlanValue, graph_of}
 use Rattle.flow_core.proofs.EndLaws.{each_remove}
 use Rattle.flow_core.specs.Gathering.{LivesRise}
 use Rattle.flow_core.specs.LifeLoads.{acts_of}
 use Rattle.flow_core.specs.Making.{AreLivesOf, Begins, Ends, IsLifeBehind}
 use Rattle.flow_core.specs.Nets.{IsResting, NetValue, NumberedLife, numbers_of}
-use Rattle.flow_core.proofs.RanLaws.{first-acts}
+use Rattle.flow_core.proofs.LifeLaws.{first-acts, graph_behind}
 use Rattle.net_epochs.specs.Epochs.{AreNumberedBy, IsNumbered, IsOnCourse, NumbersRise, StandsAt, nodes_in}
 
 -- ---- lists
@@ -107,21 +103,10 @@ module _ {P S : Type 0} (answer : P → Answer) (first : P → S) (step : P → 
       )
 
 module _ {N P S : Type 0} (g : Ghosts N P S) where
-  placed-graph : (cells : List (CellParts N)) → map placed (acts_of g cells) ≡ map (λ p. record { spec = g.spec p.0; parents = p.1 }) (zip (nodes_of cells) (parents_of cells))
-  placed-graph [] = refl
-  placed-graph (c ∷ cells) = ap (λ (ds : List (Placed P)). record { spec = g.spec c.core.node; parents = map (λ (e : InEdge). e.from) c.ins.items } ∷ ds) (placed-graph cells)
-
-  -- the nodes of a life of a plan are those that were planned
-  pub graph_behind : (stamp : ℕ) (plan : PlanValue N) (l : NumberedLife N) → IsLifeBehind g stamp plan l → map placed (acts_of g l.life.cells) ≡ graph_of g.spec plan
-  graph_behind stamp plan l is =
-      placed-graph l.life.cells
-      ∙ ap (λ (ns : List N). map (λ p. record { spec = g.spec p.0; parents = p.1 }) (zip ns (parents_of l.life.cells))) is.nodes
-      ∙ ap (λ (ps : List (List ℕ)). map (λ p. record { spec = g.spec p.0; parents = p.1 }) (zip plan.nodes ps)) is.parents
-
   -- a life of a plan in first states has seen no points
   pub life_begins : (stamp n : ℕ) (plan : PlanValue N) (l : NumberedLife N) → IsLifeBehind g stamp plan l → AreFirstNodes g.spec g.state g.first plan.nodes → IsOnCourse g (begun n (graph_of g.spec plan)) l
   life_begins stamp n plan l is begins = record {
-    nodes = graph_behind stamp plan l is;
+    nodes = graph_behind g stamp plan l is;
     at = begins-at g.answer g.first g.step (n + 0) [] (acts_of g l.life.cells) tt (first-acts g l.life.cells (subst (λ (ns : List N). AreFirstNodes g.spec g.state g.first ns) (sym is.nodes) begins));
   }
 
@@ -146,6 +131,13 @@ module _ {N P S : Type 0} (g : Ghosts N P S) where
   made-lives [] (l ∷ lives) are first = absurd are
   made-lives (p ∷ plans) [] are first = absurd are
   made-lives (p ∷ plans) (l ∷ lives) are first = (life_begins 0 0 p l are.0 first.0, made-lives plans lives are.1 first.1)
+
+  -- the same, as lives that have all seen no points
+  pub lives_first : (plans : List (PlanValue N)) (lives : List (NumberedLife N)) → AreLivesOf g plans lives → AreFirstStates g.spec g.state g.first plans → AllZip (IsOnCourse g) (from_first [] (map (graph_of g.spec) plans)) lives
+  lives_first [] [] are first = tt
+  lives_first [] (l ∷ lives) are first = absurd are
+  lives_first (p ∷ plans) [] are first = absurd are
+  lives_first (p ∷ plans) (l ∷ lives) are first = (life_begins 0 0 p l are.0 first.0, lives_first plans lives are.1 first.1)
 
   made-numbered : (plans : List (PlanValue N)) (lives : List (NumberedLife N)) → AreLivesOf g plans lives → Each (IsPlan g.spec g.ports g.life g.number) plans → AreNumberedBy g (numbers_of lives) (made plans)
   made-numbered [] [] are planned = tt

@@ -1,58 +1,74 @@
--- One epoch behind others.
-use Rattle.std.proofs.Common.{◌≡◌, ◌+◌, List, [], ◌++◌, IsPermutation, inl, inr, length, map, sym, ap, subst, ◌∙◌, arith, length-append}
+-- One epoch behind others, of lives that all began at the first point.
+use Rattle.std.proofs.Common.{◌≡◌, ℕ, ◌+◌, List, [], ◌∷◌, ◌++◌, IsPermutation, false, inl, length, map, refl, sym, ap, subst, ◌∙◌, arith, length-append}
 use Rattle.std.specs.List.{AllByRecursion as Each, AllZip}
-use Rattle.std.proofs.lemmas.List.Sorted.{IsPermutation-append_right, IsPermutation-refl, IsPermutation-trans}
 use Rattle.kap_base.specs.Points.{PointValue}
 use Rattle.kap_base.specs.declared.items.Effect.{Effect}
 use Rattle.kap_base.specs.declared.items.Stamp.{Stamp}
 use Rattle.node_core.specs.declared.node.Node.{Ghosts}
+use Rattle.node_core.specs.Cut.{IsStamped}
+use Rattle.node_core.specs.Meaning.{Input, fold, given}
+use Rattle.task_run.proofs.CourseLaws.{effects_from_first, effects_more}
+use Rattle.task_run.specs.Courses.{Course, Goes, course_effects, end_of, from_first, grown, later_effects}
 use Rattle.task_run.specs.Graphs.{Placed}
 use Rattle.task_run.specs.Lives.{effects_of}
-use Rattle.task_run.specs.Plans.{PlanValue, graph_of}
-use Rattle.flow_core.specs.Carried.{HasCarried, LifeHasCarried}
-use Rattle.flow_core.specs.Gathering.{effects_by_node}
-use Rattle.flow_core.specs.Messages.{AreMarksOf}
-use Rattle.flow_core.specs.Nets.{IsResting, NetValue}
-use Rattle.flow_core.specs.Ran.{HasRun, IsNew}
-use Rattle.flow_core.proofs.RanLaws.{none_given}
-use Rattle.net_run.specs.Epochs.{HasCome}
+use Rattle.flow_core.specs.Carried.{LifeHasCarried}
+use Rattle.flow_core.specs.Done.{effects_in}
+use Rattle.flow_core.specs.Gathering.{LivesRise, NumbersEffects}
+use Rattle.flow_core.specs.Messages.{load_messages}
+use Rattle.flow_core.specs.Nets.{IsLifeIn, IsResting, NetValue, plans_from, plans_in, specs_in}
+use Rattle.flow_core.specs.Sorting.{AreSorted}
+use Rattle.net_epochs.specs.Epochs.{IsOnCourse, nodes_in}
+use Rattle.net_epochs.proofs.CarryLaws.{first_ends, first_grown, lives_carried}
+use Rattle.net_epochs.proofs.NetLaws.{NetWent, grown_nodes, net_went}
+use Rattle.net_epochs.proofs.RiseLaws.{later_sorted}
+use Rattle.net_run.specs.Epochs.{Stands}
 
-module _ {N P S : Type 0} (g : Ghosts N P S) where
-  abbrev pub nodes_in : List (PlanValue N) → List (List (Placed P))
-  nodes_in plans = map (graph_of g.spec) plans
+-- each has seen the points of the epoch too
+all-go : {P : Type 0} (n : ℕ) (new : List PointValue) (courses : List (Course P)) → Each (λ c. end_of c ≡ n) courses → AllZip (Goes n new) courses (map (grown new) courses)
+all-go n new [] ends = tt
+all-go n new (c ∷ courses) ends = (inl (ends.0, refl), all-go n new courses ends.1)
 
-  -- the effects of points, in their order
-  abbrev pub whole_of : List (PlanValue N) → List PointValue → List Effect
-  whole_of plans points = effects_of g.answer (nodes_in plans) points
+first-nodes : {P : Type 0} (points : List PointValue) (nodes : List (List (Placed P))) → nodes_in (from_first points nodes) ≡ nodes
+first-nodes points [] = refl
+first-nodes {P} points (ns ∷ nodes) = ap (λ (all : List (List (Placed P))). ns ∷ all) (first-nodes points nodes)
 
-  -- before the first point there are none
-  pub none_yet : (plans : List (PlanValue N)) → IsPermutation (effects_by_node g.answer (nodes_in plans) []) (whole_of plans [])
-  none_yet plans = subst (λ (es : List Effect). IsPermutation es []) (sym (none_given g.answer (nodes_in plans))) (IsPermutation-refl [])
+module _ {N P S : Type 0} (g : Ghosts N P S) (stamped : (p : P) (before : List Input) (x : Input) → IsStamped (g.life p) (g.number p) x.1.stamp.0 (g.answer p before x)) (folds : (p : P) (xs : List Input) → (fold (g.step p) (g.first p) xs).given ≡ given (g.answer p) xs)
+    (nodes : List (List (Placed P))) (before new : List PointValue) (upto : Stamp) (net rested : NetValue N) (s : Stands g nodes before net) (last : upto.0 ≡ net.last.0 + length new)
+    (plans : plans_in g rested.lives ≡ plans_from g (load_messages new upto []) net.lives) (specs : specs_in g rested.lives ≡ specs_in g net.lives)
+    (kept : Each (IsLifeIn g) rested.lives) (rest : Each IsResting rested.lives) where
+  own : upto.0 ≡ length before + length new
+  own = let was : net.last.0 ≡ length before = s.last in omega (arith, was, last)
 
-  -- an epoch is loaded, the first one or a further one
-  pub loaded : (plans : List (PlanValue N)) (before new : List PointValue) (upto : Stamp) (net net1 : NetValue N) → HasCome g plans before net
-      → net.last.0 ≡ length before → upto.0 ≡ net.last.0 + length new
-      → (IsNew g plans net → upto.0 ≡ length new → AreMarksOf new upto [] → HasRun g (nodes_in plans) new [] net1)
-      → (HasRun g (nodes_in plans) before (whole_of plans before) net → upto.0 ≡ length (before ++ new) → AreMarksOf new upto [] → HasRun g (nodes_in plans) (before ++ new) (whole_of plans before) net1)
-      → HasRun g (nodes_in plans) (before ++ new) (whole_of plans before) net1
-  loaded plans before new upto net net1 (inl h) last is first again =
-      let none : length before ≡ 0 = ap length h.0 in
-      subst (λ (ps : List PointValue). HasRun g (nodes_in plans) (ps ++ new) (whole_of plans ps) net1) (sym h.0) (first h.1 (omega (arith, last, is, none)) tt)
-  loaded plans before new upto net net1 (inr h) last is first again =
-      let all : length (before ++ new) ≡ length before + length new = length-append before new in
-      again h (omega (arith, last, is, all)) tt
+  went : NetWent g stamped folds (length before) new (from_first before nodes) rested.lives
+  went = net_went g stamped folds (length before) new upto [] (from_first before nodes) net.lives rested.lives own tt (first_ends before nodes) s.lives plans specs kept rest
 
-  -- what was gathered is all, in any order
-  pub all_are : (lives : List (List (Placed P))) (points : List PointValue) (old whole gathered more : List Effect) → IsPermutation (effects_by_node g.answer lives points) (old ++ gathered)
-      → IsPermutation gathered more → whole ≡ old ++ more → IsPermutation (effects_by_node g.answer lives points) whole
-  all_are lives points old whole gathered more all same is =
-      subst (λ (es : List Effect). IsPermutation (effects_by_node g.answer lives points) es) (sym is)
-      (IsPermutation-trans (effects_by_node g.answer lives points) (old ++ gathered) (old ++ more) all (IsPermutation-append_right old gathered more same))
+  -- behind it a net of the same lives stands
+  pub stands_on : (net' : NetValue N) → net'.lives ≡ rested.lives → net'.last ≡ upto → net'.gathered ≡ [] → net'.spent ≡ false → Stands g nodes (before ++ new) net'
+  stands_on net' same at none unspent =
+      let carried = lives_carried g stamped folds before new upto [] nodes net.lives rested.lives own tt s.lives s.carried.lives_are plans specs kept rest in
+      record {
+        last = ap (λ (t : Stamp). t.0) at ∙ own ∙ sym (length-append before new);
+        none = none;
+        lives = subst (λ ls. AllZip (IsOnCourse g) (from_first (before ++ new) nodes) ls) (sym same)
+            (subst (λ (cs : List (Course P)). AllZip (IsOnCourse g) cs rested.lives) (first_grown before new nodes) went.stands);
+        carried = record {
+          unspent = unspent;
+          rest = subst (Each IsResting) (sym same) rest;
+          lives_are = subst (AllZip (LifeHasCarried g (before ++ new)) nodes) (sym same) carried;
+        };
+        rise = s.rise;
+      }
 
-  -- what edges have carried they have carried where the lives stay
-  pub carried_on : (lives : List (List (Placed P))) (points : List PointValue) (net net' : NetValue N) → net'.lives ≡ net.lives → net'.spent ≡ net.spent → HasCarried g lives points net → HasCarried g lives points net'
-  carried_on lives points net net' same spent h = record {
-    unspent = spent ∙ h.unspent;
-    rest = subst (Each IsResting) (sym same) h.rest;
-    lives_are = subst (AllZip (LifeHasCarried g points) lives) (sym same) h.lives_are;
-  }
+  -- and what its cells have done, in the order of effects, is what the effects of all points have behind those before
+  pub effects_on : ((p : P) → NumbersEffects (g.answer p)) → (result : List Effect) → IsPermutation (effects_in rested.lives) result → AreSorted result
+      → effects_of g.answer nodes (before ++ new) ≡ effects_of g.answer nodes before ++ result
+  effects_on numbers result all sorted =
+      let due = later_effects g.answer (length before) (length new) (map (grown new) (from_first before nodes)) in
+      let rise : LivesRise g.life g.number 1 (nodes_in (map (grown new) (from_first before nodes))) = subst (LivesRise g.life g.number 1) (sym (grown_nodes new (from_first before nodes) ∙ first-nodes before nodes)) s.rise in
+      let is : result ≡ due = later_sorted g.answer g.life g.number stamped numbers (length before) (length new) 1 (map (grown new) (from_first before nodes)) (effects_in rested.lives) result rise went.did all sorted in
+      sym (effects_from_first g.answer nodes (before ++ new))
+      ∙ ap (λ (m : ℕ). course_effects g.answer m (from_first (before ++ new) nodes)) (length-append before new)
+      ∙ ap (course_effects g.answer (length before + length new)) (sym (first_grown before new nodes))
+      ∙ effects_more g.answer g.life g.number stamped (length before) new (from_first before nodes) (map (grown new) (from_first before nodes)) (all-go (length before) new (from_first before nodes) (first_ends before nodes))
+      ∙ ap (λ (es : List Effect). es ++ due) (effects_from_first g.answer nodes before)
+      ∙ ap (λ (es : List Effect). effects_of g.answer nodes before ++ es) (sym is)

@@ -1,31 +1,22 @@
--- What a net keeps from one epoch to the next.
-use Rattle.std.specs.Prelude.{◌≡◌, ◌⊎◌, false, List, [], IsPermutation, length, map}
-use Rattle.std.specs.List.{AllByRecursion as Each}
+-- What a net keeps from one epoch to the next, whose lives all began at the first point.
+use Rattle.std.specs.Prelude.{◌≡◌, List, [], length}
+use Rattle.std.specs.List.{AllZip}
 use Rattle.kap_base.specs.Points.{PointValue}
 use Rattle.node_core.specs.declared.node.Node.{Ghosts}
-use Rattle.task_run.specs.Lives.{effects_of}
-use Rattle.task_run.specs.Plans.{PlanValue, graph_of}
+use Rattle.task_run.specs.Courses.{from_first}
+use Rattle.task_run.specs.Graphs.{Placed}
 use Rattle.flow_core.specs.Carried.{HasCarried}
-use Rattle.flow_core.specs.Gathering.{LivesRise, effects_by_node}
-use Rattle.flow_core.specs.Nets.{IsResting, NetValue}
-use Rattle.flow_core.specs.Ran.{HasRun, IsNew}
+use Rattle.flow_core.specs.Gathering.{LivesRise}
+use Rattle.flow_core.specs.Nets.{NetValue}
+use Rattle.net_epochs.specs.Epochs.{IsOnCourse}
 
-module _ {N P S : Type 0} (g : Ghosts N P S) where
-  -- before the first epoch a net is new; later it has run these points, and their effects, in their order, were
-  -- collected
-  abbrev pub HasCome : List (PlanValue N) → List PointValue → NetValue N → Type 0
-  HasCome plans points net =
-      ((points ≡ []) × IsNew g plans net)
-      ⊎ HasRun g (map (graph_of g.spec) plans) points (effects_of g.answer (map (graph_of g.spec) plans) points) net
-
-  -- a net of lives of these plans is at rest behind these points, and nothing is left to collect
-  pub record Stands (plans : List (PlanValue N)) (points : List PointValue) (net : NetValue N) : Type 0 where
-    pub unspent : net.spent ≡ false
-    pub last : net.last.0 ≡ length points
-    pub rest : Each IsResting net.lives
-    pub come : HasCome plans points net
-    pub carried : HasCarried g (map (graph_of g.spec) plans) points net
-    pub none : net.gathered ≡ []
-    pub all : IsPermutation (effects_by_node g.answer (map (graph_of g.spec) plans) points)
-        (effects_of g.answer (map (graph_of g.spec) plans) points)
-    pub rise : LivesRise g.life g.number 1 (map (graph_of g.spec) plans)
+-- A net of lives of these nodes stands behind these points: its last barrier is that of the last point, all that its
+-- nodes did was collected, and its lives are where the points have brought them. It is at rest, and since it was made
+-- each of its edges has carried, barriers aside, what its parent gives out for the points.
+pub record Stands {N P S : Type 0} (g : Ghosts N P S) (nodes : List (List (Placed P))) (points : List PointValue)
+    (net : NetValue N) : Type 0 where
+  pub last : net.last.0 ≡ length points
+  pub none : net.gathered ≡ []
+  pub lives : AllZip (IsOnCourse g) (from_first points nodes) net.lives
+  pub carried : HasCarried g nodes points net
+  pub rise : LivesRise g.life g.number 1 nodes

@@ -4,8 +4,8 @@ ghost use Rattle.std.specs.Prelude.{◌≡◌, ℕ, ◌+◌, ◌++◌, ◌≤◌
 ghost use Rattle.std.specs.List.{AllByRecursion as Each, AllZip};
 ghost use Rattle.kap_base.specs.Points.{PointValue};
 ghost use Rattle.task_run.specs.Courses.{Course, end_of, grown, later_effects};
+ghost use Rattle.task_run.specs.Graphs.{Placed};
 ghost use Rattle.task_run.specs.Lives.{effects_of};
-ghost use Rattle.task_run.specs.Plans.{PlanValue, graph_of};
 ghost use Rattle.flow_core.specs.Gathering.{LivesRise};
 ghost use Rattle.flow_core.specs.Messages.{load_messages};
 ghost use Rattle.flow_core.specs.Nets.{HasStreamsCarried, IsLifeIn, IsResting, numbers_of, plans_from, plans_in, specs_in};
@@ -98,13 +98,13 @@ pub(crate) fn run_held<N: NumberingNode + Send, R: Threads + Sync, G: Gate + Syn
     requires upto { upto.0 ≡ net.old.last.0 + length points.items }
     ensures last { OnOk result (net.new.last ≡ upto) }
     ensures rooms { OnOk result (rooms_in net.new.lives ≡ rooms_in net.old.lives) }
-    ensures stands { OnOk result ((plans : List (PlanValue N)) (before : List PointValue)
-        → Stands N.Node plans before net.old
-        → Stands N.Node plans (before ++ points.items) net.new) }
-    ensures effects { IfOk result (λ ran. (plans : List (PlanValue N))
-        (before : List PointValue) → Stands N.Node plans before net.old
-        → effects_of N.answer (map (graph_of N.spec) plans) (before ++ points.items)
-        ≡ effects_of N.answer (map (graph_of N.spec) plans) before ++ ran.0) }
+    ensures stands { OnOk result ((nodes : List (List (Placed N.Spec)))
+        (before : List PointValue) → Stands N.Node nodes before net.old
+        → Stands N.Node nodes (before ++ points.items) net.new) }
+    ensures effects { IfOk result (λ ran. (nodes : List (List (Placed N.Spec)))
+        (before : List PointValue) → Stands N.Node nodes before net.old
+        → effects_of N.answer nodes (before ++ points.items)
+        ≡ effects_of N.answer nodes before ++ ran.0) }
     ensures held { IfOk result (λ ran. IsTrue hold → ran.1.items ≡ points.items) }
     ensures none { IfOk result (λ ran. IsFalse hold → ran.1.items ≡ []) }
 {

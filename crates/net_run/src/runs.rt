@@ -53,7 +53,8 @@ impl<N: Node> Model for NetRun<N> {
     } };
 
     ghost invariant = { λ r. r.spent ≡ false
-        → (r.given ≡ r.net.last.0) × Stands N.Node r.plans.value.items (points_of r.trail) r.net
+        → (r.given ≡ r.net.last.0)
+        × Stands N.Node (map (graph_of N.spec) r.plans.value.items) (points_of r.trail) r.net
         × Each (HasRoomIn r.capacity.value) r.net.lives };
 }
 

@@ -2,7 +2,7 @@ use Rattle.std.proofs.Common.{◌≡◌, List, ◌++◌, ap, ◌∙◌, append_a
 use Rattle.std.proofs.lemmas.Result.{on_ok_weaker}
 use Rattle.kap_base.specs.declared.items.Effect.{Effect}
 use Rattle.flow_core.specs.LifeLoads.{effects_since}
-use Rattle.flow_core.specs.Ran.{effects_in, together}
+use Rattle.flow_core.specs.Done.{effects_in, together}
 use Rattle.flow_core.proofs.lives.+load.Goals as goal
 
 pub returns-clause-given : goal.returns-clause-given

@@ -2,7 +2,7 @@ use Rattle.std.proofs.Common.{◌≡◌, ◌+◌, ◌≤◌, take}
 use Rattle.std.specs.List.{AllByRecursion as Each}
 use Rattle.flow_core.specs.Nets.{IsSound, moves_in, numbers_of, plans_in, specs_in}
 use Rattle.flow_core.specs.Playing.{PlaysIn}
-use Rattle.flow_core.specs.Ran.{GathersAll, effects_in}
+use Rattle.flow_core.specs.Done.{GathersAll, effects_in}
 use Rattle.flow_core.specs.Rooms.{rooms_in}
 use Rattle.flow_core.specs.Running.{ends_in}
 use Rattle.flow_core.proofs.lives.play.Given as goal

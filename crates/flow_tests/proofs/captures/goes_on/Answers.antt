@@ -2,6 +2,8 @@ use Rattle.std.proofs.Common.{◌≡◌, ◌+◌, ◌∙◌, ◌++◌, [], ◌�
 use Rattle.std.specs.Prelude.{IfSome}
 use Rattle.std.proofs.lemmas.List.{take-append-drop}
 use Rattle.flow_core.specs.Messages.{load_messages}
+use Rattle.net_epochs.proofs.StandLaws.{lives_first}
+use Rattle.task_run.specs.Courses.{from_first}
 use Rattle.task_run.specs.Plans.{graph_of}
 use Rattle.barrier_snapshot.specs.Barriers.{IsCaptureAt, cells_in}
 use Rattle.barrier_snapshot.specs.Resuming.{AreLoadedWith}
@@ -61,10 +63,11 @@ returns g c =
       behind = c.nets_go_on.ensures.behind 0 front back mark last [] [] again mark c.as_slice.result.now s.made net.lives c.run.new.self.lives w.restored other.lives
           (omega (arith, long, end)) (omega (arith, behind, at, end)) (omega (arith, long, some, at, end), omega (arith, inside, at, end), tt)
           stands stop rest ran.rest capture planned w.restores go w.ran.rest;
-      rest = ran.rest;
       gathered = c.effects_are_gathered.ensures.moved [] net c.run.new.self s.gathered ran.goes.gathers;
       gathered_too = w.ran.gathered;
-      runs = ran.goes.runs (graph_of node.spec c.args.plan ∷ []) points [] s.runs;
+      did = c.epochs_go_on.ensures.did 0 points last marks (from_first [] (graph_of node.spec c.args.plan ∷ [])) s.made c.run.new.self.lives
+          (omega (arith, end)) (omega (arith, some, at, end), omega (arith, inside, at, end), tt) (omega arith, tt) (lives_first node first s.made s.are (c.requires.first, tt))
+          (ran.goes.plans ∙ s.loaded.plans) (ran.goes.specs ∙ s.loaded.specs) ran.whole.kept ran.rest;
       unspent = ran.unspent;
       unspent_too = w.ran.unspent;
     }

@@ -1,5 +1,4 @@
-use Rattle.std.proofs.Common.{◌∙◌, [], ◌∷◌}
-use Rattle.task_run.specs.Plans.{graph_of}
+use Rattle.std.proofs.Common.{◌∙◌, []}
 use Rattle.flow_tests.proofs.captures.stop_at_rest.Goals as goal
 
 pub returns-clause-stopped : goal.returns-clause-stopped
@@ -16,7 +15,6 @@ returns-clause-stopped g c =
       };
       capture = c.in_ok-bytes.ensures.capture;
       gathered = c.effects_are_gathered.ensures.moved [] c.in_ok-net.net c.run.new.self e.gathered ran.goes.gathers;
-      runs = ran.goes.runs (graph_of g.N.Node.spec c.args.plan ∷ []) c.args.points.now [] e.runs;
       unspent = ran.unspent;
     }
 

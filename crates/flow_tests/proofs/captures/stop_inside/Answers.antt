@@ -2,7 +2,6 @@ use Rattle.std.proofs.Common.{◌∙◌, [], ◌∷◌, arith, refl, subst, sym}
 use Rattle.std.specs.Prelude.{Contains}
 use Rattle.merge_node.specs.Merge.{barriers}
 use Rattle.flow_core.specs.Messages.{load_messages}
-use Rattle.task_run.specs.Plans.{graph_of}
 use Rattle.flow_tests.proofs.captures.stop_inside.Goals as goal
 
 pub capture-requires-clause-passed : goal.capture-requires-clause-passed
@@ -34,6 +33,5 @@ returns g c =
       };
       capture = c.in_ok-bytes.ensures.capture;
       gathered = c.effects_are_gathered.ensures.moved [] c.in_ok-net.net c.play.new.self e.gathered played.goes.gathers;
-      runs = played.goes.runs (graph_of g.N.Node.spec c.args.plan ∷ []) c.args.points.now [] e.runs;
       unspent = played.unspent;
     }

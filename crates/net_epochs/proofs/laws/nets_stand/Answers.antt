@@ -1,4 +1,5 @@
 use Rattle.flow_core.specs.Nets.{numbers_of}
+use Rattle.net_epochs.proofs.CarryLaws.{lives_dropped}
 use Rattle.net_epochs.proofs.StandLaws.{courses_rise, net_begun, net_ended, net_made, net_ran, one_place}
 use Rattle.net_epochs.proofs.laws.nets_stand.Goals as goal
 
@@ -19,3 +20,6 @@ returns-clause-rise g c = λ n courses net s. courses_rise g.N.Node 0 (numbers_o
 
 pub returns-clause-one : goal.returns-clause-one
 returns-clause-one g c = λ n courses net s i j number. one_place 0 (numbers_of net.lives) i j number s.rise
+
+pub returns-clause-dropped : goal.returns-clause-dropped
+returns-clause-dropped g c = lives_dropped g.N.Node g.met.N.Node.stamped g.met.N.Node.folds g.met.N.Node.counts

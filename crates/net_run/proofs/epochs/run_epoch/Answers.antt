@@ -1,17 +1,16 @@
 use Rattle.std.proofs.Common.{[], ap, length, map, subst, sym, ◌∙◌}
 use Rattle.std.specs.List.{AllByRecursion as Each, AllZip}
-use Rattle.std.proofs.lemmas.List.Sorted.{IsPermutation-sym, IsPermutation-trans}
+use Rattle.std.proofs.lemmas.List.Sorted.{IsPermutation-trans}
 use Rattle.kap_base.specs.declared.items.Stamp.{Stamp}
-use Rattle.task_run.specs.Courses.{grown, later_effects}
+use Rattle.task_run.specs.Courses.{grown}
 use Rattle.flow_core.specs.Gathering.{LivesRise}
 use Rattle.flow_core.proofs.GatheredLaws.{gathered_loaded, gathered_moved}
 use Rattle.flow_core.specs.Nets.{HasStreamsCarried, IsLifeIn, IsResting, numbers_of, plans_in, specs_in}
-use Rattle.flow_core.specs.Ran.{effects_in}
+use Rattle.flow_core.specs.Done.{effects_in}
 use Rattle.flow_core.specs.Rooms.{rooms_in}
-use Rattle.flow_core.proofs.UniqueLaws.{sorted_is}
 use Rattle.net_epochs.specs.Epochs.{IsOnCourse}
 use Rattle.net_epochs.proofs.NetLaws.{grown_nodes, net_went}
-use Rattle.net_epochs.proofs.RiseLaws.{later_rise}
+use Rattle.net_epochs.proofs.RiseLaws.{later_sorted}
 use Rattle.net_epochs.proofs.StandLaws.{net_ran}
 use Rattle.net_run.proofs.epochs.run_epoch.Goals as goal
 
@@ -37,14 +36,13 @@ returns-clause-effects g c = λ n low courses last ends z rise.
     let met = g.met.N.Node g.world.𝓛 g.world.𝓜 g.world.𝓡 (λ s x. x, λ x. x, λ x. x, λ x. x) in
     let numbers = (g.met.N.NumberingNode g.world.𝓛 g.world.𝓜 g.world.𝓡 (λ s x. x, λ x. x, λ x. x, λ x. x)).numbers in
     let new = c.args.points.now in
-    let due = later_effects g.N.Node.answer n (length new) (map (grown new) courses) in
     let did = (net_went g.N.Node met.stamped met.folds n new c.args.upto [] courses c.args.net.now.lives c.move_to_rest.new.net.lives last tt ends z
     (c.in_ok-move_to_rest.ensures.goes.plans ∙ c.in_ok-load.ensures.plans) (c.in_ok-move_to_rest.ensures.goes.specs ∙ c.in_ok-load.ensures.specs) c.in_ok-move_to_rest.ensures.whole.kept c.in_ok-move_to_rest.ensures.rest).did in
     let loaded = gathered_loaded c.args.net.now c.load.new.self c.requires.none c.in_ok-load.ensures.gathers in
     let moved = gathered_moved [] c.load.new.self c.move_to_rest.new.net loaded c.in_ok-move_to_rest.ensures.goes.gathers in
-    sorted_is due c.collect.result (later_rise g.N.Node.answer g.N.Node.life g.N.Node.number met.stamped numbers n (length new) low (map (grown new) courses) (subst (λ ns. LivesRise g.N.Node.life g.N.Node.number low ns) (sym (grown_nodes new courses)) rise))
-    (IsPermutation-trans due (effects_in c.move_to_rest.new.net.lives) c.collect.result (IsPermutation-sym (effects_in c.move_to_rest.new.net.lives) due did)
-    (IsPermutation-trans (effects_in c.move_to_rest.new.net.lives) c.move_to_rest.new.net.gathered c.collect.result moved c.collect.ensures.same))
+    later_sorted g.N.Node.answer g.N.Node.life g.N.Node.number met.stamped numbers n (length new) low (map (grown new) courses)
+    (effects_in c.move_to_rest.new.net.lives) c.collect.result (subst (λ ns. LivesRise g.N.Node.life g.N.Node.number low ns) (sym (grown_nodes new courses)) rise) did
+    (IsPermutation-trans (effects_in c.move_to_rest.new.net.lives) c.move_to_rest.new.net.gathered c.collect.result moved c.collect.ensures.same)
     c.collect.ensures.sorted
 
 pub returns-clause-streams : goal.returns-clause-streams

@@ -1,9 +1,7 @@
 use Rattle.std.proofs.Common.{ap, subst, ◌∙◌}
 use Rattle.std.specs.List.{AllByRecursion as Each}
-use Rattle.flow_core.proofs.CarriedLaws.{run_carried}
 use Rattle.flow_core.proofs.LivesLaws.{moved_twice}
 use Rattle.flow_core.specs.Nets.{HaveMovedTwice, IsLifeIn, IsResting}
-use Rattle.flow_core.proofs.RanLaws.{run_rests}
 use Rattle.flow_core.proofs.NetLaws.{streams_rest}
 use Rattle.flow_core.proofs.net.Net.at_rest.Goals as goal
 
@@ -16,9 +14,4 @@ returns-clause-whole g c = λ rests.
     let node = g.N.Node in
     let kept = subst (Each (IsLifeIn node)) (c.deref.ensures.value ∙ ap (λ v. v.lives) c.self.view_is) (c.at_rest.ensures.lives rests) in
     let rest = subst (Each IsResting) (c.deref.ensures.value ∙ ap (λ v. v.lives) c.self.view_is) (c.at_rest.ensures.rest rests) in
-    record {
-      kept = kept;
-      streams = streams_rest node _ kept rest;
-      carried = λ lives points collected h. run_carried node g.met.N.Node.stamped g.met.N.Node.folds lives points collected _ h c.requires kept rest;
-      all = λ lives points collected h. run_rests node g.met.N.Node.stamped g.met.N.Node.folds lives points collected _ h kept rest;
-    }
+    record { kept = kept; streams = streams_rest node _ kept rest }

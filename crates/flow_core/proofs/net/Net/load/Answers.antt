@@ -1,14 +1,12 @@
-use Rattle.std.proofs.Common.{◌≡◌, List, ◌++◌, ap, refl, rules, subst, sym, ◌∙◌}
-use Rattle.std.specs.List.{AllByRecursion as Each}
+use Rattle.std.proofs.Common.{◌≡◌, List, ◌++◌, ap, rules, subst, sym, ◌∙◌}
 use Rattle.std.specs.Vec.{with_items}
 use Rattle.std.proofs.lemmas.List.{places, with_items_is}
 use Rattle.kap_base.specs.declared.items.Msg.{Msg}
 use Rattle.merge_node.specs.Merge.{IsClosed}
 use Rattle.flow_core.proofs.MessageLaws.{messages_closed}
 use Rattle.flow_core.specs.Messages.{load_messages}
-use Rattle.flow_core.specs.Nets.{IsLifeIn, plans_from, plans_in, specs_in}
-use Rattle.flow_core.specs.Ran.{effects_in}
-use Rattle.flow_core.proofs.RanLaws.{run_again, run_first}
+use Rattle.flow_core.specs.Nets.{plans_from, plans_in, specs_in}
+use Rattle.flow_core.specs.Done.{effects_in}
 use Rattle.flow_core.specs.Rooms.{rooms_in}
 use Rattle.flow_core.proofs.net.Net.load.Given as given
 use Rattle.flow_core.proofs.net.Net.load.Goals as goal
@@ -36,17 +34,6 @@ loads g c =
 pub load-requires-clause-closed : goal.load-requires-clause-closed
 load-requires-clause-closed g c =
     subst (λ (l : List Msg). IsClosed l) (sym c.in_ok-source.ensures) (messages_closed c.args.points.now c.args.upto c.args.marks.now)
-
-pub returns-clause-first : goal.returns-clause-first
-returns-clause-first g c = λ plans is long are.
-    let l = loads g (goal.at.returns-clause-first g c).In_ok-load in
-    run_first g.N.Node plans _ _ _ c.args.points.now c.args.upto c.args.marks.now is long are l.plans l.specs l.here refl l.given
-
-pub returns-clause-again : goal.returns-clause-again
-returns-clause-again g c = λ lives before collected h long are.
-    let l = loads g (goal.at.returns-clause-again g c).In_ok-load in
-    let kept = subst (Each (IsLifeIn g.N.Node)) (c.deref_mut.ensures.value ∙ ap (λ v. v.lives) c.self.view_is) c.in_ok-load.ensures.kept in
-    run_again g.N.Node g.met.N.Node.stamped g.met.N.Node.folds lives before collected _ _ _ c.args.points.now c.args.upto c.args.marks.now h kept c.requires.rest long are l.plans l.specs l.here refl l.given
 
 pub returns-clause-gathers : goal.returns-clause-gathers
 returns-clause-gathers g c =

@@ -9,11 +9,5 @@ invariant_of-result g c = λ _. lives_sound g.N.Node 0 _ _ c.in_ok-lives_of.ensu
 pub returns-clause-rest : goal.returns-clause-rest
 returns-clause-rest g c = lives_rest g.N.Node 0 _ _ c.in_ok-lives_of.ensures.lives
 
-pub returns-clause-new : goal.returns-clause-new
-returns-clause-new g c = λ first. record { lives = c.in_ok-lives_of.ensures.lives; first = first; gathered = c.new.ensures }
-
 pub returns-clause-carried : goal.returns-clause-carried
-returns-clause-carried g c = λ first.
-    new_carried g.N.Node g.met.N.Node.stamped g.met.N.Node.folds c.args.plans.items _
-    (record { lives = c.in_ok-lives_of.ensures.lives; first = first; gathered = c.new.ensures }) refl
-    (lives_rest g.N.Node 0 _ _ c.in_ok-lives_of.ensures.lives)
+returns-clause-carried g c = new_carried g.N.Node c.args.plans.items _ c.in_ok-lives_of.ensures.lives refl (lives_rest g.N.Node 0 _ _ c.in_ok-lives_of.ensures.lives)

@@ -1,10 +1,8 @@
-use Rattle.std.proofs.Common.{◌≡◌, ap, refl, rules, subst, sym, ◌∙◌}
+use Rattle.std.proofs.Common.{◌≡◌, ap, rules, subst, sym, ◌∙◌}
 use Rattle.std.specs.List.{AllByRecursion as Each}
 use Rattle.std.specs.Vec.{with_items}
 use Rattle.std.proofs.lemmas.List.{places, with_items_is}
-use Rattle.flow_core.proofs.CarriedLaws.{run_carried}
 use Rattle.flow_core.specs.Nets.{IsLifeIn, IsResting}
-use Rattle.flow_core.proofs.RanLaws.{run_rests}
 use Rattle.flow_core.proofs.NetLaws.{net_goes, streams_rest}
 use Rattle.flow_core.proofs.net.Net.play_by.Goals as goal
 
@@ -21,9 +19,4 @@ returns-clause-whole g c =
     let here : (with_items c.self.inside.lives c.play_by.new.lives).items ≡ c.play_by.new.lives = with_items_is c.self.inside.lives c.play_by.new.lives (search (rules, places)) in
     let kept = subst (Each (IsLifeIn node)) (sym here) made.lives in
     let rest = subst (Each IsResting) (sym here) made.rest in
-    record {
-      kept = kept;
-      streams = streams_rest node _ kept rest;
-      carried = λ lives points collected h. run_carried node g.met.N.Node.stamped g.met.N.Node.folds lives points collected _ h refl kept rest;
-      all = λ lives points collected h. run_rests node g.met.N.Node.stamped g.met.N.Node.folds lives points collected _ h kept rest;
-    }
+    record { kept = kept; streams = streams_rest node _ kept rest }

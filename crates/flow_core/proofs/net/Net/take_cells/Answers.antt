@@ -1,6 +1,6 @@
 use Rattle.std.proofs.Common.{ap, refl, subst, sym, ◌∙◌}
 use Rattle.flow_core.proofs.DoneLaws.{gathers_none}
-use Rattle.flow_core.specs.Ran.{GathersAll, effects_in}
+use Rattle.flow_core.specs.Done.{GathersAll, effects_in}
 use Rattle.flow_core.proofs.NetLaws.{net_goes}
 use Rattle.flow_core.proofs.net.Net.take_cells.Goals as goal
 

@@ -1,5 +1,5 @@
-use Rattle.std.proofs.Common.{inl, refl, sym}
-use Rattle.net_run.proofs.EpochLaws.{none_yet}
+use Rattle.std.proofs.Common.{sym}
+use Rattle.net_epochs.proofs.StandLaws.{lives_first}
 use Rattle.net_run.proofs.runs.NetRun.new.Goals as goal
 
 pub invariant_of-result : goal.invariant_of-result
@@ -8,13 +8,10 @@ invariant_of-result g c = λ e.
     rw (c.of-planned.ensures, c.of.ensures) (
       sym made.last,
       record {
-        unspent = made.spent;
         last = made.last;
-        rest = made.rest;
-        come = inl (refl, made.new c.requires.first);
-        carried = made.carried c.requires.first;
         none = made.gathered;
-        all = none_yet g.N.Node c.args.plans.items;
+        lives = lives_first g.N.Node c.args.plans.items _ made.lives c.requires.first;
+        carried = made.carried;
         rise = c.requires.rise;
       },
       made.room,

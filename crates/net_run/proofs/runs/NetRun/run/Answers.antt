@@ -1,6 +1,7 @@
-use Rattle.std.proofs.Common.{◌≡◌, ◌++◌, List, false, refl, sym, ap, subst, ◌∙◌}
+use Rattle.std.proofs.Common.{◌≡◌, ◌++◌, List, false, map, refl, sym, ap, subst, ◌∙◌}
 use Rattle.kap_base.specs.Points.{PointValue}
 use Rattle.kap_base.specs.declared.items.Stamp.{Stamp}
+use Rattle.task_run.specs.Plans.{graph_of}
 use Rattle.flow_core.proofs.RoomLaws.{same_room}
 use Rattle.net_run.specs.Epochs.{Stands}
 use Rattle.net_run.specs.Runs.{NetRunValue}
@@ -10,12 +11,12 @@ use Rattle.net_run.proofs.runs.NetRun.run.Goals as goal
 pub invariant_of-self-2 : goal.invariant_of-self-2
 invariant_of-self-2 g c = λ e.
     let node = g.N.Node in
-    let plans = c.self.inside.plans.value.items in
+    let nodes = map (graph_of node.spec) c.self.inside.plans.value.items in
     let before = points_of c.self.inside.trail in
     let fresh : c.self.inside.spent ≡ false = ap (λ (r : NetRunValue g.row.N-Spec.Denot). r.spent) c.self.view_is ∙ c.requires in
     let stood = (c.self.invariant fresh).1 in
     let all : points_of c.of.result.value ++ c.of-2.result.value.items ≡ before ++ c.args.points.items = rw (c.of.ensures, c.of-2.ensures) refl in (
       ap (λ (t : Stamp). t.0) (sym c.in_ok-ran.ensures.last),
-      subst (λ (ps : List PointValue). Stands node plans ps c.run_held.new.net) (sym all) (c.in_ok-ran.ensures.stands plans before stood),
+      subst (λ (ps : List PointValue). Stands node nodes ps c.run_held.new.net) (sym all) (c.in_ok-ran.ensures.stands nodes before stood),
       same_room c.self.inside.capacity.value _ _ c.in_ok-ran.ensures.rooms (c.self.invariant fresh).2,
     )

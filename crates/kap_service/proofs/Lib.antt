@@ -1,0 +1,4 @@
+pub mod StoreLaws
+pub mod PostLaws
+pub mod KeptLaws
+pub mod DoorLaws

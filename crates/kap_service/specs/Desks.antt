@@ -1,0 +1,42 @@
+-- What a desk answers.
+use Rattle.std.specs.Prelude.{◌≡◌, ◌⊎◌, ◌+◌, ◌-◌, ◌^◌, min, Bool, true, false, Result, Ok, Err}
+use mathlib.Core.List.{IsPrefix}
+use Rattle.kap_base.specs.Words.{HasRisen}
+use Rattle.kap_http.specs.ReplyValues.{ReplyValue}
+use Rattle.kap_http.specs.declared.ask.Ask.{Ask}
+use Rattle.reply_bodies.specs.Asks.{change_of}
+use Rattle.topic_core.specs.Topics.{topics_after}
+use Rattle.kap_service.specs.Asks.{IsTopicReply, fault_of, is_topic}
+use Rattle.kap_service.specs.Values.{Seats}
+
+-- The seat was asked, and didn't go to the lock: the reply is of the topics after all that it knows, which begins with
+-- what it knew, and with what was published when it was last answered under the lock.
+pub record WasSeen (ask : Ask) (old new : Seats) (reply : ReplyValue) : Type 0 where
+  pub answers : new.answers ≡ old.answers
+  pub status : new.status ≡ old.status
+  pub told : new.told ≡ old.told
+  pub changes : new.changes ≡ old.changes
+  pub faults : new.faults ≡ old.faults
+  pub later : IsPrefix old.known new.known
+  pub own : IsPrefix old.told new.known
+  pub reply_is : IsTopicReply ask (topics_after new.known) reply
+
+-- The seat went to the lock: its answers rose, or stand at the end of their type, the reply has its status, and its
+-- shares rose by what the status says.
+pub record WasDecided (ask : Ask) (old new : Seats) (reply : ReplyValue) : Type 0 where
+  pub answers : new.answers ≡ min (old.answers + 1) (2 ^ 64 - 1)
+  pub status : reply.status ≡ new.status
+  pub changes : new.changes ≡ old.changes + change_of ask reply.status
+  pub faults : new.faults ≡ old.faults + fault_of reply.status
+
+-- An ask about topics is answered by the seat, or goes to the lock where its look was refused; each other one goes to
+-- the lock.
+abbrev pub IsServedSo : Bool → Ask → Seats → Seats → ReplyValue → Type 0
+IsServedSo true ask old new reply =
+    WasSeen ask old new reply ⊎ (HasRisen old.aways new.aways × WasDecided ask old new reply)
+IsServedSo false ask old new reply = WasDecided ask old new reply
+
+-- What is routed so is answered so: where the route refuses, that refusal is the reply, and the seat isn't asked.
+abbrev pub IsServed : Result Ask ReplyValue → Seats → Seats → ReplyValue → Type 0
+IsServed (Err refusal) old new reply = (reply ≡ refusal) × (new ≡ old)
+IsServed (Ok ask) old new reply = IsServedSo (is_topic ask) ask old new reply
