@@ -113,13 +113,3 @@ module _ (first second : ℕ) (short lacks spent now_spent now_short : Bool) (po
             whole s.1.1 (now_usable fine) pre
             (almost (posted posts) own origin store (told.whole none s.0) has);
       }
-
--- a store is told so where a book is full
-pub told_full : (first second : ℕ) (short : Bool) (posts : Posts) (store : Stores)
-    → IsTold first second short posts store → IsTold first second true posts store
-told_full first second short posts store told = record {
-  below = told.below;
-  begun = told.begun;
-  tied = λ zero calm. absurd (cc calm);
-  whole = λ zero calm. absurd (cc calm);
-}

@@ -1,6 +1,6 @@
 //! What is answered under the lock.
 
-ghost use Rattle.std.specs.Prelude.{◌≡◌, ◌≢◌, ℕ, ◌+◌, ◌<◌, ◌≤◌, ◌==◌, if◌then◌else◌, false, IfErr, IfOk, IsTrue, OnOk};
+ghost use Rattle.std.specs.Prelude.{◌≡◌, ◌≢◌, ℕ, ◌+◌, ◌<◌, ◌≤◌, if◌then◌else◌, false, IfErr, IfOk, IsTrue, OnOk};
 ghost use Rattle.kap_base.specs.Points.{is_time};
 ghost use Rattle.reply_bodies.specs.Asks.{IsFailed};
 ghost use Rattle.kap_service.specs.Asks.{status_of};

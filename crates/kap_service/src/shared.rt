@@ -1,6 +1,6 @@
 //! The engine that many share, and its end.
 
-ghost use Rattle.std.specs.Prelude.{◌≡◌, ◌+◌, ◌-◌, ◌^◌, ◌<◌, ◌≤◌, ◌++◌, ℕ, [], false, length, min, vec_len, IfErr, IfOk, IsErrOf, IsTrue};
+ghost use Rattle.std.specs.Prelude.{◌≡◌, ◌+◌, ◌-◌, ◌^◌, ◌<◌, ◌≤◌, ℕ, [], false, min, vec_len, IfErr, IfOk, IsErrOf, IsTrue};
 ghost use Rattle.std.specs.List.{All, sum_by};
 ghost use Rattle.kap_base.specs.Points.{is_time};
 ghost use Rattle.kap_base.specs.Words.{HasRisen};
@@ -10,7 +10,7 @@ ghost use Rattle.kap_service.specs.Asks.{fault_of, status_of};
 ghost use Rattle.kap_service.specs.Causes.{AreCaused};
 ghost use Rattle.kap_service.specs.Kept.{IsNewSeat, posted};
 ghost use Rattle.kap_service.specs.Stores.{HasRead};
-ghost use Rattle.kap_service.specs.Values.{Seats, Stores};
+ghost use Rattle.kap_service.specs.Values.{Stores};
 ghost use Rattle.kap_service.specs.declared.fault.ShareFault.TheVariants.{DiskFault, NotStore};
 
 use crate::decided::Decided;

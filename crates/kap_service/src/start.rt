@@ -1,6 +1,6 @@
 //! A shared engine with a board of its own.
 
-ghost use Rattle.std.specs.Prelude.{◌≡◌, ◌+◌, ◌<◌, ◌≤◌, ℕ, [], false, vec_len, IfErr, IfOk, IsTrue};
+ghost use Rattle.std.specs.Prelude.{◌≡◌, ◌+◌, ◌<◌, ◌≤◌, ℕ, false, vec_len, IfErr, IfOk, IsTrue};
 ghost use Rattle.std.specs.List.{All, sum_by};
 ghost use Rattle.kap_base.specs.Words.{HasRisen};
 ghost use Rattle.kap_io.specs.declared.disk.Part.{Part};

@@ -7,7 +7,7 @@ ghost use Rattle.serde_json.specs.View.{items_of};
 ghost use Rattle.serde_json.specs.Written.{items_outline, outline};
 ghost use Rattle.reply_bodies.specs.Bodies.{IsDueOrShort, given_reply, tasks_reply};
 ghost use Rattle.reply_bodies.specs.Texts.{status_word, task_text, tasks_text};
-ghost use Rattle.reply_bodies.specs.Values.{stored_value, tasks_value, worded_value};
+ghost use Rattle.reply_bodies.specs.Values.{stored_value, worded_value};
 
 use crate::replies::{body_of, given_reply, new_body, put_text};
 use json::Writer;
