@@ -4,8 +4,6 @@ use crate::fault::CaseFault;
 use crate::server::connect;
 use case_text::unescape;
 use kap_io::{MemDisk, Sink, write_all};
-use net_run::NumberingNode;
-use node_set::ScriptNode;
 use std::alloc::Global;
 use std::thread::Threads;
 use topic_store::make_store;
@@ -51,7 +49,7 @@ fn add_line(alloc: Global, case: &mut Case, text: &str) -> Result<(), CaseFault>
 }
 
 /// Serves the connection, and prints what was replied. The bytes begin anew.
-fn serve_case<K: Sink, R: Threads + Sync, N: ScriptNode + NumberingNode + Send>(
+fn serve_case<K: Sink, R: Threads + Sync>(
     rt: &R,
     alloc: Global,
     case: &mut Case,
@@ -60,7 +58,7 @@ fn serve_case<K: Sink, R: Threads + Sync, N: ScriptNode + NumberingNode + Send>(
     let disk = case.disk.take().ok_or(CaseFault::NoStore)?;
     let bytes = case.bytes.to_vec(alloc)?;
     case.bytes.clear();
-    let (disk, text) = connect::<R, N>(rt, alloc, disk, bytes)?;
+    let (disk, text) = connect::<R>(rt, alloc, disk, bytes)?;
     case.disk = Some(disk);
     write_all(out, text.as_slice())?;
     Ok(())
@@ -87,7 +85,7 @@ fn make_case<K: Sink>(alloc: Global, case: &mut Case, out: &mut K) -> Result<(),
 }
 
 /// Does what a line of a case file says.
-pub fn take_line<K: Sink, R: Threads + Sync, N: ScriptNode + NumberingNode + Send>(
+pub fn take_line<K: Sink, R: Threads + Sync>(
     rt: &R,
     alloc: Global,
     case: &mut Case,
@@ -101,7 +99,7 @@ pub fn take_line<K: Sink, R: Threads + Sync, N: ScriptNode + NumberingNode + Sen
         return make_case(alloc, case, out);
     }
     if line == "?" {
-        return serve_case::<K, R, N>(rt, alloc, case, out);
+        return serve_case::<K, R>(rt, alloc, case, out);
     }
     match line.split_once(' ') {
         Some(("=", _)) => begin_case(alloc, case, line, out),

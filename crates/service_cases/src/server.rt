@@ -11,8 +11,7 @@ use kap_http::{Ask, Reply, Request, Serve, route};
 use kap_io::{MemDisk, MemLink, NoGate};
 use lambda_types::RegexPatterns;
 use link_serve::serve_link;
-use net_run::NumberingNode;
-use node_set::ScriptNode;
+use node_set::AnyNode;
 use reply_bodies::no_memory_reply;
 use std::alloc::Global;
 use std::thread::Threads;
@@ -24,16 +23,16 @@ const CAPACITY: u32 = 64;
 
 /// An engine on its disk.
 #[derive(Drop)]
-struct Server<'a, R: Threads + Sync, N: ScriptNode + NumberingNode + Send> {
+struct Server<'a, R: Threads + Sync> {
     rt: &'a R,
-    engine: Engine<N>,
+    engine: Engine<AnyNode>,
     disk: MemDisk,
     pats: RegexPatterns,
 }
 
-impl<'a, R: Threads + Sync, N: ScriptNode + NumberingNode + Send> Server<'a, R, N> {
+impl<'a, R: Threads + Sync> Server<'a, R> {
     /// On the store of this disk.
-    fn new(rt: &'a R, alloc: Global, mut disk: MemDisk) -> Result<Server<'a, R, N>, CaseFault> {
+    fn new(rt: &'a R, alloc: Global, mut disk: MemDisk) -> Result<Server<'a, R>, CaseFault> {
         let mut pats = RegexPatterns::new(alloc, Vec::new(alloc));
         match Engine::make_engine(rt, alloc, &mut disk, WORKERS, CAPACITY, &NoGate, &mut pats) {
             Ok(engine) => Ok(Server {
@@ -70,7 +69,7 @@ impl<'a, R: Threads + Sync, N: ScriptNode + NumberingNode + Send> Server<'a, R, 
     }
 }
 
-impl<R: Threads + Sync, N: ScriptNode + NumberingNode + Send> Serve for Server<'_, R, N> {
+impl<R: Threads + Sync> Serve for Server<'_, R> {
     ghost served = { λ _. None };
 
     fn serve(&mut self, alloc: Global, _number: u32, request: &Request) -> Reply {
@@ -106,13 +105,13 @@ fn end_line(text: &mut Bytes) -> Result<(), CaseFault> {
 
 /// Serves a connection over which these bytes come, on the store of this disk: the disk behind it, and what was
 /// replied, with how the connection ended.
-pub fn connect<R: Threads + Sync, N: ScriptNode + NumberingNode + Send>(
+pub fn connect<R: Threads + Sync>(
     rt: &R,
     alloc: Global,
     disk: MemDisk,
     bytes: Vec<u8>,
 ) -> Result<(MemDisk, Bytes), CaseFault> {
-    let mut server = Server::<R, N>::new(rt, alloc, disk)?;
+    let mut server = Server::<R>::new(rt, alloc, disk)?;
     let mut link = MemLink::new(alloc, bytes, 65_536, Vec::new(alloc));
     let end = serve_link(alloc, &mut link, &mut server);
     let mut text = Bytes::new(alloc);
