@@ -4,6 +4,7 @@ ghost use Rattle.std.specs.Prelude.{◌≡◌, ◌≤◌, ◌∷◌, ◌++◌, [
 ghost use Rattle.kap_base.specs.Words.{HasRisen};
 ghost use Rattle.kap_base.specs.Texts.{is_task_id};
 ghost use Rattle.kap_base.specs.declared.limits.TheConstants.{SCRIPT_LIMIT};
+ghost use Rattle.lambda_types.specs.Builds.{AtMostOneMore};
 ghost use Rattle.kap_io.specs.Moments.{Moments};
 ghost use Rattle.store_records.specs.Held.{MayFollow, begun, life_of};
 ghost use Rattle.store_records.specs.Histories.{end_of, held};
@@ -83,6 +84,7 @@ impl<N: ScriptNode + NumberingNode + Send> Engine<N> {
         ensures why { IfErr result
             (IsWhyNotPlanned (P.refusals pats.old) (P.refusals pats.new) (P.refused pats.new)
             self.now.store.log.part (slice_get self.now.store.kept.tasks place)) }
+        ensures counted { AtMostOneMore (P.refusals pats.old) (P.refusals pats.new) }
     {
         let Some(task) = self.store.tasks().get(place) else {
             return Ok(None);
@@ -199,6 +201,7 @@ impl<N: ScriptNode + NumberingNode + Send> Engine<N> {
             → (self.new ≡ self.old) × (disk.new ≡ disk.old)) }
         ensures spends { IfErr result (λ f. f ≡ disk_failed → self.new.spent ≡ true) }
         ensures cause { EngineCause (D.faults disk.old) (D.faults disk.new) result }
+        ensures counted { AtMostOneMore (P.refusals pats.old) (P.refusals pats.new) }
     {
         let task = match compile(alloc, script.bytes(), pats) {
             Ok(task) => task,
@@ -251,6 +254,7 @@ impl<N: ScriptNode + NumberingNode + Send> Engine<N> {
             → (self.new ≡ self.old) × (disk.new ≡ disk.old)) }
         ensures spends { IfErr result (λ f. f ≡ disk_failed → self.new.spent ≡ true) }
         ensures cause { EngineCause (D.faults disk.old) (D.faults disk.new) result }
+        ensures counted { AtMostOneMore (P.refusals pats.old) (P.refusals pats.new) }
     {
         let Some(place) = find_task(self.store.tasks(), id) else {
             return Err(EngineFault::NoTask);
