@@ -4,6 +4,8 @@ use crate::fault::CaseFault;
 use crate::server::connect;
 use case_text::unescape;
 use kap_io::{MemDisk, Sink, write_all};
+use net_run::NumberingNode;
+use node_set::ScriptNode;
 use std::alloc::Global;
 use std::thread::Threads;
 use topic_store::make_store;
@@ -49,7 +51,7 @@ fn add_line(alloc: Global, case: &mut Case, text: &str) -> Result<(), CaseFault>
 }
 
 /// Serves the connection, and prints what was replied. The bytes begin anew.
-fn serve_case<K: Sink, R: Threads + Sync>(
+fn serve_case<K: Sink, R: Threads + Sync, N: ScriptNode + NumberingNode + Send>(
     rt: &R,
     alloc: Global,
     case: &mut Case,
@@ -58,7 +60,7 @@ fn serve_case<K: Sink, R: Threads + Sync>(
     let disk = case.disk.take().ok_or(CaseFault::NoStore)?;
     let bytes = case.bytes.to_vec(alloc)?;
     case.bytes.clear();
-    let (disk, text) = connect::<R>(rt, alloc, disk, bytes)?;
+    let (disk, text) = connect::<R, N>(rt, alloc, disk, bytes)?;
     case.disk = Some(disk);
     write_all(out, text.as_slice())?;
     Ok(())
@@ -85,7 +87,7 @@ fn make_case<K: Sink>(alloc: Global, case: &mut Case, out: &mut K) -> Result<(),
 }
 
 /// Does what a line of a case file says.
-pub fn take_line<K: Sink, R: Threads + Sync>(
+pub fn take_line<K: Sink, R: Threads + Sync, N: ScriptNode + NumberingNode + Send>(
     rt: &R,
     alloc: Global,
     case: &mut Case,
@@ -99,7 +101,7 @@ pub fn take_line<K: Sink, R: Threads + Sync>(
         return make_case(alloc, case, out);
     }
     if line == "?" {
-        return serve_case::<K, R>(rt, alloc, case, out);
+        return serve_case::<K, R, N>(rt, alloc, case, out);
     }
     match line.split_once(' ') {
         Some(("=", _)) => begin_case(alloc, case, line, out),

@@ -9,11 +9,15 @@ mod server;
 use anyhow::{Context, Result};
 use cases::{Case, take_line};
 use kap_io::WriteSink;
+use net_run::NumberingNode;
+use node_set::{AnyNode, ScriptNode};
 use std::io::{self, BufRead, BufReader};
 use std::thread::Threads;
 
 /// Runs the cases line by line. The first line that is none of a case file, or can't be done, ends it.
-fn run<R: Threads + Sync + Input + Print + AllocGlobal>(rt: &R) -> Result<()> {
+fn run<R: Threads + Sync + Input + Print + AllocGlobal, N: ScriptNode + NumberingNode + Send>(
+    rt: &R,
+) -> Result<()> {
     let alloc = rt.alloc();
     let mut out = WriteSink::new(io::writer(rt));
     let mut case = Case::new(alloc);
@@ -21,7 +25,7 @@ fn run<R: Threads + Sync + Input + Print + AllocGlobal>(rt: &R) -> Result<()> {
     for line in BufReader::new(alloc, rt.reader())?.lines(alloc) {
         number = number.saturating_add(1);
         let line = line.context(format_args!("line {number}"))?;
-        take_line::<_, R>(rt, alloc, &mut case, line.as_str(), &mut out).context(format_args!(
+        take_line::<_, R, N>(rt, alloc, &mut case, line.as_str(), &mut out).context(format_args!(
             "line {number}"
         ))?;
     }
@@ -29,5 +33,5 @@ fn run<R: Threads + Sync + Input + Print + AllocGlobal>(rt: &R) -> Result<()> {
 }
 
 fn main(rt: HostRuntime) -> Result<()> {
-    run::<HostRuntime>(&rt)
+    run::<HostRuntime, AnyNode>(&rt)
 }

@@ -11,7 +11,8 @@ use kap_http::{Ask, Reply, Request, Serve, route};
 use kap_io::{MemDisk, MemLink, NoGate};
 use lambda_types::RegexPatterns;
 use link_serve::serve_link;
-use node_set::AnyNode;
+use net_run::NumberingNode;
+use node_set::ScriptNode;
 use reply_bodies::no_memory_reply;
 use std::alloc::Global;
 use std::thread::Threads;
@@ -23,16 +24,16 @@ const CAPACITY: u32 = 64;
 
 /// An engine on its disk.
 #[derive(Drop)]
-struct Server<'a, R: Threads + Sync> {
+struct Server<'a, R: Threads + Sync, N: ScriptNode + NumberingNode + Send> {
     rt: &'a R,
-    engine: Engine<AnyNode>,
+    engine: Engine<N>,
     disk: MemDisk,
     pats: RegexPatterns,
 }
 
-impl<'a, R: Threads + Sync> Server<'a, R> {
+impl<'a, R: Threads + Sync, N: ScriptNode + NumberingNode + Send> Server<'a, R, N> {
     /// On the store of this disk.
-    fn new(rt: &'a R, alloc: Global, mut disk: MemDisk) -> Result<Server<'a, R>, CaseFault> {
+    fn new(rt: &'a R, alloc: Global, mut disk: MemDisk) -> Result<Server<'a, R, N>, CaseFault> {
         let mut pats = RegexPatterns::new(alloc, Vec::new(alloc));
         match Engine::make_engine(rt, alloc, &mut disk, WORKERS, CAPACITY, &NoGate, &mut pats) {
             Ok(engine) => Ok(Server {
@@ -63,20 +64,31 @@ impl<'a, R: Threads + Sync> Server<'a, R> {
         decided.reply()
     }
 
+    /// The reply to a request.
+    fn reply(&mut self, alloc: Global, request: &Request) -> Reply {
+        match route(alloc, request) {
+            Ok(ask) => self.answer(alloc, &ask),
+            Err(reply) => reply,
+        }
+    }
+
     fn into_disk(self) -> MemDisk {
         let Server { disk, .. } = self;
         disk
     }
 }
 
-impl<R: Threads + Sync> Serve for Server<'_, R> {
+/// What answers by a function.
+#[derive(Drop)]
+struct Answering<F: FnMut(Global, &Request) -> Reply + Drop> {
+    answer: F,
+}
+
+impl<F: FnMut(Global, &Request) -> Reply + Drop> Serve for Answering<F> {
     ghost served = { λ _. None };
 
     fn serve(&mut self, alloc: Global, _number: u32, request: &Request) -> Reply {
-        match route(alloc, request) {
-            Ok(ask) => self.answer(alloc, &ask),
-            Err(reply) => reply,
-        }
+        (self.answer)(alloc, request)
     }
 }
 
@@ -105,15 +117,20 @@ fn end_line(text: &mut Bytes) -> Result<(), CaseFault> {
 
 /// Serves a connection over which these bytes come, on the store of this disk: the disk behind it, and what was
 /// replied, with how the connection ended.
-pub fn connect<R: Threads + Sync>(
+pub fn connect<R: Threads + Sync, N: ScriptNode + NumberingNode + Send>(
     rt: &R,
     alloc: Global,
     disk: MemDisk,
     bytes: Vec<u8>,
 ) -> Result<(MemDisk, Bytes), CaseFault> {
-    let mut server = Server::<R>::new(rt, alloc, disk)?;
+    let mut server = Server::<R, N>::new(rt, alloc, disk)?;
     let mut link = MemLink::new(alloc, bytes, 65_536, Vec::new(alloc));
-    let end = serve_link(alloc, &mut link, &mut server);
+    let end = {
+        let mut serve = Answering {
+            answer: |alloc, request: &Request| server.reply(alloc, request),
+        };
+        serve_link(alloc, &mut link, &mut serve)
+    };
     let mut text = Bytes::new(alloc);
     text.append(link.bytes())?;
     end_line(&mut text)?;
