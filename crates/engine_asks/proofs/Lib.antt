@@ -1,4 +1,4 @@
-pub mod LineLaws
 pub mod FaultLaws
+pub mod AskLaws
 pub mod NextLaws
-pub mod DecisionLaws
+pub mod CountLaws

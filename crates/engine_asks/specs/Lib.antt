@@ -2,5 +2,3 @@
 pub mod Replies
 -- what stands behind an ask
 pub mod Nexts
--- decisions, as contracts see them
-pub mod Decisions

@@ -98,7 +98,7 @@ module _ {N P S : Type 0} (g : Ghosts N P S) (planned : Planned P) (rs : List Re
       StandsFull g planned rs files
       ⊎ ((points : List PointValue) × (points_asked w now ≡ Ok points) × StandsWriting g planned rs points files)
 
-  -- while an ask is decided, the files stand for a right store, as it was or with the change
+  -- while an ask is answered, the files stand for a right store, as it was or with the change
   abbrev pub before_or_next : Ask → ℤ → Image → Image → Type 0
   before_or_next asks.Ping now old files = StandsFull g planned rs files
   before_or_next (asks.Write w) now old files = before_or_written w now old files
@@ -120,7 +120,7 @@ module _ {N P S : Type 0} (g : Ghosts N P S) (planned : Planned P) (rs : List Re
     pub own : ((held records).transitions ≡ (held rs).transitions)
         ⊎ ((held records).transitions ≡ (held rs).transitions ++ e.stored)
 
-  -- While an ask is decided, the files stand for a right store which has as many changes as before, or one more where the
+  -- While an ask is answered, the files stand for a right store which has as many changes as before, or one more where the
   -- ask is for one; and its transitions begin with those that were stored before.
   pub record StandsCounted (ask : Ask) (files : Image) : Type 0 where
     pub records : List Rec

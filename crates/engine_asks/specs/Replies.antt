@@ -1,6 +1,6 @@
 -- The reply that is due to an ask (Kapacitor 1.6: HTTP API; InfluxDB 1.8: the write endpoint), by the tasks and the
 -- topics that a store has.
-use Rattle.std.specs.Prelude.{◌≡◌, ◌⊎◌, ◌<◌, ◌≤◌, ⊤, ℕ, ℤ, true, false, List, length, Option, Some, None, Result, Ok, Err}
+use Rattle.std.specs.Prelude.{◌≡◌, ◌⊎◌, ◌≤◌, ⊤, ℕ, ℤ, true, false, List, length, Option, Some, None, Result, Ok, Err, IfSome}
 use Rattle.kap_base.specs.Points.{PointValue}
 use Rattle.kap_base.specs.declared.limits.TheConstants.{TASK_LIMIT}
 use Rattle.kap_http.specs.AskValues.{DefineValue, WriteValue}
@@ -30,7 +30,8 @@ use Rattle.topic_core.specs.Topics.{TopicsValue}
 use Rattle.engine_store.specs.Asking.{IsScript}
 use Rattle.engine_store.specs.declared.fault.EngineFault.{EngineFault}
 use Rattle.engine_store.specs.declared.fault.EngineFault.TheVariants as engines
-use Rattle.reply_bodies.specs.Asks.{IsFailed}
+use Rattle.kap_engine.specs.Changing.{CanBeDefined}
+use Rattle.reply_bodies.specs.Asks.{IsFailed, change_of}
 use Rattle.reply_bodies.specs.Bodies.{IsDueOrShort, done_reply, given_reply, tasks_reply, topic_reply, topics_reply}
 use Rattle.reply_bodies.specs.Texts.{stored_text, task_text}
 
@@ -71,47 +72,40 @@ reply_to_act acts.Delete (Some task) = done_reply
 
 -- ---- a task is defined
 
--- the script is that of a task, no task has the id, and there is room for one more
-pub record CanBeDefined (tasks : List StoredTask) (d : DefineValue) : Type 0 where
-  pub script : IsScript d.script
-  pub free : has_task d.id tasks ≡ false
-  pub room : length tasks < TASK_LIMIT
-
--- The reply to a definition, where it is done if it may be: 400 with the first fault of the script; else 409, where a task
--- has the id; else 409, where there are as many as may be; else 200 with the task. The text is the last pattern that was
--- refused.
-pub data IsReplyToDefinition (may : Type 0) (refused : List ℕ) (tasks : List StoredTask) (d : DefineValue)
+-- The reply to a definition: 400 with the first fault of the script; else 409, where a task has the id; else 409, where
+-- there are as many as may be; else 200 with the task. The text is the last pattern that was refused.
+pub data IsReplyToDefinition (refused : List ℕ) (tasks : List StoredTask) (d : DefineValue)
     (reply : ReplyValue) : Type 0 where
   no_script : (fault : ScriptFault) → Refuses (refusal_in fault refused) d.script fault
-      → reply ≡ error_reply 400 (text_of_fault fault) → IsReplyToDefinition may refused tasks d reply
+      → reply ≡ error_reply 400 (text_of_fault fault) → IsReplyToDefinition refused tasks d reply
   exists : IsScript d.script → has_task d.id tasks ≡ true → reply ≡ refusal_reply refusals.Exists
-      → IsReplyToDefinition may refused tasks d reply
+      → IsReplyToDefinition refused tasks d reply
   no_room : IsScript d.script → has_task d.id tasks ≡ false → TASK_LIMIT ≤ length tasks
-      → reply ≡ refusal_reply refusals.TooManyTasks → IsReplyToDefinition may refused tasks d reply
-  is_defined : may → reply ≡ given_reply (task_text d.id d.script d.enabled)
-      → IsReplyToDefinition may refused tasks d reply
+      → reply ≡ refusal_reply refusals.TooManyTasks → IsReplyToDefinition refused tasks d reply
+  is_defined : CanBeDefined tasks d.id d.script → reply ≡ given_reply (task_text d.id d.script d.enabled)
+      → IsReplyToDefinition refused tasks d reply
 
 -- ---- any ask
 
-module _ (may : DefineValue → Type 0) (refused : List ℕ) (tasks : List StoredTask) (topics : TopicsValue) (now : ℤ) where
-  -- the reply to an ask, where a definition is done if it may be
-  abbrev pub IsReplyIf : Ask → ReplyValue → Type 0
-  IsReplyIf asks.Ping reply = reply ≡ done_reply
-  IsReplyIf (asks.Write w) reply = reply ≡ reply_to_lines (points_asked w now)
-  IsReplyIf asks.Tasks reply = reply ≡ tasks_reply tasks
-  IsReplyIf (asks.Define d) reply = IsReplyToDefinition (may d) refused tasks d reply
-  IsReplyIf (asks.Task t) reply = reply ≡ reply_to_act t.act (task_of t.id tasks)
-  IsReplyIf asks.Topics reply = reply ≡ topics_reply topics
-  IsReplyIf (asks.Topic t) reply = reply ≡ topic_reply topics t.name
+module _ (refused : List ℕ) (tasks : List StoredTask) (topics : TopicsValue) (now : ℤ) where
+  -- The reply that is due to an ask at a moment, by the tasks and topics that there are. The text is the last pattern
+  -- that was refused.
+  abbrev pub IsReply : Ask → ReplyValue → Type 0
+  IsReply asks.Ping reply = reply ≡ done_reply
+  IsReply (asks.Write w) reply = reply ≡ reply_to_lines (points_asked w now)
+  IsReply asks.Tasks reply = reply ≡ tasks_reply tasks
+  IsReply (asks.Define d) reply = IsReplyToDefinition refused tasks d reply
+  IsReply (asks.Task t) reply = reply ≡ reply_to_act t.act (task_of t.id tasks)
+  IsReply asks.Topics reply = reply ≡ topics_reply topics
+  IsReply (asks.Topic t) reply = reply ≡ topic_reply topics t.name
 
--- The reply that is due to an ask at a moment, by the tasks and topics that there are. The text is the last pattern that
--- was refused.
-abbrev pub IsReply : List ℕ → List StoredTask → TopicsValue → ℤ → Ask → ReplyValue → Type 0
-IsReply refused tasks topics now ask reply = IsReplyIf (CanBeDefined tasks) refused tasks topics now ask reply
+  -- it is the one that is due, or says that the store failed or that memory ran out
+  abbrev pub IsReplyOrFailed : Ask → ReplyValue → Type 0
+  IsReplyOrFailed ask reply = IsReply ask reply ⊎ IsFailed reply.status
 
--- the same, but for whether a task that was defined could be: a disk that doesn't tell its bytes shows that to nobody
-abbrev pub IsAnswer : List ℕ → List StoredTask → TopicsValue → ℤ → Ask → ReplyValue → Type 0
-IsAnswer refused tasks topics now ask reply = IsReplyIf (λ d. ⊤) refused tasks topics now ask reply
+  -- a change is asked for, and that it is done is the reply that is due
+  abbrev pub WouldChange : Ask → Type 0
+  WouldChange ask = (due : ReplyValue) × IsReply ask due × (change_of ask due.status ≡ 1)
 
 -- ---- the replies to faults
 
@@ -125,6 +119,11 @@ reply_to_fault engines.TooManyTasks = refusal_reply refusals.TooManyTasks
 reply_to_fault (engines.NotStore part offset) = refusal_reply refusals.Store
 reply_to_fault engines.DiskFault = refusal_reply refusals.Store
 reply_to_fault engines.NoMemory = out_of_memory false
+
+-- where an ask is about a task that is there, the script of this is that of a task
+abbrev pub HasScript : List StoredTask → Ask → Type 0
+HasScript tasks (asks.Task t) = IfSome (task_of t.id tasks) (λ task. IsScript task.script)
+HasScript tasks ask = ⊤
 
 -- the reply tells this text of what is wrong, or says that there was no memory for it
 abbrev pub IsErrorText : {E : Type 0} → Result (List ℕ) E → ReplyValue → Type 0

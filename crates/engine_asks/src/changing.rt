@@ -1,14 +1,16 @@
 //! A task is shown, enabled, disabled or deleted.
 
-ghost use Rattle.std.specs.Prelude.{◌≡◌, ◌⊎◌, ◌≤◌, false, IfErr, IsTrue, List, OnOk, Some};
+ghost use Rattle.std.specs.Prelude.{◌≡◌, ◌⊎◌, ◌≤◌, false, IfErr, IfSome, IsTrue, List, OnOk, Some};
 ghost use Rattle.kap_base.specs.Words.{HasRisen};
 ghost use Rattle.kap_io.specs.Moments.{Moments};
+ghost use Rattle.lambda_types.specs.Builds.{AtMostOneMore};
 ghost use Rattle.store_records.specs.Held.{task_of};
 ghost use Rattle.store_records.specs.declared.rec.Rec.{Rec};
+ghost use Rattle.engine_store.specs.Asking.{IsScript};
 ghost use Rattle.engine_store.specs.Faults.{EngineCause};
 ghost use Rattle.kap_engine.specs.Changing.{IsWhyNoneEnabled};
 ghost use Rattle.kap_engine.specs.Engines.{IsEngine};
-ghost use Rattle.reply_bodies.specs.Asks.{IsFailed, is_done};
+ghost use Rattle.reply_bodies.specs.Asks.{IsFailed, is_changing_act, is_done};
 ghost use Rattle.reply_bodies.specs.Bodies.{IsDueOrShort};
 ghost use Rattle.engine_asks.specs.Nexts.{NextOfAct, before_or_acted};
 ghost use Rattle.engine_asks.specs.Replies.{IsDueOrFailed, reply_to_act};
@@ -76,10 +78,12 @@ fn perform<D: Disk, P: Patterns, N: ScriptNode + NumberingNode + Send>(
         → Moments D.moment D.may_leave D.left_since disk.old disk.new
         (before_or_acted N.Node N.planned rs id.now act) }
     ensures unspent { OnOk result (engine.new.spent ≡ false) }
+    ensures changing { IfErr result (λ f. IsTrue (is_changing_act act)) }
     ensures why { IfErr result
         (IsWhyNoneEnabled (P.refusals pats.old) (P.refusals pats.new) (P.refused pats.new)
         engine.old.store.log.part id.now engine.old.store.kept.tasks) }
     ensures cause { EngineCause (D.faults disk.old) (D.faults disk.new) result }
+    ensures counted { AtMostOneMore (P.refusals pats.old) (P.refusals pats.new) }
 {
     match act {
         TaskAct::Show => Ok(()),
@@ -100,8 +104,11 @@ pub(crate) fn act<D: Disk, P: Patterns, N: ScriptNode + NumberingNode + Send>(
     ask: &TaskAsk,
 ) -> Reply
     requires unspent { engine.old.spent ≡ false }
-    ensures answer { IsDueOrFailed
+    ensures reply { IsDueOrFailed
         (reply_to_act ask.now.act (task_of ask.now.id engine.old.store.kept.tasks)) result }
+    ensures instead { result.status ≡ 500 → IsTrue (is_changing_act ask.now.act)
+        × IsTrue (is_done
+        (reply_to_act ask.now.act (task_of ask.now.id engine.old.store.kept.tasks)).status) }
     ensures next { IsTrue D.tells → (rs : List Rec)
         → IsEngine N.Node N.planned rs (D.seen disk.old) (D.may_leave disk.old) engine.old
         → IsTrue (is_done result.status) → NextOfAct N.Node N.planned rs engine.old.stored
@@ -113,11 +120,12 @@ pub(crate) fn act<D: Disk, P: Patterns, N: ScriptNode + NumberingNode + Send>(
         → Moments D.moment D.may_leave D.left_since disk.old disk.new
         (before_or_acted N.Node N.planned rs ask.now.id ask.now.act) }
     ensures usable { (IsFailed result.status → ⊥) → engine.new.spent ≡ false }
-    ensures cause { IsTrue D.tells → (rs : List Rec)
-        → IsEngine N.Node N.planned rs (D.seen disk.old) (D.may_leave disk.old) engine.old
-        → result.status ≡ 500 → HasRisen (D.faults disk.old) (D.faults disk.new)
+    ensures any_cause { IfSome (task_of ask.now.id engine.old.store.kept.tasks)
+        (λ task. IsScript task.script) → result.status ≡ 500
+        → HasRisen (D.faults disk.old) (D.faults disk.new)
         ⊎ HasRisen (P.refusals pats.old) (P.refusals pats.new) }
     ensures later { D.faults disk.old ≤ D.faults disk.new }
+    ensures counted { AtMostOneMore (P.refusals pats.old) (P.refusals pats.new) }
 {
     scripts_have_one_answer();
     let reply = reply_of(alloc, ask.act, engine.store().tasks(), &ask.id);

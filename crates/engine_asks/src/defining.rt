@@ -1,10 +1,11 @@
 //! A task is defined.
 
-ghost use Rattle.std.specs.Prelude.{◌≡◌, ◌⊎◌, ◌≤◌, ⊤, false, IsTrue, List};
+ghost use Rattle.std.specs.Prelude.{◌≡◌, ◌⊎◌, ◌≤◌, false, IsTrue, List};
 ghost use Rattle.kap_base.specs.Words.{HasRisen};
 ghost use Rattle.kap_io.specs.Moments.{Moments};
+ghost use Rattle.lambda_types.specs.Builds.{AtMostOneMore};
 ghost use Rattle.store_records.specs.declared.rec.Rec.{Rec};
-ghost use Rattle.kap_engine.specs.Changing.{stands_full_before_or_after};
+ghost use Rattle.kap_engine.specs.Changing.{CanBeDefined, stands_full_before_or_after};
 ghost use Rattle.kap_engine.specs.Engines.{IsEngine};
 ghost use Rattle.reply_bodies.specs.Asks.{IsFailed, is_done};
 ghost use Rattle.engine_asks.specs.Nexts.{HasRecord, definition};
@@ -31,8 +32,10 @@ pub(crate) fn define<D: Disk, P: Patterns, N: ScriptNode + NumberingNode + Send>
     ask: &DefineAsk,
 ) -> Reply
     requires unspent { engine.old.spent ≡ false }
-    ensures answer { IsReplyToDefinition ⊤ (P.refused pats.new) engine.old.store.kept.tasks
+    ensures reply { IsReplyToDefinition (P.refused pats.new) engine.old.store.kept.tasks
         ask.now result ⊎ IsFailed result.status }
+    ensures instead { result.status ≡ 500
+        → CanBeDefined engine.old.store.kept.tasks ask.now.id ask.now.script }
     ensures next { IsTrue D.tells → (rs : List Rec)
         → IsEngine N.Node N.planned rs (D.seen disk.old) (D.may_leave disk.old) engine.old
         → IsTrue (is_done result.status) → HasRecord N.Node N.planned rs (definition ask.now)
@@ -46,6 +49,7 @@ pub(crate) fn define<D: Disk, P: Patterns, N: ScriptNode + NumberingNode + Send>
     ensures usable { (IsFailed result.status → ⊥) → engine.new.spent ≡ false }
     ensures cause { result.status ≡ 500 → HasRisen (D.faults disk.old) (D.faults disk.new) }
     ensures later { D.faults disk.old ≤ D.faults disk.new }
+    ensures counted { AtMostOneMore (P.refusals pats.old) (P.refusals pats.new) }
 {
     match engine.define(alloc, disk, &ask.id, &ask.script, ask.enabled, pats) {
         Ok(()) => task_reply(alloc, &ask.id, &ask.script, ask.enabled),

@@ -1,13 +1,11 @@
-//! One ask of the service, decided on an engine: the reply, and the change that is asked for.
+//! One ask of the service, answered by an engine: the reply, and the change that is asked for.
 #![tactic(auto)]
 
+mod answering;
 mod changing;
-mod decided;
-mod deciding;
 mod defining;
 mod faults;
 mod tasks;
 mod writing;
 
-pub use decided::Decided;
-pub use deciding::decide;
+pub use answering::answer_ask;

@@ -68,7 +68,7 @@ fn write_points<D: Disk, N: ScriptNode + NumberingNode + Send, R: Threads + Sync
 ) -> Reply
     requires unspent { engine.old.spent ≡ false }
     requires of { IsTrue (list_all (is_of ask.now.db ask.now.rp) points) }
-    ensures answer { IsDueOrFailed done_reply result }
+    ensures reply { IsDueOrFailed done_reply result }
     ensures next { IsTrue D.tells → (rs : List Rec)
         → (at : IsEngine N.Node N.planned rs (D.seen disk.old) (D.may_leave disk.old) engine.old)
         → (IsFailed result.status → ⊥) → HasPointsOf N.Node N.planned rs at.full.good.tasks
@@ -105,7 +105,9 @@ pub(crate) fn write<
 ) -> Reply
     requires unspent { engine.old.spent ≡ false }
     requires time { IsTrue (is_time now) }
-    ensures answer { IsDueOrFailed (reply_to_lines (points_asked ask.now now)) result }
+    ensures reply { IsDueOrFailed (reply_to_lines (points_asked ask.now now)) result }
+    ensures instead { result.status ≡ 500
+        → reply_to_lines (points_asked ask.now now) ≡ done_reply }
     ensures next { IsTrue D.tells → (rs : List Rec)
         → (at : IsEngine N.Node N.planned rs (D.seen disk.old) (D.may_leave disk.old) engine.old)
         → IsTrue (is_done result.status) → HasPointsOf N.Node N.planned rs at.full.good.tasks

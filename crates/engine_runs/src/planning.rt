@@ -2,6 +2,7 @@
 
 ghost use Rattle.std.specs.Prelude.{◌≡◌, ◌+◌, ◌≤◌, IfErr, IfOk, IfSome, OnOk, length};
 ghost use Rattle.kap_base.specs.declared.limits.TheConstants.{SCRIPT_LIMIT};
+ghost use Rattle.lambda_types.specs.Builds.{AtMostOneMore};
 ghost use Rattle.task_run.specs.Plans.{IsPlan};
 ghost use Rattle.engine_runs.specs.Faults.{IsWhy};
 ghost use Rattle.engine_runs.specs.Scripts.{IsPlanned};
@@ -30,6 +31,7 @@ pub(crate) fn plan_life<P: Patterns, N: ScriptNode>(
     ensures why { IfErr result
         (IsWhy (P.refusals pats.old) (P.refusals pats.new) (P.refused pats.new) life.now) }
     ensures kept { OnOk result (P.refusals pats.new ≡ P.refusals pats.old) }
+    ensures counted { AtMostOneMore (P.refusals pats.old) (P.refusals pats.new) }
 {
     let task = match compile(alloc, life.script.bytes(), pats) {
         Ok(task) => task,

@@ -3,6 +3,7 @@
 ghost use Rattle.std.specs.Prelude.{◌≡◌, ◌+◌, ◌<◌, ◌≤◌, ◌∷◌, [], ℕ, Bool, Err, IfErr, IfOk, IsFalse, IsTrue, List, OnOk, Some, drop, length, slice_get};
 ghost use Rattle.std.specs.List.{AllByRecursion as Each};
 ghost use Rattle.kap_base.specs.declared.limits.TheConstants.{SCRIPT_LIMIT};
+ghost use Rattle.lambda_types.specs.Builds.{AtMostOneMore};
 ghost use Rattle.barrier_snapshot.specs.Captures.{IsCapture, in_lives};
 ghost use Rattle.barrier_snapshot.specs.Restoring.{Restores};
 ghost use Rattle.edge_queue.specs.declared.TheConstants.{CAPACITY_LIMIT};
@@ -59,6 +60,7 @@ fn put_plan<P: Patterns, N: ScriptNode>(
     ensures why { IfErr result
         (IsWhy (P.refusals pats.old) (P.refusals pats.new) (P.refused pats.new) life.now) }
     ensures kept { OnOk result (P.refusals pats.new ≡ P.refusals pats.old) }
+    ensures counted { AtMostOneMore (P.refusals pats.old) (P.refusals pats.new) }
 {
     let (named, plan) = match plan_life(alloc, number, life, pats) {
         Ok(made) => made,
@@ -93,6 +95,7 @@ fn plan_next<P: Patterns, N: ScriptNode>(
     ensures why { IfErr result
         (IsWhy (P.refusals pats.old) (P.refusals pats.new) (P.refused pats.new) life.now) }
     ensures kept { OnOk result (P.refusals pats.new ≡ P.refusals pats.old) }
+    ensures counted { AtMostOneMore (P.refusals pats.old) (P.refusals pats.new) }
 {
     scripts_have_one_answer();
     if is_next(names.len(), number) {
@@ -126,6 +129,7 @@ pub(crate) fn plan_open<P: Patterns, N: ScriptNode>(
     ensures why { IfErr result (IsWhyOne (P.refusals pats.old) (P.refusals pats.new)
         (P.refused pats.new) lives.now) }
     ensures kept { OnOk result (P.refusals pats.new ≡ P.refusals pats.old) }
+    ensures counted { AtMostOneMore (P.refusals pats.old) (P.refusals pats.new) }
 {
     let mut rest = numbers;
     'planning: while let Some((number, _)) = rest.split_first() {

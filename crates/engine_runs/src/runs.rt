@@ -67,6 +67,7 @@ impl<N: ScriptNode + NumberingNode + Send> EngineRun<N> {
     ghost use Rattle.std.specs.Prelude.{◌≡◌, ◌≢◌, ◌+◌, ◌++◌, ◌<◌, ◌≤◌, true, false, [], Bool, Err, IfErr, IfOk, List, OnOk, is_err, length, map};
     ghost use Rattle.std.specs.List.{AllByRecursion as Each};
     ghost use Rattle.kap_base.specs.Points.{PointValue};
+    ghost use Rattle.lambda_types.specs.Builds.{AtMostOneMore};
     ghost use Rattle.barrier_snapshot.specs.Captures.{IsCapture};
     ghost use Rattle.barrier_snapshot.specs.Snapshots.{IsSnapshot};
     ghost use Rattle.edge_queue.specs.declared.TheConstants.{CAPACITY_LIMIT};
@@ -120,6 +121,7 @@ impl<N: ScriptNode + NumberingNode + Send> EngineRun<N> {
         ensures why { IfErr result (IsWhyOne (P.refusals pats.old) (P.refusals pats.new)
             (P.refused pats.new) lives.now) }
         ensures kept { OnOk result (P.refusals pats.new ≡ P.refusals pats.old) }
+        ensures counted { AtMostOneMore (P.refusals pats.old) (P.refusals pats.new) }
     {
         self.spent = true;
         end_lives(&mut self.net, lives, self.points);
@@ -217,6 +219,7 @@ impl<N: ScriptNode + NumberingNode + Send> EngineRun<N> {
         ensures why { IfErr result (IsWhyOne (P.refusals pats.old) (P.refusals pats.new)
             (P.refused pats.new) lives.now) }
         ensures kept { OnOk result (P.refusals pats.new ≡ P.refusals pats.old) }
+        ensures counted { AtMostOneMore (P.refusals pats.old) (P.refusals pats.new) }
     {
         let mut rest = points;
         'running: while 0 < rest.len() {
@@ -271,6 +274,7 @@ impl<N: ScriptNode + NumberingNode + Send> EngineRun<N> {
         ensures why { IfErr result (λ f. f ≢ RunFault.States → IsWhyOne (P.refusals pats.old)
             (P.refusals pats.new) (P.refused pats.new) lives.now f) }
         ensures kept { OnOk result (P.refusals pats.new ≡ P.refusals pats.old) }
+        ensures counted { AtMostOneMore (P.refusals pats.old) (P.refusals pats.new) }
     {
         let mut names = Vec::new(alloc);
         let mut plans = Vec::new(alloc);

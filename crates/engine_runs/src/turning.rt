@@ -4,6 +4,7 @@ ghost use Rattle.std.specs.Prelude.{◌≡◌, ◌+◌, ◌<◌, ◌≤◌, ◌�
 ghost use Rattle.std.specs.List.{AllByRecursion as Each};
 ghost use Rattle.kap_base.specs.Points.{PointValue};
 ghost use Rattle.kap_base.specs.declared.limits.TheConstants.{SCRIPT_LIMIT};
+ghost use Rattle.lambda_types.specs.Builds.{AtMostOneMore};
 ghost use Rattle.edge_queue.specs.declared.TheConstants.{CAPACITY_LIMIT};
 ghost use Rattle.effect_text.specs.declared.names.TaskNames.{TaskNames};
 ghost use Rattle.flow_core.specs.Nets.{IsResting, numbers_of};
@@ -90,6 +91,7 @@ fn begin_life<P: Patterns, N: ScriptNode>(
     ensures why { IfErr result
         (IsWhy (P.refusals pats.old) (P.refusals pats.new) (P.refused pats.new) life.now) }
     ensures kept { OnOk result (P.refusals pats.new ≡ P.refusals pats.old) }
+    ensures counted { AtMostOneMore (P.refusals pats.old) (P.refusals pats.new) }
 {
     scripts_have_one_answer();
     let Some(number) = next_number(names.len()) else {
@@ -145,6 +147,7 @@ fn begin_next<P: Patterns, N: ScriptNode>(
     ensures why { IfErr result
         (IsWhy (P.refusals pats.old) (P.refusals pats.new) (P.refused pats.new) life.now) }
     ensures kept { OnOk result (P.refusals pats.new ≡ P.refusals pats.old) }
+    ensures counted { AtMostOneMore (P.refusals pats.old) (P.refusals pats.new) }
 {
     scripts_have_one_answer();
     if has_ended_by(life.last, points) {
@@ -188,6 +191,7 @@ pub(crate) fn begin_lives<P: Patterns, N: ScriptNode>(
     ensures why { IfErr result (IsWhyOne (P.refusals pats.old) (P.refusals pats.new)
         (P.refused pats.new) lives.now) }
     ensures kept { OnOk result (P.refusals pats.new ≡ P.refusals pats.old) }
+    ensures counted { AtMostOneMore (P.refusals pats.old) (P.refusals pats.new) }
 {
     'beginning: while let Some(life) = lives.get(names.len()) {
         if !has_begun(life, points) {

@@ -3,6 +3,7 @@
 ghost use Rattle.std.specs.Prelude.{◌≡◌, ◌≤◌, ℕ, IfErr, IfSome, IsTrue, List, OnOk, length, option_map};
 ghost use Rattle.std.specs.List.{AllByRecursion as Each};
 ghost use Rattle.kap_base.specs.declared.limits.TheConstants.{SCRIPT_LIMIT};
+ghost use Rattle.lambda_types.specs.Builds.{AtMostOneMore};
 ghost use Rattle.store_records.specs.Orders.{AreValidLives, AreValidTasks};
 ghost use Rattle.engine_store.specs.Asking.{AreScripts, IsLastAsked, IsNotAbove, IsScript, IsWhyAmong, IsWhyAt, IsWhyFirst};
 
@@ -106,6 +107,7 @@ fn ask<P: Patterns>(alloc: Global, place: u64, text: &[u8], pats: &mut P) -> Res
     ensures why { IfErr result
         (IsWhyAt (P.refusals pats.old) (P.refusals pats.new) (P.refused pats.new) place text.now) }
     ensures kept { OnOk result (P.refusals pats.new ≡ P.refusals pats.old) }
+    ensures counted { AtMostOneMore (P.refusals pats.old) (P.refusals pats.new) }
 {
     match compile(alloc, text, pats) {
         Ok(_task) => Ok(()),
@@ -126,6 +128,7 @@ fn ask_at<T: Defined, P: Patterns>(
     ensures why { IfErr result (IsWhyAmong (P.refusals pats.old) (P.refusals pats.new)
         (P.refused pats.new) T.place T.text items.now place) }
     ensures kept { OnOk result (P.refusals pats.new ≡ P.refusals pats.old) }
+    ensures counted { AtMostOneMore (P.refusals pats.old) (P.refusals pats.new) }
 {
     let mut asked = None;
     let mut rest = items;
@@ -155,6 +158,7 @@ pub(crate) fn ask_scripts<P: Patterns>(
     ensures why { IfErr result (IsWhyFirst (P.refusals pats.old) (P.refusals pats.new)
         (P.refused pats.new) tasks.now lives.now) }
     ensures kept { OnOk result (P.refusals pats.new ≡ P.refusals pats.old) }
+    ensures counted { AtMostOneMore (P.refusals pats.old) (P.refusals pats.new) }
 {
     let mut from = 0_u64;
     'asking: while let Some(place) = least_from(lives, from, least_from(tasks, from, None)) {

@@ -1,6 +1,7 @@
 //! The lives of a store run on its points, from its last snapshot on or from the first point.
 
 ghost use Rattle.std.specs.Prelude.{◌≡◌, ◌<◌, ◌≤◌, ◌+◌, ◌^◌, ℕ, false, length, IfErr, IfOk, IsErrOf, IsTrue, List, OnOk};
+ghost use Rattle.lambda_types.specs.Builds.{AtMostOneMore};
 ghost use Rattle.kap_io.specs.Moments.{Quiet};
 ghost use Rattle.kap_io.specs.declared.disk.Part.{Part};
 ghost use Rattle.edge_queue.specs.declared.TheConstants.{CAPACITY_LIMIT};
@@ -62,6 +63,7 @@ fn begin_run<N: ScriptNode + NumberingNode + Send, D: Disk, P: Patterns>(
     ensures faults { IfErr result IsOfOpening }
     ensures cause { EngineCause (D.faults disk.old) (D.faults disk.new) result }
     ensures kept { OnOk result (P.refusals pats.new ≡ P.refusals pats.old) }
+    ensures counted { AtMostOneMore (P.refusals pats.old) (P.refusals pats.new) }
 {
     transition_laws();
     let Some((gate, numbers, states)) = store.snap(disk)? else {
@@ -120,6 +122,7 @@ fn run_rest<
     ensures faults { IfErr result IsOfOpening }
     ensures cause { EngineCause (D.faults disk.old) (D.faults disk.new) result }
     ensures kept { OnOk result (P.refusals pats.new ≡ P.refusals pats.old) }
+    ensures counted { AtMostOneMore (P.refusals pats.old) (P.refusals pats.new) }
 {
     let mut due = Vec::new(alloc);
     let mut reader = store.read_points(run.points());
@@ -192,6 +195,7 @@ pub fn run_store<
     ensures faults { IfErr result IsOfOpening }
     ensures cause { EngineCause (D.faults disk.old) (D.faults disk.new) result }
     ensures kept { OnOk result (P.refusals pats.new ≡ P.refusals pats.old) }
+    ensures counted { AtMostOneMore (P.refusals pats.old) (P.refusals pats.new) }
 {
     if let Err(fault) = ask_scripts(alloc, store.tasks(), store.lives(), pats) {
         return Err(run_fault(store.part(), 0, fault));

@@ -12,3 +12,4 @@ pub mod TaskLaws
 pub mod FullLaws
 pub mod ChangeLaws
 pub mod RefusalLaws
+pub mod LineLaws

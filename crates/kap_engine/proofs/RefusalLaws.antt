@@ -1,25 +1,28 @@
 -- Why tasks aren't changed.
 use Rattle.std.proofs.Common.{◌≡◌, ℕ, ◌+◌, ◌<◌, Bool, true, false, not, ◌||◌, cond, List, [], ◌∷◌, length, Option, None, Some, Ok, Err, refl, sym, ap, subst, ◌∙◌, arith, true≢false}
 use Rattle.std.specs.Prelude.{◌≢◌, IfErr, Result, nat_lt, slice_get}
-use Rattle.std.specs.List.{list_any, position, position_or_len}
+use Rattle.std.specs.List.{AllByRecursion as Each, list_any, position, position_or_len}
 use Rattle.std.proofs.lemmas.Bool.Decides.{nat_tests}
 use Rattle.std.proofs.lemmas.List.Folds.{find_at}
 use Rattle.kap_base.specs.Words.{HasRisen}
+use Rattle.kap_base.specs.declared.limits.TheConstants.{TASK_LIMIT}
 use Rattle.kap_io.specs.declared.disk.Part.{Part}
 use Rattle.store_records.specs.Held.{has_task, is_called, task_of}
 use Rattle.store_records.specs.declared.task.StoredTask.{StoredTask}
-use Rattle.tick_compile.specs.Scripts.{Refuses}
+use Rattle.tick_compile.specs.Scripts.{Accepts, Refuses}
 use Rattle.tick_compile.specs.Tasks.{is_refusal, refusal_in}
 use Rattle.tick_compile.specs.declared.script_fault.ScriptFault.{ScriptFault}
 use Rattle.tick_compile.specs.declared.script_fault.ScriptFault.TheVariants as scripts
+use Rattle.tick_compile.specs.declared.tasks.Task.{Task}
 use Rattle.topic_store.specs.Adding.{AddFault}
 use Rattle.topic_store.specs.Stores.{StoreState}
 use Rattle.topic_store.specs.declared.fault.StoreFault.{StoreFault}
 use Rattle.topic_store.specs.declared.fault.StoreFault.TheVariants as stores
+use Rattle.engine_store.specs.Asking.{IsScript}
 use Rattle.engine_store.specs.Faults.{compile_fault, store_fault}
 use Rattle.engine_store.specs.declared.fault.EngineFault.{EngineFault}
 use Rattle.engine_store.specs.declared.fault.EngineFault.TheVariants as engines
-use Rattle.kap_engine.specs.Changing.{IsFailure, IsRefusal, IsWhyNoneDefined, IsWhyNoneEnabled, IsWhyNoneEnded, IsWhyNotPlanned, fault_at}
+use Rattle.kap_engine.specs.Changing.{CanBeDefined, IsFailure, IsRefusal, IsWhyNoneDefined, IsWhyNoneEnabled, IsWhyNoneEnded, IsWhyNotPlanned, fault_at}
 
 -- ---- a script that is refused
 
@@ -81,41 +84,52 @@ enabled_why before after refused log id tasks found (engines.Script fault) same 
 enabled_why before after refused log id tasks found engines.NoTask same why = absurd why
 enabled_why before after refused log id tasks found engines.Exists same why = why
 enabled_why before after refused log id tasks found engines.TooManyTasks same why = why
-enabled_why before after refused log id tasks found engines.DiskFault same why = tt
+enabled_why before after refused log id tasks found engines.DiskFault same why = absurd why
 enabled_why before after refused log id tasks found engines.NoMemory same why = tt
+
+-- ---- a script that is accepted
+
+-- it is that of a task, which can be defined where no task has the id and there is room
+pub can_define : (id text bytes : List ℕ) (tasks seen again : List StoredTask) (task : Task) → bytes ≡ text → seen ≡ tasks → again ≡ tasks → Accepts None bytes task → false ≡ has_task id seen
+    → length again < TASK_LIMIT → CanBeDefined tasks id text
+can_define id text bytes tasks seen again task same one two accepts free few = record {
+  script = (task, subst (λ (t : List ℕ). Accepts None t task) same accepts);
+  free = ap (has_task id) (sym one) ∙ sym free;
+  room = subst (λ (ts : List StoredTask). length ts < TASK_LIMIT) two few;
+}
 
 -- ---- a failure
 
 -- it is told of each call
-pub failed_defined : {T : Type 0} (refused id script : List ℕ) (tasks : List StoredTask) (r : Result T EngineFault) → IfErr r IsFailure → IfErr r (IsWhyNoneDefined refused id script tasks)
-failed_defined refused id script tasks (Ok x) h = tt
-failed_defined refused id script tasks (Err (engines.NotStore part offset)) h = absurd h
-failed_defined refused id script tasks (Err (engines.Script fault)) h = absurd h
-failed_defined refused id script tasks (Err engines.NoTask) h = absurd h
-failed_defined refused id script tasks (Err engines.Exists) h = absurd h
-failed_defined refused id script tasks (Err engines.TooManyTasks) h = absurd h
-failed_defined refused id script tasks (Err engines.DiskFault) h = tt
-failed_defined refused id script tasks (Err engines.NoMemory) h = tt
+pub failed_defined : {T : Type 0} (refused id script : List ℕ) (tasks : List StoredTask) (r : Result T EngineFault) → CanBeDefined tasks id script → IfErr r IsFailure → IfErr r (IsWhyNoneDefined refused id script tasks)
+failed_defined refused id script tasks (Ok x) could h = tt
+failed_defined refused id script tasks (Err (engines.NotStore part offset)) could h = absurd h
+failed_defined refused id script tasks (Err (engines.Script fault)) could h = absurd h
+failed_defined refused id script tasks (Err engines.NoTask) could h = absurd h
+failed_defined refused id script tasks (Err engines.Exists) could h = absurd h
+failed_defined refused id script tasks (Err engines.TooManyTasks) could h = absurd h
+failed_defined refused id script tasks (Err engines.DiskFault) could h = could
+failed_defined refused id script tasks (Err engines.NoMemory) could h = tt
 
-pub failed_enabled : {T : Type 0} (before after : ℕ) (refused : List ℕ) (log : Part) (id : List ℕ) (tasks : List StoredTask) (r : Result T EngineFault) → IfErr r IsFailure → IfErr r (IsWhyNoneEnabled before after refused log id tasks)
-failed_enabled before after refused log id tasks (Ok x) h = tt
-failed_enabled before after refused log id tasks (Err (engines.NotStore part offset)) h = absurd h
-failed_enabled before after refused log id tasks (Err (engines.Script fault)) h = absurd h
-failed_enabled before after refused log id tasks (Err engines.NoTask) h = absurd h
-failed_enabled before after refused log id tasks (Err engines.Exists) h = absurd h
-failed_enabled before after refused log id tasks (Err engines.TooManyTasks) h = absurd h
-failed_enabled before after refused log id tasks (Err engines.DiskFault) h = tt
-failed_enabled before after refused log id tasks (Err engines.NoMemory) h = tt
+pub failed_enabled : {T : Type 0} (before after : ℕ) (refused : List ℕ) (log : Part) (id : List ℕ) (tasks : List StoredTask) (r : Result T EngineFault) → has_task id tasks ≡ true → IfErr r IsFailure → IfErr r (IsWhyNoneEnabled before after refused log id tasks)
+failed_enabled before after refused log id tasks (Ok x) there h = tt
+failed_enabled before after refused log id tasks (Err (engines.NotStore part offset)) there h = absurd h
+failed_enabled before after refused log id tasks (Err (engines.Script fault)) there h = absurd h
+failed_enabled before after refused log id tasks (Err engines.NoTask) there h = absurd h
+failed_enabled before after refused log id tasks (Err engines.Exists) there h = absurd h
+failed_enabled before after refused log id tasks (Err engines.TooManyTasks) there h = absurd h
+failed_enabled before after refused log id tasks (Err engines.DiskFault) there h = there
+failed_enabled before after refused log id tasks (Err engines.NoMemory) there h = tt
 
-pub failed_ended : {T : Type 0} (id : List ℕ) (tasks : List StoredTask) (r : Result T EngineFault) → IfErr r IsFailure → IfErr r (IsWhyNoneEnded id tasks)
-failed_ended id tasks (Ok x) h = tt
-failed_ended id tasks (Err (engines.NotStore part offset)) h = absurd h
-failed_ended id tasks (Err (engines.Script fault)) h = absurd h
-failed_ended id tasks (Err engines.NoTask) h = absurd h
-failed_ended id tasks (Err engines.Exists) h = absurd h
-failed_ended id tasks (Err engines.TooManyTasks) h = absurd h
-failed_ended id tasks (Err engines.DiskFault) h = tt
-failed_ended id tasks (Err engines.NoMemory) h = tt
+pub failed_ended : {T : Type 0} (id : List ℕ) (tasks : List StoredTask) (r : Result T EngineFault) → has_task id tasks ≡ true → IfErr r IsFailure → IfErr r (IsWhyNoneEnded id tasks)
+failed_ended id tasks (Ok x) there h = tt
+failed_ended id tasks (Err (engines.NotStore part offset)) there h = absurd h
+failed_ended id tasks (Err (engines.Script fault)) there h = absurd h
+failed_ended id tasks (Err engines.NoTask) there h = absurd h
+failed_ended id tasks (Err engines.Exists) there h = absurd h
+failed_ended id tasks (Err engines.TooManyTasks) there h = absurd h
+failed_ended id tasks (Err engines.DiskFault) there h = there
+failed_ended id tasks (Err engines.NoMemory) there h = tt
 
 -- and is no refusal
 pub failed_still : {T : Type 0} (P : Type 0) (r : Result T EngineFault) → IfErr r IsFailure → IfErr r (λ f. IsRefusal f → P)
@@ -194,3 +208,11 @@ has_found id tasks place e = some-found (is_called id) tasks place e
 
 pub has_none : (id : List ℕ) (tasks : List StoredTask) → position (is_called id) tasks ≡ None → has_task id tasks ≡ false
 has_none id tasks e = none-found (is_called id) tasks e
+
+-- where each script is that of a task, so is that of the task which was found
+pub found_script : (id : List ℕ) (tasks : List StoredTask) (task : StoredTask) → Each (λ task. IsScript task.script) tasks → task_of id tasks ≡ Some task → IsScript task.script
+found_script id [] task all e = absurd cc
+found_script id (t ∷ tasks) task all e = elim (is_called id t) as (λ b. cond b (Some t) (task_of id tasks) ≡ Some task → IsScript task.script) [
+  | true ↦ λ is. let same : t ≡ task = cc in subst (λ (x : StoredTask). IsScript x.script) same all.0
+  | false ↦ λ is. found_script id tasks task all.1 is
+] e

@@ -1,5 +1,5 @@
 -- What a change of a task leaves.
-use Rattle.std.specs.Prelude.{◌≡◌, ◌⊎◌, ℕ, ◌+◌, ◌≤◌, ⊤, Bool, true, false, List, [], ◌∷◌, ◌++◌, Option, None, Some, length}
+use Rattle.std.specs.Prelude.{◌≡◌, ◌⊎◌, ℕ, ◌+◌, ◌<◌, ◌≤◌, ⊤, Bool, true, false, List, [], ◌∷◌, ◌++◌, Option, None, Some, length}
 use Rattle.kap_io.specs.Disk.{Image}
 use Rattle.kap_io.specs.declared.disk.Part.{Part}
 use Rattle.kap_base.specs.Points.{PointValue}
@@ -92,16 +92,25 @@ IsFailure DiskFault = ⊤
 IsFailure NoMemory = ⊤
 IsFailure fault = ⊥
 
+-- ---- a task that can be defined
+
+-- the script is that of a task, no task has the id, and there is room for one more
+pub record CanBeDefined (tasks : List StoredTask) (id text : List ℕ) : Type 0 where
+  pub script : IsScript text
+  pub free : has_task id tasks ≡ false
+  pub room : length tasks < TASK_LIMIT
+
 -- ---- why a task isn't defined
 
 -- Why no task of this id is defined by this script, in this order: the script is none of a task, a task has the id, or
--- there are as many as may be. The text is the last pattern that was refused.
+-- there are as many as may be; the disk failed only where the task could be defined. The text is the last pattern that
+-- was refused.
 abbrev pub IsWhyNoneDefined : List ℕ → List ℕ → List ℕ → List StoredTask → EngineFault → Type 0
 IsWhyNoneDefined refused id script tasks (Script fault) = Refuses (refusal_in fault refused) script fault
 IsWhyNoneDefined refused id script tasks Exists = IsScript script × (has_task id tasks ≡ true)
 IsWhyNoneDefined refused id script tasks TooManyTasks =
     IsScript script × (has_task id tasks ≡ false) × (TASK_LIMIT ≤ length tasks)
-IsWhyNoneDefined refused id script tasks DiskFault = ⊤
+IsWhyNoneDefined refused id script tasks DiskFault = CanBeDefined tasks id script
 IsWhyNoneDefined refused id script tasks NoMemory = ⊤
 IsWhyNoneDefined refused id script tasks NoTask = ⊥
 IsWhyNoneDefined refused id script tasks (NotStore part offset) = ⊥
@@ -128,19 +137,20 @@ IsWhyNotPlanned before after refused log found (NotStore part offset) =
 IsWhyNotPlanned before after refused log found NoMemory = ⊤
 IsWhyNotPlanned before after refused log found fault = ⊥
 
--- Why no task of this id is enabled: none has it, or its script is refused in the call.
+-- Why no task of this id is enabled: none has it, or its script is refused in the call. The disk failed only where one
+-- has it.
 abbrev pub IsWhyNoneEnabled : ℕ → ℕ → List ℕ → Part → List ℕ → List StoredTask → EngineFault → Type 0
 IsWhyNoneEnabled before after refused log id tasks NoTask = has_task id tasks ≡ false
 IsWhyNoneEnabled before after refused log id tasks (NotStore part offset) =
     (part ≡ log) × IsRefusedAgain before after refused (task_of id tasks) offset
-IsWhyNoneEnabled before after refused log id tasks DiskFault = ⊤
+IsWhyNoneEnabled before after refused log id tasks DiskFault = has_task id tasks ≡ true
 IsWhyNoneEnabled before after refused log id tasks NoMemory = ⊤
 IsWhyNoneEnabled before after refused log id tasks fault = ⊥
 
--- Why no task of this id is disabled or deleted: none has it.
+-- Why no task of this id is disabled or deleted: none has it. The disk failed only where one has it.
 abbrev pub IsWhyNoneEnded : List ℕ → List StoredTask → EngineFault → Type 0
 IsWhyNoneEnded id tasks NoTask = has_task id tasks ≡ false
-IsWhyNoneEnded id tasks DiskFault = ⊤
+IsWhyNoneEnded id tasks DiskFault = has_task id tasks ≡ true
 IsWhyNoneEnded id tasks NoMemory = ⊤
 IsWhyNoneEnded id tasks fault = ⊥
 

@@ -4,8 +4,9 @@ ghost use Rattle.std.specs.Prelude.{◌≡◌, ◌≤◌, ◌∷◌, ◌++◌, [
 ghost use Rattle.kap_base.specs.Words.{HasRisen};
 ghost use Rattle.kap_base.specs.Texts.{is_task_id};
 ghost use Rattle.kap_base.specs.declared.limits.TheConstants.{SCRIPT_LIMIT};
+ghost use Rattle.lambda_types.specs.Builds.{AtMostOneMore};
 ghost use Rattle.kap_io.specs.Moments.{Moments};
-ghost use Rattle.store_records.specs.Held.{MayFollow, begun, life_of};
+ghost use Rattle.store_records.specs.Held.{MayFollow, begun, has_task, life_of};
 ghost use Rattle.store_records.specs.Histories.{end_of, held};
 ghost use Rattle.store_records.specs.Orders.{DefinesValid};
 ghost use Rattle.store_records.specs.declared.rec.Rec.{Rec};
@@ -14,7 +15,7 @@ ghost use Rattle.tick_compile.specs.Tasks.{is_refusal};
 ghost use Rattle.engine_runs.specs.Scripts.{IsTaskOf};
 ghost use Rattle.engine_store.specs.Faults.{EngineCause};
 ghost use Rattle.engine_store.specs.declared.fault.EngineFault.TheVariants.{DiskFault as disk_failed};
-ghost use Rattle.kap_engine.specs.Changing.{AreNext, ChangesTask, DefinesScript, HasBegun, IsFailure, IsRefusal, IsWhyNoneDefined, IsWhyNoneEnabled, IsWhyNoneEnded, IsWhyNotPlanned, ending, fault_at, stands_full_before_or_after};
+ghost use Rattle.kap_engine.specs.Changing.{AreNext, CanBeDefined, ChangesTask, DefinesScript, HasBegun, IsFailure, IsRefusal, IsWhyNoneDefined, IsWhyNoneEnabled, IsWhyNoneEnded, IsWhyNotPlanned, ending, fault_at, stands_full_before_or_after};
 ghost use Rattle.kap_engine.specs.Engines.{IsEngine};
 
 use crate::engine::Engine;
@@ -83,6 +84,7 @@ impl<N: ScriptNode + NumberingNode + Send> Engine<N> {
         ensures why { IfErr result
             (IsWhyNotPlanned (P.refusals pats.old) (P.refusals pats.new) (P.refused pats.new)
             self.now.store.log.part (slice_get self.now.store.kept.tasks place)) }
+        ensures counted { AtMostOneMore (P.refusals pats.old) (P.refusals pats.new) }
     {
         let Some(task) = self.store.tasks().get(place) else {
             return Ok(None);
@@ -163,8 +165,9 @@ impl<N: ScriptNode + NumberingNode + Send> Engine<N> {
 
     /// Defines a task with this id by a script, enabled or not. `Script` comes exactly where the script isn't
     /// that of a task; else `Exists` exactly where a task has the id; else `TooManyTasks` exactly where 64 are
-    /// there. These change nothing. `DiskFault` comes only where the disk's count of faults rose in this
-    /// call, and `NoMemory` where memory ran out: the engine is spent then, unless nothing has changed.
+    /// there. These change nothing. `DiskFault` comes in place of none of them, and only where the disk's
+    /// count of faults rose in this call; `NoMemory` comes where memory ran out: the engine is spent then,
+    /// unless nothing has changed.
     pub fn define<D: Disk, P: Patterns>(
         &mut self,
         alloc: Global,
@@ -189,6 +192,8 @@ impl<N: ScriptNode + NumberingNode + Send> Engine<N> {
             (stands_full_before_or_after N.Node N.planned rs
             (Rec.Define id.now script.now enabled)) }
         ensures stored { OnOk result (self.new.stored ≡ []) }
+        ensures could { OnOk result
+            (CanBeDefined self.old.store.kept.tasks id.now script.now) }
         ensures why { IfErr result
             (IsWhyNoneDefined (P.refused pats.new) id.now script.now self.old.store.kept.tasks) }
         ensures rose { IfErr result (λ f. (fault : _) → f ≡ EngineFault.Script fault
@@ -199,6 +204,7 @@ impl<N: ScriptNode + NumberingNode + Send> Engine<N> {
             → (self.new ≡ self.old) × (disk.new ≡ disk.old)) }
         ensures spends { IfErr result (λ f. f ≡ disk_failed → self.new.spent ≡ true) }
         ensures cause { EngineCause (D.faults disk.old) (D.faults disk.new) result }
+        ensures counted { AtMostOneMore (P.refusals pats.old) (P.refusals pats.new) }
     {
         let task = match compile(alloc, script.bytes(), pats) {
             Ok(task) => task,
@@ -242,6 +248,7 @@ impl<N: ScriptNode + NumberingNode + Send> Engine<N> {
             → Moments D.moment D.may_leave D.left_since disk.old disk.new
             (stands_full_before_or_after N.Node N.planned rs (Rec.Enable id.now)) }
         ensures stored { OnOk result (self.new.stored ≡ []) }
+        ensures there { OnOk result (has_task id.now self.old.store.kept.tasks ≡ true) }
         ensures why { IfErr result
             (IsWhyNoneEnabled (P.refusals pats.old) (P.refusals pats.new) (P.refused pats.new)
             self.old.store.log.part id.now self.old.store.kept.tasks) }
@@ -251,6 +258,7 @@ impl<N: ScriptNode + NumberingNode + Send> Engine<N> {
             → (self.new ≡ self.old) × (disk.new ≡ disk.old)) }
         ensures spends { IfErr result (λ f. f ≡ disk_failed → self.new.spent ≡ true) }
         ensures cause { EngineCause (D.faults disk.old) (D.faults disk.new) result }
+        ensures counted { AtMostOneMore (P.refusals pats.old) (P.refusals pats.new) }
     {
         let Some(place) = find_task(self.store.tasks(), id) else {
             return Err(EngineFault::NoTask);
@@ -279,6 +287,7 @@ impl<N: ScriptNode + NumberingNode + Send> Engine<N> {
             → Moments D.moment D.may_leave D.left_since disk.old disk.new
             (stands_full_before_or_after N.Node N.planned rs (ending deletes id.now)) }
         ensures stored { OnOk result (self.new.stored ≡ []) }
+        ensures there { OnOk result (has_task id.now self.old.store.kept.tasks ≡ true) }
         ensures why { IfErr result (IsWhyNoneEnded id.now self.old.store.kept.tasks) }
         ensures still { IfErr result (λ f. IsRefusal f
             → (self.new ≡ self.old) × (disk.new ≡ disk.old)) }
@@ -314,6 +323,7 @@ impl<N: ScriptNode + NumberingNode + Send> Engine<N> {
             → Moments D.moment D.may_leave D.left_since disk.old disk.new
             (stands_full_before_or_after N.Node N.planned rs (Rec.Disable id.now)) }
         ensures stored { OnOk result (self.new.stored ≡ []) }
+        ensures there { OnOk result (has_task id.now self.old.store.kept.tasks ≡ true) }
         ensures why { IfErr result (IsWhyNoneEnded id.now self.old.store.kept.tasks) }
         ensures still { IfErr result (λ f. IsRefusal f
             → (self.new ≡ self.old) × (disk.new ≡ disk.old)) }
@@ -344,6 +354,7 @@ impl<N: ScriptNode + NumberingNode + Send> Engine<N> {
             → Moments D.moment D.may_leave D.left_since disk.old disk.new
             (stands_full_before_or_after N.Node N.planned rs (Rec.Delete id.now)) }
         ensures stored { OnOk result (self.new.stored ≡ []) }
+        ensures there { OnOk result (has_task id.now self.old.store.kept.tasks ≡ true) }
         ensures why { IfErr result (IsWhyNoneEnded id.now self.old.store.kept.tasks) }
         ensures still { IfErr result (λ f. IsRefusal f
             → (self.new ≡ self.old) × (disk.new ≡ disk.old)) }

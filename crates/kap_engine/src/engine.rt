@@ -64,6 +64,7 @@ impl<N: Node> Model for Engine<N> {
 impl<N: ScriptNode + NumberingNode + Send> Engine<N> {
     ghost use Rattle.std.specs.Prelude.{◌≡◌, ℕ, [], false, IfErr, IfOk, IsErrOf, IsTrue, List, OnOk};
     ghost use Rattle.kap_base.specs.Words.{HasRisen};
+    ghost use Rattle.lambda_types.specs.Builds.{AtMostOneMore};
     ghost use Rattle.kap_io.specs.Moments.{Moments, Quiet};
     ghost use Rattle.kap_io.specs.declared.disk.Part.{Part};
     ghost use Rattle.edge_queue.specs.declared.TheConstants.{CAPACITY_LIMIT};
@@ -119,6 +120,7 @@ impl<N: ScriptNode + NumberingNode + Send> Engine<N> {
         ensures faults { IfErr result IsOfOpening }
         ensures cause { EngineCause (D.faults disk.old) (D.faults disk.new) result }
         ensures kept { OnOk result (P.refusals pats.new ≡ P.refusals pats.old) }
+        ensures counted { AtMostOneMore (P.refusals pats.old) (P.refusals pats.new) }
     {
         transition_laws();
         scripts_have_one_answer();

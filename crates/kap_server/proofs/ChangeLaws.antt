@@ -1,7 +1,6 @@
 -- What stands after a task of a store was defined, or changed.
-use Rattle.std.proofs.Common.{◌≡◌, ℕ, ◌<◌, Bool, true, false, List, [], ◌∷◌, ◌++◌, length, Option, None, Some, Err, inl, inr, refl, sym, ap, subst, cond, ◌∙◌, arith}
+use Rattle.std.proofs.Common.{◌≡◌, ℕ, ◌<◌, Bool, true, false, List, [], ◌∷◌, ◌++◌, length, Option, None, Some, Err, inl, inr, refl, sym, ap, subst, ◌∙◌, arith}
 use Rattle.std.specs.Prelude.{◌≢◌, ◌⊎◌, not, ◌&&◌, nat_le, nat_lt, IfSome, IsErrOf}
-use Rattle.std.specs.List.{AllByRecursion as Each}
 use Rattle.std.proofs.lemmas.Bool.Decides.{nat_tests}
 use Rattle.kap_base.specs.Texts.{is_task_id}
 use Rattle.kap_base.specs.Words.{HasRisen}
@@ -13,7 +12,7 @@ use Rattle.kap_io.specs.declared.disk.Part.{Part}
 use Rattle.lambda_types.specs.Faults.{Refusal}
 use Rattle.node_core.specs.declared.node.Node.{Ghosts}
 use Rattle.node_set.specs.Tasks.{Planned}
-use Rattle.store_records.specs.Held.{Held, MayFollow, after, has_task, is_called, nothing, task_of}
+use Rattle.store_records.specs.Held.{Held, MayFollow, after, has_task, nothing, task_of}
 use Rattle.store_records.specs.Histories.{Follow, FollowFrom, first_gate, held, held_from, next_gate}
 use Rattle.store_records.specs.declared.rec.Rec.{Rec}
 use Rattle.store_records.specs.declared.rec.Rec.TheVariants as kinds
@@ -34,6 +33,7 @@ use Rattle.engine_store.specs.declared.fault.EngineFault.TheVariants as engines
 use Rattle.engine_store.proofs.WhyLaws.{refused_rose}
 use Rattle.kap_engine.specs.Changing.{IsRefusal, IsRefusedAgain, IsWhyNoneDefined, IsWhyNoneEnabled, IsWhyNoneEnded, StandsFull, stands_full_before_or_after}
 use Rattle.kap_engine.specs.Engines.{EngineValue, IsEngine, IsEngineBehind}
+use Rattle.kap_engine.proofs.RefusalLaws.{found_script}
 use Rattle.kap_server.specs.declared.status.Status.{Status}
 use Rattle.kap_server.specs.declared.status.Status.TheVariants as statuses
 use Rattle.kap_server.specs.declared.words.Change.{Change}
@@ -169,13 +169,6 @@ module _ {N P S : Type 0} (g : Ghosts N P S) (planned : Planned P) (rs : List Re
 
 -- ---- why a task isn't changed
 
-found-script : (id : List ℕ) (tasks : List StoredTask) (task : StoredTask) → Each (λ task. IsScript task.script) tasks → task_of id tasks ≡ Some task → IsScript task.script
-found-script id [] task all e = absurd cc
-found-script id (t ∷ tasks) task all e = elim (is_called id t) as (λ b. cond b (Some t) (task_of id tasks) ≡ Some task → IsScript task.script) [
-  | true ↦ λ is. let same : t ≡ task = cc in subst (λ (x : StoredTask). IsScript x.script) same all.0
-  | false ↦ λ is. found-script id tasks task all.1 is
-] e
-
 module _ {N P S : Type 0} (g : Ghosts N P S) (planned : Planned P) (rs : List Rec) (good : IsGood g planned rs) (apart : Apart) (before after : ℕ) (refused id : List ℕ) (seen : Image) (images : Image → Type 0) where
   pub change_refused : (log : Part) (r : Rec) (fault : EngineFault) → IsWhyNoneEnabled before after refused log id (held rs).tasks fault → (IsRefusal fault → LeavesFull g planned rs seen images)
       → ChangedTo g planned rs id r before after seen images (status_of_engine fault)
@@ -185,7 +178,7 @@ module _ {N P S : Type 0} (g : Ghosts N P S) (planned : Planned P) (rs : List Re
   change_refused log r engines.TooManyTasks why leaves = absurd why
   change_refused log r (engines.NotStore part offset) why leaves =
       let again : IsRefusedAgain before after refused (task_of id (held rs).tasks) offset = why.1 in
-      refused_rose before after refused again.task.script apart (found-script id (held rs).tasks again.task good.scripts.of_tasks again.is) again.why
+      refused_rose before after refused again.task.script apart (found_script id (held rs).tasks again.task good.scripts.of_tasks again.is) again.why
   change_refused log r engines.DiskFault why leaves = tt
   change_refused log r engines.NoMemory why leaves = tt
 
@@ -447,5 +440,5 @@ ended_why before after refused log id tasks engines.NoTask why = why
 ended_why before after refused log id tasks engines.Exists why = absurd why
 ended_why before after refused log id tasks engines.TooManyTasks why = absurd why
 ended_why before after refused log id tasks (engines.NotStore part offset) why = absurd why
-ended_why before after refused log id tasks engines.DiskFault why = tt
+ended_why before after refused log id tasks engines.DiskFault why = why
 ended_why before after refused log id tasks engines.NoMemory why = tt

@@ -1,26 +1,19 @@
 -- What stands after points were written to a store.
-use Rattle.std.proofs.Common.{◌≡◌, ℕ, ◌+◌, ◌<◌, true, false, List, [], ◌∷◌, ◌++◌, length, Option, None, Some, Ok, Err, IsUtf8, inl, inr, refl, sym, ap, subst, ◌∙◌, append_assoc}
-use Rattle.std.specs.Prelude.{◌≢◌, ◌⊎◌, ◌&&◌, bytes_eq, not, ◌==◌, IsErrOf, Result}
-use Rattle.std.specs.List.{AllByRecursion as Each, list_all}
-use Rattle.std.specs.Cmp.Lexicographic.{bytes_decides}
+use Rattle.std.proofs.Common.{◌≡◌, ℕ, ◌+◌, ◌<◌, true, false, List, ◌++◌, length, Option, Some, Ok, Err, IsUtf8, inl, inr, sym, ap, subst, ◌∙◌, append_assoc}
+use Rattle.std.specs.Prelude.{◌≢◌, ◌⊎◌, not, IsErrOf}
+use Rattle.std.specs.List.{AllByRecursion as Each}
 use Rattle.std.specs.Io.KnownBytes.{Appends}
 use Rattle.kap_base.specs.Points.{PointValue}
 use Rattle.kap_base.specs.Texts.{has_line_feed, is_line}
-use Rattle.kap_base.specs.Words.{HasRisen, ◌>>=◌}
+use Rattle.kap_base.specs.Words.{HasRisen}
 use Rattle.kap_base.specs.declared.items.Effect.{Effect}
-use Rattle.kap_base.proofs.TestLaws.{bind_ok, both, not_false, ok_is}
+use Rattle.kap_base.proofs.TestLaws.{both, not_false}
 use Rattle.kap_base.proofs.TextLaws.{text_is_utf8}
 use Rattle.kap_io.specs.Disk.{Image}
 use Rattle.kap_io.specs.Moments.{Moments, then_run, weaker}
 use Rattle.kap_io.specs.Pieces.{AppendsPrefix}
 use Rattle.kap_io.specs.declared.disk.Part.{Part}
-use Rattle.line_points.specs.Body.{at_line, before_more, body_lines, body_of, points_of}
-use Rattle.line_points.specs.Grammar.{IsOf}
-use Rattle.line_points.specs.Line.{line_of}
-use Rattle.line_points.specs.declared.fault.BodyFault.{BodyFault}
-use Rattle.line_points.specs.declared.fault.LineFault.{LineFault}
 use Rattle.line_points.specs.declared.mode.Mode.{Mode}
-use Rattle.line_points.proofs.WholeLaws.{line_spelled}
 use Rattle.effect_text.specs.Lines.{text_behind}
 use Rattle.flow_core.specs.Nets.{HasStreamsCarried, NetValue}
 use Rattle.life_effects.specs.Effects.{stored_effects}
@@ -28,7 +21,7 @@ use Rattle.node_core.specs.Meaning.{Answer}
 use Rattle.node_core.specs.declared.node.Node.{Ghosts}
 use Rattle.node_set.specs.Tasks.{Planned}
 use Rattle.store_records.specs.Histories.{held}
-use Rattle.store_records.specs.Lines.{are_lines, is_of}
+use Rattle.store_records.specs.Lines.{are_lines}
 use Rattle.store_records.specs.declared.rec.Rec.{Rec}
 use Rattle.store_records.specs.declared.task.Life.{Life}
 use Rattle.tick_compile.specs.declared.tasks.Task.{Task}
@@ -54,35 +47,7 @@ use Rattle.kap_server.specs.declared.status.Status.TheVariants as statuses
 use Rattle.kap_server.proofs.ListLaws.{of_opening, tasks_same}
 use Rattle.kap_server.proofs.RunLaws.{keeps_same}
 
--- ---- the points of lines
-
-of-point : (db rp : List ℕ) (p : PointValue) → IsOf db rp p → is_of db rp p ≡ true
-of-point db rp p is =
-    both (bytes_eq p.db db) (bytes_eq p.rp rp && (length p.dims == 0 && not p.by_name)) ((bytes_decides p.db db).1 is.db)
-    (both (bytes_eq p.rp rp) (length p.dims == 0 && not p.by_name) ((bytes_decides p.rp rp).1 is.rp)
-    (both (length p.dims == 0) (not p.by_name) (ap (λ (l : List (List ℕ)). length l == 0) is.dims) (ap not is.by_name)))
-
-of-more : (db rp : List ℕ) (mode : Mode) (line : List ℕ) (point : Option PointValue) (rest : List PointValue) → line_of db rp mode line ≡ Ok point → list_all (is_of db rp) rest ≡ true
-    → list_all (is_of db rp) (before_more point rest) ≡ true
-of-more db rp mode line None rest is all = all
-of-more db rp mode line (Some p) rest is all = both (is_of db rp p) (list_all (is_of db rp) rest) (of-point db rp p (line_spelled db rp mode line p is).is_of) all
-
-line-ok : (n : ℕ) (read : Result (Option PointValue) LineFault) (point : Option PointValue) → at_line n read ≡ Ok point → read ≡ Ok point
-line-ok n (Ok p) point e = cc
-line-ok n (Err fault) point e = absurd cc
-
-of-lines : (db rp : List ℕ) (mode : Mode) (n : ℕ) (lines : List (List ℕ)) (points : List PointValue) → points_of db rp mode n lines ≡ Ok points → list_all (is_of db rp) points ≡ true
-unfolding points_of
-of-lines db rp mode n [] points e = let none : [] ≡ points = cc in subst (λ (l : List PointValue). list_all (is_of db rp) l ≡ true) none refl
-of-lines db rp mode n (line ∷ lines) points e =
-    let one = bind_ok (at_line n (line_of db rp mode line)) (λ point. points_of db rp mode (n + 1) lines >>= λ points. Ok (before_more point points)) points e in
-    let more = bind_ok (points_of db rp mode (n + 1) lines) (λ points. Ok (before_more one.0 points)) points one.2 in
-    subst (λ (l : List PointValue). list_all (is_of db rp) l ≡ true) (ok_is {E = BodyFault} (before_more one.0 more.0) points more.2)
-    (of-more db rp mode line one.0 more.0 (line-ok n (line_of db rp mode line) one.0 one.1) (of-lines db rp mode (n + 1) lines more.0 more.1))
-
--- the points that lines have are of the database and policy
-pub points_are_of : (db rp : List ℕ) (mode : Mode) (body : List ℕ) (points : List PointValue) → body_of db rp mode body ≡ Ok points → list_all (is_of db rp) points ≡ true
-points_are_of db rp mode body points e = of-lines db rp mode 1 (body_lines body) points e
+-- ---- the names of points that are stored
 
 line-is : (text : List ℕ) → has_line_feed text ≡ false → IsUtf8 text → is_line text ≡ true
 line-is text none utf8 = both (not (has_line_feed text)) _ (not_false (has_line_feed text) none) (text_is_utf8 text utf8)

@@ -1,15 +1,15 @@
 use Rattle.std.proofs.Common.{◌≡◌, List, true, Err, inr, sym, ap, subst, rules}
-use Rattle.std.specs.List.{AllByRecursion as Each}
+use Rattle.std.specs.Prelude.{IfSome}
 use Rattle.kap_http.specs.AskValues.{TaskValue}
 use Rattle.kap_io.specs.Moments.{Moments}
 use Rattle.store_records.specs.Held.{task_of}
 use Rattle.store_records.specs.declared.task.StoredTask.{StoredTask}
 use Rattle.engine_store.specs.Asking.{IsScript}
-use Rattle.reply_bodies.specs.Asks.{IsFailed, is_done}
+use Rattle.reply_bodies.specs.Asks.{IsFailed, is_changing_act, is_done}
 use Rattle.reply_bodies.specs.Bodies.{IsDueOrShort}
 use Rattle.engine_asks.specs.Nexts.{before_or_acted}
 use Rattle.engine_asks.specs.Replies.{reply_to_act}
-use Rattle.engine_asks.proofs.FaultLaws.{acted_cause, acted_failed}
+use Rattle.engine_asks.proofs.FaultLaws.{acted_cause, acted_failed, done_instead}
 use Rattle.engine_asks.proofs.changing.act.Goals as goal
 
 pub returns-in-Ok-clause-any_moment : goal.returns-in-Ok-clause-any_moment
@@ -24,8 +24,8 @@ returns-in-Err-clause-any_moment g c = λ tells rs at.
 
 -- ---- nothing is done: the store failed, or memory ran out
 
-pub returns-in-Err-clause-answer : goal.returns-in-Err-clause-answer
-returns-in-Err-clause-answer g c =
+pub returns-in-Err-clause-reply : goal.returns-in-Err-clause-reply
+returns-in-Err-clause-reply g c =
     let tasks = c.args.engine.now.store.kept.tasks in
     let tasks_are : c.tasks.result.now ≡ tasks = search rules in
     let given : IsDueOrShort (reply_to_act c.ask.inside.act (task_of c.ask.inside.id tasks)) c.reply_of-reply.result =
@@ -57,10 +57,20 @@ returns-in-Err-clause-usable g c = λ told.
     acted_failed _ _ _ _ _ tasks c.ask.inside.act c.in-Err.fault c.reply_of-reply.result c.fault_reply.result c.in-Err.ensures.why given done c.fault_reply.ensures in
     absurd (told failed)
 
-pub returns-in-Err-clause-cause : goal.returns-in-Err-clause-cause
-returns-in-Err-clause-cause g c = λ tells rs at is.
+pub returns-in-Err-clause-instead : goal.returns-in-Err-clause-instead
+returns-in-Err-clause-instead g c = λ is.
     let tasks = c.args.engine.now.store.kept.tasks in
-    let scripts : Each (λ (t : StoredTask). IsScript t.script) tasks =
-    subst (λ (ts : List StoredTask). Each (λ (t : StoredTask). IsScript t.script) ts) (sym at.on.kept.keeps.tasks) at.full.good.scripts.of_tasks in
-    acted_cause _ _ _ _ _ tasks c.scripts_have_one_answer.ensures.apart scripts c.in-Err.fault c.fault_reply.result c.in-Err.ensures.why
+    let tasks_are : c.tasks.result.now ≡ tasks = search rules in
+    let given : IsDueOrShort (reply_to_act c.ask.inside.act (task_of c.ask.inside.id tasks)) c.reply_of-reply.result =
+    subst (λ (ts : List StoredTask). IsDueOrShort (reply_to_act c.ask.inside.act (task_of c.ask.inside.id ts)) c.reply_of-reply.result) tasks_are c.reply_of-reply.ensures in
+    let done : is_done c.reply_of-reply.result.status ≡ true = search rules in
+    subst (λ (t : TaskValue). (is_changing_act t.act ≡ true) × (is_done (reply_to_act t.act (task_of t.id tasks)).status ≡ true)) c.ask.view_is
+    (c.in-Err.ensures.changing, done_instead c.ask.inside.act (task_of c.ask.inside.id tasks) c.reply_of-reply.result given done)
+
+pub returns-in-Err-clause-any_cause : goal.returns-in-Err-clause-any_cause
+returns-in-Err-clause-any_cause g c = λ script is.
+    let tasks = c.args.engine.now.store.kept.tasks in
+    let here : IfSome (task_of c.ask.inside.id tasks) (λ task. IsScript task.script) =
+    subst (λ (t : TaskValue). IfSome (task_of t.id tasks) (λ task. IsScript task.script)) (sym c.ask.view_is) script in
+    acted_cause _ _ _ _ _ tasks c.scripts_have_one_answer.ensures.apart here c.in-Err.fault c.fault_reply.result c.in-Err.ensures.why
     (λ e. c.in-Err.ensures.cause.failed (ap Err e)) c.fault_reply.ensures is

@@ -6,7 +6,7 @@ use Rattle.std.proofs.lemmas.Result.{IfOk-weaker}
 use Rattle.kap_http.specs.AskValues.{WriteValue}
 use Rattle.line_points.specs.declared.mode.Mode.TheVariants.{Live}
 use Rattle.store_records.specs.Lines.{is_of}
-use Rattle.engine_asks.proofs.LineLaws.{points_are_of}
+use Rattle.kap_engine.proofs.LineLaws.{points_are_of}
 use Rattle.engine_asks.proofs.writing.points_of.Goals as goal
 
 pub returns-clause-of : goal.returns-clause-of

@@ -1,4 +1,4 @@
-use Rattle.kap_server.proofs.WriteLaws.{points_are_of}
+use Rattle.kap_engine.proofs.LineLaws.{points_are_of}
 use Rattle.kap_server.proofs.writing.read_points.Goals as goal
 
 pub returns-in-Ok-clause-of : goal.returns-in-Ok-clause-of

@@ -1,5 +1,6 @@
-use Rattle.std.proofs.Common.{◌<◌, ◌≤◌, List, ℕ, [], ◌∷◌, ◌++◌, length, ap, subst, sym, ◌∙◌, arith}
+use Rattle.std.proofs.Common.{◌≤◌, List, ℕ, [], ◌∷◌, ◌++◌, length, ap, subst, sym, ◌∙◌, arith}
 use Rattle.std.specs.Prelude.{◌≢◌, None, OnOk}
+use Rattle.std.proofs.lemmas.Result.{on_ok_weaker}
 use Rattle.kap_base.specs.declared.limits.TheConstants.{TASK_LIMIT}
 use Rattle.kap_io.specs.Moments.{Moments}
 use Rattle.store_records.specs.Held.{has_task, life_from}
@@ -13,7 +14,7 @@ use Rattle.tick_compile.specs.declared.script_fault.ScriptFault.TheVariants as s
 use Rattle.kap_engine.specs.Changing.{stands_full_before_or_after}
 use Rattle.kap_engine.specs.Engines.{EngineValue, IsEngine}
 use Rattle.kap_engine.proofs.ChangeLaws.{define_follows, define_same, still_moments}
-use Rattle.kap_engine.proofs.RefusalLaws.{defined_rose, defined_why, failed_defined, failed_rose, failed_still}
+use Rattle.kap_engine.proofs.RefusalLaws.{can_define, defined_rose, defined_why, failed_defined, failed_rose, failed_still}
 use Rattle.kap_engine.proofs.engine.Engine.define.Goals as goal
 
 -- ---- the script is refused
@@ -79,11 +80,8 @@ returns-clause-defined g c = λ tells rs at.
     let one = c.in_ok-id.ensures.copy in
     let two = c.in_ok-script.ensures.copy in
     let store_is = ap (λ (v : EngineValue _). v.store.kept.tasks) c.self.view_is in
-    let free = ap (has_task c.args.id.now) (sym (c.tasks.ensures ∙ store_is)) ∙ sym c.if-has_task.ensures in
-    let as_many = ap (λ (ts : List StoredTask). length ts) (c.tasks-2.ensures ∙ store_is) in
-    let below = c.if-tasks-ge-TASK_LIMIT.false in
-    let few : length c.args.self.now.store.kept.tasks < TASK_LIMIT = omega (arith, as_many, below) in
-    let may = define_follows _ _ _ _ c.args.enabled one two (held rs) _ at.on.kept.keeps.tasks c.requires.id free few c.requires.short in
+    let could = can_define c.args.id.now c.args.script.now _ c.args.self.now.store.kept.tasks _ _ c.in-Ok.task c.bytes.ensures.bytes (c.tasks.ensures ∙ store_is) (c.tasks-2.ensures ∙ store_is) c.in-Ok.ensures.task c.if-has_task.ensures (omega (arith, c.if-tasks-ge-TASK_LIMIT.false)) in
+    let may = define_follows _ _ _ _ c.args.enabled one two (held rs) _ at.on.kept.keeps.tasks c.requires.id could.free could.room c.requires.short in
     let accepts = subst (λ (text : List ℕ). Accepts None text c.in-Ok.task) (c.bytes.ensures.bytes ∙ sym two) c.in-Ok.ensures.task in
     let is_next = c.in_ok-next.ensures.next (life_from (length (held rs).points) (record { id = c.in_ok-id.id; script = c.in_ok-script.script; enabled = c.args.enabled; define_at = end_of rs })) one accepts in
     subst (λ (r : Rec). OnOk c.add_change.result (IsEngine g.N.Node g.N.ScriptNode.planned (rs ++ r ∷ []) (g.D.Disk.seen c.add_change.new.disk) (g.D.Disk.may_leave c.add_change.new.disk) c.add_change.new.self)) (define_same _ _ _ _ c.args.enabled one two)
@@ -94,17 +92,23 @@ returns-clause-any_moment g c = λ tells rs at.
     let one = c.in_ok-id.ensures.copy in
     let two = c.in_ok-script.ensures.copy in
     let store_is = ap (λ (v : EngineValue _). v.store.kept.tasks) c.self.view_is in
-    let free = ap (has_task c.args.id.now) (sym (c.tasks.ensures ∙ store_is)) ∙ sym c.if-has_task.ensures in
-    let as_many = ap (λ (ts : List StoredTask). length ts) (c.tasks-2.ensures ∙ store_is) in
-    let below = c.if-tasks-ge-TASK_LIMIT.false in
-    let few : length c.args.self.now.store.kept.tasks < TASK_LIMIT = omega (arith, as_many, below) in
-    let may = define_follows _ _ _ _ c.args.enabled one two (held rs) _ at.on.kept.keeps.tasks c.requires.id free few c.requires.short in
+    let could = can_define c.args.id.now c.args.script.now _ c.args.self.now.store.kept.tasks _ _ c.in-Ok.task c.bytes.ensures.bytes (c.tasks.ensures ∙ store_is) (c.tasks-2.ensures ∙ store_is) c.in-Ok.ensures.task c.if-has_task.ensures (omega (arith, c.if-tasks-ge-TASK_LIMIT.false)) in
+    let may = define_follows _ _ _ _ c.args.enabled one two (held rs) _ at.on.kept.keeps.tasks c.requires.id could.free could.room c.requires.short in
     let accepts = subst (λ (text : List ℕ). Accepts None text c.in-Ok.task) (c.bytes.ensures.bytes ∙ sym two) c.in-Ok.ensures.task in
     subst (λ (r : Rec). Moments g.D.Disk.moment g.D.Disk.may_leave g.D.Disk.left_since c.args.disk.now c.add_change.new.disk (stands_full_before_or_after g.N.Node g.N.ScriptNode.planned rs r)) (define_same _ _ _ _ c.args.enabled one two)
     (c.add_change.ensures.any_moment tells rs at may (c.in-Ok.task, accepts))
 
+pub returns-clause-could : goal.returns-clause-could
+returns-clause-could g c =
+    let store_is = ap (λ (v : EngineValue _). v.store.kept.tasks) c.self.view_is in
+    let could = can_define c.args.id.now c.args.script.now _ c.args.self.now.store.kept.tasks _ _ c.in-Ok.task c.bytes.ensures.bytes (c.tasks.ensures ∙ store_is) (c.tasks-2.ensures ∙ store_is) c.in-Ok.ensures.task c.if-has_task.ensures (omega (arith, c.if-tasks-ge-TASK_LIMIT.false)) in
+    on_ok_weaker c.add_change.result (λ none. could) c.add_change.ensures.stored
+
 pub returns-clause-why : goal.returns-clause-why
-returns-clause-why g c = failed_defined _ c.args.id.now c.args.script.now _ c.add_change.result c.add_change.ensures.failed
+returns-clause-why g c =
+    let store_is = ap (λ (v : EngineValue _). v.store.kept.tasks) c.self.view_is in
+    let could = can_define c.args.id.now c.args.script.now _ c.args.self.now.store.kept.tasks _ _ c.in-Ok.task c.bytes.ensures.bytes (c.tasks.ensures ∙ store_is) (c.tasks-2.ensures ∙ store_is) c.in-Ok.ensures.task c.if-has_task.ensures (omega (arith, c.if-tasks-ge-TASK_LIMIT.false)) in
+    failed_defined _ c.args.id.now c.args.script.now _ c.add_change.result could c.add_change.ensures.failed
 
 pub returns-clause-rose : goal.returns-clause-rose
 returns-clause-rose g c = failed_rose _ c.add_change.result c.add_change.ensures.failed

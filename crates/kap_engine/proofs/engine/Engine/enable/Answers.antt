@@ -1,5 +1,5 @@
 use Rattle.std.proofs.Common.{◌≡◌, List, ℕ, [], ◌∷◌, ◌++◌, true, false, length, ap, subst, sym, ◌∙◌}
-use Rattle.std.proofs.lemmas.Result.{err_from_is_err_and}
+use Rattle.std.proofs.lemmas.Result.{err_from_is_err_and, on_ok_weaker}
 use Rattle.std.specs.Prelude.{OnOk, Option, slice_get}
 use Rattle.kap_io.specs.Moments.{Moments}
 use Rattle.store_records.specs.Held.{has_task, life_of, task_of}
@@ -67,8 +67,17 @@ returns-clause-any_moment g c = λ tells rs at.
     subst (λ (i : List ℕ). Moments g.D.Disk.moment g.D.Disk.may_leave g.D.Disk.left_since c.args.disk.now c.add_change.new.disk (stands_full_before_or_after g.N.Node g.N.ScriptNode.planned rs (kinds.Enable i))) same
     (c.add_change.ensures.any_moment tells rs at may tt)
 
+pub returns-clause-there : goal.returns-clause-there
+returns-clause-there g c =
+    let tasks_is = c.tasks.ensures ∙ ap (λ (v : EngineValue _). v.store.kept.tasks) c.self.view_is in
+    let there = subst (λ (ts : List StoredTask). has_task c.args.id.now ts ≡ true) tasks_is (has_found c.args.id.now c.tasks.result.now c.in-Some.place (sym c.find_task.ensures ∙ c.in-Some.is)) in
+    on_ok_weaker c.add_change.result (λ none. there) c.add_change.ensures.stored
+
 pub returns-clause-why : goal.returns-clause-why
-returns-clause-why g c = failed_enabled (g.P.Patterns.refusals c.args.pats.now) (g.P.Patterns.refusals c.plan_enabled.new.pats) (g.P.Patterns.refused c.plan_enabled.new.pats) c.args.self.now.store.log.part c.args.id.now c.args.self.now.store.kept.tasks c.add_change.result c.add_change.ensures.failed
+returns-clause-why g c =
+    let tasks_is = c.tasks.ensures ∙ ap (λ (v : EngineValue _). v.store.kept.tasks) c.self.view_is in
+    let there = subst (λ (ts : List StoredTask). has_task c.args.id.now ts ≡ true) tasks_is (has_found c.args.id.now c.tasks.result.now c.in-Some.place (sym c.find_task.ensures ∙ c.in-Some.is)) in
+    failed_enabled (g.P.Patterns.refusals c.args.pats.now) (g.P.Patterns.refusals c.plan_enabled.new.pats) (g.P.Patterns.refused c.plan_enabled.new.pats) c.args.self.now.store.log.part c.args.id.now c.args.self.now.store.kept.tasks c.add_change.result there c.add_change.ensures.failed
 
 pub returns-clause-still : goal.returns-clause-still
 returns-clause-still g c = failed_still _ c.add_change.result c.add_change.ensures.failed

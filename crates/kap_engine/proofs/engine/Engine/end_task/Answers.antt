@@ -1,5 +1,6 @@
 use Rattle.std.proofs.Common.{◌≡◌, List, [], ◌∷◌, ◌++◌, true, false, length, ap, subst, sym, ◌∙◌}
 use Rattle.std.specs.Prelude.{OnOk}
+use Rattle.std.proofs.lemmas.Result.{on_ok_weaker}
 use Rattle.kap_io.specs.Moments.{Moments}
 use Rattle.store_records.specs.Held.{has_task}
 use Rattle.store_records.specs.Histories.{end_of, held}
@@ -47,8 +48,17 @@ returns-clause-any_moment g c = λ tells rs at.
     subst (λ (r : Rec). Moments g.D.Disk.moment g.D.Disk.may_leave g.D.Disk.left_since c.args.disk.now c.add_change.new.disk (stands_full_before_or_after g.N.Node g.N.ScriptNode.planned rs r)) is
     (c.add_change.ensures.any_moment tells rs at (ending_may _ _ _ is (held rs) there) (ending_defines _ _ _ is))
 
+pub returns-clause-there : goal.returns-clause-there
+returns-clause-there g c =
+    let tasks_is = c.tasks.ensures ∙ ap (λ (v : EngineValue _). v.store.kept.tasks) c.self.view_is in
+    let there = subst (λ (ts : List StoredTask). has_task c.args.id.now ts ≡ true) tasks_is (sym c.if-not-has_task.ensures) in
+    on_ok_weaker c.add_change.result (λ none. there) c.add_change.ensures.stored
+
 pub returns-clause-why : goal.returns-clause-why
-returns-clause-why g c = failed_ended c.args.id.now c.args.self.now.store.kept.tasks c.add_change.result c.add_change.ensures.failed
+returns-clause-why g c =
+    let tasks_is = c.tasks.ensures ∙ ap (λ (v : EngineValue _). v.store.kept.tasks) c.self.view_is in
+    let there = subst (λ (ts : List StoredTask). has_task c.args.id.now ts ≡ true) tasks_is (sym c.if-not-has_task.ensures) in
+    failed_ended c.args.id.now c.args.self.now.store.kept.tasks c.add_change.result there c.add_change.ensures.failed
 
 pub returns-clause-still : goal.returns-clause-still
 returns-clause-still g c = failed_still _ c.add_change.result c.add_change.ensures.failed

@@ -1,13 +1,14 @@
-use Rattle.std.proofs.Common.{ℤ, sym, subst}
+use Rattle.std.proofs.Common.{◌≡◌, ℤ, sym, subst}
 use Rattle.std.specs.Int.{w64}
 use Rattle.std.proofs.lemmas.Int.{to_z-of_z}
 use Rattle.kap_http.specs.declared.ask.Ask.{Ask}
 use Rattle.kap_io.specs.Moments.{Moments}
-use Rattle.engine_asks.specs.Decisions.{IsAnswerOrFailed}
+use Rattle.reply_bodies.specs.Bodies.{done_reply}
 use Rattle.engine_asks.specs.Nexts.{HasPointsOf, IsNext, before_or_next, before_or_written}
-use Rattle.engine_asks.specs.Replies.{points_asked}
+use Rattle.engine_asks.specs.Replies.{HasScript, IsReplyOrFailed, WouldChange, points_asked, reply_to_lines}
+use Rattle.engine_asks.proofs.AskLaws.{act_instead, define_instead, write_instead}
 use Rattle.engine_asks.proofs.NextLaws.{next_if, stays_same}
-use Rattle.engine_asks.proofs.deciding.answer.Goals as goal
+use Rattle.engine_asks.proofs.answering.answer.Goals as goal
 
 pub returns-in-Write-clause-next : goal.returns-in-Write-clause-next
 returns-in-Write-clause-next g c = λ tells rs at told.
@@ -33,10 +34,10 @@ returns-in-Task-clause-next g c = λ tells rs at told.
     (λ done. c.act.ensures.next tells rs at done)
     (λ refused. stays_same g.N.Node g.N.ScriptNode.planned rs g.D.Disk.seen g.D.Disk.may_leave c.args.disk.now c.act.new.disk c.args.engine.now c.act.new.engine at (c.act.ensures.still refused told)))
 
-pub returns-in-Define-clause-answer : goal.returns-in-Define-clause-answer
-returns-in-Define-clause-answer g c =
-    subst (λ (ask : Ask). IsAnswerOrFailed (g.P.Patterns.refused c.define.new.pats) c.args.engine.now.store.kept c.args.engine.now.run.topics c.args.now ask c.define.result) (sym c.in-Define.is)
-    c.define.ensures.answer
+pub returns-in-Define-clause-reply : goal.returns-in-Define-clause-reply
+returns-in-Define-clause-reply g c =
+    subst (λ (ask : Ask). IsReplyOrFailed (g.P.Patterns.refused c.define.new.pats) c.args.engine.now.store.kept.tasks c.args.engine.now.run.topics c.args.now ask c.define.result) (sym c.in-Define.is)
+    c.define.ensures.reply
 
 pub returns-in-Write-clause-any_moment : goal.returns-in-Write-clause-any_moment
 returns-in-Write-clause-any_moment g c = λ tells rs at.
@@ -53,3 +54,31 @@ pub returns-in-Task-clause-any_moment : goal.returns-in-Task-clause-any_moment
 returns-in-Task-clause-any_moment g c = λ tells rs at.
     subst (λ (ask : Ask). Moments g.D.Disk.moment g.D.Disk.may_leave g.D.Disk.left_since c.args.disk.now c.act.new.disk (before_or_next g.N.Node g.N.ScriptNode.planned rs ask c.args.now)) (sym c.in-Task.is)
     (c.act.ensures.any_moment tells rs at)
+
+-- ---- 500 in place of a change
+
+pub returns-in-Write-clause-instead : goal.returns-in-Write-clause-instead
+returns-in-Write-clause-instead g c = λ is.
+    let refused = g.P.Patterns.refused c.args.pats.now in
+    let tasks = c.args.engine.now.store.kept.tasks in
+    let topics = c.args.engine.now.run.topics in
+    let due = subst (λ (t : ℤ). reply_to_lines (points_asked c.in-Write.ask t) ≡ done_reply) (to_z-of_z w64 c.args.now c.ranges.now) (c.write.ensures.instead is) in
+    subst (λ (ask : Ask). WouldChange refused tasks topics c.args.now ask) (sym c.in-Write.is) (write_instead refused tasks topics c.args.now c.in-Write.ask due)
+
+pub returns-in-Define-clause-instead : goal.returns-in-Define-clause-instead
+returns-in-Define-clause-instead g c = λ is.
+    let refused = g.P.Patterns.refused c.define.new.pats in
+    let tasks = c.args.engine.now.store.kept.tasks in
+    let topics = c.args.engine.now.run.topics in
+    subst (λ (ask : Ask). WouldChange refused tasks topics c.args.now ask) (sym c.in-Define.is) (define_instead refused tasks topics c.args.now c.in-Define.ask (c.define.ensures.instead is))
+
+pub returns-in-Task-clause-instead : goal.returns-in-Task-clause-instead
+returns-in-Task-clause-instead g c = λ is.
+    let refused = g.P.Patterns.refused c.act.new.pats in
+    let tasks = c.args.engine.now.store.kept.tasks in
+    let topics = c.args.engine.now.run.topics in
+    subst (λ (ask : Ask). WouldChange refused tasks topics c.args.now ask) (sym c.in-Task.is) (act_instead refused tasks topics c.args.now c.in-Task.ask (c.act.ensures.instead is))
+
+pub returns-in-Task-clause-any_cause : goal.returns-in-Task-clause-any_cause
+returns-in-Task-clause-any_cause g c = λ script.
+    c.act.ensures.any_cause (subst (λ (ask : Ask). HasScript c.args.engine.now.store.kept.tasks ask) c.in-Task.is script)

@@ -1,17 +1,17 @@
-//! An ask is decided.
+//! An ask is answered.
 
 ghost use Rattle.std.specs.Prelude.{◌≡◌, ◌⊎◌, ◌+◌, ◌≤◌, false, IsTrue, List};
 ghost use Rattle.kap_base.specs.Points.{is_time};
 ghost use Rattle.kap_base.specs.Words.{HasRisen};
 ghost use Rattle.kap_io.specs.Moments.{Moments};
+ghost use Rattle.lambda_types.specs.Builds.{AtMostOneMore};
 ghost use Rattle.store_records.specs.declared.rec.Rec.{Rec};
 ghost use Rattle.kap_engine.specs.Engines.{IsEngine};
 ghost use Rattle.reply_bodies.specs.Asks.{IsFailed, change_of};
-ghost use Rattle.engine_asks.specs.Decisions.{IsAnswerOrFailed, IsReplyOrFailed};
 ghost use Rattle.engine_asks.specs.Nexts.{IsCounted, IsNext, before_or_next, stands_counted};
+ghost use Rattle.engine_asks.specs.Replies.{HasScript, IsReplyOrFailed, WouldChange};
 
 use crate::changing::act;
-use crate::decided::Decided;
 use crate::defining::define;
 use crate::writing::write;
 use kap_engine::Engine;
@@ -43,8 +43,10 @@ fn answer<
 ) -> Reply
     requires unspent { engine.old.spent ≡ false }
     requires time { IsTrue (is_time now) }
-    ensures answer { IsAnswerOrFailed (P.refused pats.new) engine.old.store.kept
+    ensures reply { IsReplyOrFailed (P.refused pats.new) engine.old.store.kept.tasks
         engine.old.run.topics now ask.now result }
+    ensures instead { result.status ≡ 500 → WouldChange (P.refused pats.new)
+        engine.old.store.kept.tasks engine.old.run.topics now ask.now }
     ensures next { IsTrue D.tells → (rs : List Rec)
         → (at : IsEngine N.Node N.planned rs (D.seen disk.old) (D.may_leave disk.old) engine.old)
         → (IsFailed result.status → ⊥) → IsNext N.Node N.planned rs at.full.good.tasks
@@ -55,11 +57,11 @@ fn answer<
         → Moments D.moment D.may_leave D.left_since disk.old disk.new
         (before_or_next N.Node N.planned rs ask.now now) }
     ensures usable { (IsFailed result.status → ⊥) → engine.new.spent ≡ false }
-    ensures cause { IsTrue D.tells → (rs : List Rec)
-        → IsEngine N.Node N.planned rs (D.seen disk.old) (D.may_leave disk.old) engine.old
+    ensures any_cause { HasScript engine.old.store.kept.tasks ask.now
         → result.status ≡ 500 → HasRisen (D.faults disk.old) (D.faults disk.new)
         ⊎ HasRisen (P.refusals pats.old) (P.refusals pats.new) }
     ensures later { D.faults disk.old ≤ D.faults disk.new }
+    ensures counted { AtMostOneMore (P.refusals pats.old) (P.refusals pats.new) }
 {
     match ask {
         Ask::Ping => done_reply(alloc),
@@ -72,15 +74,15 @@ fn answer<
     }
 }
 
-/// Decides an ask at a moment, in nanoseconds from 1970-01-01T00:00:00Z on, on an engine that was made on this
-/// disk: the reply is the one that is due by what the store has, and the change is done that is asked for.
+/// Answers an ask at a moment, in nanoseconds from 1970-01-01T00:00:00Z on, by an engine that was made on this
+/// disk: with the reply that is due by what the store has, and the change is done that is asked for.
 ///
-/// 500 comes only where the disk's count of faults, or the count of patterns that were refused, rose in this
-/// call, where the disk tells its bytes; 503 comes where memory ran out. Behind these the change is stored or
-/// not, never in part, and the engine may be spent: it is made anew. Behind another refusal nothing has
-/// changed.
-pub fn decide<
-    'a,
+/// 500 comes in place of no refusal, and only where the disk's count of faults, or the count of patterns that
+/// were refused, rose in this call; on a disk that doesn't tell its bytes that holds where the script of the
+/// task that is asked for is that of a task. 503 comes where memory ran out. Behind these the change is
+/// stored or not, never in part, and the engine may be spent: it is made anew. Behind another refusal nothing
+/// has changed.
+pub fn answer_ask<
     D: Disk,
     P: Patterns,
     N: ScriptNode + NumberingNode + Send,
@@ -93,36 +95,32 @@ pub fn decide<
     disk: &mut D,
     pats: &mut P,
     gate: &G,
-    ask: &'a Ask,
+    ask: &Ask,
     now: i64,
-) -> Decided<'a>
+) -> Reply
     requires unspent { engine.old.spent ≡ false }
     requires time { IsTrue (is_time now) }
-    ensures own { (result.ask ≡ ask.now) × (result.moment ≡ now) }
-    ensures changes { result.changes ≡ engine.old.store.kept.changes }
-    // The reply answers the ask; and where the disk tells its bytes it is the one that is due.
-    ensures answer { IsAnswerOrFailed (P.refused pats.new) engine.old.store.kept
-        engine.old.run.topics now ask.now result.reply }
-    ensures reply { IsTrue D.tells → (rs : List Rec)
-        → IsEngine N.Node N.planned rs (D.seen disk.old) (D.may_leave disk.old) engine.old
-        → IsReplyOrFailed (P.refused pats.new) engine.old.store.kept
-        engine.old.run.topics now ask.now result.reply }
+    // The reply is the one that is due; 500 comes only where this would say that a change is done.
+    ensures reply { IsReplyOrFailed (P.refused pats.new) engine.old.store.kept.tasks
+        engine.old.run.topics now ask.now result }
+    ensures instead { result.status ≡ 500 → WouldChange (P.refused pats.new)
+        engine.old.store.kept.tasks engine.old.run.topics now ask.now }
     // The store is the next one.
     ensures next { IsTrue D.tells → (rs : List Rec)
         → (at : IsEngine N.Node N.planned rs (D.seen disk.old) (D.may_leave disk.old) engine.old)
-        → (IsFailed result.reply.status → ⊥) → IsNext N.Node N.planned rs at.full.good.tasks
+        → (IsFailed result.status → ⊥) → IsNext N.Node N.planned rs at.full.good.tasks
         engine.old.stored (D.seen disk.new) (D.may_leave disk.new) engine.new
-        ask.now now result.reply.status }
+        ask.now now result.status }
     // It has one change more exactly where one was asked for and is done. What was stored before stands in front
     // of what is stored then, and behind it only what the engine tells of as stored.
-    ensures counted { IsTrue D.tells → (rs : List Rec)
+    ensures changes { IsTrue D.tells → (rs : List Rec)
         → IsEngine N.Node N.planned rs (D.seen disk.old) (D.may_leave disk.old) engine.old
-        → (IsFailed result.reply.status → ⊥) → IsCounted N.Node N.planned rs ask.now
-        result.reply.status (D.seen disk.new) (D.may_leave disk.new) engine.new }
+        → (IsFailed result.status → ⊥) → IsCounted N.Node N.planned rs ask.now
+        result.status (D.seen disk.new) (D.may_leave disk.new) engine.new }
     ensures exact { IsTrue D.tells → (rs : List Rec)
         → IsEngine N.Node N.planned rs (D.seen disk.old) (D.may_leave disk.old) engine.old
-        → (IsFailed result.reply.status → ⊥) → engine.new.store.kept.changes
-        ≡ engine.old.store.kept.changes + change_of ask.now result.reply.status }
+        → (IsFailed result.status → ⊥) → engine.new.store.kept.changes
+        ≡ engine.old.store.kept.changes + change_of ask.now result.status }
     // At each moment each image stands for a right store, as it was or with the change.
     ensures any_moment { IsTrue D.tells → (rs : List Rec)
         → IsEngine N.Node N.planned rs (D.seen disk.old) (D.may_leave disk.old) engine.old
@@ -132,19 +130,18 @@ pub fn decide<
         → IsEngine N.Node N.planned rs (D.seen disk.old) (D.may_leave disk.old) engine.old
         → Moments D.moment D.may_leave D.left_since disk.old disk.new
         (stands_counted N.Node N.planned rs ask.now) }
-    ensures usable { (IsFailed result.reply.status → ⊥) → engine.new.spent ≡ false }
+    ensures usable { (IsFailed result.status → ⊥) → engine.new.spent ≡ false }
+    // 500 has its cause on any disk, where the script of the task that is asked for is that of a task. So it is
+    // where the disk tells its bytes.
+    ensures any_cause { HasScript engine.old.store.kept.tasks ask.now
+        → result.status ≡ 500 → HasRisen (D.faults disk.old) (D.faults disk.new)
+        ⊎ HasRisen (P.refusals pats.old) (P.refusals pats.new) }
     ensures cause { IsTrue D.tells → (rs : List Rec)
         → IsEngine N.Node N.planned rs (D.seen disk.old) (D.may_leave disk.old) engine.old
-        → result.reply.status ≡ 500 → HasRisen (D.faults disk.old) (D.faults disk.new)
+        → result.status ≡ 500 → HasRisen (D.faults disk.old) (D.faults disk.new)
         ⊎ HasRisen (P.refusals pats.old) (P.refusals pats.new) }
     ensures later { D.faults disk.old ≤ D.faults disk.new }
+    ensures counted { AtMostOneMore (P.refusals pats.old) (P.refusals pats.new) }
 {
-    let changes = engine.store().changes();
-    let reply = answer(rt, alloc, engine, disk, pats, gate, ask, now);
-    Decided {
-        ask,
-        moment: now,
-        changes,
-        reply,
-    }
+    answer(rt, alloc, engine, disk, pats, gate, ask, now)
 }

@@ -1,17 +1,8 @@
--- What a decision says of the store.
-use Rattle.std.proofs.Common.{◌≡◌, ℕ, ℤ, ◌+◌, ◌<◌, ◌≤◌, Bool, true, false, List, [], ◌∷◌, ◌++◌, length, take, drop, inl, inr, refl, sym, ap, subst, ◌∙◌, arith, append-nil}
-use Rattle.std.specs.Prelude.{◌⊎◌, ⊤, not, ◌&&◌, nat_le, nat_lt, if◌then◌else◌}
-use Rattle.std.specs.List.{AllByRecursion as Each, position_or_len}
-use Rattle.std.specs.Ordering.{is_lt}
-use Rattle.std.proofs.lemmas.Bool.Decides.{nat_tests}
-use Rattle.kap_base.specs.Maps.{byte_order}
+-- How many changes and which transitions there are behind an ask.
+use Rattle.std.proofs.Common.{◌≡◌, ℕ, ℤ, ◌+◌, ◌≤◌, Bool, true, false, List, [], ◌∷◌, ◌++◌, inl, inr, refl, sym, ap, subst, ◌∙◌, arith, append-nil}
+use Rattle.std.specs.Prelude.{◌⊎◌, ◌&&◌, if◌then◌else◌}
 use Rattle.kap_base.specs.Points.{PointValue}
-use Rattle.kap_base.specs.Texts.{is_task_id}
-use Rattle.kap_base.specs.declared.limits.TheConstants.{SCRIPT_LIMIT, TASK_LIMIT}
-use Rattle.kap_base.proofs.TestLaws.{first_of, second_of}
 use Rattle.kap_io.specs.Disk.{Image}
-use Rattle.kap_http.specs.AskValues.{DefineValue}
-use Rattle.kap_http.specs.ReplyValues.{ReplyValue}
 use Rattle.kap_http.specs.declared.ask.Ask.{Ask}
 use Rattle.kap_http.specs.declared.ask.Ask.TheVariants as asks
 use Rattle.kap_http.specs.declared.ask.TaskAct.{TaskAct}
@@ -20,101 +11,18 @@ use Rattle.node_core.specs.declared.node.Node.{Ghosts}
 use Rattle.node_set.specs.Tasks.{Planned}
 use Rattle.store_kept.specs.Keeping.{KeptValue}
 use Rattle.store_kept.proofs.Keeping.{held_push}
-use Rattle.store_records.specs.Held.{Held, MayFollow, after, has_task, is_change, put_task}
-use Rattle.store_records.specs.Histories.{Follow, FollowFrom, end_of, first_gate, held, held_from, next_gate}
-use Rattle.store_records.specs.Held.{nothing}
+use Rattle.store_records.specs.Held.{Held, is_change}
+use Rattle.store_records.specs.Histories.{held}
 use Rattle.store_records.specs.declared.rec.Rec.{Rec}
 use Rattle.store_records.specs.declared.rec.Rec.TheVariants as kinds
-use Rattle.store_records.specs.declared.task.StoredTask.{StoredTask}
 use Rattle.tick_compile.specs.declared.tasks.Task.{Task}
-use Rattle.topic_core.specs.Topics.{TopicsValue}
 use Rattle.topic_core.specs.declared.transition.Transition.{Transition}
-use Rattle.engine_store.specs.Asking.{IsScript}
 use Rattle.kap_engine.specs.Changing.{ChangesTask, StandsFull}
 use Rattle.kap_engine.specs.Engines.{EngineValue, IsEngine}
 use Rattle.kap_engine.specs.Writing.{HasNoPoints, HasPoints, StandsWriting}
 use Rattle.kap_engine.proofs.FullLaws.{same_transitions}
-use Rattle.reply_bodies.specs.Asks.{IsFailed, change_of, is_changing, is_changing_act, is_done}
-use Rattle.engine_asks.specs.Decisions.{IsAnswerOrFailed, IsReplyOrFailed}
+use Rattle.reply_bodies.specs.Asks.{change_of, is_changing, is_changing_act, is_done}
 use Rattle.engine_asks.specs.Nexts.{HasRecord, IsCounted, IsNext, IsNextIf, NextOf, NextOfAct, StandsCounted, Stays, before_or_acted, before_or_next, definition}
-use Rattle.engine_asks.specs.Replies.{CanBeDefined, IsReplyToDefinition, exists, is_defined, no_room, no_script}
-
--- a status that says that something is done says of no failure
-done_is_no_failure : (status : ℕ) → is_done status ≡ true → IsFailed status → ⊥
-done_is_no_failure status done (inl is) = let none : true ≡ false = sym done ∙ ap is_done is in absurd cc
-done_is_no_failure status done (inr is) = let none : true ≡ false = sym done ∙ ap is_done is in absurd cc
-
--- ---- a task that was defined
-
-last-from : (h : Held) (at : ℕ) (rs : List Rec) (r : Rec) → FollowFrom h at (rs ++ r ∷ []) → MayFollow (held_from h at rs) r
-last-from h at [] r follow = follow.1
-last-from h at (q ∷ rs) r follow = last-from (after h at q) (next_gate at q) rs r follow.2
-
--- the last of the records of a store may follow those before it
-last_may : (rs : List Rec) (r : Rec) → Follow (rs ++ r ∷ []) → MayFollow (held rs) r
-last_may rs r follow = last-from nothing first_gate rs r follow
-
-not-true : (b : Bool) → not b ≡ true → b ≡ false
-not-true true e = absurd cc
-not-true false e = refl
-
-less : (n m : ℕ) → nat_lt n m ≡ true → n < m
-less n m e = grind (arith, nat_tests)
-
--- what holds of each holds of one among them
-among : {T : Type 0} (P : T → Type 0) (xs : List T) (x : T) (ys : List T) → Each P (xs ++ x ∷ ys) → P x
-among P [] x ys all = all.0
-among P (z ∷ xs) x ys all = among P xs x ys all.1
-
-put-script : (task : StoredTask) (tasks : List StoredTask) → Each (λ t. IsScript t.script) (put_task task tasks) → IsScript task.script
-put-script task tasks all =
-    let place = position_or_len (λ other. is_lt (byte_order task.id other.id)) tasks in
-    among (λ (t : StoredTask). IsScript t.script) (take place tasks) task (drop place tasks) all
-
-module _ {N P S : Type 0} (g : Ghosts N P S) (planned : Planned P) (rs : List Rec) (seen : Image) (images : Image → Type 0) (e : EngineValue N) where
-  -- where a task was defined it could be
-  could_be : (before : KeptValue) (d : DefineValue) → before.tasks ≡ (held rs).tasks → IsEngine g planned (rs ++ definition d ∷ []) seen images e → CanBeDefined before.tasks d
-  could_be before d tasks_are at =
-      let may = last_may rs (definition d) at.on.stored.follow in
-      let room = nat_lt (length (held rs).tasks) TASK_LIMIT && nat_le (length d.script) SCRIPT_LIMIT in
-      let behind = second_of (is_task_id d.id) (not (has_task d.id (held rs).tasks) && room) may in
-      let place = end_of rs in
-      let task : StoredTask = record { id = d.id; script = d.script; enabled = d.enabled; define_at = place } in
-      let there : Each (λ (t : StoredTask). IsScript t.script) (put_task task (held rs).tasks) =
-      subst (λ (h : Held). Each (λ (t : StoredTask). IsScript t.script) h.tasks) (held_push rs (definition d)) at.full.good.scripts.of_tasks in
-      subst (λ (tasks : List StoredTask). CanBeDefined tasks d) (sym tasks_are) (record {
-        script = put-script task (held rs).tasks there;
-        free = not-true (has_task d.id (held rs).tasks) (first_of (not (has_task d.id (held rs).tasks)) room behind);
-        room = less (length (held rs).tasks) TASK_LIMIT (first_of (nat_lt (length (held rs).tasks) TASK_LIMIT) (nat_le (length d.script) SCRIPT_LIMIT) (second_of (not (has_task d.id (held rs).tasks)) room behind));
-      })
-
-  -- so the reply is the one that is due
-  defined_due : (refused : List ℕ) (before : KeptValue) (d : DefineValue) (reply : ReplyValue) → before.tasks ≡ (held rs).tasks
-      → (is_done reply.status ≡ true → IsEngine g planned (rs ++ definition d ∷ []) seen images e) → IsReplyToDefinition ⊤ refused before.tasks d reply
-      → IsReplyToDefinition (CanBeDefined before.tasks d) refused before.tasks d reply
-  defined_due refused before d reply tasks_are at (no_script fault why is) = no_script fault why is
-  defined_due refused before d reply tasks_are at (exists script there is) = exists script there is
-  defined_due refused before d reply tasks_are at (no_room script free full is) = no_room script free full is
-  defined_due refused before d reply tasks_are at (is_defined may is) =
-      is_defined (could_be before d tasks_are (at (ap (λ (r : ReplyValue). is_done r.status) is))) is
-
-  pub reply_due : (refused : List ℕ) (before : KeptValue) (topics : TopicsValue) (tasks : List Task) (stored : List Transition) (now : ℤ) (ask : Ask) (reply : ReplyValue) → before.tasks ≡ (held rs).tasks
-      → ((IsFailed reply.status → ⊥) → IsNext g planned rs tasks stored seen images e ask now reply.status) → IsAnswerOrFailed refused before topics now ask reply → IsReplyOrFailed refused before topics now ask reply
-  reply_due refused before topics tasks stored now ask reply tasks_are next (inr failed) = inr failed
-  reply_due refused before topics tasks stored now asks.Ping reply tasks_are next (inl is) = inl is
-  reply_due refused before topics tasks stored now (asks.Write w) reply tasks_are next (inl is) = inl is
-  reply_due refused before topics tasks stored now asks.Tasks reply tasks_are next (inl is) = inl is
-  reply_due refused before topics tasks stored now (asks.Define d) reply tasks_are next (inl is) =
-      inl (defined_due refused before d reply tasks_are at is)
-    where
-      at : is_done reply.status ≡ true → IsEngine g planned (rs ++ definition d ∷ []) seen images e
-      at done =
-          let given : HasRecord g planned rs (definition d) seen images e =
-          subst (λ (b : Bool). IsNextIf g planned rs tasks stored seen images e b (asks.Define d) now) done (next (done_is_no_failure reply.status done)) in
-          given.engine
-  reply_due refused before topics tasks stored now (asks.Task t) reply tasks_are next (inl is) = inl is
-  reply_due refused before topics tasks stored now asks.Topics reply tasks_are next (inl is) = inl is
-  reply_due refused before topics tasks stored now (asks.Topic t) reply tasks_are next (inl is) = inl is
 
 -- ---- how many changes and which transitions there are
 
@@ -244,7 +152,7 @@ module _ {N P S : Type 0} (g : Ghosts N P S) (planned : Planned P) (rs : List Re
           record { records = w.records; stands = w.stands; good = w.good; least = omega (arith, one); most = room; some = w.some; transitions = w.transitions }
 
 module _ {N P S : Type 0} (g : Ghosts N P S) (planned : Planned P) (rs : List Rec) (old files : Image) where
-  -- each image while an ask is decided
+  -- each image while an ask is answered
   pub next_counted : (ask : Ask) (now : ℤ) → before_or_next g planned rs ask now old files → StandsCounted g planned rs ask files
   next_counted asks.Ping now stands = same-counted g planned rs asks.Ping files stands
   next_counted (asks.Write w) now (inl full) = same-counted g planned rs (asks.Write w) files full
