@@ -21,7 +21,8 @@ fn door_of(
     Ok((SocketDoor::new(listener, rt, patience), addr))
 }
 
-fn patience_of(idle: u64, whole: u64) -> Patience {
+/// A patience of so many milliseconds for an idle link, and for a whole request.
+pub(crate) fn patience_of(idle: u64, whole: u64) -> Patience {
     Patience {
         idle: Duration::from_millis(idle),
         whole: Duration::from_millis(whole),
@@ -130,9 +131,34 @@ fn send_pieces(rt: &HostRuntime, addr: SocketAddr) -> io::Result<Vec<u8>> {
     Ok(came)
 }
 
+/// Asks once more over each of these, and adds the replies.
+fn ask_each(streams: &mut [TcpStream], came: &mut Vec<u8>) -> io::Result<()> {
+    for stream in streams.iter_mut() {
+        stream.write_all(PING)?;
+    }
+    for stream in streams.iter_mut() {
+        let mut reply = [0; 27];
+        stream.read_exact(&mut reply)?;
+        came.extend_from_slice(&reply)?;
+    }
+    Ok(())
+}
+
+/// Asks twice over each of so many connections, all of which are open.
+fn ask_over_many(rt: &HostRuntime, addr: SocketAddr, count: u32) -> io::Result<Vec<u8>> {
+    let mut streams = Vec::new(rt.alloc());
+    for _ in 0..count {
+        streams.push(TcpStream::connect(rt, addr)?)?;
+    }
+    let mut came = Vec::new(rt.alloc());
+    ask_each(&mut streams, &mut came)?;
+    ask_each(&mut streams, &mut came)?;
+    Ok(came)
+}
+
 /// What asks at a door.
 #[derive(Clone, Copy)]
-enum Client<'a> {
+pub(crate) enum Client<'a> {
     /// One that writes a text.
     Text(&'a [u8]),
     /// One behind four that send a byte at a time.
@@ -141,15 +167,18 @@ enum Client<'a> {
     BesideIdle,
     /// One that sends a body in pieces.
     Pieces,
+    /// One with so many connections at once.
+    Many(u32),
 }
 
 /// Asks, and reads to the end.
-fn ask(rt: &HostRuntime, addr: SocketAddr, client: Client<'_>) -> io::Result<Vec<u8>> {
+pub(crate) fn ask(rt: &HostRuntime, addr: SocketAddr, client: Client<'_>) -> io::Result<Vec<u8>> {
     match client {
         Client::Text(text) => exchange(rt, addr, text),
         Client::BehindSlow => ask_behind_slow(rt, addr),
         Client::BesideIdle => ask_beside_idle(rt, addr),
         Client::Pieces => send_pieces(rt, addr),
+        Client::Many(count) => ask_over_many(rt, addr, count),
     }
 }
 

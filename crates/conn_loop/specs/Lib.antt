@@ -1,0 +1,9 @@
+pub mod Links
+pub mod Loops
+pub mod Numbers
+pub mod Turns
+pub mod Passes
+pub mod Doors
+pub mod Fakes
+pub mod Histories
+pub mod Serving

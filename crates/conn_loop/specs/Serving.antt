@@ -1,0 +1,37 @@
+-- Serving at a door on one thread.
+use Rattle.std.specs.Prelude.{◌≡◌, ℕ, ◌+◌, ◌≤◌, ⊤, Bool, true, Option, Some, None, Result, Ok, Err}
+use Rattle.kap_base.specs.Words.{HasRisen}
+use Rattle.conn_loop.specs.declared.single.SingleEnd.{SingleEnd}
+use Rattle.conn_loop.specs.declared.single.SingleEnd.TheVariants as ends
+
+-- so many links came: that many fewer are left, where the door tells
+abbrev pub HaveCome : Option ℕ → Option ℕ → ℕ → Type 0
+HaveCome None now links = ⊤
+HaveCome (Some n) None links = ⊥
+HaveCome (Some n) (Some m) links = n ≡ m + links
+
+-- no link is left, where the door told
+abbrev pub IsClosed : Option ℕ → Option ℕ → Type 0
+IsClosed None now = ⊤
+IsClosed (Some n) now = now ≡ Some 0
+
+-- so many links came, and where the door was found closed none is left
+pub record Counts (left now : Option ℕ) (links : ℕ) (closed : Bool) : Type 0 where
+  pub came : HaveCome left now links
+  pub shut : closed ≡ true → IsClosed left now
+
+-- why serving ends: a failure comes only where that count rose
+abbrev pub EndsBy : {T : Type 0} → ℕ → ℕ → ℕ → ℕ → ℕ → Bool → Result T SingleEnd → Type 0
+EndsBy door now_door ready now_ready links closed (Ok x) = ⊤
+EndsBy door now_door ready now_ready links closed (Err ends.Closed) = closed ≡ true
+EndsBy door now_door ready now_ready links closed (Err ends.Spent) = links ≡ 4294967295
+EndsBy door now_door ready now_ready links closed (Err ends.ReadyFailed) = HasRisen ready now_ready
+EndsBy door now_door ready now_ready links closed (Err ends.DoorFailed) = HasRisen door now_door
+EndsBy door now_door ready now_ready links closed (Err ends.NoMemory) = ⊤
+
+-- the same, and no count falls
+pub record MayEnd {T : Type 0} (door now_door ready now_ready links : ℕ) (closed : Bool) (result : Result T SingleEnd)
+    : Type 0 where
+  pub later : door ≤ now_door
+  pub ready_later : ready ≤ now_ready
+  pub cause : EndsBy door now_door ready now_ready links closed result
