@@ -12,6 +12,7 @@ mod posts;
 mod seat;
 mod shared;
 mod showing;
+mod single;
 mod start;
 mod state;
 
@@ -22,5 +23,6 @@ pub use fault::ShareFault;
 pub use posts::{Post, Served, serve};
 pub use seat::Seat;
 pub use shared::{Closed, Lock, Shared, Unshared};
+pub use single::serve_single;
 pub use start::{Service, make_shared};
 pub use state::Since;

@@ -7,16 +7,20 @@ use std::sync::Wait;
 use std::sync::ledger::Ledger;
 use topic_board::{Naming, Shown};
 
-/// A write without lines, as a client asks for it.
-pub fn write_ask(alloc: Global) -> Option<Ask> {
-    let read = read_request(alloc, b"POST /write?db=main HTTP/1.1\r\n\r\n");
-    let Ok(Some((request, _))) = read else {
+/// What a client asks for with these bytes.
+pub fn ask_of(alloc: Global, bytes: &[u8]) -> Option<Ask> {
+    let Ok(Some((request, _))) = read_request(alloc, bytes) else {
         return None;
     };
     match route(alloc, &request) {
         Ok(ask) => Some(ask),
         Err(_) => None,
     }
+}
+
+/// A write without lines.
+pub fn write_ask(alloc: Global) -> Option<Ask> {
+    ask_of(alloc, b"POST /write?db=main HTTP/1.1\r\n\r\n")
 }
 
 /// Whether the seat's reply about topics is this one, without the lock.

@@ -1,11 +1,11 @@
 //! Two posts serve at doors in memory, over one engine.
 
-ghost use Rattle.std.specs.Prelude.{◌≡◌, ◌<◌};
+ghost use Rattle.std.specs.Prelude.{◌≡◌, ◌<◌, false};
 
 use crate::fake::{FakeEngine, no_hold};
 use kap_base::NoMemory;
 use kap_io::{FixedClock, MemDoor, MemLink};
-use kap_service::{Closed, Post, Served, Since, make_shared, serve};
+use kap_service::{Closed, Engine, Post, Served, Since, make_shared, serve};
 use std::alloc::Global;
 use std::marker::Brand;
 use std::process::Abort;
@@ -16,53 +16,52 @@ use std::thread::Threads;
 use topic_board::{Naming, Opened, Posted, Published};
 
 /// A write, and a ping behind it.
-const REQUESTS: &[u8] =
+const WRITE_AND_PING: &[u8] =
     b"POST /write?db=main HTTP/1.1\r\n\r\nGET /kapacitor/v1/ping HTTP/1.1\r\n\r\n";
 
 /// A link with these requests, whose bytes come seven at a time.
-fn link(alloc: Global) -> Result<MemLink, NoMemory> {
+fn link(alloc: Global, requests: &[u8]) -> Result<MemLink, NoMemory> {
     let mut bytes = Vec::new(alloc);
-    bytes.extend_from_slice(REQUESTS)?;
+    bytes.extend_from_slice(requests)?;
     Ok(MemLink::new(alloc, bytes, 7, Vec::new(alloc)))
 }
 
-/// A door at which so many links come, and whose call with this number fails.
-fn door(alloc: Global, links: u32, fails: u64) -> Result<MemDoor, NoMemory> {
+/// A door at which so many links with these requests come.
+fn door(alloc: Global, links: u32, requests: &[u8]) -> Result<MemDoor, NoMemory> {
     let mut all = Vec::new(alloc);
     'links: for _ in 0..links {
-        all.push(link(alloc)?)?;
+        all.push(link(alloc, requests)?)?;
     }
-    let mut calls = Vec::new(alloc);
-    calls.push(fails)?;
-    Ok(MemDoor::new(all, calls))
+    Ok(MemDoor::new(all, Vec::new(alloc)))
 }
 
-fn day<
-    'a,
+/// What the posts of two seats of this engine do at these doors, at the moment 5, and the end of it.
+fn day_by<
+    E: Engine + Send,
     J: Naming + Send + Sync,
     L1: Ledger + Send + Sync,
     L2: Since + Send + Sync,
     R: Threads + Wait + Sync,
 >(
-    rt: &'a R,
+    rt: &R,
     alloc: Global,
     opened: Opened,
     first: Blank,
     second: Blank,
+    engine: E,
     doors: (MemDoor, MemDoor),
-) -> Result<(Served, Option<Closed<FakeEngine<'a, R>>>), NoMemory>
+) -> Result<(Served, Option<Closed<E>>), NoMemory>
     requires book { opened ≡ J.book }
+    requires unspent { (E.value engine).spent ≡ false }
     requires names { (first.name ≡ L1.name) × (second.name ≡ L2.name) }
     requires parts { (first.parts ≡ L1.parts) × (second.parts ≡ L2.parts) }
     requires more { (2 < first.parts) × (2 < second.parts) }
-    requires before { L2.before ≡ record { disk = 0; patterns = 0 } }
+    requires before { L2.before ≡ (E.value engine).faults }
+    requires unowned { L2.owned ≡ false }
 {
-    let engine = FakeEngine::new(alloc, false, no_hold(rt));
-    let (shared, seats) = match make_shared::<FakeEngine<'a, R>, J, &'a R, L1, L2>(
-        rt, alloc, opened, engine, first, second, 2,
-    ) {
-        Ok(made) => made,
-        Err(_) => return Err(NoMemory),
+    let made = make_shared::<E, J, &R, L1, L2>(rt, alloc, opened, engine, first, second, 2);
+    let Ok((shared, seats)) = made else {
+        return Err(NoMemory);
     };
     let mut seats = seats;
     let none = Served {
@@ -89,11 +88,11 @@ fn day<
     let served = serve::<
         MemLink,
         MemDoor,
-        FakeEngine<'a, R>,
+        E,
         J,
         Posted<J>,
         Published<J>,
-        &'a R,
+        &R,
         L1,
         L2,
         FixedClock,
@@ -103,7 +102,7 @@ fn day<
         alloc,
         shared.lock(),
         posts.as_mut_slice(),
-        &FixedClock(0),
+        &FixedClock(5),
     );
     let (Some(other), Some(one)) = (posts.pop(), posts.pop()) else {
         return Ok((none, None));
@@ -114,25 +113,38 @@ fn day<
     Ok((served, Some(shared.close(seats))))
 }
 
+/// The same on a board and with ledgers of its own.
+fn day<E: Engine + Send, R: Threads + Wait + Sync>(
+    rt: &R,
+    alloc: Global,
+    engine: E,
+    doors: (MemDoor, MemDoor),
+) -> Result<(Served, Option<Closed<E>>), NoMemory>
+    requires unspent { (E.value engine).spent ≡ false }
+{
+    let (first, second) = (Blank::new(3), Blank::new(3));
+    day_by::<E, Brand, Brand, Brand, R>(rt, alloc, Opened::new(), first, second, engine, doors)
+}
+
 /// Whether so many links came, and each of their writes is a change.
-fn tells<W: Wait>(
-    did: &(Served, Option<Closed<FakeEngine<'_, W>>>),
-    links: u64,
-    failed: bool,
-) -> bool {
+fn tells<E: Engine>(did: &(Served, Option<Closed<E>>), links: u64) -> bool {
     let (served, closed) = did;
     let counts = match closed {
         Some(closed) => closed.changes == links && closed.faults == 0 && !closed.short,
         None => false,
     };
-    served.links == links && served.door_failed == failed && counts
+    served.links == links && !served.door_failed && counts
 }
 
 #[test]
 fn two_posts_serve_all_links(rt: HostRuntime) -> Result<(), Fail> {
-    let doors = (door(rt.alloc(), 3, 9)?, door(rt.alloc(), 2, 9)?);
-    let (first, second) = (Blank::new(3), Blank::new(3));
-    let did = day::<Brand, Brand, Brand, _>(&rt, rt.alloc(), Opened::new(), first, second, doors)?;
-    assert!(rt; tells(&did, 5, false));
+    let alloc = rt.alloc();
+    let doors = (
+        door(alloc, 3, WRITE_AND_PING)?,
+        door(alloc, 2, WRITE_AND_PING)?,
+    );
+    let engine = FakeEngine::new(alloc, false, no_hold(&rt));
+    let did = day(&rt, alloc, engine, doors)?;
+    assert!(rt; tells(&did, 5));
     Ok(())
 }

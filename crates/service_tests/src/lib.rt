@@ -1,8 +1,11 @@
-//! Tests of the service over an engine in memory: what seats are told and read, ledgers, and a lock that is held.
+//! Tests of the service: what seats are told and read, ledgers, links at doors, and a lock that is held. They are over
+//! an engine in memory, and over that of tasks on a disk in memory.
 #![tactic(auto)]
 
 #[cfg(test)]
 mod asks;
+#[cfg(test)]
+mod disks;
 #[cfg(test)]
 mod doors;
 #[cfg(test)]
@@ -11,3 +14,5 @@ mod fake;
 mod holds;
 #[cfg(test)]
 mod rows;
+#[cfg(test)]
+mod single;

@@ -1,10 +1,11 @@
 //! A seat writes, and another one reads the topics.
 
-ghost use Rattle.std.specs.Prelude.{◌≡◌, ◌<◌};
+ghost use Rattle.std.specs.Prelude.{◌≡◌, ◌<◌, false};
 
 use crate::asks::{answered, reads, write_ask};
 use crate::fake::{FakeEngine, no_hold};
 use kap_base::NoMemory;
+use kap_http::Ask;
 use kap_service::{Engine, Lock, Seat, Since, make_shared};
 use std::alloc::Global;
 use std::marker::Brand;
@@ -14,11 +15,11 @@ use std::sync::ledger::{Blank, Ledger};
 use std::test::Fail;
 use topic_board::{Naming, Opened, Shown};
 
-/// What is asked of the seats: the status of the write that is wanted, and the topics that are then.
+/// What is wanted of the seats: the status of the write, and the topics that are then.
 #[derive(Clone, Copy)]
-struct Wanted {
-    status: u16,
-    topics: &'static str,
+pub struct Wanted {
+    pub status: u16,
+    pub topics: &'static str,
 }
 
 /// Whether a write of the first seat gets the status, and the second one reads the topics before and behind it.
@@ -27,56 +28,86 @@ fn asked<E: Engine, J: Naming, O: Drop, T: Shown<J, O>, R: Wait + Drop, L1: Ledg
     alloc: Global,
     lock: &Lock<E, J, O, T, R, L1, L2>,
     seats: &mut [Seat<J, O, T, L1, L2>],
+    ask: &Ask,
     wanted: Wanted,
-) -> Result<bool, NoMemory> {
+) -> bool {
     let Some((first, rest)) = seats.split_first_mut() else {
-        return Ok(false);
+        return false;
     };
     let Some(second) = rest.first_mut() else {
-        return Ok(false);
+        return false;
     };
     let before = reads(alloc, second, "{\"topics\":[]}");
-    let Some(ask) = write_ask(alloc) else {
-        return Ok(false);
-    };
-    let status = answered(rt, alloc, lock, first, &ask);
+    let status = answered(rt, alloc, lock, first, ask);
     second.learn(first.told());
     let behind = reads(alloc, second, wanted.topics);
-    Ok(before && status == wanted.status && first.status() == status && behind)
+    before && status == wanted.status && first.status() == status && behind
 }
 
-/// The same over a new engine, whose first write fails or not; and whether the end tells the one write.
-fn row<'a, J: Naming, L1: Ledger, L2: Since, R: Wait>(
-    rt: &'a R,
+/// The same with two seats of this engine; and whether the end tells the one write.
+fn row_by<E: Engine, J: Naming, L1: Ledger, L2: Since, R: Wait>(
+    rt: &R,
     alloc: Global,
     opened: Opened,
     first: Blank,
     second: Blank,
-    fails: bool,
+    engine: E,
+    ask: &Ask,
     wanted: Wanted,
 ) -> Result<bool, NoMemory>
     requires book { opened ≡ J.book }
+    requires unspent { (E.value engine).spent ≡ false }
     requires names { (first.name ≡ L1.name) × (second.name ≡ L2.name) }
     requires parts { (first.parts ≡ L1.parts) × (second.parts ≡ L2.parts) }
     requires more { (2 < first.parts) × (2 < second.parts) }
-    requires before { L2.before ≡ record { disk = 0; patterns = 0 } }
+    requires before { L2.before ≡ (E.value engine).faults }
+    requires unowned { L2.owned ≡ false }
 {
-    let engine = FakeEngine::new(alloc, fails, no_hold(rt));
-    let (shared, seats) = match make_shared::<FakeEngine<'a, R>, J, &'a R, L1, L2>(
-        rt, alloc, opened, engine, first, second, 2,
-    ) {
-        Ok(made) => made,
-        Err(_) => return Err(NoMemory),
+    let made = make_shared::<E, J, &R, L1, L2>(rt, alloc, opened, engine, first, second, 2);
+    let Ok((shared, mut seats)) = made else {
+        return Err(NoMemory);
     };
-    let mut seats = seats;
-    let fine = asked(rt, alloc, shared.lock(), seats.as_mut_slice(), wanted)?;
+    let fine = asked(rt, alloc, shared.lock(), seats.as_mut_slice(), ask, wanted);
     let closed = shared.close(seats);
-    let counted = closed.changes == u64::from(!fails) && closed.faults == u64::from(fails);
+    let done = wanted.status == 204;
+    let counted = closed.changes == u64::from(done) && closed.faults == u64::from(!done);
     Ok(fine && counted && !closed.short)
 }
 
+/// The same on a board and with ledgers of its own.
+pub fn row<E: Engine, R: Wait>(
+    rt: &R,
+    alloc: Global,
+    engine: E,
+    ask: &Ask,
+    wanted: Wanted,
+) -> Result<bool, NoMemory>
+    requires unspent { (E.value engine).spent ≡ false }
+{
+    let (first, second) = (Blank::new(3), Blank::new(3));
+    row_by::<E, Brand, Brand, Brand, R>(
+        rt,
+        alloc,
+        Opened::new(),
+        first,
+        second,
+        engine,
+        ask,
+        wanted,
+    )
+}
+
+/// The same over a new engine in memory, whose first write fails or not.
+fn fake_row<R: Wait>(rt: &R, alloc: Global, fails: bool, wanted: Wanted) -> Result<bool, NoMemory> {
+    let Some(ask) = write_ask(alloc) else {
+        return Ok(false);
+    };
+    let engine = FakeEngine::new(alloc, fails, no_hold(rt));
+    row(rt, alloc, engine, &ask, wanted)
+}
+
 /// The topics behind a write.
-const CRITICAL: &str = "{\"topics\":[{\"id\":\"main:c:alert2\",\"level\":\"CRITICAL\"}]}";
+pub const CRITICAL: &str = "{\"topics\":[{\"id\":\"main:c:alert2\",\"level\":\"CRITICAL\"}]}";
 
 #[test]
 fn a_seat_reads_what_another_wrote(rt: HostRuntime) -> Result<(), Fail> {
@@ -84,10 +115,7 @@ fn a_seat_reads_what_another_wrote(rt: HostRuntime) -> Result<(), Fail> {
         status: 204,
         topics: CRITICAL,
     };
-    let (first, second) = (Blank::new(3), Blank::new(3));
-    assert!(rt;
-        row::<Brand, Brand, Brand, _>(&rt, rt.alloc(), Opened::new(), first, second, false, wanted)?
-    );
+    assert!(rt; fake_row(&rt, rt.alloc(), false, wanted)?);
     Ok(())
 }
 
@@ -97,9 +125,6 @@ fn a_seat_tells_nothing_of_a_write_that_failed(rt: HostRuntime) -> Result<(), Fa
         status: 500,
         topics: "{\"topics\":[]}",
     };
-    let (first, second) = (Blank::new(3), Blank::new(3));
-    assert!(rt;
-        row::<Brand, Brand, Brand, _>(&rt, rt.alloc(), Opened::new(), first, second, true, wanted)?
-    );
+    assert!(rt; fake_row(&rt, rt.alloc(), true, wanted)?);
     Ok(())
 }

@@ -1,5 +1,5 @@
 use Rattle.std.proofs.Common.{true}
-use Rattle.service_tests.proofs.doors.two_posts_serve_all_links.Given as goal
+use Rattle.service_tests.proofs.single.one_seat_serves_all_links.Given as goal
 
 abbrev pub ghosts-day-J-Naming : goal.ghosts-day-J-Naming
 ghosts-day-J-Naming g a = record { book = a.opened }

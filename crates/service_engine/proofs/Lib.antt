@@ -1,0 +1,5 @@
+pub mod FaultLaws
+pub mod AnswerLaws
+pub mod OpenLaws
+pub mod ReadLaws
+pub mod Crossing

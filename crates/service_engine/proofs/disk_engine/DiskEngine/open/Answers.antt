@@ -1,0 +1,7 @@
+use denote.Exit.{no}
+use denote.Param.Send.{arg_send, param_send}
+use Rattle.node_set.proofs.Crossing.{AnyNode_send}
+use Rattle.service_engine.proofs.disk_engine.DiskEngine.open.Goals as goal
+
+pub open_by-requires-send-N : goal.open_by-requires-send-N
+open_by-requires-send-N g c κs within = param_send 2 _ (arg_send _ no _ AnyNode_send)

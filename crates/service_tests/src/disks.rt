@@ -1,0 +1,76 @@
+//! The same over an engine of tasks on a disk in memory.
+
+ghost use Rattle.std.specs.Prelude.{◌≡◌, false, IfOk};
+ghost use Rattle.service_engine.specs.Engines.{is_spent};
+
+use crate::asks::ask_of;
+use crate::rows::{CRITICAL, Wanted, row};
+use kap_base::NoMemory;
+use kap_io::MemDisk;
+use kap_service::Engine;
+use lambda_types::RegexPatterns;
+use service_engine::DiskEngine;
+use std::alloc::Global;
+use std::process::Abort;
+use std::sync::Wait;
+use std::test::Fail;
+use std::thread::Threads;
+use topic_store::make_store;
+
+type MemEngine<R> = DiskEngine<MemDisk, RegexPatterns, R>;
+
+/// The engine of a new store on a disk of its own, with two workers.
+fn new_engine<R: Threads + Sync>(rt: &R, alloc: Global) -> Result<MemEngine<R>, NoMemory>
+    ensures { IfOk result (λ e. is_spent e.engine ≡ false) }
+{
+    let mut disk = MemDisk::new(alloc, Vec::new(alloc));
+    if make_store(alloc, &mut disk).is_err() {
+        return Err(NoMemory);
+    }
+    let pats = RegexPatterns::new(alloc, Vec::new(alloc));
+    match DiskEngine::open(rt, alloc, disk, pats, 2, 64) {
+        Ok(engine) => Ok(engine),
+        Err(_) => Err(NoMemory),
+    }
+}
+
+/// A task with a topic, which is critical above 5.
+const DEFINE: &[u8] = b"POST /kapacitor/v1/tasks HTTP/1.1\r\nContent-Length: 102\r\n\r\n\
+{\"id\":\"c\",\"script\":\"stream|from()|alert().crit(lambda: \\\"x\\\" > 5)\",\"status\":\"enabled\",\"type\":\"stream\"}";
+
+/// A point for which it is.
+const WRITE: &[u8] = b"POST /write?db=d&rp=r HTTP/1.1\r\nContent-Length: 8\r\n\r\nm x=9i 2";
+
+/// The status of an engine's reply at the moment 0.
+fn reply_status<E: Engine>(alloc: Global, engine: &mut E, request: &[u8]) -> u16
+    requires { (E.value engine.old).spent ≡ false }
+{
+    match ask_of(alloc, request) {
+        Some(ask) => engine.reply(alloc, &ask, 0).status,
+        None => 0,
+    }
+}
+
+/// Whether a seat reads what another one wrote, on a store with the task.
+fn disk_row<R: Threads + Wait + Sync>(rt: &R, alloc: Global) -> Result<bool, NoMemory> {
+    let mut engine = new_engine(rt, alloc)?;
+    let defined = reply_status(alloc, &mut engine, DEFINE);
+    let Some(ask) = ask_of(alloc, WRITE) else {
+        return Ok(false);
+    };
+    if engine.spent() {
+        return Ok(false);
+    }
+    let wanted = Wanted {
+        status: 204,
+        topics: CRITICAL,
+    };
+    let fine = row(rt, alloc, engine, &ask, wanted)?;
+    Ok(fine && defined == 200)
+}
+
+#[test]
+fn a_seat_reads_what_another_wrote_to_a_disk(rt: HostRuntime) -> Result<(), Fail> {
+    assert!(rt; disk_row(&rt, rt.alloc())?);
+    Ok(())
+}
