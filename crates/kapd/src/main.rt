@@ -1,10 +1,12 @@
 //! `kapd - check` prints the canonical form of the script on standard input, and `kapd - replay ID SCRIPT`
 //! replays the recording there by the task of the script, and writes what it does to standard output. `kapd
 //! PLACE init` makes a store in the folder PLACE; `kapd PLACE tasks`, `topics`, `alerts` and `export` list what
-//! the store there holds, and `define`, `enable`, `disable`, `delete`, `write` and `compact` change it.
+//! the store there holds, and `define`, `enable`, `disable`, `delete`, `write` and `compact` change it. `kapd
+//! PLACE serve` does the same for clients that ask over HTTP.
 #![tactic(auto)]
 
 mod places;
+mod service;
 
 ghost use Rattle.std.specs.Prelude.{IsTrue};
 ghost use Rattle.kap_base.specs.Points.{is_time};
@@ -18,6 +20,8 @@ use lambda_types::{Patterns, RegexPatterns};
 use net_run::NumberingNode;
 use node_set::{AnyNode, ScriptNode};
 use places::{Place, place_in};
+use serve_words::ServeFault;
+use service::{ServiceEnd, ended_by, serve_disk, service_in};
 use std::alloc::Global;
 use std::env::Env;
 use std::fs::Files;
@@ -64,6 +68,11 @@ end. `check`, `replay` and `gen` don't look at it. Commands:
                do at them
   compact      writes the store anew, without what it needs no more: tasks,
                points and changes of level stay
+  serve --addr HOST:PORT [OPTION]..
+               answers what is asked over HTTP at this address, as Kapacitor's
+               API does, until it is killed; when it listens, standard error
+               says `kapd: listening on HOST:PORT`. In memory there is no store
+               that it could open
 
 But for init these open the store in the folder, and first store the changes of
 level that a stop left out.
@@ -83,6 +92,14 @@ write takes --workers and --capacity, and before DB
   --precision P has a time of a line count nanoseconds (ns or n, also where it
                isn't given), microseconds (u), milliseconds (ms), seconds (s),
                minutes (m) or hours (h); a line without one has the time of now
+
+serve takes, before or behind --addr, each at most once
+
+  --seats N    answers N links at a time, each in a thread (1 to 64; else 4)
+  --single     answers all links by one thread, at most 1024 at a time; this
+               one stands alone, and not with --seats
+  --idle S     ends a link where nothing comes or goes for S seconds (1 to 3600;
+               else 30)
 
 The output is the same for each W, C and N.
 
@@ -126,6 +143,7 @@ The exit status, and what standard error says behind `kapd: `:
   5   truncated at line N              71  read fault
   6   not a store: FILE at OFFSET      72  write fault
   7   no task                          73  disk fault
+  74  door fault                       75  ready fault
 
 BYTE is a byte of the script, counted from 0; of a Graph fault it is the node's
 number. Exists: an id was given to two tasks, a task of the store has it, or
@@ -135,7 +153,9 @@ would then empty the logs), or a log is none at this offset, or the record there
 defines a task by a script that is none, or it is the last snapshot, and has
 states of other nodes. Disk fault: PLACE isn't there, is no folder, or its files
 can't be read or written; or another process uses the store, which a second line
-says then: `kapd: another process uses the store`.
+says then: `kapd: another process uses the store`. Door fault: nobody can listen
+at HOST:PORT, or no more links can be taken there. Ready fault: the system
+doesn't tell which links may go on.
 
   kapd --help        prints this
   kapd --version     prints the version
@@ -262,21 +282,26 @@ fn show<R: Print>(rt: &R, text: &str) -> Status {
     }
 }
 
+/// How the program ended.
+#[derive(Drop)]
+enum Ended {
+    /// As a command.
+    Command(Outcome),
+    /// As a service that had a fault.
+    Service(ServiceEnd),
+}
+
 fn answer<
-    R: Env + Files + time::Clock + Threads + Sync + Input + Print + AllocGlobal,
+    R: Files + time::Clock + Threads + Sync + Input + Print + AllocGlobal,
     N: ScriptNode + NumberingNode + Send,
->(rt: &R) -> Outcome
+>(rt: &R, words: &[String]) -> Outcome
 where
     R::File: FileExt + LockFile,
 {
-    let words = match words_of(rt) {
-        Ok(words) => words,
-        Err(status) => return alone(status),
-    };
-    match words.as_slice() {
+    match words {
         [word] if word.as_str() == "--help" => alone(show(rt, HELP)),
         [word] if word.as_str() == "--version" => alone(show(rt, VERSION)),
-        _ => match place_in(&words) {
+        _ => match place_in(words) {
             Some((place, rest)) => run::<R, N>(rt, place, rest),
             None => alone(Status::Usage),
         },
@@ -294,19 +319,60 @@ fn tell<R: Eprint + AllocGlobal>(rt: &R, status: &Status) -> io::Result<()> {
     }
 }
 
-/// Says behind a disk fault that another process uses the store, where one does.
-fn tell_use<R: Eprint>(rt: &R, outcome: &Outcome) -> io::Result<()> {
-    if outcome.in_use && outcome.status == Status::DiskFault {
+/// Says that another process uses the store, behind a disk fault where one does.
+fn tell_use<R: Eprint>(rt: &R, in_use: bool) -> io::Result<()> {
+    if in_use {
         eprintln!(rt; "kapd: another process uses the store")?;
     }
     Ok(())
 }
 
-fn main(rt: HostRuntime) -> ExitCode {
-    let outcome = answer::<HostRuntime, AnyNode>(&rt);
-    if outcome.status != Status::Ok {
-        let _ = tell(&rt, &outcome.status);
-        let _ = tell_use(&rt, &outcome);
+/// Says on standard error how the program ended, where it didn't end well; and gives its exit status.
+fn told<R: Eprint + AllocGlobal>(rt: &R, ended: &Ended) -> u8 {
+    match ended {
+        Ended::Command(Outcome { status, in_use }) => {
+            if *status != Status::Ok {
+                let _ = tell(rt, status);
+                let _ = tell_use(rt, *in_use && *status == Status::DiskFault);
+            }
+            status.number()
+        }
+        Ended::Service(ServiceEnd { fault, in_use }) => {
+            let _ = eprintln!(rt; "kapd: {fault}");
+            let _ = tell_use(rt, *in_use && *fault == ServeFault::DiskFault);
+            fault.number()
+        }
     }
-    ExitCode::from(outcome.status.number())
+}
+
+/// Serves the store in a folder, as it is in `main`: a disk over its files may go to other threads there, where
+/// the runtime is known.
+fn main(rt: HostRuntime) -> ExitCode {
+    let alloc = rt.alloc();
+    let words = match words_of(&rt) {
+        Ok(words) => words,
+        Err(status) => return ExitCode::from(told(&rt, &Ended::Command(alone(status)))),
+    };
+    let ended = match service_in(alloc, &words) {
+        None => Ended::Command(answer::<HostRuntime, AnyNode>(&rt, &words)),
+        Some(Err(fault)) => Ended::Service(ended_by(fault)),
+        Some(Ok((Place::Memory, options))) => {
+            let disk = MemDisk::new(alloc, Vec::new(alloc));
+            match serve_disk(&rt, alloc, disk, options) {
+                Ok(()) => Ended::Command(alone(Status::Ok)),
+                Err(end) => Ended::Service(ended_by(end.fault)),
+            }
+        }
+        Some(Ok((Place::Folder(path), options))) => match PathBuf::from_str(alloc, path) {
+            Err(_) => Ended::Service(ended_by(ServeFault::NoMemory)),
+            Ok(folder) => match serve_disk(&rt, alloc, DirDisk::new(alloc, &rt, folder), options) {
+                Ok(()) => Ended::Command(alone(Status::Ok)),
+                Err(end) => Ended::Service(ServiceEnd {
+                    fault: end.fault,
+                    in_use: end.disk.is_some_and(|disk| disk.is_in_use()),
+                }),
+            },
+        },
+    };
+    ExitCode::from(told(&rt, &ended))
 }

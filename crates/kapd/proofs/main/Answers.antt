@@ -3,5 +3,5 @@ use denote.Param.Send.{param_send, arg_send}
 use Rattle.node_set.proofs.Crossing.{AnyNode_send}
 use Rattle.kapd.proofs.main.Goals as goal
 
-pub answer-outcome-requires-send-N : goal.answer-outcome-requires-send-N
-answer-outcome-requires-send-N g c κs = param_send 1 _ (arg_send _ no _ AnyNode_send)
+pub answer-requires-send-N : goal.answer-requires-send-N
+answer-requires-send-N g c κs = param_send 1 _ (arg_send _ no _ AnyNode_send)

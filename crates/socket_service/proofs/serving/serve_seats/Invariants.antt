@@ -1,0 +1,14 @@
+use Rattle.std.proofs.Common.{false}
+use Rattle.socket_service.proofs.serving.serve_seats.Given as goal
+
+abbrev pub ghosts-serve_from_seats-J-Naming : goal.ghosts-serve_from_seats-J-Naming
+ghosts-serve_from_seats-J-Naming g a = record { book = a.opened }
+
+abbrev pub ghosts-serve_from_seats-L1-Ledger : goal.ghosts-serve_from_seats-L1-Ledger
+ghosts-serve_from_seats-L1-Ledger g a = record { name = a.first.name; parts = a.first.parts }
+
+abbrev pub ghosts-serve_from_seats-L2-Ledger : goal.ghosts-serve_from_seats-L2-Ledger
+ghosts-serve_from_seats-L2-Ledger g a = record { name = a.second.name; parts = a.second.parts }
+
+abbrev pub ghosts-serve_from_seats-L2-Since : goal.ghosts-serve_from_seats-L2-Since
+ghosts-serve_from_seats-L2-Since g a = record { before = (g.E.Engine.value a.engine).faults; owned = false }
