@@ -4,10 +4,11 @@ ghost use Rattle.std.specs.Prelude.{◌≡◌, false, IfOk};
 ghost use Rattle.service_engine.specs.Engines.{is_spent};
 
 use crate::asks::ask_of;
+use crate::doors::{day, door, tells};
 use crate::rows::{CRITICAL, Wanted, row};
-use kap_base::NoMemory;
+use kap_base::{NoMemory, Point};
 use kap_io::MemDisk;
-use kap_service::Engine;
+use kap_service::{Closed, Engine, Served};
 use lambda_types::RegexPatterns;
 use service_engine::DiskEngine;
 use std::alloc::Global;
@@ -15,7 +16,7 @@ use std::process::Abort;
 use std::sync::Wait;
 use std::test::Fail;
 use std::thread::Threads;
-use topic_store::make_store;
+use topic_store::{make_store, open_store};
 
 type MemEngine<R> = DiskEngine<MemDisk, RegexPatterns, R>;
 
@@ -72,5 +73,50 @@ fn disk_row<R: Threads + Wait + Sync>(rt: &R, alloc: Global) -> Result<bool, NoM
 #[test]
 fn a_seat_reads_what_another_wrote_to_a_disk(rt: HostRuntime) -> Result<(), Fail> {
     assert!(rt; disk_row(&rt, rt.alloc())?);
+    Ok(())
+}
+
+/// A point without a time.
+const POINT: &[u8] =
+    b"POST /kapacitor/v1/write?db=d&rp=r HTTP/1.1\r\nContent-Length: 6\r\n\r\nm x=1i";
+
+/// Whether each of these points is of the moment 5.
+fn are_of_five(points: &[Point]) -> bool {
+    'points: for point in points {
+        if point.time != 5 {
+            return false;
+        }
+    }
+    true
+}
+
+/// Whether the store behind the service has two points, of the moment 5.
+fn has_two<R: Threads + Sync>(alloc: Global, closed: Closed<MemEngine<R>>) -> bool {
+    let (mut disk, _) = closed.engine.into_parts();
+    let Ok(store) = open_store(alloc, &mut disk) else {
+        return false;
+    };
+    match store.points(&mut disk, 0) {
+        Ok(points) => points.len() == 2 && are_of_five(points.as_slice()),
+        Err(_) => false,
+    }
+}
+
+/// Whether two links with the point at one of two doors are served, and their points are stored.
+fn serves<R: Threads + Wait + Send + Sync>(rt: &R, alloc: Global) -> Result<bool, NoMemory> {
+    let engine = new_engine(rt, alloc)?;
+    let doors = (door(alloc, 2, POINT)?, door(alloc, 0, POINT)?);
+    let did = day(rt, alloc, engine, doors)?;
+    let fine = tells(&did, 2);
+    let (_, closed) = did;
+    match closed {
+        Some(closed) => Ok(fine && has_two(alloc, closed)),
+        None => Ok(false),
+    }
+}
+
+#[test]
+fn links_write_to_a_disk(rt: HostRuntime) -> Result<(), Fail> {
+    assert!(rt; serves(&rt, rt.alloc())?);
     Ok(())
 }

@@ -27,7 +27,7 @@ fn link(alloc: Global, requests: &[u8]) -> Result<MemLink, NoMemory> {
 }
 
 /// A door at which so many links with these requests come.
-fn door(alloc: Global, links: u32, requests: &[u8]) -> Result<MemDoor, NoMemory> {
+pub fn door(alloc: Global, links: u32, requests: &[u8]) -> Result<MemDoor, NoMemory> {
     let mut all = Vec::new(alloc);
     'links: for _ in 0..links {
         all.push(link(alloc, requests)?)?;
@@ -114,7 +114,7 @@ fn day_by<
 }
 
 /// The same on a board and with ledgers of its own.
-fn day<E: Engine + Send, R: Threads + Wait + Sync>(
+pub fn day<E: Engine + Send, R: Threads + Wait + Sync>(
     rt: &R,
     alloc: Global,
     engine: E,
@@ -127,7 +127,7 @@ fn day<E: Engine + Send, R: Threads + Wait + Sync>(
 }
 
 /// Whether so many links came, and each of their writes is a change.
-fn tells<E: Engine>(did: &(Served, Option<Closed<E>>), links: u64) -> bool {
+pub fn tells<E: Engine>(did: &(Served, Option<Closed<E>>), links: u64) -> bool {
     let (served, closed) = did;
     let counts = match closed {
         Some(closed) => closed.changes == links && closed.faults == 0 && !closed.short,
