@@ -1,5 +1,6 @@
 -- What the lock keeps, behind an answer.
-use Rattle.std.proofs.Common.{◌≡◌, ℕ, ◌+◌, if◌then◌else◌, Bool, true, false, List, ◌++◌, inl, inr, refl, sym, ap, subst, ◌∙◌, arith}
+use Rattle.std.proofs.Common.{◌≡◌, ℕ, ◌+◌, if◌then◌else◌, Bool, true, false, List, ◌++◌, length, Result, Ok, Err, inl, inr, refl, sym, ap, subst, ◌∙◌, arith}
+use Rattle.std.specs.Prelude.{◌&&◌, IfOk}
 use mathlib.Core.List.{IsPrefix}
 use Rattle.kap_http.specs.declared.ask.Ask.{Ask}
 use Rattle.topic_core.specs.declared.transition.Transition.{Transition}
@@ -10,6 +11,7 @@ use Rattle.kap_service.specs.Causes.{AreCaused, AreLater, HasFailed}
 use Rattle.kap_service.specs.Kept.{IsTold, posted}
 use Rattle.kap_service.specs.Stores.{HasOwn, IsAlmostPosted, IsAnswered}
 use Rattle.kap_service.specs.Values.{Faults, Stores}
+use Rattle.topic_board.proofs.Fronts.{prefix_whole}
 use Rattle.kap_service.proofs.StoreLaws.{prefix_trans}
 
 -- ---- causes
@@ -113,3 +115,23 @@ module _ (first second : ℕ) (short lacks spent now_spent now_short : Bool) (po
             whole s.1.1 (now_usable fine) pre
             (almost (posted posts) own origin store (told.whole none s.0) has);
       }
+
+-- ---- what is told
+
+pub both_true : (a b : Bool) → (a && b) ≡ true → (a ≡ true) × (b ≡ true)
+both_true true true is = (refl, refl)
+both_true true false is = absurd (cc is)
+both_true false b is = absurd (cc is)
+
+-- what holds of an answer where another thing does
+pub if_ok : {A E : Type 0} (P Q : A → Type 0) (r : Result A E) → ((a : A) → P a → Q a) → IfOk r P → IfOk r Q
+if_ok P Q (Ok a) f p = f a p
+if_ok P Q (Err e) f p = tt
+
+-- What was told is all that is stored, where it is as long: it was posted, and what was posted begins what is stored.
+pub told_all : (posts : Posts) (stored told : List Transition) → IsPrefix (posted posts) stored
+    → told ≡ posts.published → length told ≡ length stored → told ≡ stored
+told_all posts stored told p is size =
+    is ∙ prefix_whole posts.published stored
+    (prefix_trans posts.published (posted posts) stored (posts.pending, refl) p)
+    (let same = ap (λ (z : List Transition). length z) is in omega arith)

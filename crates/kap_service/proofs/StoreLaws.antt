@@ -3,6 +3,7 @@ use Rattle.std.proofs.Common.{◌≡◌, ℕ, Bool, true, false, List, ◌++◌,
 use mathlib.Core.List.{IsPrefix}
 use Rattle.kap_http.specs.declared.ask.Ask.{Ask}
 use Rattle.topic_core.specs.declared.transition.Transition.{Transition}
+use Rattle.reply_bodies.specs.Asks.{IsFailed, change_of}
 use Rattle.kap_service.specs.Stores.{HasRead, IsAnswered, IsDecided, IsMadeAgain, Reached}
 use Rattle.kap_service.specs.Values.{Engines, Stores}
 
@@ -66,6 +67,22 @@ module _ {E : Type 0} (value : E → Engines) (right : E → Type 0) (leaves : E
     stays_right = λ r. two.stays_right (one.stays_right r);
     stores = λ r store left. one.stores r store (two.stores (one.stays_right r) store left);
   }
+
+  -- an engine that isn't spent behind an ask counts the changes that this left
+  pub counted_exactly : ((e : E) → right e → (store : Stores) × leaves e store)
+      → ((e : E) → right e → (value e).spent ≡ false → (store : Stores) → leaves e store
+      → store.changes ≡ (value e).changes)
+      → (old new : E) (ask : Ask) (status : ℕ) (own : List Transition) → right old → right new
+      → (value old).spent ≡ false → (value new).spent ≡ false
+      → ((store : Stores) → leaves new store → Reached (leaves old) (IsDecided ask status own) store)
+      → (IsFailed status → ⊥) → (value new).changes ≡ (value old).changes + change_of ask status
+  counted_exactly some counts old new ask status own r r' unspent unspent' reached fine =
+      let w = some new r' in
+      let to = reached w.0 w.1 in
+      let now = counts new r' unspent' w.0 w.1 in
+      let was = counts old r unspent to.origin to.was in
+      let more = to.how.changed.exact fine in
+      omega arith
 
   -- the store over which an engine stands is left behind a reading
   pub read_stays : ((e : E) → right e → (store : Stores) × leaves e store)

@@ -15,6 +15,7 @@ pub record WasSeen (ask : Ask) (old new : Seats) (reply : ReplyValue) : Type 0 w
   pub answers : new.answers ≡ old.answers
   pub status : new.status ≡ old.status
   pub told : new.told ≡ old.told
+  pub shown : new.shown ≡ old.shown
   pub changes : new.changes ≡ old.changes
   pub faults : new.faults ≡ old.faults
   pub later : IsPrefix old.known new.known
@@ -22,12 +23,13 @@ pub record WasSeen (ask : Ask) (old new : Seats) (reply : ReplyValue) : Type 0 w
   pub reply_is : IsTopicReply ask (topics_after new.known) reply
 
 -- The seat went to the lock: its answers rose, or stand at the end of their type, the reply has its status, and its
--- shares rose by what the status says.
+-- shares rose by what the status says. What it was told goes on from what it was told before.
 pub record WasDecided (ask : Ask) (old new : Seats) (reply : ReplyValue) : Type 0 where
   pub answers : new.answers ≡ min (old.answers + 1) (2 ^ 64 - 1)
   pub status : reply.status ≡ new.status
   pub changes : new.changes ≡ old.changes + change_of ask reply.status
   pub faults : new.faults ≡ old.faults + fault_of reply.status
+  pub later : IsPrefix old.told new.told
 
 -- An ask about topics is answered by the seat, or goes to the lock where its look was refused; each other one goes to
 -- the lock.

@@ -61,6 +61,15 @@ pub record HasRead {E : Type 0} (value : E → Engines) (right : E → Type 0) (
   pub stays_right : right old → right new
   pub stores : right old → (store : Stores) → leaves new store → leaves old store
 
+-- These transitions are all that are stored of an engine that isn't spent, and counts so many changes.
+pub record AreAllOf {E : Type 0} (value : E → Engines) (right : E → Type 0) (leaves : E → Stores → Type 0) (changes : ℕ)
+    (told : List Transition) : Type 0 where
+  pub engine : E
+  pub right_is : right engine
+  pub unspent : (value engine).spent ≡ false
+  pub changes_are : (value engine).changes ≡ changes
+  pub all : (store : Stores) → leaves engine store → told ≡ store.stored
+
 -- ---- decisions
 
 -- the reply is the one that is due, or says that the store failed or that memory ran out

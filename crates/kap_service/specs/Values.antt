@@ -31,14 +31,15 @@ pub record Decisions : Type 0 where
   pub reply : ReplyValue
 
 -- a seat: its shares of the two ledgers, which are the changes and the faults that it was answered; how many answers it
--- got under the lock, the status of the last one, and the transitions that were published then; those that its look
--- knows, and how often that was refused
+-- got under the lock, the status of the last one, the transitions that were published then, and whether these were all
+-- that were stored; those that its look knows, and how often that was refused
 pub record Seats : Type 0 where
   pub changes : ℕ
   pub faults : ℕ
   pub answers : ℕ
   pub status : ℕ
   pub told : List Transition
+  pub shown : Bool
   pub known : List Transition
   pub aways : ℕ
 

@@ -1,8 +1,8 @@
 //! A decision, which only `decide` makes.
 
-ghost use Rattle.std.specs.Prelude.{◌≡◌, false, IsTrue};
+ghost use Rattle.std.specs.Prelude.{◌≡◌, ◌+◌, false, IsTrue};
 ghost use Rattle.kap_base.specs.Points.{is_time};
-ghost use Rattle.reply_bodies.specs.Asks.{IsFailed};
+ghost use Rattle.reply_bodies.specs.Asks.{IsFailed, change_of};
 ghost use Rattle.kap_service.specs.Causes.{AreLater, HasFailed};
 ghost use Rattle.kap_service.specs.Stores.{IsDecided, IsDecision, IsDueReply, Reached};
 ghost use Rattle.kap_service.specs.Values.{Stores};
@@ -82,7 +82,7 @@ impl<'a, E: Engine> Decided<'a, E> {
     }
 }
 
-/// Answers an ask on the engine.
+/// Answers an ask on the engine, which then is what follows behind that reply.
 pub fn decide<'a, E: Engine>(
     alloc: Global,
     engine: &mut E,
@@ -94,6 +94,10 @@ pub fn decide<'a, E: Engine>(
     ensures own { (result.ask ≡ ask.now) × (result.moment ≡ now) }
     ensures on { result.changes ≡ (E.value engine.old).changes }
     ensures due { IsDueReply (E.due engine.old ask.now now) result.reply }
+    ensures next { E.follows engine.old ask.now now result.reply engine.new }
+    ensures exact { E.right engine.old → (IsFailed result.reply.status → ⊥)
+        → (E.value engine.new).changes
+        ≡ (E.value engine.old).changes + change_of ask.now result.reply.status }
     ensures usable { (IsFailed result.reply.status → ⊥) → (E.value engine.new).spent ≡ false }
     ensures later { AreLater (E.value engine.old).faults (E.value engine.new).faults }
     ensures cause { E.right engine.old → result.reply.status ≡ 500

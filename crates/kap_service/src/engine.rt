@@ -38,6 +38,10 @@ pub trait Engine: Drop {
     /// The reply that is due to an ask at a moment, by what the engine holds.
     ghost due: { Self → AskValue → ℤ → ReplyValue → Type 0 };
 
+    /// Behind an ask at a moment, and this reply to it, the one engine is the other: with the change that was
+    /// asked for, and whatever else the engine tells of it.
+    ghost follows: { Self → AskValue → ℤ → ReplyValue → Self → Type 0 };
+
     /// Whether a call failed in the middle. The engine is then to be made again.
     fn spent(&self) -> bool
         ensures { result ≡ (value self.now).spent };
@@ -64,6 +68,7 @@ pub trait Engine: Drop {
         requires unspent { (value self.old).spent ≡ false }
         requires time { IsTrue (is_time now) }
         ensures due { IsDueReply (due self.old ask.now now) result }
+        ensures next { follows self.old ask.now now result self.new }
         ensures usable { (IsFailed result.status → ⊥) → (value self.new).spent ≡ false }
         ensures later { AreLater (value self.old).faults (value self.new).faults }
         ensures cause { right self.old → result.status ≡ 500

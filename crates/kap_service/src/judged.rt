@@ -2,7 +2,7 @@
 
 ghost use Rattle.std.specs.Prelude.{◌≡◌, ◌≢◌, ℕ, ◌+◌, ◌<◌, ◌≤◌, if◌then◌else◌, false, IfErr, IfOk, IsTrue, OnOk};
 ghost use Rattle.kap_base.specs.Points.{is_time};
-ghost use Rattle.reply_bodies.specs.Asks.{IsFailed};
+ghost use Rattle.reply_bodies.specs.Asks.{IsFailed, change_of};
 ghost use Rattle.kap_service.specs.Asks.{status_of};
 ghost use Rattle.kap_service.specs.Causes.{AreLater, HasFailed};
 ghost use Rattle.kap_service.specs.Stores.{IsAnswered, IsMadeAgain, Reached};
@@ -76,6 +76,8 @@ pub(crate) fn judged<'a, E: Engine>(
     ensures behind { E.right engine.old → (least : ℕ)
         → ((store : Stores) → E.leaves engine.old store → least ≤ store.changes)
         → IfOk result (λ d. least ≤ d.changes) }
+    ensures exact { E.right engine.old → IfOk result (λ d. (IsFailed d.reply.status → ⊥)
+        → (E.value engine.new).changes ≡ d.changes + change_of ask.now d.reply.status) }
     ensures refusal { IfErr result (λ reply. IsFailed reply.status) }
     ensures usable { (IsFailed (status_of result) → ⊥) → (E.value engine.new).spent ≡ false }
     ensures later { AreLater (E.value engine.old).faults (E.value engine.new).faults }

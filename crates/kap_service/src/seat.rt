@@ -24,6 +24,7 @@ pub struct Seat<J: Naming, O: Drop, T: Shown<J, O>, L1: Ledger, L2: Ledger> {
     pub(crate) answers: u64,
     pub(crate) status: u16,
     pub(crate) told: Front<J>,
+    pub(crate) shown: bool,
 }
 
 impl<J: Naming, O: Drop, T: Shown<J, O>, L1: Ledger, L2: Ledger> Model for Seat<J, O, T, L1, L2> {
@@ -38,6 +39,7 @@ impl<J: Naming, O: Drop, T: Shown<J, O>, L1: Ledger, L2: Ledger> Model for Seat<
       answers = s.answers;
       status = s.status;
       told = s.told;
+      shown = s.shown;
       known = s.look.known;
       aways = s.look.aways;
     } };
@@ -65,6 +67,7 @@ impl<J: Naming, O: Drop, T: Shown<J, O>, L1: Ledger, L2: Ledger> Seat<J, O, T, L
             answers: 0,
             status: 0,
             told,
+            shown: true,
         }
     }
 
@@ -79,6 +82,7 @@ impl<J: Naming, O: Drop, T: Shown<J, O>, L1: Ledger, L2: Ledger> Seat<J, O, T, L
             answers: _,
             status: _,
             told: _told,
+            shown: _,
         } = self;
         (first, second)
     }
@@ -105,6 +109,14 @@ impl<J: Naming, O: Drop, T: Shown<J, O>, L1: Ledger, L2: Ledger> Seat<J, O, T, L
         self.told.again()
     }
 
+    /// Whether all that was stored was published when it was last answered under the lock; so it was when it
+    /// was made.
+    pub fn shown(&self) -> bool
+        ensures { result ≡ self.now.shown }
+    {
+        self.shown
+    }
+
     /// From now on its look sees no less than was told. It takes no memory.
     pub fn learn(&mut self, told: Front<J>)
         ensures before { IsPrefix self.old.known self.new.known }
@@ -113,7 +125,8 @@ impl<J: Naming, O: Drop, T: Shown<J, O>, L1: Ledger, L2: Ledger> Seat<J, O, T, L
         ensures shares { (self.new.changes ≡ self.old.changes)
             × (self.new.faults ≡ self.old.faults) }
         ensures answers { (self.new.answers ≡ self.old.answers)
-            × (self.new.status ≡ self.old.status) × (self.new.told ≡ self.old.told) }
+            × (self.new.status ≡ self.old.status) × (self.new.told ≡ self.old.told)
+            × (self.new.shown ≡ self.old.shown) }
         ensures aways { self.new.aways ≡ self.old.aways }
     {
         self.look.learn(told);
@@ -137,7 +150,8 @@ impl<J: Naming, O: Drop, T: Shown<J, O>, L1: Ledger, L2: Ledger> Seat<J, O, T, L
         ensures shares { (self.new.changes ≡ self.old.changes)
             × (self.new.faults ≡ self.old.faults) }
         ensures answers { (self.new.answers ≡ self.old.answers)
-            × (self.new.status ≡ self.old.status) × (self.new.told ≡ self.old.told) }
+            × (self.new.status ≡ self.old.status) × (self.new.told ≡ self.old.told)
+            × (self.new.shown ≡ self.old.shown) }
     {
         self.look.learn(self.told.again());
         match self.look.copy(alloc) {
@@ -186,7 +200,8 @@ impl<J: Naming, O: Drop, T: Shown<J, O>, L1: Ledger, L2: Ledger> Seat<J, O, T, L
         ensures shares { (self.new.changes ≡ self.old.changes)
             × (self.new.faults ≡ self.old.faults) }
         ensures answers { (self.new.answers ≡ self.old.answers)
-            × (self.new.status ≡ self.old.status) × (self.new.told ≡ self.old.told) }
+            × (self.new.status ≡ self.old.status) × (self.new.told ≡ self.old.told)
+            × (self.new.shown ≡ self.old.shown) }
     {
         match self.topics(alloc) {
             Some(topics) => Some(reply_of(alloc, topics, ask)),

@@ -1,6 +1,7 @@
 //! The engine that many share, and its end.
 
-ghost use Rattle.std.specs.Prelude.{◌≡◌, ◌+◌, ◌-◌, ◌^◌, ◌<◌, ◌≤◌, ℕ, [], false, min, vec_len, IfErr, IfOk, IsErrOf, IsTrue};
+ghost use Rattle.std.specs.Prelude.{◌≡◌, ◌+◌, ◌-◌, ◌^◌, ◌<◌, ◌≤◌, ℕ, [], false, min, true, vec_len, IfErr, IfOk, IsErrOf, IsTrue};
+ghost use mathlib.Core.List.{IsPrefix};
 ghost use Rattle.std.specs.List.{All, sum_by};
 ghost use Rattle.kap_base.specs.Points.{is_time};
 ghost use Rattle.kap_base.specs.Words.{HasRisen};
@@ -9,7 +10,7 @@ ghost use Rattle.reply_bodies.specs.Asks.{IsFailed, change_of};
 ghost use Rattle.kap_service.specs.Asks.{fault_of, status_of};
 ghost use Rattle.kap_service.specs.Causes.{AreCaused};
 ghost use Rattle.kap_service.specs.Kept.{IsNewSeat, posted};
-ghost use Rattle.kap_service.specs.Stores.{HasRead};
+ghost use Rattle.kap_service.specs.Stores.{AreAllOf, HasRead};
 ghost use Rattle.kap_service.specs.Values.{Stores};
 ghost use Rattle.kap_service.specs.declared.fault.ShareFault.TheVariants.{DiskFault, NotStore};
 
@@ -52,7 +53,8 @@ impl<E: Engine, J: Naming, O: Drop, T: Shown<J, O>, R: Wait + Drop, L1: Ledger, 
     /// Takes the lock, makes the engine again where it is spent, and decides. What was stored is published
     /// then, unless memory is short. Behind it the seat's shares have risen: that of changes by one exactly
     /// where a changing ask got 200 or 204, that of faults exactly at 500; and the seat keeps what was
-    /// published. A refusal is 500, where the engine couldn't be made again since its disk failed or isn't
+    /// published, which goes on from what it kept before, and whether that is all that is stored, its own
+    /// change too. A refusal is 500, where the engine couldn't be made again since its disk failed or isn't
     /// that of a store, or 503, where memory ran out or a book is full.
     pub fn answer<'a>(
         &self,
@@ -69,6 +71,10 @@ impl<E: Engine, J: Naming, O: Drop, T: Shown<J, O>, R: Wait + Drop, L1: Ledger, 
         ensures first { seat.new.changes ≡ seat.old.changes + change_of ask.now (status_of result) }
         ensures second { seat.new.faults ≡ seat.old.faults + fault_of (status_of result) }
         ensures status { seat.new.status ≡ status_of result }
+        ensures later { IsPrefix seat.old.told seat.new.told }
+        ensures shown { IsTrue L2.owned → seat.new.shown ≡ true → IfOk result (λ d.
+            (IsFailed d.reply.status → ⊥) → AreAllOf E.value E.right E.leaves
+            (d.changes + change_of ask.now d.reply.status) seat.new.told) }
         ensures look { (seat.new.known ≡ seat.old.known) × (seat.new.aways ≡ seat.old.aways) }
         ensures answers { seat.new.answers ≡ min (seat.old.answers + 1) (2 ^ 64 - 1) }
     {

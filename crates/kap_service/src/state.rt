@@ -1,11 +1,13 @@
 //! What lies under the lock.
 
-ghost use Rattle.std.specs.Prelude.{◌≡◌, ◌≢◌, ◌+◌, ◌-◌, ◌^◌, ◌≤◌, false, min, IfErr, IfOk, IsTrue};
+ghost use Rattle.std.specs.Prelude.{◌≡◌, ◌≢◌, ◌+◌, ◌-◌, ◌^◌, ◌≤◌, false, length, min, true, IfErr, IfOk, IsTrue};
+ghost use mathlib.Core.List.{IsPrefix};
 ghost use Rattle.kap_base.specs.Points.{is_time};
 ghost use Rattle.reply_bodies.specs.Asks.{IsFailed, change_of};
 ghost use Rattle.kap_service.specs.Asks.{fault_of, status_of};
 ghost use Rattle.kap_service.specs.Causes.{AreLater};
 ghost use Rattle.kap_service.specs.Kept.{posted};
+ghost use Rattle.kap_service.specs.Stores.{AreAllOf};
 ghost use Rattle.kap_service.specs.Values.{Stores};
 
 use crate::asks::changes;
@@ -20,7 +22,7 @@ use std::alloc::Global;
 use std::marker::{Brand, Model};
 use std::sync::Wait;
 use std::sync::ledger::{Book, Ledger};
-use topic_board::{Naming, Poster, Shown};
+use topic_board::{Front, Naming, Poster, Shown};
 
 /// The ledger of replies that say that the store failed. It knows how often the engine had failed as the
 /// service began, and whether the engine was right then; who makes a service picks both.
@@ -48,6 +50,30 @@ fn is_short(before: bool, status: u16, lacks: bool) -> bool
     ensures { result ≡ false → (before ≡ false) × ((status ≢ 503) × (lacks ≡ false)) }
 {
     before || status == 503 || lacks
+}
+
+/// Keeps what is told now, and says that it does: what was kept begins it. Else that is kept on.
+fn hear<J: Naming>(kept: &mut Front<J>, told: Front<J>) -> bool
+    ensures later { IsPrefix kept.old kept.new }
+    ensures heard { result ≡ true → kept.new ≡ told }
+{
+    if kept.begins(&told) {
+        *kept = told;
+        return true;
+    }
+    false
+}
+
+/// Whether as many transitions were told as the engine has, where it isn't spent.
+fn has_told_all<E: Engine, J: Naming>(engine: &E, told: &Front<J>) -> bool
+    ensures unspent { result ≡ true → (E.value engine.now).spent ≡ false }
+    ensures all { result ≡ true → E.right engine.now → (store : Stores)
+        → E.leaves engine.now store → length told.now ≡ length store.stored }
+{
+    if engine.spent() {
+        return false;
+    }
+    told.len() == engine.count()
 }
 
 /// What lies under the lock: the engine, what posts to the board, and the two books, with what they say as
@@ -147,7 +173,11 @@ impl<E: Engine, J: Naming, O: Drop, T: Shown<J, O>, R: Wait + Drop, L1: Ledger, 
         ensures first { seat.new.changes ≡ seat.old.changes + change_of ask.now (status_of result) }
         ensures second { seat.new.faults ≡ seat.old.faults + fault_of (status_of result) }
         ensures status { seat.new.status ≡ status_of result }
-        ensures told { seat.new.told ≡ self.new.posts.published }
+        ensures told { seat.new.shown ≡ true → seat.new.told ≡ self.new.posts.published }
+        ensures later { IsPrefix seat.old.told seat.new.told }
+        ensures shown { IsTrue L2.owned → seat.new.shown ≡ true → IfOk result (λ d.
+            (IsFailed d.reply.status → ⊥) → AreAllOf E.value E.right E.leaves
+            (d.changes + change_of ask.now d.reply.status) seat.new.told) }
         ensures look { (seat.new.known ≡ seat.old.known) × (seat.new.aways ≡ seat.old.aways) }
         ensures answers { seat.new.answers ≡ min (seat.old.answers + 1) (2 ^ 64 - 1) }
     {
@@ -157,7 +187,8 @@ impl<E: Engine, J: Naming, O: Drop, T: Shown<J, O>, R: Wait + Drop, L1: Ledger, 
             let reply = failed_reply(alloc, ShareFault::NoMemory);
             self.short = true;
             seat.status = reply.status;
-            seat.told = self.poster.tell();
+            let _heard = hear(&mut seat.told, self.poster.tell());
+            seat.shown = false;
             return Err(reply);
         }
         let judged = judged(alloc, &mut self.engine, ask, now);
@@ -177,7 +208,10 @@ impl<E: Engine, J: Naming, O: Drop, T: Shown<J, O>, R: Wait + Drop, L1: Ledger, 
         let lacks = show(alloc, &mut self.engine, &mut self.poster);
         self.short = is_short(self.short, status, lacks);
         seat.status = status;
-        seat.told = self.poster.tell();
+        let told = self.poster.tell();
+        let all = has_told_all(&self.engine, &told);
+        let heard = hear(&mut seat.told, told);
+        seat.shown = heard && all;
         judged
     }
 }

@@ -1,10 +1,14 @@
 use Rattle.std.proofs.Common.{◌≡◌, ℕ, ◌+◌, ◌==◌, Bool, if◌then◌else◌, sym, subst, ◌∙◌, arith}
+use Rattle.std.specs.Prelude.{false}
 use Rattle.std.proofs.lemmas.Bool.{eqb-true}
-use Rattle.reply_bodies.specs.Asks.{change_of}
+use Rattle.reply_bodies.specs.Asks.{IsFailed, change_of}
 use Rattle.kap_service.specs.Asks.{fault_of, status_of}
 use Rattle.kap_service.specs.Causes.{AreCaused}
-use Rattle.kap_service.specs.Kept.{IsTold}
-use Rattle.kap_service.proofs.KeptLaws.{caused_on, not_failed, told_on}
+use Rattle.kap_service.specs.Kept.{IsTold, posted}
+use Rattle.kap_service.specs.Stores.{AreAllOf}
+use Rattle.kap_service.specs.Values.{Decisions}
+use Rattle.kap_service.proofs.KeptLaws.{both_true, caused_on, if_ok, not_failed, told_all, told_on}
+use Rattle.kap_service.proofs.StoreLaws.{prefix_trans}
 use Rattle.kap_service.proofs.state.State.answer.Goals as goal
 
 pub invariant_of-self-2 : goal.invariant_of-self-2
@@ -63,3 +67,33 @@ invariant_of-self-2 g c =
                 read.later);
           },
     )
+
+pub returns-clause-shown : goal.returns-clause-shown
+returns-clause-shown g c = λ owned is.
+    let k = c.self.invariant.3 owned in
+    let right = c.judged-judged.ensures.right k.right_is in
+    let read = c.show-lacks.ensures.read in
+    let engine = c.show-lacks.new.engine in
+    let posts = c.show-lacks.new.poster in
+    let both = both_true c.hear-heard.result c.has_told_all-all.result is in
+    let told = c.hear-heard.ensures.heard both.0 ∙ c.tell-told.ensures in
+    let after : ℕ = (g.E.Engine.value c.judged-judged.new.engine).changes in
+    if_ok
+    (λ (d : Decisions). (IsFailed d.reply.status → ⊥) → after ≡ d.changes + change_of c.args.ask.now d.reply.status)
+    (λ (d : Decisions). (IsFailed d.reply.status → ⊥) → AreAllOf g.E.Engine.value g.E.Engine.right g.E.Engine.leaves
+    (d.changes + change_of c.args.ask.now d.reply.status) c.hear-heard.new.kept)
+    c.judged-judged.result
+    (λ d exact fine. record {
+      engine = engine;
+      right_is = read.stays_right right;
+      unspent = c.has_told_all-all.ensures.unspent both.1;
+      changes_are = read.changes ∙ exact fine;
+      all = λ store left.
+          let here = read.stores right store left in
+          let j = c.judged-judged.ensures.stores k.right_is store here in
+          let pre = prefix_trans (posted c.self.inside.poster) j.origin.stored store.stored
+          (k.stores j.origin j.was).begun j.how.changed.stored in
+          told_all posts store.stored c.hear-heard.new.kept (c.show-lacks.ensures.begun right store here pre) told
+          (c.has_told_all-all.ensures.all both.1 (read.stays_right right) store left);
+    })
+    (c.judged-judged.ensures.exact k.right_is)
