@@ -47,12 +47,12 @@ asked_script g planned rs seen images e (asks.Topic t) at = tt
 one-change : (a b : Bool) → a ≡ true → b ≡ true → ◌≡◌ {A = ℕ} (if a && b then 1 else 0) 1
 one-change a b one two = rw (one, two) refl
 
-module _ (refused : List ℕ) (tasks : List StoredTask) (topics : TopicsValue) (now : ℤ) where
-  pub write_instead : (w : WriteValue) → reply_to_lines (points_asked w now) ≡ done_reply → WouldChange refused tasks topics now (asks.Write w)
+module _ (before after : ℕ) (refused : List ℕ) (tasks : List StoredTask) (topics : TopicsValue) (now : ℤ) where
+  pub write_instead : (w : WriteValue) → reply_to_lines (points_asked w now) ≡ done_reply → WouldChange before after refused tasks topics now (asks.Write w)
   write_instead w is = (reply_to_lines (points_asked w now), refl, ap (λ (r : ReplyValue). change_of (asks.Write w) r.status) is)
 
-  pub define_instead : (d : DefineValue) → CanBeDefined tasks d.id d.script → WouldChange refused tasks topics now (asks.Define d)
+  pub define_instead : (d : DefineValue) → CanBeDefined tasks d.id d.script → WouldChange before after refused tasks topics now (asks.Define d)
   define_instead d could = (given_reply (task_text d.id d.script d.enabled), is_defined could refl, refl)
 
-  pub act_instead : (t : TaskValue) → (is_changing_act t.act ≡ true) × (is_done (reply_to_act t.act (task_of t.id tasks)).status ≡ true) → WouldChange refused tasks topics now (asks.Task t)
+  pub act_instead : (t : TaskValue) → (is_changing_act t.act ≡ true) × (is_done (reply_to_act t.act (task_of t.id tasks)).status ≡ true) → WouldChange before after refused tasks topics now (asks.Task t)
   act_instead t both = (reply_to_act t.act (task_of t.id tasks), refl, one-change _ _ both.0 both.1)

@@ -12,6 +12,7 @@ use Rattle.lambda_types.specs.Faults.{Refusal}
 use Rattle.store_records.specs.Held.{has_task, is_called, task_of}
 use Rattle.store_records.specs.declared.task.StoredTask.{StoredTask}
 use Rattle.tick_compile.specs.Scripts.{Accepts, Refuses}
+use Rattle.tick_compile.specs.Tasks.{is_refusal}
 use Rattle.tick_compile.specs.declared.script_fault.ScriptFault.{ScriptFault}
 use Rattle.tick_compile.specs.declared.tasks.Task.{Task}
 use Rattle.engine_store.specs.Asking.{IsScript}
@@ -40,28 +41,29 @@ not_failed : (due reply : ReplyValue) → (due.status ≡ 500 → ⊥) → IsDue
 not_failed due reply other (inl is) e = other (sym (status_is reply due is) ∙ e)
 not_failed due reply other (inr short) e = absurd (omega (arith, short, e))
 
-module _ (refused : List ℕ) (tasks : List StoredTask) (d : DefineValue) where
+module _ (before after : ℕ) (refused : List ℕ) (tasks : List StoredTask) (d : DefineValue) where
   -- that it is defined is told
   pub defined_due : (reply : ReplyValue) → CanBeDefined tasks d.id d.script → IsDueOrShort (given_reply (task_text d.id d.script d.enabled)) reply
-      → IsReplyToDefinition refused tasks d reply ⊎ IsFailed reply.status
+      → IsReplyToDefinition before after refused tasks d reply ⊎ IsFailed reply.status
   defined_due reply could (inl is) = inl (is_defined could is)
   defined_due reply could (inr short) = inr (inr short)
 
   -- why none is defined is told
   pub none_defined : (fault : EngineFault) (reply : ReplyValue) → IsWhyNoneDefined refused d.id d.script tasks fault
-      → IsDueOrShort (reply_to_fault fault) reply → IsReplyToDefinition refused tasks d reply ⊎ IsFailed reply.status
-  none_defined (engines.Script fault) reply why (inl is) = inl (no_script fault why is)
-  none_defined (engines.Script fault) reply why (inr short) = inr (inr short)
-  none_defined engines.NoTask reply why due = absurd why
-  none_defined engines.Exists reply why (inl is) = inl (exists why.0 why.1 is)
-  none_defined engines.Exists reply why (inr short) = inr (inr short)
-  none_defined engines.TooManyTasks reply why (inl is) = inl (no_room why.0 why.1 why.2 is)
-  none_defined engines.TooManyTasks reply why (inr short) = inr (inr short)
-  none_defined (engines.NotStore part offset) reply why due = absurd why
-  none_defined engines.DiskFault reply why (inl is) = inr (inl (status_is reply (reply_to_fault engines.DiskFault) is))
-  none_defined engines.DiskFault reply why (inr short) = inr (inr short)
-  none_defined engines.NoMemory reply why (inl is) = inr (inr (status_is reply (reply_to_fault engines.NoMemory) is))
-  none_defined engines.NoMemory reply why (inr short) = inr (inr short)
+      → ((f : ScriptFault) → fault ≡ engines.Script f → is_refusal f ≡ true → HasRisen before after)
+      → IsDueOrShort (reply_to_fault fault) reply → IsReplyToDefinition before after refused tasks d reply ⊎ IsFailed reply.status
+  none_defined (engines.Script fault) reply why rose (inl is) = inl (no_script fault why (rose fault refl) is)
+  none_defined (engines.Script fault) reply why rose (inr short) = inr (inr short)
+  none_defined engines.NoTask reply why rose due = absurd why
+  none_defined engines.Exists reply why rose (inl is) = inl (exists why.0 why.1 is)
+  none_defined engines.Exists reply why rose (inr short) = inr (inr short)
+  none_defined engines.TooManyTasks reply why rose (inl is) = inl (no_room why.0 why.1 why.2 is)
+  none_defined engines.TooManyTasks reply why rose (inr short) = inr (inr short)
+  none_defined (engines.NotStore part offset) reply why rose due = absurd why
+  none_defined engines.DiskFault reply why rose (inl is) = inr (inl (status_is reply (reply_to_fault engines.DiskFault) is))
+  none_defined engines.DiskFault reply why rose (inr short) = inr (inr short)
+  none_defined engines.NoMemory reply why rose (inl is) = inr (inr (status_is reply (reply_to_fault engines.NoMemory) is))
+  none_defined engines.NoMemory reply why rose (inr short) = inr (inr short)
 
   -- the store failed only where it could be defined
   pub none_instead : (fault : EngineFault) (reply : ReplyValue) → IsWhyNoneDefined refused d.id d.script tasks fault → IsDueOrShort (reply_to_fault fault) reply → reply.status ≡ 500

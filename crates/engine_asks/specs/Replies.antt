@@ -2,6 +2,7 @@
 -- topics that a store has.
 use Rattle.std.specs.Prelude.{◌≡◌, ◌⊎◌, ◌≤◌, ⊤, ℕ, ℤ, true, false, List, length, Option, Some, None, Result, Ok, Err, IfSome}
 use Rattle.kap_base.specs.Points.{PointValue}
+use Rattle.kap_base.specs.Words.{HasRisen}
 use Rattle.kap_base.specs.declared.limits.TheConstants.{TASK_LIMIT}
 use Rattle.kap_http.specs.AskValues.{DefineValue, WriteValue}
 use Rattle.kap_http.specs.Refusals.{refusal_reply}
@@ -23,7 +24,7 @@ use Rattle.line_points.specs.declared.mode.Unit.TheVariants as units
 use Rattle.store_records.specs.Held.{has_task, task_of}
 use Rattle.store_records.specs.declared.task.StoredTask.{StoredTask}
 use Rattle.tick_compile.specs.Scripts.{Refuses}
-use Rattle.tick_compile.specs.Tasks.{refusal_in}
+use Rattle.tick_compile.specs.Tasks.{is_refusal, refusal_in}
 use Rattle.tick_compile.specs.Texts.{text_of_fault}
 use Rattle.tick_compile.specs.declared.script_fault.ScriptFault.{ScriptFault}
 use Rattle.topic_core.specs.Topics.{TopicsValue}
@@ -73,28 +74,30 @@ reply_to_act acts.Delete (Some task) = done_reply
 -- ---- a task is defined
 
 -- The reply to a definition: 400 with the first fault of the script; else 409, where a task has the id; else 409, where
--- there are as many as may be; else 200 with the task. The text is the last pattern that was refused.
-pub data IsReplyToDefinition (refused : List ℕ) (tasks : List StoredTask) (d : DefineValue)
+-- there are as many as may be; else 200 with the task. The first fault is a pattern that was refused only where the
+-- count of these rose, from `before` to `after`; the text is the one that was refused last.
+pub data IsReplyToDefinition (before after : ℕ) (refused : List ℕ) (tasks : List StoredTask) (d : DefineValue)
     (reply : ReplyValue) : Type 0 where
   no_script : (fault : ScriptFault) → Refuses (refusal_in fault refused) d.script fault
-      → reply ≡ error_reply 400 (text_of_fault fault) → IsReplyToDefinition refused tasks d reply
+      → (is_refusal fault ≡ true → HasRisen before after)
+      → reply ≡ error_reply 400 (text_of_fault fault) → IsReplyToDefinition before after refused tasks d reply
   exists : IsScript d.script → has_task d.id tasks ≡ true → reply ≡ refusal_reply refusals.Exists
-      → IsReplyToDefinition refused tasks d reply
+      → IsReplyToDefinition before after refused tasks d reply
   no_room : IsScript d.script → has_task d.id tasks ≡ false → TASK_LIMIT ≤ length tasks
-      → reply ≡ refusal_reply refusals.TooManyTasks → IsReplyToDefinition refused tasks d reply
+      → reply ≡ refusal_reply refusals.TooManyTasks → IsReplyToDefinition before after refused tasks d reply
   is_defined : CanBeDefined tasks d.id d.script → reply ≡ given_reply (task_text d.id d.script d.enabled)
-      → IsReplyToDefinition refused tasks d reply
+      → IsReplyToDefinition before after refused tasks d reply
 
 -- ---- any ask
 
-module _ (refused : List ℕ) (tasks : List StoredTask) (topics : TopicsValue) (now : ℤ) where
-  -- The reply that is due to an ask at a moment, by the tasks and topics that there are. The text is the last pattern
-  -- that was refused.
+module _ (before after : ℕ) (refused : List ℕ) (tasks : List StoredTask) (topics : TopicsValue) (now : ℤ) where
+  -- The reply that is due to an ask at a moment, by the tasks and topics that there are. The numbers are how many patterns
+  -- were refused before and after it, and the text is the last one.
   abbrev pub IsReply : Ask → ReplyValue → Type 0
   IsReply asks.Ping reply = reply ≡ done_reply
   IsReply (asks.Write w) reply = reply ≡ reply_to_lines (points_asked w now)
   IsReply asks.Tasks reply = reply ≡ tasks_reply tasks
-  IsReply (asks.Define d) reply = IsReplyToDefinition refused tasks d reply
+  IsReply (asks.Define d) reply = IsReplyToDefinition before after refused tasks d reply
   IsReply (asks.Task t) reply = reply ≡ reply_to_act t.act (task_of t.id tasks)
   IsReply asks.Topics reply = reply ≡ topics_reply topics
   IsReply (asks.Topic t) reply = reply ≡ topic_reply topics t.name

@@ -43,10 +43,10 @@ fn answer<
 ) -> Reply
     requires unspent { engine.old.spent ≡ false }
     requires time { IsTrue (is_time now) }
-    ensures reply { IsReplyOrFailed (P.refused pats.new) engine.old.store.kept.tasks
-        engine.old.run.topics now ask.now result }
-    ensures instead { result.status ≡ 500 → WouldChange (P.refused pats.new)
-        engine.old.store.kept.tasks engine.old.run.topics now ask.now }
+    ensures reply { IsReplyOrFailed (P.refusals pats.old) (P.refusals pats.new) (P.refused pats.new)
+        engine.old.store.kept.tasks engine.old.run.topics now ask.now result }
+    ensures instead { result.status ≡ 500 → WouldChange (P.refusals pats.old) (P.refusals pats.new)
+        (P.refused pats.new) engine.old.store.kept.tasks engine.old.run.topics now ask.now }
     ensures next { IsTrue D.tells → (rs : List Rec)
         → (at : IsEngine N.Node N.planned rs (D.seen disk.old) (D.may_leave disk.old) engine.old)
         → (IsFailed result.status → ⊥) → IsNext N.Node N.planned rs at.full.good.tasks
@@ -101,10 +101,10 @@ pub fn answer_ask<
     requires unspent { engine.old.spent ≡ false }
     requires time { IsTrue (is_time now) }
     // The reply is the one that is due; 500 comes only where this would say that a change is done.
-    ensures reply { IsReplyOrFailed (P.refused pats.new) engine.old.store.kept.tasks
-        engine.old.run.topics now ask.now result }
-    ensures instead { result.status ≡ 500 → WouldChange (P.refused pats.new)
-        engine.old.store.kept.tasks engine.old.run.topics now ask.now }
+    ensures reply { IsReplyOrFailed (P.refusals pats.old) (P.refusals pats.new) (P.refused pats.new)
+        engine.old.store.kept.tasks engine.old.run.topics now ask.now result }
+    ensures instead { result.status ≡ 500 → WouldChange (P.refusals pats.old) (P.refusals pats.new)
+        (P.refused pats.new) engine.old.store.kept.tasks engine.old.run.topics now ask.now }
     // The store is the next one.
     ensures next { IsTrue D.tells → (rs : List Rec)
         → (at : IsEngine N.Node N.planned rs (D.seen disk.old) (D.may_leave disk.old) engine.old)

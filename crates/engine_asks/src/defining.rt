@@ -32,8 +32,8 @@ pub(crate) fn define<D: Disk, P: Patterns, N: ScriptNode + NumberingNode + Send>
     ask: &DefineAsk,
 ) -> Reply
     requires unspent { engine.old.spent ≡ false }
-    ensures reply { IsReplyToDefinition (P.refused pats.new) engine.old.store.kept.tasks
-        ask.now result ⊎ IsFailed result.status }
+    ensures reply { IsReplyToDefinition (P.refusals pats.old) (P.refusals pats.new)
+        (P.refused pats.new) engine.old.store.kept.tasks ask.now result ⊎ IsFailed result.status }
     ensures instead { result.status ≡ 500
         → CanBeDefined engine.old.store.kept.tasks ask.now.id ask.now.script }
     ensures next { IsTrue D.tells → (rs : List Rec)

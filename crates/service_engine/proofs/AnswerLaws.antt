@@ -4,6 +4,7 @@ use Rattle.std.proofs.lemmas.Bool.{eqb-false}
 use Rattle.std.specs.Prelude.{◌⊎◌, ◌&&◌, if◌then◌else◌, IsTrue, MatchBool}
 use mathlib.Core.List.{IsPrefix}
 use Rattle.kap_base.specs.Points.{PointValue}
+use Rattle.kap_http.specs.ReplyValues.{ReplyValue}
 use Rattle.kap_http.specs.declared.ask.Ask.{Ask}
 use Rattle.kap_http.specs.declared.ask.Ask.TheVariants as asks
 use Rattle.kap_http.specs.declared.ask.TaskAct.{TaskAct}
@@ -23,7 +24,7 @@ use Rattle.reply_bodies.specs.Asks.{IsFailed, change_of, is_changing, is_done}
 use Rattle.engine_asks.specs.Nexts.{HasPointsOf, HasRecord, IsCounted, IsNext, IsNextIf, NextOf, NextOfAct, StandsCounted, Stays}
 use Rattle.kap_service.specs.Stores.{HasOwn, IsDecided, Reached}
 use Rattle.kap_service.specs.Values.{Stores}
-use Rattle.service_engine.specs.Engines.{AreRight, IsOver, IsRight, Leaves, is_spent, own_of, store_of}
+use Rattle.service_engine.specs.Engines.{AreRight, HasAnswered, IsOver, IsRight, Leaves, is_spent, own_of, store_of}
 use Rattle.service_engine.specs.StoreLaws.{leaves_on, leaves_these}
 
 -- ---- statuses
@@ -213,3 +214,24 @@ module _ {N P S : Type 0} (g : Ghosts N P S) (planned : Planned P) (tells : Bool
       by : (b : Bool) → MatchBool b (IsFailed status) (IsFailed status → ⊥) → is_spent (if b then None else Some e) ≡ false
       by true is = absurd (fine is)
       by false is = usable fine
+
+-- what follows behind an ask is what is kept, where no failure is told
+module _ {N P S : Type 0} (g : Ghosts N P S) (planned : Planned P) {D : Type 0} (tells : Bool) (seen : D → Image)
+    (moment : D → ℕ) (may_leave : D → Image → Type 0) (left_since : D → ℕ → Image → Type 0) (old new : D)
+    (before after : ℕ) (refused : List ℕ) (e behind : EngineValue N) (ask : Ask) (now : ℤ) (reply : ReplyValue) where
+  pub kept_answered : (failed : Bool) → MatchBool failed (IsFailed reply.status) (IsFailed reply.status → ⊥)
+      → (kept : Option (EngineValue N)) → kept ≡ (if failed then None else Some behind)
+      → HasAnswered g planned tells seen moment may_leave left_since old new before after refused e (Some behind) ask now reply
+      → HasAnswered g planned tells seen moment may_leave left_since old new before after refused e kept ask now reply
+  kept_answered failed is_failed kept same answered = record {
+    due = answered.due;
+    next = λ told rs at fine.
+        let n = answered.next told rs at fine in
+        (n.0, by failed is_failed same fine ∙ n.1, n.2);
+    any_moment = answered.any_moment;
+  }
+    where
+      by : (b : Bool) → MatchBool b (IsFailed reply.status) (IsFailed reply.status → ⊥)
+          → kept ≡ (if b then None else Some behind) → (IsFailed reply.status → ⊥) → kept ≡ Some behind
+      by true is so fine = absurd (fine is)
+      by false is so fine = so

@@ -57,7 +57,6 @@ use Rattle.kap_engine.specs.contracts.engine.Engine as Engine
 use Rattle.kap_engine.specs.contracts.engine.Engine.TheInside as EngineInside
 use Rattle.service_engine.specs.contracts.disk_engine.DiskEngine as DiskEngine
 
-
 -- ---- an engine of any nodes
 
 pub Net_send : (N P S : RattleType) (g : Node.Ghosts N.Denot P.Denot S.Denot) → IsSend N → IsSend (Net.the_row N P S g)

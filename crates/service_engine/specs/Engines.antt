@@ -3,6 +3,7 @@ use Rattle.std.specs.Prelude.{◌≡◌, ⊤, ℕ, ℤ, Bool, true, false, IsTru
 use Rattle.kap_http.specs.ReplyValues.{ReplyValue}
 use Rattle.kap_http.specs.declared.ask.Ask.{Ask}
 use Rattle.kap_io.specs.Disk.{Image}
+use Rattle.kap_io.specs.Moments.{Moments}
 use Rattle.node_core.specs.declared.node.Node.{Ghosts}
 use Rattle.node_set.specs.Tasks.{Planned}
 use Rattle.store_records.specs.Histories.{held}
@@ -11,7 +12,9 @@ use Rattle.topic_core.specs.declared.transition.Transition.{Transition}
 use Rattle.topic_store.specs.Stores.{Stands}
 use Rattle.engine_store.specs.Good.{IsGood}
 use Rattle.kap_engine.specs.Engines.{EngineValue, IsEngine}
-use Rattle.engine_asks.specs.Replies.{IsReply}
+use Rattle.reply_bodies.specs.Asks.{IsFailed}
+use Rattle.engine_asks.specs.Nexts.{IsNext, before_or_next}
+use Rattle.engine_asks.specs.Replies.{IsReply, IsReplyOrFailed}
 use Rattle.kap_service.specs.Values.{Engines, Faults, Stores}
 
 -- ---- what is counted; an engine that was let go is None
@@ -49,10 +52,10 @@ engine_of e disk patterns = record {
   own = own_of e;
 }
 
--- The reply is the one that is due to an ask at a moment, by what the engine holds; the text is a pattern that was
--- refused.
+-- The reply is the one that is due to an ask at a moment, by what the engine holds; whichever patterns were refused.
 abbrev pub IsDue : {N : Type 0} → Option (EngineValue N) → Ask → ℤ → ReplyValue → Type 0
-IsDue (Some e) ask now reply = (refused : List ℕ) × IsReply refused e.store.kept.tasks e.run.topics now ask reply
+IsDue (Some e) ask now reply =
+    (before : ℕ) × (after : ℕ) × (refused : List ℕ) × IsReply before after refused e.store.kept.tasks e.run.topics now ask reply
 IsDue None ask now reply = ⊥
 
 -- ---- the stores for which a disk stands
@@ -98,3 +101,25 @@ module _ {N P S : Type 0} (g : Ghosts N P S) (planned : Planned P) where
     pub told : IsTrue tells
     pub each : AreRight images
     pub over : IsOverSome seen images e
+
+  -- ---- what follows behind an ask
+
+  module _ {D : Type 0} (tells : Bool) (seen : D → Image) (moment : D → ℕ) (may_leave : D → Image → Type 0)
+      (left_since : D → ℕ → Image → Type 0) (old new : D) (before after : ℕ) (refused : List ℕ) where
+    -- Of an engine on a disk and of what it is behind an ask at a moment: the reply is the one that is due by what it held
+    -- and by the patterns that were refused meanwhile, from `before` of them to `after`. Where the disk tells its bytes and
+    -- no failure is told, it is the next one, over the next store; and at each moment each image stood for the store as it
+    -- was, or with the change.
+    pub record HasAnswered (e : EngineValue N) (left : Option (EngineValue N)) (ask : Ask) (now : ℤ) (reply : ReplyValue)
+        : Type 0 where
+      pub due : IsReplyOrFailed before after refused e.store.kept.tasks e.run.topics now ask reply
+      pub next : IsTrue tells → (rs : List Rec) → (at : IsEngine g planned rs (seen old) (may_leave old) e)
+          → (IsFailed reply.status → ⊥) → (behind : EngineValue N) × (left ≡ Some behind)
+          × IsNext g planned rs at.full.good.tasks e.stored (seen new) (may_leave new) behind ask now reply.status
+      pub any_moment : IsTrue tells → (rs : List Rec) → IsEngine g planned rs (seen old) (may_leave old) e
+          → Moments moment may_leave left_since old new (before_or_next g planned rs ask now)
+
+    -- of one that wasn't let go; no other answers
+    abbrev pub Follows : Option (EngineValue N) → Option (EngineValue N) → Ask → ℤ → ReplyValue → Type 0
+    Follows (Some e) left ask now reply = HasAnswered e left ask now reply
+    Follows None left ask now reply = ⊥

@@ -6,7 +6,7 @@ ghost use Rattle.kap_service.specs.Causes.{AreLater, HasFailed};
 ghost use Rattle.kap_service.specs.Stores.{IsDecided, IsDueReply, Reached};
 ghost use Rattle.kap_service.specs.Values.{Stores};
 ghost use Rattle.reply_bodies.specs.Asks.{IsFailed};
-ghost use Rattle.service_engine.specs.Engines.{AreRight, IsDue, IsOver, IsRight, Leaves, faults_of, is_spent, own_of};
+ghost use Rattle.service_engine.specs.Engines.{AreRight, Follows, HasAnswered, IsDue, IsOver, IsRight, Leaves, faults_of, is_spent, own_of};
 
 use engine_asks::answer_ask;
 use kap_engine::Engine;
@@ -48,6 +48,9 @@ fn answer_by<D: Disk, P: Patterns, N: ScriptNode + NumberingNode + Send, R: Thre
     requires unspent { engine.old.spent ≡ false }
     requires time { IsTrue (is_time now) }
     ensures due { IsDueReply (IsDue (Some engine.old) ask.now now) result }
+    ensures next { HasAnswered N.Node N.planned D.tells D.seen D.moment D.may_leave D.left_since
+        disk.old disk.new (P.refusals pats.old) (P.refusals pats.new) (P.refused pats.new)
+        engine.old (Some engine.new) ask.now now result }
     ensures usable { (IsFailed result.status → ⊥) → engine.new.spent ≡ false }
     ensures later { AreLater (faults_of (D.faults disk.old) (P.refusals pats.old))
         (faults_of (D.faults disk.new) (P.refusals pats.new)) }
@@ -86,6 +89,9 @@ pub(crate) fn reply_by<
     requires unspent { is_spent engine.old ≡ false }
     requires time { IsTrue (is_time now) }
     ensures due { IsDueReply (IsDue engine.old ask.now now) result }
+    ensures next { Follows N.Node N.planned D.tells D.seen D.moment D.may_leave D.left_since
+        disk.old disk.new (P.refusals pats.old) (P.refusals pats.new) (P.refused pats.new)
+        engine.old engine.new ask.now now result }
     ensures usable { (IsFailed result.status → ⊥) → is_spent engine.new ≡ false }
     ensures later { AreLater (faults_of (D.faults disk.old) (P.refusals pats.old))
         (faults_of (D.faults disk.new) (P.refusals pats.new)) }

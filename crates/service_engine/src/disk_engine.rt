@@ -6,7 +6,7 @@ ghost use Rattle.engine_store.specs.declared.fault.EngineFault.TheVariants.{Disk
 ghost use Rattle.kap_base.specs.Words.{HasRisen};
 ghost use Rattle.kap_io.specs.declared.disk.Part.{Part};
 ghost use Rattle.node_workers.specs.declared.TheConstants.{WORKER_LIMIT};
-ghost use Rattle.service_engine.specs.Engines.{AreRight, IsDue, IsRight, Leaves, engine_of, is_spent};
+ghost use Rattle.service_engine.specs.Engines.{AreRight, Follows, IsDue, IsRight, Leaves, engine_of, is_spent};
 ghost use Rattle.service_engine.specs.StoreLaws.{leaves_counts, leaves_one, leaves_some};
 
 use crate::answering::reply_by;
@@ -118,6 +118,11 @@ impl<D: Disk + Drop, P: Patterns + Drop, R: Threads + Sync> kap_service::Engine
     ghost leaves = { λ e store. Leaves (D.may_leave e.disk) store };
 
     ghost due = { λ e ask now reply. IsDue e.engine ask now reply };
+
+    ghost follows = { λ e ask now reply left. Follows ⟦<AnyNode as Node>⟧
+        ⟦<AnyNode as ScriptNode>⟧.planned D.tells D.seen D.moment D.may_leave D.left_since
+        e.disk left.disk (P.refusals e.pats) (P.refusals left.pats) (P.refused left.pats)
+        e.engine left.engine ask now reply };
 
     ghost some = { λ e r. leaves_some _ _ _ _ _ _ (D.reads_as e.disk r.told) r };
 

@@ -223,6 +223,8 @@ impl<'a, W: Wait> Engine for FakeEngine<'a, W> {
 
     ghost due = { λ f ask now reply. reply.status ≡ 204 };
 
+    ghost follows = { λ f ask now reply left. ⊤ };
+
     ghost some = { λ f r. (store_of f, refl) };
 
     ghost one = { λ f r unspent store other left again. left ∙ sym again };

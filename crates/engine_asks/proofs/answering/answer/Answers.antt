@@ -36,7 +36,7 @@ returns-in-Task-clause-next g c = λ tells rs at told.
 
 pub returns-in-Define-clause-reply : goal.returns-in-Define-clause-reply
 returns-in-Define-clause-reply g c =
-    subst (λ (ask : Ask). IsReplyOrFailed (g.P.Patterns.refused c.define.new.pats) c.args.engine.now.store.kept.tasks c.args.engine.now.run.topics c.args.now ask c.define.result) (sym c.in-Define.is)
+    subst (λ (ask : Ask). IsReplyOrFailed (g.P.Patterns.refusals c.args.pats.now) (g.P.Patterns.refusals c.define.new.pats) (g.P.Patterns.refused c.define.new.pats) c.args.engine.now.store.kept.tasks c.args.engine.now.run.topics c.args.now ask c.define.result) (sym c.in-Define.is)
     c.define.ensures.reply
 
 pub returns-in-Write-clause-any_moment : goal.returns-in-Write-clause-any_moment
@@ -59,25 +59,31 @@ returns-in-Task-clause-any_moment g c = λ tells rs at.
 
 pub returns-in-Write-clause-instead : goal.returns-in-Write-clause-instead
 returns-in-Write-clause-instead g c = λ is.
+    let before = g.P.Patterns.refusals c.args.pats.now in
+    let after = g.P.Patterns.refusals c.args.pats.now in
     let refused = g.P.Patterns.refused c.args.pats.now in
     let tasks = c.args.engine.now.store.kept.tasks in
     let topics = c.args.engine.now.run.topics in
     let due = subst (λ (t : ℤ). reply_to_lines (points_asked c.in-Write.ask t) ≡ done_reply) (to_z-of_z w64 c.args.now c.ranges.now) (c.write.ensures.instead is) in
-    subst (λ (ask : Ask). WouldChange refused tasks topics c.args.now ask) (sym c.in-Write.is) (write_instead refused tasks topics c.args.now c.in-Write.ask due)
+    subst (λ (ask : Ask). WouldChange before after refused tasks topics c.args.now ask) (sym c.in-Write.is) (write_instead before after refused tasks topics c.args.now c.in-Write.ask due)
 
 pub returns-in-Define-clause-instead : goal.returns-in-Define-clause-instead
 returns-in-Define-clause-instead g c = λ is.
+    let before = g.P.Patterns.refusals c.args.pats.now in
+    let after = g.P.Patterns.refusals c.define.new.pats in
     let refused = g.P.Patterns.refused c.define.new.pats in
     let tasks = c.args.engine.now.store.kept.tasks in
     let topics = c.args.engine.now.run.topics in
-    subst (λ (ask : Ask). WouldChange refused tasks topics c.args.now ask) (sym c.in-Define.is) (define_instead refused tasks topics c.args.now c.in-Define.ask (c.define.ensures.instead is))
+    subst (λ (ask : Ask). WouldChange before after refused tasks topics c.args.now ask) (sym c.in-Define.is) (define_instead before after refused tasks topics c.args.now c.in-Define.ask (c.define.ensures.instead is))
 
 pub returns-in-Task-clause-instead : goal.returns-in-Task-clause-instead
 returns-in-Task-clause-instead g c = λ is.
+    let before = g.P.Patterns.refusals c.args.pats.now in
+    let after = g.P.Patterns.refusals c.act.new.pats in
     let refused = g.P.Patterns.refused c.act.new.pats in
     let tasks = c.args.engine.now.store.kept.tasks in
     let topics = c.args.engine.now.run.topics in
-    subst (λ (ask : Ask). WouldChange refused tasks topics c.args.now ask) (sym c.in-Task.is) (act_instead refused tasks topics c.args.now c.in-Task.ask (c.act.ensures.instead is))
+    subst (λ (ask : Ask). WouldChange before after refused tasks topics c.args.now ask) (sym c.in-Task.is) (act_instead before after refused tasks topics c.args.now c.in-Task.ask (c.act.ensures.instead is))
 
 pub returns-in-Task-clause-any_cause : goal.returns-in-Task-clause-any_cause
 returns-in-Task-clause-any_cause g c = λ script.

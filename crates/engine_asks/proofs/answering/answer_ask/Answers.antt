@@ -15,12 +15,12 @@ returns-clause-next g c = λ tells rs at told.
 
 pub returns-clause-reply : goal.returns-clause-reply
 returns-clause-reply g c =
-    subst (λ (t : ℤ). IsReplyOrFailed (g.P.Patterns.refused c.answer.new.pats) c.args.engine.now.store.kept.tasks c.args.engine.now.run.topics t c.args.ask.now c.answer.result)
+    subst (λ (t : ℤ). IsReplyOrFailed (g.P.Patterns.refusals c.args.pats.now) (g.P.Patterns.refusals c.answer.new.pats) (g.P.Patterns.refused c.answer.new.pats) c.args.engine.now.store.kept.tasks c.args.engine.now.run.topics t c.args.ask.now c.answer.result)
     (to_z-of_z w64 c.args.now c.ranges.now) c.answer.ensures.reply
 
 pub returns-clause-instead : goal.returns-clause-instead
 returns-clause-instead g c = λ is.
-    subst (λ (t : ℤ). WouldChange (g.P.Patterns.refused c.answer.new.pats) c.args.engine.now.store.kept.tasks c.args.engine.now.run.topics t c.args.ask.now)
+    subst (λ (t : ℤ). WouldChange (g.P.Patterns.refusals c.args.pats.now) (g.P.Patterns.refusals c.answer.new.pats) (g.P.Patterns.refused c.answer.new.pats) c.args.engine.now.store.kept.tasks c.args.engine.now.run.topics t c.args.ask.now)
     (to_z-of_z w64 c.args.now c.ranges.now) (c.answer.ensures.instead is)
 
 pub returns-clause-cause : goal.returns-clause-cause

@@ -21,11 +21,13 @@ returns-in-Ok-clause-any_moment g c = λ tells rs at.
 
 pub returns-in-Ok-clause-reply : goal.returns-in-Ok-clause-reply
 returns-in-Ok-clause-reply g c =
+    let before = g.P.Patterns.refusals c.args.pats.now in
+    let after = g.P.Patterns.refusals c.define.new.pats in
     let refused = g.P.Patterns.refused c.define.new.pats in
     let tasks = c.args.engine.now.store.kept.tasks in
     let reply = c.task_reply.result in
-    subst (λ (d : DefineValue). IsReplyToDefinition refused tasks d reply ⊎ IsFailed reply.status) c.ask.view_is
-    (defined_due refused tasks _ reply c.in-Ok.ensures.could c.task_reply.ensures)
+    subst (λ (d : DefineValue). IsReplyToDefinition before after refused tasks d reply ⊎ IsFailed reply.status) c.ask.view_is
+    (defined_due before after refused tasks _ reply c.in-Ok.ensures.could c.task_reply.ensures)
 
 pub returns-in-Ok-clause-instead : goal.returns-in-Ok-clause-instead
 returns-in-Ok-clause-instead g c = λ is.
@@ -33,16 +35,18 @@ returns-in-Ok-clause-instead g c = λ is.
 
 pub returns-in-Err-clause-reply : goal.returns-in-Err-clause-reply
 returns-in-Err-clause-reply g c =
+    let before = g.P.Patterns.refusals c.args.pats.now in
+    let after = g.P.Patterns.refusals c.define.new.pats in
     let refused = g.P.Patterns.refused c.define.new.pats in
     let tasks = c.args.engine.now.store.kept.tasks in
     let reply = c.fault_reply.result in
-    subst (λ (d : DefineValue). IsReplyToDefinition refused tasks d reply ⊎ IsFailed reply.status) c.ask.view_is
-    (none_defined refused tasks _ c.in-Err.fault reply c.in-Err.ensures.why c.fault_reply.ensures)
+    subst (λ (d : DefineValue). IsReplyToDefinition before after refused tasks d reply ⊎ IsFailed reply.status) c.ask.view_is
+    (none_defined before after refused tasks _ c.in-Err.fault reply c.in-Err.ensures.why c.in-Err.ensures.rose c.fault_reply.ensures)
 
 pub returns-in-Err-clause-instead : goal.returns-in-Err-clause-instead
 returns-in-Err-clause-instead g c = λ is.
     subst (λ (d : DefineValue). CanBeDefined c.args.engine.now.store.kept.tasks d.id d.script) c.ask.view_is
-    (none_instead (g.P.Patterns.refused c.define.new.pats) c.args.engine.now.store.kept.tasks (record { id = c.ask.inside.id; script = c.ask.inside.script; enabled = c.ask.inside.enabled }) c.in-Err.fault c.fault_reply.result c.in-Err.ensures.why c.fault_reply.ensures is)
+    (none_instead (g.P.Patterns.refusals c.args.pats.now) (g.P.Patterns.refusals c.define.new.pats) (g.P.Patterns.refused c.define.new.pats) c.args.engine.now.store.kept.tasks (record { id = c.ask.inside.id; script = c.ask.inside.script; enabled = c.ask.inside.enabled }) c.in-Err.fault c.fault_reply.result c.in-Err.ensures.why c.fault_reply.ensures is)
 
 pub returns-in-Err-clause-any_moment : goal.returns-in-Err-clause-any_moment
 returns-in-Err-clause-any_moment g c = λ tells rs at.

@@ -1,21 +1,40 @@
-use Rattle.std.proofs.Common.{inl, inr, ⊎_elim, ℤ, subst}
+use Rattle.std.proofs.Common.{inl, inr, ⊎_elim, Some, ℤ, refl, subst}
 use Rattle.std.specs.Int.{w64}
 use Rattle.std.proofs.lemmas.Int.{to_z-of_z}
 use Rattle.engine_asks.specs.Replies.{IsReply}
+use Rattle.service_engine.specs.Engines.{HasAnswered}
 use Rattle.service_engine.proofs.AnswerLaws.{decided, each_counted, failed_or_not, over_next}
 use Rattle.service_engine.proofs.answering.answer_by.Goals as goal
 
 pub returns-clause-due : goal.returns-clause-due
 returns-clause-due g c =
     let e = c.args.engine.now in
+    let before = g.P.Patterns.refusals c.args.pats.now in
+    let after = g.P.Patterns.refusals c.answer_ask.new.pats in
     let refused = g.P.Patterns.refused c.answer_ask.new.pats in
     ⊎_elim
     (λ due. inl (
+      before,
+      after,
       refused,
-      subst (λ (t : ℤ). IsReply refused e.store.kept.tasks e.run.topics t c.args.ask.now c.answer_ask.result)
+      subst (λ (t : ℤ). IsReply before after refused e.store.kept.tasks e.run.topics t c.args.ask.now c.answer_ask.result)
           (to_z-of_z w64 c.args.now c.ranges.now) due,
     ))
     (λ failed. inr failed) c.answer_ask.ensures.reply
+
+pub returns-clause-next : goal.returns-clause-next
+returns-clause-next g c =
+    subst
+    (λ (t : ℤ). HasAnswered g.N.Node g.N.ScriptNode.planned g.D.Disk.tells g.D.Disk.seen g.D.Disk.moment
+    g.D.Disk.may_leave g.D.Disk.left_since c.args.disk.now c.answer_ask.new.disk (g.P.Patterns.refusals c.args.pats.now)
+    (g.P.Patterns.refusals c.answer_ask.new.pats) (g.P.Patterns.refused c.answer_ask.new.pats) c.args.engine.now
+    (Some c.answer_ask.new.engine) c.args.ask.now t c.answer_ask.result)
+    (to_z-of_z w64 c.args.now c.ranges.now)
+    (record {
+      due = c.answer_ask.ensures.reply;
+      next = λ tells rs at fine. (c.answer_ask.new.engine, refl, c.answer_ask.ensures.next tells rs at fine);
+      any_moment = c.answer_ask.ensures.any_moment;
+    })
 
 pub returns-clause-cause : goal.returns-clause-cause
 returns-clause-cause g c = λ r is.

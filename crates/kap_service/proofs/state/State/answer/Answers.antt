@@ -76,7 +76,6 @@ returns-clause-shown g c = λ owned is.
     let engine = c.show-lacks.new.engine in
     let posts = c.show-lacks.new.poster in
     let both = both_true c.hear-heard.result c.has_told_all-all.result is in
-    let told = c.hear-heard.ensures.heard both.0 ∙ c.tell-told.ensures in
     let after : ℕ = (g.E.Engine.value c.judged-judged.new.engine).changes in
     if_ok
     (λ (d : Decisions). (IsFailed d.reply.status → ⊥) → after ≡ d.changes + change_of c.args.ask.now d.reply.status)
@@ -93,7 +92,8 @@ returns-clause-shown g c = λ owned is.
           let j = c.judged-judged.ensures.stores k.right_is store here in
           let pre = prefix_trans (posted c.self.inside.poster) j.origin.stored store.stored
           (k.stores j.origin j.was).begun j.how.changed.stored in
-          told_all posts store.stored c.hear-heard.new.kept (c.show-lacks.ensures.begun right store here pre) told
-          (c.has_told_all-all.ensures.all both.1 (read.stays_right right) store left);
+          c.hear-heard.ensures.heard both.0
+          ∙ told_all posts store.stored c.tell-told.result (c.show-lacks.ensures.begun right store here pre)
+          c.tell-told.ensures (c.has_told_all-all.ensures.all both.1 (read.stays_right right) store left);
     })
     (c.judged-judged.ensures.exact k.right_is)
