@@ -22,7 +22,8 @@ pub struct Wanted {
     pub topics: &'static str,
 }
 
-/// Whether a write of the first seat gets the status, and the second one reads the topics before and behind it.
+/// Whether a write of the first seat gets the status, and the second one reads the topics before and behind it;
+/// and whether the first one says that all is shown just where the write is done.
 fn asked<E: Engine, J: Naming, O: Drop, T: Shown<J, O>, R: Wait + Drop, L1: Ledger, L2: Since>(
     rt: &impl Wait,
     alloc: Global,
@@ -41,7 +42,8 @@ fn asked<E: Engine, J: Naming, O: Drop, T: Shown<J, O>, R: Wait + Drop, L1: Ledg
     let status = answered(rt, alloc, lock, first, ask);
     second.learn(first.told());
     let behind = reads(alloc, second, wanted.topics);
-    before && status == wanted.status && first.status() == status && behind
+    let shown = first.shown() == (wanted.status == 204);
+    before && status == wanted.status && first.status() == status && behind && shown
 }
 
 /// The same with two seats of this engine; and whether the end tells the one write.
