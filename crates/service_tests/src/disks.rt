@@ -7,7 +7,7 @@ use crate::asks::ask_of;
 use crate::doors::{day, door, tells};
 use crate::rows::{CRITICAL, Wanted, row};
 use kap_base::{NoMemory, Point};
-use kap_io::MemDisk;
+use kap_io::{Disk, MemDisk};
 use kap_service::{Closed, Engine, Served};
 use lambda_types::RegexPatterns;
 use service_engine::DiskEngine;
@@ -20,14 +20,23 @@ use topic_store::{make_store, open_store};
 
 type MemEngine<R> = DiskEngine<MemDisk, RegexPatterns, R>;
 
-/// The engine of a new store on a disk of its own, with two workers.
-fn new_engine<R: Threads + Sync>(rt: &R, alloc: Global) -> Result<MemEngine<R>, NoMemory>
-    ensures { IfOk result (λ e. is_spent e.engine ≡ false) }
-{
+/// A disk in memory with a new store.
+pub fn new_disk(alloc: Global) -> Result<MemDisk, NoMemory> {
     let mut disk = MemDisk::new(alloc, Vec::new(alloc));
     if make_store(alloc, &mut disk).is_err() {
         return Err(NoMemory);
     }
+    Ok(disk)
+}
+
+/// The engine of the store on a disk, with two workers.
+pub fn engine_on<D: Disk + Drop, R: Threads + Sync>(
+    rt: &R,
+    alloc: Global,
+    disk: D,
+) -> Result<DiskEngine<D, RegexPatterns, R>, NoMemory>
+    ensures { IfOk result (λ e. is_spent e.engine ≡ false) }
+{
     let pats = RegexPatterns::new(alloc, Vec::new(alloc));
     match DiskEngine::open(rt, alloc, disk, pats, 2, 64) {
         Ok(engine) => Ok(engine),
@@ -40,7 +49,7 @@ const DEFINE: &[u8] = b"POST /kapacitor/v1/tasks HTTP/1.1\r\nContent-Length: 102
 {\"id\":\"c\",\"script\":\"stream|from()|alert().crit(lambda: \\\"x\\\" > 5)\",\"status\":\"enabled\",\"type\":\"stream\"}";
 
 /// A point for which it is.
-const WRITE: &[u8] = b"POST /write?db=d&rp=r HTTP/1.1\r\nContent-Length: 8\r\n\r\nm x=9i 2";
+pub const WRITE: &[u8] = b"POST /write?db=d&rp=r HTTP/1.1\r\nContent-Length: 8\r\n\r\nm x=9i 2";
 
 /// The status of an engine's reply at the moment 0.
 fn reply_status<E: Engine>(alloc: Global, engine: &mut E, request: &[u8]) -> u16
@@ -54,7 +63,7 @@ fn reply_status<E: Engine>(alloc: Global, engine: &mut E, request: &[u8]) -> u16
 
 /// Whether a seat reads what another one wrote, on a store with the task.
 fn disk_row<R: Threads + Wait + Sync>(rt: &R, alloc: Global) -> Result<bool, NoMemory> {
-    let mut engine = new_engine(rt, alloc)?;
+    let mut engine = engine_on(rt, alloc, new_disk(alloc)?)?;
     let defined = reply_status(alloc, &mut engine, DEFINE);
     let Some(ask) = ask_of(alloc, WRITE) else {
         return Ok(false);
@@ -104,7 +113,7 @@ fn has_two<R: Threads + Sync>(alloc: Global, closed: Closed<MemEngine<R>>) -> bo
 
 /// Whether two links with the point at one of two doors are served, and their points are stored.
 fn serves<R: Threads + Wait + Send + Sync>(rt: &R, alloc: Global) -> Result<bool, NoMemory> {
-    let engine = new_engine(rt, alloc)?;
+    let engine = engine_on(rt, alloc, new_disk(alloc)?)?;
     let doors = (door(alloc, 2, POINT)?, door(alloc, 0, POINT)?);
     let did = day(rt, alloc, engine, doors)?;
     let fine = tells(&did, 2);

@@ -2,7 +2,7 @@
 
 ghost use Rattle.std.specs.Prelude.{◌≡◌, ◌<◌, false};
 
-use crate::fake::{FakeEngine, no_hold};
+use crate::fake::FakeEngine;
 use kap_base::NoMemory;
 use kap_io::{FixedClock, MemDoor, MemLink};
 use kap_service::{Closed, Engine, Post, Served, Since, make_shared, serve};
@@ -143,7 +143,7 @@ fn two_posts_serve_all_links(rt: HostRuntime) -> Result<(), Fail> {
         door(alloc, 3, WRITE_AND_PING)?,
         door(alloc, 2, WRITE_AND_PING)?,
     );
-    let engine = FakeEngine::new(alloc, false, no_hold(&rt));
+    let engine = FakeEngine::new(alloc, false);
     let did = day(&rt, alloc, engine, doors)?;
     assert!(rt; tells(&did, 5));
     Ok(())

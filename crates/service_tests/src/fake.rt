@@ -15,32 +15,11 @@ use kap_service::{Engine, ShareFault};
 use reply_bodies::{done_reply, no_memory_reply};
 use std::alloc::Global;
 use std::marker::Model;
-use std::sync::{Barrier, Wait};
 use topic_core::Transition;
-
-/// Where a write waits: until somebody has come, and then until he goes.
-#[derive(Clone, Copy)]
-pub struct Hold<'a, W: Wait> {
-    pub rt: &'a W,
-    pub came: &'a Barrier,
-    pub goes: &'a Barrier,
-}
-
-impl<'a, W: Wait> Hold<'a, W> {
-    fn wait(&self) {
-        self.came.wait(self.rt);
-        self.goes.wait(self.rt);
-    }
-}
-
-/// Writes don't wait.
-pub fn no_hold<'a, W: Wait>(_rt: &'a W) -> Option<Hold<'a, W>> {
-    None
-}
 
 /// An engine in memory: each write stores a transition of one topic to CRITICAL.
 #[derive(Drop)]
-pub struct FakeEngine<'a, W: Wait> {
+pub struct FakeEngine {
     stored: Vec<Transition>,
     own_from: usize,
     changes: u64,
@@ -48,10 +27,9 @@ pub struct FakeEngine<'a, W: Wait> {
     spent: bool,
     /// Whether the next write fails.
     fails: bool,
-    hold: Option<Hold<'a, W>>,
 }
 
-impl<'a, W: Wait> Model for FakeEngine<'a, W> {
+impl Model for FakeEngine {
     ghost use Rattle.std.specs.Prelude.{drop};
     ghost use Rattle.service_tests.specs.Fakes.{FakeValue};
 
@@ -101,9 +79,9 @@ fn one_from(alloc: Global, items: &[Transition], at: u64) -> Result<ItemList<Tra
     Ok(some)
 }
 
-impl<'a, W: Wait> FakeEngine<'a, W> {
-    /// An engine without changes, whose first write fails or not, and whose writes wait or not.
-    pub fn new(alloc: Global, fails: bool, hold: Option<Hold<'a, W>>) -> FakeEngine<'a, W>
+impl FakeEngine {
+    /// An engine without changes, whose first write fails or not.
+    pub fn new(alloc: Global, fails: bool) -> FakeEngine
         ensures { (result.spent ≡ false) × (result.faults ≡ 0) }
     {
         FakeEngine {
@@ -113,7 +91,6 @@ impl<'a, W: Wait> FakeEngine<'a, W> {
             faults: 0,
             spent: false,
             fails,
-            hold,
         }
     }
 
@@ -142,9 +119,6 @@ impl<'a, W: Wait> FakeEngine<'a, W> {
         ensures cause { result ≡ 500 → HasRisen self.old.faults self.new.faults }
         ensures later { self.old.faults ≤ self.new.faults }
     {
-        if let Some(hold) = &self.hold {
-            hold.wait();
-        }
         if self.fails {
             self.fails = false;
             self.spent = true;
@@ -173,7 +147,7 @@ impl<'a, W: Wait> FakeEngine<'a, W> {
     }
 }
 
-impl<'a, W: Wait> FakeEngine<'a, W> {
+impl FakeEngine {
     fn is_spent(&self) -> bool
         ensures { result ≡ self.now.spent }
     {
@@ -214,7 +188,7 @@ impl<'a, W: Wait> FakeEngine<'a, W> {
     }
 }
 
-impl<'a, W: Wait> Engine for FakeEngine<'a, W> {
+impl Engine for FakeEngine {
     ghost value = { λ f. engine_of f };
 
     ghost right = { λ f. ⊤ };

@@ -11,6 +11,8 @@ mod doors;
 #[cfg(test)]
 mod fake;
 #[cfg(test)]
+mod held_disk;
+#[cfg(test)]
 mod holds;
 #[cfg(test)]
 mod rows;

@@ -3,7 +3,7 @@
 ghost use Rattle.std.specs.Prelude.{◌≡◌, ◌<◌, false};
 
 use crate::asks::{answered, reads, write_ask};
-use crate::fake::{FakeEngine, no_hold};
+use crate::fake::FakeEngine;
 use kap_base::NoMemory;
 use kap_http::Ask;
 use kap_service::{Engine, Lock, Seat, Since, make_shared};
@@ -104,7 +104,7 @@ fn fake_row<R: Wait>(rt: &R, alloc: Global, fails: bool, wanted: Wanted) -> Resu
     let Some(ask) = write_ask(alloc) else {
         return Ok(false);
     };
-    let engine = FakeEngine::new(alloc, fails, no_hold(rt));
+    let engine = FakeEngine::new(alloc, fails);
     row(rt, alloc, engine, &ask, wanted)
 }
 

@@ -2,7 +2,7 @@
 
 ghost use Rattle.std.specs.Prelude.{◌≡◌, ◌<◌};
 
-use crate::fake::{FakeEngine, no_hold};
+use crate::fake::FakeEngine;
 use conn_loop::{MemReady, MemTryDoor, Single, SingleEnd};
 use kap_base::{ItemList, NoMemory};
 use kap_io::{FixedClock, MemPollLink};
@@ -56,15 +56,15 @@ fn day<'a, J: Naming, L1: Ledger, L2: Since, R: Wait>(
     first: Blank,
     second: Blank,
     door: MemTryDoor,
-) -> Result<Option<(Single, Closed<FakeEngine<'a, R>>)>, NoMemory>
+) -> Result<Option<(Single, Closed<FakeEngine>)>, NoMemory>
     requires book { opened ≡ J.book }
     requires names { (first.name ≡ L1.name) × (second.name ≡ L2.name) }
     requires parts { (first.parts ≡ L1.parts) × (second.parts ≡ L2.parts) }
     requires more { (1 < first.parts) × (1 < second.parts) }
     requires before { L2.before ≡ record { disk = 0; patterns = 0 } }
 {
-    let engine = FakeEngine::new(alloc, false, no_hold(rt));
-    let (shared, seats) = match make_shared::<FakeEngine<'a, R>, J, &'a R, L1, L2>(
+    let engine = FakeEngine::new(alloc, false);
+    let (shared, seats) = match make_shared::<FakeEngine, J, &'a R, L1, L2>(
         rt, alloc, opened, engine, first, second, 1,
     ) {
         Ok(made) => made,
