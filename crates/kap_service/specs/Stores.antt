@@ -76,9 +76,11 @@ pub record AreAllOf {E : Type 0} (value : E → Engines) (right : E → Type 0) 
 abbrev pub IsDueReply : (ReplyValue → Type 0) → ReplyValue → Type 0
 IsDueReply due reply = due reply ⊎ IsFailed reply.status
 
--- A decision is that of an engine with as many changes.
-pub record IsDecision {E : Type 0} (value : E → Engines) (due : E → Ask → ℤ → ReplyValue → Type 0) (d : Decisions)
-    : Type 0 where
+-- A decision is that of an engine with as many changes, and of what follows behind it.
+pub record IsDecision {E : Type 0} (value : E → Engines) (due : E → Ask → ℤ → ReplyValue → Type 0)
+    (follows : E → Ask → ℤ → ReplyValue → E → Type 0) (d : Decisions) : Type 0 where
   pub engine : E
+  pub behind : E
   pub changes : d.changes ≡ (value engine).changes
   pub reply : IsDueReply (due engine d.ask d.moment) d.reply
+  pub next : follows engine d.ask d.moment d.reply behind

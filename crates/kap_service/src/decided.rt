@@ -35,7 +35,7 @@ impl<'a, E: Engine> Model for Decided<'a, E> {
       reply = d.reply;
     } };
 
-    ghost invariant = { λ d. IsDecision E.value E.due (record {
+    ghost invariant = { λ d. IsDecision E.value E.due E.follows (record {
       ask = d.ask.now;
       moment = d.moment;
       changes = d.changes;
@@ -72,11 +72,11 @@ impl<'a, E: Engine> Decided<'a, E> {
         self.reply.status
     }
 
-    /// The reply: the one that was due to this ask and moment by what an engine with as many changes held;
-    /// or 500 or 503.
+    /// The reply: the one that was due to this ask and moment by what an engine with as many changes held, and
+    /// what follows behind it; or 500 or 503.
     pub fn reply(self) -> Reply
         ensures reply { result ≡ self.entry.reply }
-        ensures decided { IsDecision E.value E.due self.entry }
+        ensures decided { IsDecision E.value E.due E.follows self.entry }
     {
         self.reply
     }
