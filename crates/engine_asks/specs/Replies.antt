@@ -91,8 +91,8 @@ pub data IsReplyToDefinition (before after : ℕ) (refused : List ℕ) (tasks : 
 -- ---- any ask
 
 module _ (before after : ℕ) (refused : List ℕ) (tasks : List StoredTask) (topics : TopicsValue) (now : ℤ) where
-  -- The reply that is due to an ask at a moment, by the tasks and topics that there are. The numbers are how many patterns
-  -- were refused before and after it, and the text is the last one.
+  -- The reply that is due to an ask at a moment, by the tasks and topics that there are. The numbers are how many
+  -- patterns were refused before and after it, and the text is the last one.
   abbrev pub IsReply : Ask → ReplyValue → Type 0
   IsReply asks.Ping reply = reply ≡ done_reply
   IsReply (asks.Write w) reply = reply ≡ reply_to_lines (points_asked w now)

@@ -55,7 +55,8 @@ engine_of e disk patterns = record {
 -- The reply is the one that is due to an ask at a moment, by what the engine holds; whichever patterns were refused.
 abbrev pub IsDue : {N : Type 0} → Option (EngineValue N) → Ask → ℤ → ReplyValue → Type 0
 IsDue (Some e) ask now reply =
-    (before : ℕ) × (after : ℕ) × (refused : List ℕ) × IsReply before after refused e.store.kept.tasks e.run.topics now ask reply
+    (before : ℕ) × (after : ℕ) × (refused : List ℕ)
+    × IsReply before after refused e.store.kept.tasks e.run.topics now ask reply
 IsDue None ask now reply = ⊥
 
 -- ---- the stores for which a disk stands
@@ -106,12 +107,12 @@ module _ {N P S : Type 0} (g : Ghosts N P S) (planned : Planned P) where
 
   module _ {D : Type 0} (tells : Bool) (seen : D → Image) (moment : D → ℕ) (may_leave : D → Image → Type 0)
       (left_since : D → ℕ → Image → Type 0) (old new : D) (before after : ℕ) (refused : List ℕ) where
-    -- Of an engine on a disk and of what it is behind an ask at a moment: the reply is the one that is due by what it held
-    -- and by the patterns that were refused meanwhile, from `before` of them to `after`. Where the disk tells its bytes and
-    -- no failure is told, it is the next one, over the next store; and at each moment each image stood for the store as it
-    -- was, or with the change.
-    pub record HasAnswered (e : EngineValue N) (left : Option (EngineValue N)) (ask : Ask) (now : ℤ) (reply : ReplyValue)
-        : Type 0 where
+    -- Of an engine on a disk and of what it is behind an ask at a moment: the reply is the one that is due by what it
+    -- held and by the patterns that were refused meanwhile, from `before` of them to `after`. Where the disk tells its
+    -- bytes and no failure is told, it is the next one, over the next store; and at each moment each image stood for the
+    -- store as it was, or with the change.
+    pub record HasAnswered (e : EngineValue N) (left : Option (EngineValue N)) (ask : Ask) (now : ℤ)
+        (reply : ReplyValue) : Type 0 where
       pub due : IsReplyOrFailed before after refused e.store.kept.tasks e.run.topics now ask reply
       pub next : IsTrue tells → (rs : List Rec) → (at : IsEngine g planned rs (seen old) (may_leave old) e)
           → (IsFailed reply.status → ⊥) → (behind : EngineValue N) × (left ≡ Some behind)
