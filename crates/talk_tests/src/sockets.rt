@@ -50,9 +50,14 @@ fn serve_one<L: Link>(alloc: Global, link: &mut L, serve: &mut Pings) -> LinkEnd
     serve_link(alloc, link, serve)
 }
 
-/// Serves so many links, one after the other.
-fn serve_links<B: Door<L>, L: Link + Drop>(alloc: Global, door: &mut B, links: u32) -> Ended {
-    let mut serve = Pings { served: 0 };
+/// Serves so many links, one after the other, with so many times 4 KiB in each reply.
+fn serve_links<B: Door<L>, L: Link + Drop>(
+    alloc: Global,
+    door: &mut B,
+    links: u32,
+    pieces: u32,
+) -> Ended {
+    let mut serve = Pings { served: 0, pieces };
     let mut cut_off = 0u32;
     let mut last = None;
     for _ in 0..links {
@@ -156,6 +161,16 @@ fn ask_over_many(rt: &HostRuntime, addr: SocketAddr, count: u32) -> io::Result<V
     Ok(came)
 }
 
+/// Asks, reads nothing for three seconds, and then to the end.
+fn ask_deaf(rt: &HostRuntime, addr: SocketAddr) -> io::Result<Vec<u8>> {
+    let mut stream = TcpStream::connect(rt, addr)?;
+    stream.write_all(b"GET / HTTP/1.1\r\nConnection: close\r\n\r\n")?;
+    thread::sleep(rt, Duration::from_millis(3_000));
+    let mut came = Vec::new(rt.alloc());
+    stream.read_to_end(&mut came)?;
+    Ok(came)
+}
+
 /// What asks at a door.
 #[derive(Clone, Copy)]
 pub(crate) enum Client<'a> {
@@ -169,6 +184,16 @@ pub(crate) enum Client<'a> {
     Pieces,
     /// One with so many connections at once.
     Many(u32),
+    /// One that doesn't read what is answered.
+    Deaf,
+}
+
+/// How many times 4 KiB the replies to a client have: more than sockets hold, where it doesn't read them.
+pub(crate) fn pieces_for(client: Client<'_>) -> u32 {
+    match client {
+        Client::Deaf => 8_192,
+        _ => 0,
+    }
 }
 
 /// Asks, and reads to the end.
@@ -179,6 +204,7 @@ pub(crate) fn ask(rt: &HostRuntime, addr: SocketAddr, client: Client<'_>) -> io:
         Client::BesideIdle => ask_beside_idle(rt, addr),
         Client::Pieces => send_pieces(rt, addr),
         Client::Many(count) => ask_over_many(rt, addr, count),
+        Client::Deaf => ask_deaf(rt, addr),
     }
 }
 
@@ -194,7 +220,7 @@ fn serve_beside(
     let (mut door, addr) = door_of(rt, patience_of(patience.0, patience.1))?;
     let (ended, came) = join(
         threads,
-        || serve_links(rt.alloc(), &mut door, links),
+        || serve_links(rt.alloc(), &mut door, links, pieces_for(client)),
         || ask(rt, addr, client),
     );
     Ok((ended, came?))
@@ -243,6 +269,14 @@ fn an_idle_client_is_cut_off(rt: HostRuntime) -> Result<(), Fail> {
     let (how, came) = serve_beside(&rt, &rt, (300, 5_000), 2, Client::BesideIdle)?;
     assert!(rt; how == ending(1, LinkEnd::Closed, 1));
     assert!(rt; came.len() == 46);
+    Ok(())
+}
+
+#[test]
+fn a_client_that_reads_nothing_is_cut_off(rt: HostRuntime) -> Result<(), Fail> {
+    let (how, came) = serve_beside(&rt, &rt, (300, 5_000), 1, Client::Deaf)?;
+    assert!(rt; how == ending(0, LinkEnd::WriteFault, 1));
+    assert!(rt; came.starts_with(b"HTTP/1.1 200 OK\r\n") && came.len() < 33_554_432);
     Ok(())
 }
 
