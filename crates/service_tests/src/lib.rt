@@ -13,6 +13,8 @@ mod fake;
 #[cfg(test)]
 mod holds;
 #[cfg(test)]
+mod one_post;
+#[cfg(test)]
 mod rows;
 #[cfg(test)]
 mod single;
