@@ -48,6 +48,7 @@ serve() {
 end_service() {
     kill "$service"
     wait "$service" 2> /dev/null
+    [ "$(wc -l < "$work/said")" = 1 ] || differs 'standard error' 'one line' "$(cat "$work/said")"
 }
 
 # Tells a difference: what was asked, what was wanted and what came.

@@ -3,7 +3,7 @@
 ghost use Rattle.std.specs.Prelude.{None};
 
 use crate::pings::{Pings, pings_of};
-use crate::sockets::{Client, ask, patience_of, pieces_for};
+use crate::sockets::{Client, ask, patience_of, pieces_for, too_large};
 use conn_loop::{LINKS, MioDoor, MioReady, Single, SingleEnd, TryDoor, serve_door};
 use kap_io::{Stop, TryLink};
 use std::io;
@@ -103,6 +103,15 @@ fn a_pipeline_of_1500_gets_1000_replies_by_turns(rt: HostRuntime) -> Result<(), 
     let (served, came) = serve_beside(&rt, &rt, (5_000, 5_000), 1, Client::Text(&text))?;
     assert!(rt; served == Some(1_000));
     assert!(rt; came.len() == 27_019);
+    Ok(())
+}
+
+#[test]
+fn a_413_arrives_behind_an_unread_body_by_turns(rt: HostRuntime) -> Result<(), Fail> {
+    let text = too_large(rt.alloc())?;
+    let (served, came) = serve_beside(&rt, &rt, (5_000, 5_000), 2, Client::Behind(&text))?;
+    assert!(rt; served == Some(1) && came.len() == 172);
+    assert!(rt; came.starts_with(b"HTTP/1.1 413 Payload Too Large\r\n"));
     Ok(())
 }
 

@@ -4,7 +4,7 @@ use crate::pings::{PING, Pings, pings_of};
 use http_dialog::LinkEnd;
 use kap_io::{Door, Failed, Link, Patience, SocketDoor};
 use link_serve::serve_link;
-use std::alloc::Global;
+use std::alloc::{AllocError, Global};
 use std::io::{self, Read, Write};
 use std::net::{SocketAddr, TcpListener, TcpStream};
 use std::test::Fail;
@@ -161,6 +161,14 @@ fn ask_over_many(rt: &HostRuntime, addr: SocketAddr, count: u32) -> io::Result<V
     Ok(came)
 }
 
+/// Writes a text, and reads to the end; and asks over another connection then.
+fn ask_behind(rt: &HostRuntime, addr: SocketAddr, text: &[u8]) -> io::Result<Vec<u8>> {
+    let mut came = exchange(rt, addr, text)?;
+    let more = exchange(rt, addr, b"GET / HTTP/1.1\r\nConnection: close\r\n\r\n")?;
+    came.extend_from_slice(&more)?;
+    Ok(came)
+}
+
 /// Asks, reads nothing for three seconds, and then to the end.
 fn ask_deaf(rt: &HostRuntime, addr: SocketAddr) -> io::Result<Vec<u8>> {
     let mut stream = TcpStream::connect(rt, addr)?;
@@ -184,6 +192,8 @@ pub(crate) enum Client<'a> {
     Pieces,
     /// One with so many connections at once.
     Many(u32),
+    /// One that writes a text, and another one behind it.
+    Behind(&'a [u8]),
     /// One that doesn't read what is answered.
     Deaf,
 }
@@ -204,6 +214,7 @@ pub(crate) fn ask(rt: &HostRuntime, addr: SocketAddr, client: Client<'_>) -> io:
         Client::BesideIdle => ask_beside_idle(rt, addr),
         Client::Pieces => send_pieces(rt, addr),
         Client::Many(count) => ask_over_many(rt, addr, count),
+        Client::Behind(text) => ask_behind(rt, addr, text),
         Client::Deaf => ask_deaf(rt, addr),
     }
 }
@@ -244,12 +255,18 @@ fn a_pipeline_of_1500_gets_1000_replies(rt: HostRuntime) -> Result<(), Fail> {
     Ok(())
 }
 
-#[test]
-fn a_413_arrives_behind_an_unread_body(rt: HostRuntime) -> Result<(), Fail> {
+/// A request with 2,000,000 bytes of a body that is too large.
+pub(crate) fn too_large(alloc: Global) -> Result<Vec<u8>, AllocError> {
     let head = b"POST /write?db=d HTTP/1.1\r\nContent-Length: 20000000\r\n\r\n";
-    let mut text = Vec::new(rt.alloc());
+    let mut text = Vec::new(alloc);
     text.extend_from_slice(head)?;
     text.resize(head.len() + 2_000_000, b'm')?;
+    Ok(text)
+}
+
+#[test]
+fn a_413_arrives_behind_an_unread_body(rt: HostRuntime) -> Result<(), Fail> {
+    let text = too_large(rt.alloc())?;
     let (how, came) = serve_beside(&rt, &rt, (5_000, 5_000), 1, Client::Text(&text))?;
     assert!(rt; how == ending(0, LinkEnd::Refused, 0));
     assert!(rt; came.starts_with(b"HTTP/1.1 413 Payload Too Large\r\n"));
