@@ -105,7 +105,8 @@ fn tells<E: Engine>(served: Served, closed: &Closed<E>, links: u64, changes: u64
 /// Whether two links with a point are served, and their points are stored.
 fn stores_two<R: Threads + Wait + Send + Sync>(rt: &R, alloc: Global) -> Result<bool, NoMemory> {
     let engine = new_engine(rt, alloc)?;
-    let did = day(rt, alloc, engine, door(alloc, 2, POINT)?)?;
+    let two = door(alloc, 2, POINT)?;
+    let did = day(rt, alloc, engine, two)?;
     match did {
         Some((served, closed)) => {
             let fine = tells(served, &closed, 2, 2);
@@ -135,7 +136,8 @@ fn a_link_that_ended_is_served_no_more(rt: HostRuntime) -> Result<(), Fail> {
     let alloc = rt.alloc();
     let writes = many_writes(alloc)?;
     let engine = FakeEngine::new(alloc, false, no_hold(&rt));
-    let did = day(&rt, alloc, engine, door(alloc, 1, writes.as_slice())?)?;
+    let one = door(alloc, 1, writes.as_slice())?;
+    let did = day(&rt, alloc, engine, one)?;
     let Some((served, closed)) = did else {
         panic!(rt; "no seat");
     };

@@ -185,12 +185,14 @@ fn a_link_more_than_1024_waits_at_the_door(rt: HostRuntime) -> Result<(), Fail> 
         end: SingleEnd::ReadyFailed,
     };
     assert!(rt; serve_1025(&rt, alloc, &[])? == (full, 0, true));
-    assert!(rt; serve_1025(&rt, alloc, &[&[], &[1_024]])? == (full, 0, true));
+    let beyond: [&[u32]; 2] = [&[], &[1_024]];
+    assert!(rt; serve_1025(&rt, alloc, &beyond)? == (full, 0, true));
     let all = Single {
         links: 1_025,
         end: SingleEnd::ReadyFailed,
     };
-    assert!(rt; serve_1025(&rt, alloc, &[&[], &[7], &[1_024]])? == (all, 2, false));
+    let behind: [&[u32]; 3] = [&[], &[7], &[1_024]];
+    assert!(rt; serve_1025(&rt, alloc, &behind)? == (all, 2, false));
     Ok(())
 }
 
@@ -235,8 +237,9 @@ fn each_link_is_watched_and_released(rt: HostRuntime) -> Result<(), Fail> {
     links.push(link_of(alloc, &pings_of(alloc, 100)?, 10_000, &[])?)?;
     links.push(link_of(alloc, PING, 100, &[])?)?;
     let mut door = MemTryDoor::new(links, Vec::new(alloc), Vec::new(alloc));
+    let lists: [&[u32]; 3] = [&[1], &[0], &[]];
     let mut ready = Noted {
-        ready: telling(alloc, &[&[1], &[0], &[]])?,
+        ready: telling(alloc, &lists)?,
         watched: Vec::new(alloc),
         released: Vec::new(alloc),
         at_once: Vec::new(alloc),
