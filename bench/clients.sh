@@ -48,6 +48,7 @@ serve() {
 end_service() {
     kill "$service"
     wait "$service" 2> /dev/null
+    [ "$(wc -l < "$work/said")" = 1 ] || differs 'standard error' 'one line' "$(cat "$work/said")"
 }
 
 # Tells a difference: what was asked, what was wanted and what came.
@@ -171,12 +172,24 @@ PYTHON
 done
 sleep 2
 curl -s -m 10 -XPOST 'http://127.0.0.1:18086/write?db=d' --data-binary 'cpu,host=f idle=1.5 1600000000000001000'
+echo "-- whole numbers beside floats, by a database of their own"
+query 'CREATE DATABASE mixed' > "$work/body"
+query 'CREATE DATABASE whole' > "$work/body"
+query "CREATE SUBSCRIPTION kapd ON whole.autogen DESTINATIONS ALL 'http://127.0.0.1:$port'" > "$work/body"
+sleep 1
+curl -s -m 10 -XPOST 'http://127.0.0.1:18086/write?db=mixed' --data-binary \
+    $'cpu,host=a errs=3i,load=0.5 1600000000000000000\ncpu,host=a errs=12i,load=1.5 1600000030000000000'
+query "SELECT max(errs) AS errs INTO whole.autogen.cpu FROM mixed.autogen.cpu
+    WHERE time >= 1599999960s AND time < 1600000080s GROUP BY time(1m), host"
+for line in 'cpu,host=a errs=3i 1599999960000000000' 'cpu,host=a errs=12i 1600000020000000000'; do
+    printf 'whole\nautogen\n%s\n' "$line" >> "$work/wanted"
+done
 sleep 1
 end_service
 grep -h 'service=subscriber' "$work/influx.log" | tail -2
 "$kapd" "$work/influx" export > "$work/points"
 if cmp -s "$work/wanted" "$work/points"; then
-    echo "ok   100 points of 25 writes came as they were written, in order"
+    echo "ok   100 points of 25 writes came as they were written, in order, and 2 that a query picked"
 else
     differs 'points of the subscription' "$(wc -l < "$work/wanted") lines" "$(wc -l < "$work/points") lines"
 fi

@@ -2,7 +2,8 @@
 """bench/hostile.py [KAPD]: requests as attackers send them, at `kapd PLACE serve` with 4 seats and with --single.
 
 By the built program KAPD (crates/kapd/out/kapd). For each it prints what is answered, and compares that with what is
-wanted; and while each waits for its answer, another client is answered within a second. It listens and asks on
+wanted; and while each waits for its answer, another client is answered within a second. With --single it also holds
+1,024 links, beside which one more is let in as soon as one of them ends, and not before. It listens and asks on
 127.0.0.1 alone, and ends the services that it started. It ends with 1 where an answer differs or another client
 waits."""
 import os, re, shutil, socket, subprocess, sys, tempfile, time
@@ -74,6 +75,8 @@ ROWS = [
 
 
 class Service:
+    """A service on a folder of its own."""
+
     def __init__(self, name, *options):
         place = f"{work}/{name}"
         os.mkdir(place)
@@ -178,6 +181,31 @@ def waiting(service, name):
         link.close()
 
 
+def full(service):
+    """1,024 links that send nothing: one more is let in where one of them ends, and answered then."""
+    held = [link_to(service) for _ in range(1_024)]
+    time.sleep(0.5)
+    with link_to(service, 2) as last:
+        last.sendall(PING)
+        try:
+            early = last.recv(100)
+        except TimeoutError:
+            early = b""
+        held.pop().close()
+        began = time.monotonic()
+        last.settimeout(10)
+        try:
+            reply = last.recv(100)
+        except OSError:
+            reply = b""
+        late = time.monotonic() - began
+    print(f"single: beside 1,024 links one more is answered {statuses(early)}; {late * 1000:.0f} ms behind the end of one {statuses(reply)}")
+    if early or statuses(reply) != [204]:
+        fail("a link more than 1,024 isn't let in where one ends, and only then")
+    for link in held:
+        link.close()
+
+
 try:
     for name, options in [("4 seats", ["--seats", "4", "--idle", "3"])] + [("single", ["--single", "--idle", "3"])]:
         with Service(name.replace(" ", "-"), *options) as service:
@@ -186,6 +214,8 @@ try:
                 waiting(service, name)
     with Service("more", "--seats", "8", "--idle", "3") as service:
         waiting(service, "8 seats")
+    with Service("full", "--single", "--idle", "60") as service:
+        full(service)
 finally:
     shutil.rmtree(work, ignore_errors=True)
 print(f"{len(failed)} differences")

@@ -1,12 +1,15 @@
 #!/usr/bin/env python3
-"""bench/load.py [--seconds S] [--requests N] [--broken N] [KAPD]: what `kapd PLACE serve` bears.
+"""bench/load.py [OPTION].. [KAPD]: what `kapd PLACE serve` bears.
 
 By the built program KAPD (crates/kapd/out/kapd), with 4 seats and with --single: pings a second over 64 links; writes of
-100 points a second, beside the syncs a second that the same disk takes from a loop, in the same run; topics read while
-writes wait for the disk; the resident memory over N requests (1,000,000); a thousand links that send nothing while
-another client is answered; N requests (20,000) that are cut, doubled, flipped or random. It needs wrk (Debian: wrk),
-listens and asks on 127.0.0.1 alone, and ends the services that it started. It ends with 1 where a service doesn't
-answer any more, or its memory grew by more than 8 MiB."""
+100 points a second, without a change of a level and with some, beside the syncs a second that the same disk takes from
+a loop, in the same run; topics read while writes wait for the disk; the resident memory over 1,000,000 requests
+(--requests N); a thousand links that send nothing while another client is answered; 20,000 connections (--broken N)
+whose requests are cut, doubled, flipped or random. Each figure is of 8 seconds (--seconds S). --parts names some of
+pings, writes, topics, memory, still and broken, with commas between, and --ways `four` or `single`.
+
+It needs wrk (Debian: wrk), listens and asks on 127.0.0.1 alone, and ends the services that it started. It ends with 1
+where a service doesn't answer any more, or its memory grew by more than 8 MiB."""
 import argparse, http.client, os, random, re, shutil, socket, subprocess, sys, tempfile, time
 
 top = os.path.dirname(os.path.dirname(os.path.abspath(__file__)))
@@ -14,6 +17,8 @@ ask = argparse.ArgumentParser()
 ask.add_argument("--seconds", type=int, default=8)
 ask.add_argument("--requests", type=int, default=1_000_000)
 ask.add_argument("--broken", type=int, default=20_000)
+ask.add_argument("--parts", default="pings,writes,topics,memory,still,broken")
+ask.add_argument("--ways", default="four,single")
 ask.add_argument("kapd", nargs="?", default=f"{top}/crates/kapd/out/kapd")
 ask = ask.parse_args()
 kapd = os.path.abspath(ask.kapd)
@@ -93,6 +98,11 @@ def check(holds, text):
         print("FAILED:", text)
 
 
+def ways(all_):
+    """Those of these ways that were asked for."""
+    return [way for way in all_ if ("single" if way[0] == "single" else "four") in ask.ways.split(",")]
+
+
 def syncs(seconds):
     """How often a second the disk takes a write of 4,096 bytes and its sync."""
     with open(f"{work}/synced", "wb", buffering=0) as file:
@@ -105,33 +115,40 @@ def syncs(seconds):
 
 
 def pings():
-    for name, options in [("four", ["--seats", "4"]), ("single", ["--single"])]:
+    for name, options in ways([("four", ["--seats", "4"]), ("single", ["--single"])]):
         with Service(f"ping-{name}", *options) as service:
             rate, _, said = told(wrk(service, "/kapacitor/v1/ping", 64, ask.seconds))
             print(f"pings over 64 links, {' '.join(options)}: {rate:,.0f} a second ({said})", flush=True)
 
 
-def writes_script():
-    lines = "\\n".join(f"cpu,host=h{n % 8} idle={37 * n % 101}i {n}" for n in range(1, 101))
+def writes_script(quiet):
+    """100 points of eight hosts; some of them change the level of their host, or none does where it is quiet."""
+    least = 10 if quiet else 0
+    lines = "\\n".join(f"cpu,host=h{n % 8} idle={max(37 * n % 101, least)}i {n}" for n in range(1, 101))
     with open(f"{work}/write.lua", "w") as file:
         file.write(f'wrk.method = "POST"\nwrk.body = "{lines}\\n"\nwrk.headers["Content-Type"] = ""\n')
     return f"{work}/write.lua"
 
 
 def writes():
-    path, script = "/write?db=d&rp=autogen&precision=ns", writes_script()
-    for name, options in [("four", ["--seats", "4"]), ("single", ["--single"])]:
-        with Service(f"write-{name}", *options) as service:
-            before = syncs(2)
-            rate, _, said = told(wrk(service, path, 4, ask.seconds, script))
-            after = syncs(2)
-            print(f"syncs of 4,096 bytes: {before:,.0f} a second before, {after:,.0f} behind")
-            print(f"writes of 100 points, {' '.join(options)}, 4 links: {rate:,.0f} a second, {100 * rate:,.0f} points ({said})", flush=True)
+    path = "/write?db=d&rp=autogen&precision=ns"
+    for name, options in ways([("four", ["--seats", "4"]), ("single", ["--single"])]):
+        for kind, quiet in [("quiet", True), ("loud", False)]:
+            with Service(f"write-{name}-{kind}", *options) as service:
+                before = syncs(2)
+                rate, _, said = told(wrk(service, path, 4, ask.seconds, writes_script(quiet)))
+                after = syncs(2)
+                print(f"syncs of 4,096 bytes: {before:,.0f} a second before, {after:,.0f} behind")
+                print(
+                    f"writes of 100 points {'without' if quiet else 'with'} changes of levels, {' '.join(options)}, 4 links: "
+                    f"{rate:,.0f} a second, {100 * rate:,.0f} points, {2 * rate / (before + after):.2f} of the syncs ({said})",
+                    flush=True,
+                )
 
 
 def topics():
-    path, script = "/write?db=d&rp=autogen&precision=ns", writes_script()
-    for name, options in [("eight", ["--seats", "8"]), ("single", ["--single"])]:
+    path, script = "/write?db=d&rp=autogen&precision=ns", writes_script(False)
+    for name, options in ways([("eight", ["--seats", "8"]), ("single", ["--single"])]):
         with Service(f"topics-{name}", *options) as service:
             told(wrk(service, path, 1, 1, script))
             alone, _, said = told(wrk(service, "/kapacitor/v1/alerts/topics", 2, ask.seconds))
@@ -143,7 +160,7 @@ def topics():
 
 
 def memory():
-    for name, options in [("four", ["--seats", "4"]), ("single", ["--single"])]:
+    for name, options in ways([("four", ["--seats", "4"]), ("single", ["--single"])]):
         with Service(f"memory-{name}", *options) as service:
             told(wrk(service, "/kapacitor/v1/ping", 64, 1))
             before, done = service.resident(), 0
@@ -158,7 +175,7 @@ def memory():
 
 
 def still():
-    for name, options, links in [("single", ["--single"], 1_000), ("four", ["--seats", "4", "--idle", "2"], 16)]:
+    for name, options, links in ways([("single", ["--single"], 1_000), ("four", ["--seats", "4", "--idle", "2"], 16)]):
         with Service(f"still-{name}", *options) as service:
             held = [socket.create_connection(("127.0.0.1", service.port)) for _ in range(links)]
             time.sleep(0.5)
@@ -203,37 +220,46 @@ def broken_bytes(chance):
 
 def broken():
     chance = random.Random(1)
-    for name, options in [("single", ["--single"]), ("four", ["--seats", "4", "--idle", "1"])]:
+    for name, options in ways([("single", ["--single"]), ("four", ["--seats", "4", "--idle", "1"])]):
         with Service(f"broken-{name}", *options) as service:
-            answered = closed = 0
-            before = 0
+            answered = closed = unheard = 0
+            seen = []
             for number in range(ask.broken):
-                if number == ask.broken // 10:
-                    before = service.resident()
+                if number % max(ask.broken // 10, 1) == 0 and 0 < number:
+                    seen.append(service.resident())
                 try:
-                    with socket.create_connection(("127.0.0.1", service.port), timeout=10) as link:
+                    link = socket.create_connection(("127.0.0.1", service.port), timeout=10)
+                except OSError:
+                    unheard += 1
+                    continue
+                with link:
+                    try:
                         link.sendall(broken_bytes(chance))
                         link.shutdown(socket.SHUT_WR)
                         if link.recv(65536):
                             answered += 1
                         else:
                             closed += 1
-                except OSError:
-                    closed += 1
+                    except OSError:
+                        closed += 1
             after = service.resident()
+            before = seen[0] if seen else after
             status, late = service.ping()
             print(
-                f"{ask.broken:,} broken requests, {' '.join(options)}: {answered:,} answered, {closed:,} closed; resident {before:,} "
-                f"behind a tenth of them, {after:,} at the end; then a ping: {status} after {late:.3f} s",
+                f"{ask.broken:,} broken connections, {' '.join(options)}: {answered:,} answered, {closed:,} closed, {unheard:,} "
+                f"not let in; resident {before:,} bytes behind a tenth of them, {max(seen + [after]):,} at most from then on, "
+                f"{after:,} at the end; then a ping: {status} after {late:.3f} s",
                 flush=True,
             )
             check(status == 204, "no ping is answered behind broken requests")
+            check(unheard == 0, f"{unheard} connections weren't let in")
             check(after - before < GROWTH, f"memory grew by {after - before:,} bytes over broken requests")
 
 
 try:
     for part in (pings, writes, topics, memory, still, broken):
-        part()
+        if part.__name__ in ask.parts.split(","):
+            part()
 finally:
     shutil.rmtree(work, ignore_errors=True)
 sys.exit(1 if failed else 0)

@@ -8,22 +8,22 @@ use Rattle.conn_loop.specs.Serving.{Counts, EndsBy, HaveCome, MayEnd}
 risen_behind : (a b c : ℕ) → a ≤ b → HasRisen b c → HasRisen a c
 risen_behind a b c le risen = omega arith
 
-ends_behind : {T : Type 0} (a b d r s t links : ℕ) (closed : Bool) (result : Result T SingleEnd) → a ≤ b → r ≤ s
-    → EndsBy b d s t links closed result → EndsBy a d r t links closed result
-ends_behind a b d r s t links closed (Ok x) le le' p = p
-ends_behind a b d r s t links closed (Err ends.Closed) le le' p = p
-ends_behind a b d r s t links closed (Err ends.Spent) le le' p = p
-ends_behind a b d r s t links closed (Err ends.ReadyFailed) le le' p = risen_behind r s t le' p
-ends_behind a b d r s t links closed (Err ends.DoorFailed) le le' p = risen_behind a b d le p
-ends_behind a b d r s t links closed (Err ends.NoMemory) le le' p = p
+ends_behind : {T : Type 0} (a b d r s t links count : ℕ) (closed : Bool) (result : Result T SingleEnd) → a ≤ b → r ≤ s
+    → EndsBy b d s t links count closed result → EndsBy a d r t links count closed result
+ends_behind a b d r s t links count closed (Ok x) le le' p = p
+ends_behind a b d r s t links count closed (Err ends.Closed) le le' p = p
+ends_behind a b d r s t links count closed (Err ends.Spent) le le' p = p
+ends_behind a b d r s t links count closed (Err ends.ReadyFailed) le le' p = risen_behind r s t le' p
+ends_behind a b d r s t links count closed (Err ends.DoorFailed) le le' p = risen_behind a b d le p
+ends_behind a b d r s t links count closed (Err ends.NoMemory) le le' p = p
 
 -- what may end behind calls of which no count fell
-pub may_behind : {T : Type 0} (a b d r s t links : ℕ) (closed : Bool) (result : Result T SingleEnd) → a ≤ b → r ≤ s
-    → MayEnd b d s t links closed result → MayEnd a d r t links closed result
-may_behind a b d r s t links closed result le le' p = record {
+pub may_behind : {T : Type 0} (a b d r s t links count : ℕ) (closed : Bool) (result : Result T SingleEnd) → a ≤ b → r ≤ s
+    → MayEnd b d s t links count closed result → MayEnd a d r t links count closed result
+may_behind a b d r s t links count closed result le le' p = record {
   later = (let more = p.later in omega arith);
   ready_later = (let more = p.ready_later in omega arith);
-  cause = ends_behind a b d r s t links closed result le le' p.cause;
+  cause = ends_behind a b d r s t links count closed result le le' p.cause;
 }
 
 -- no link has come yet
@@ -31,19 +31,19 @@ pub none_came : (left : Option ℕ) → HaveCome left left 0
 none_came None = tt
 none_came (Some n) = omega arith
 
-ends_again : (T U : Type 0) (b d s t links : ℕ) (closed : Bool) (e : SingleEnd)
-    → EndsBy {T = T} b d s t links closed (Err e) → EndsBy {T = U} b d s t links closed (Err e)
-ends_again T U b d s t links closed ends.Closed p = p
-ends_again T U b d s t links closed ends.Spent p = p
-ends_again T U b d s t links closed ends.ReadyFailed p = p
-ends_again T U b d s t links closed ends.DoorFailed p = p
-ends_again T U b d s t links closed ends.NoMemory p = p
+ends_again : (T U : Type 0) (b d s t links count : ℕ) (closed : Bool) (e : SingleEnd)
+    → EndsBy {T = T} b d s t links count closed (Err e) → EndsBy {T = U} b d s t links count closed (Err e)
+ends_again T U b d s t links count closed ends.Closed p = p
+ends_again T U b d s t links count closed ends.Spent p = p
+ends_again T U b d s t links count closed ends.ReadyFailed p = p
+ends_again T U b d s t links count closed ends.DoorFailed p = p
+ends_again T U b d s t links count closed ends.NoMemory p = p
 
 -- a fault that is handed on, behind a call of which the door's count didn't fall
-pub handed_on : {T U : Type 0} (a b s t links : ℕ) (closed : Bool) (e : SingleEnd) → a ≤ b
-    → MayEnd {T = T} b b s t links closed (Err e) → MayEnd {T = U} a b s t links closed (Err e)
-handed_on {T} {U} a b s t links closed e le p = record {
+pub handed_on : {T U : Type 0} (a b s t links count : ℕ) (closed : Bool) (e : SingleEnd) → a ≤ b
+    → MayEnd {T = T} b b s t links count closed (Err e) → MayEnd {T = U} a b s t links count closed (Err e)
+handed_on {T} {U} a b s t links count closed e le p = record {
   later = le;
   ready_later = p.ready_later;
-  cause = ends_again T U a b s t links closed e (ends_behind {T = T} a b b s s t links closed (Err e) le (omega arith) p.cause);
+  cause = ends_again T U a b s t links count closed e (ends_behind {T = T} a b b s s t links count closed (Err e) le (omega arith) p.cause);
 }

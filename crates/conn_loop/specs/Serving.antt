@@ -20,18 +20,19 @@ pub record Counts (left now : Option ℕ) (links : ℕ) (closed : Bool) : Type 0
   pub came : HaveCome left now links
   pub shut : closed ≡ true → IsClosed left now
 
--- why serving ends: a failure comes only where that count rose
-abbrev pub EndsBy : {T : Type 0} → ℕ → ℕ → ℕ → ℕ → ℕ → Bool → Result T SingleEnd → Type 0
-EndsBy door now_door ready now_ready links closed (Ok x) = ⊤
-EndsBy door now_door ready now_ready links closed (Err ends.Closed) = closed ≡ true
-EndsBy door now_door ready now_ready links closed (Err ends.Spent) = links ≡ 4294967295
-EndsBy door now_door ready now_ready links closed (Err ends.ReadyFailed) = HasRisen ready now_ready
-EndsBy door now_door ready now_ready links closed (Err ends.DoorFailed) = HasRisen door now_door
-EndsBy door now_door ready now_ready links closed (Err ends.NoMemory) = ⊤
+-- Why serving ends: no more links come, or as many came as there are numbers, and so many are open, none. A failure
+-- comes only where that count rose.
+abbrev pub EndsBy : {T : Type 0} → ℕ → ℕ → ℕ → ℕ → ℕ → ℕ → Bool → Result T SingleEnd → Type 0
+EndsBy door now_door ready now_ready links count closed (Ok x) = ⊤
+EndsBy door now_door ready now_ready links count closed (Err ends.Closed) = (closed ≡ true) × (count ≡ 0)
+EndsBy door now_door ready now_ready links count closed (Err ends.Spent) = (links ≡ 4294967295) × (count ≡ 0)
+EndsBy door now_door ready now_ready links count closed (Err ends.ReadyFailed) = HasRisen ready now_ready
+EndsBy door now_door ready now_ready links count closed (Err ends.DoorFailed) = HasRisen door now_door
+EndsBy door now_door ready now_ready links count closed (Err ends.NoMemory) = ⊤
 
 -- the same, and no count falls
-pub record MayEnd {T : Type 0} (door now_door ready now_ready links : ℕ) (closed : Bool) (result : Result T SingleEnd)
+pub record MayEnd {T : Type 0} (door now_door ready now_ready links count : ℕ) (closed : Bool) (result : Result T SingleEnd)
     : Type 0 where
   pub later : door ≤ now_door
   pub ready_later : ready ≤ now_ready
-  pub cause : EndsBy door now_door ready now_ready links closed result
+  pub cause : EndsBy door now_door ready now_ready links count closed result

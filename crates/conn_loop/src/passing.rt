@@ -29,9 +29,11 @@ fn is_due<L>(slot: &Slot<L>, ready: &[u32]) -> bool
 
 /// Polls a link, and answers how it has ended, if it has.
 fn poll<L: TryLink, H: Serve>(alloc: Global, slot: &mut Slot<L>, serve: &mut H) -> Option<LinkEnd>
-    ensures goes { IfNone result (GoesSo (telling L.left L.written L.read_faults L.write_faults L.waits)
+    ensures goes { IfNone result (GoesSo
+        (telling L.left L.written L.read_faults L.write_faults L.waits)
         (H.served serve.old) (H.served serve.new) slot.old slot.new) }
-    ensures ends { IfSome result (λ ending. EndsSo (telling L.left L.written L.read_faults L.write_faults L.waits)
+    ensures ends { IfSome result (λ ending. EndsSo
+        (telling L.left L.written L.read_faults L.write_faults L.waits)
         (H.served serve.old) (H.served serve.new) slot.old slot.new ending) }
     ensures only { AddsOnly slot.old.number (H.served serve.old) (H.served serve.new) }
     ensures number { slot.new.number ≡ slot.old.number }
@@ -57,7 +59,8 @@ fn pass_first<L: TryLink + Drop, H: Serve>(
     requires some { 0 < deque_len slots.old }
     requires sorted { IsNonDecreasing ready.now }
     requires room { vec_len finished.old < vec_capacity finished.old }
-    ensures passed { IsPassed (telling L.left L.written L.read_faults L.write_faults L.waits) ready.now
+    ensures passed { IsPassed
+        (telling L.left L.written L.read_faults L.write_faults L.waits) ready.now
         (H.served serve.old) (H.served serve.new) slots.old.items slots.new.items
         finished.old.items finished.new.items }
     ensures len { vec_len finished.new ≤ vec_len finished.old + 1 }
@@ -102,8 +105,9 @@ pub(crate) fn pass<L: TryLink + Drop, H: Serve>(
     requires sorted { IsNonDecreasing ready.now }
     requires none { finished.old.items ≡ [] }
     requires room { deque_len slots.old ≤ vec_capacity finished.old }
-    ensures turned { Turned (telling L.left L.written L.read_faults L.write_faults L.waits) ready.now
-        (H.served serve.old) (H.served serve.new) slots.old.items slots.new.items finished.new.items }
+    ensures turned { Turned (telling L.left L.written L.read_faults L.write_faults L.waits)
+        ready.now (H.served serve.old) (H.served serve.new) slots.old.items slots.new.items
+        finished.new.items }
     ensures only { AddsAmong slots.old.items (H.served serve.old) (H.served serve.new) }
 {
     let mut left = slots.len();

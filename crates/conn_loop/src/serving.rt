@@ -1,6 +1,6 @@
 //! Serving at a door, all links on one thread.
 
-ghost use Rattle.std.specs.Prelude.{◌≡◌, ◌+◌, ◌≤◌, ℕ, Bool, false, Option, OnOk};
+ghost use Rattle.std.specs.Prelude.{◌≡◌, ◌+◌, ◌≤◌, ℕ, Bool, false, length, Option, OnOk};
 ghost use Rattle.kap_base.specs.Words.{HasRisen};
 ghost use Rattle.conn_loop.specs.Loops.{IsFull};
 ghost use Rattle.conn_loop.specs.Serving.{Counts, HaveCome, IsClosed, MayEnd};
@@ -27,23 +27,23 @@ struct Serving<L> {
     closed: bool,
 }
 
-/// Has a link that came watched, and adds it.
+/// Has a link that came watched, and adds it to those that are held.
 fn admit<L: TryLink + Drop, Y: Ready<L>>(
     alloc: Global,
-    open: &mut Loop<L>,
+    held: &mut Loop<L>,
     ready: &mut Y,
     link: L,
 ) -> Result<(), SingleEnd>
-    requires room { IsFull open.old → ⊥ }
-    ensures added { OnOk result (open.new.added ≡ open.old.added + 1) }
-    ensures cause { (door links : ℕ) (closed : Bool) →
-        MayEnd door door (Y.faults ready.old) (Y.faults ready.new) links closed result }
+    requires room { IsFull held.old → ⊥ }
+    ensures added { OnOk result (held.new.added ≡ held.old.added + 1) }
+    ensures cause { (door links count : ℕ) (closed : Bool) →
+        MayEnd door door (Y.faults ready.old) (Y.faults ready.new) links count closed result }
 {
     let mut link = link;
-    if let Err(Failed) = ready.watch(&mut link, open.added()) {
+    if let Err(Failed) = ready.watch(&mut link, held.added()) {
         return Err(SingleEnd::ReadyFailed);
     }
-    match open.add(alloc, link) {
+    match held.add(alloc, link) {
         Ok(_) => Ok(()),
         Err(AddFault::Full(_)) => unreachable!(),
         Err(AddFault::NoMemory(_)) => Err(SingleEnd::NoMemory),
@@ -65,7 +65,8 @@ fn accept<L: TryLink + Drop, B: TryDoor<L>, Y: Ready<L>>(
         Counts left (B.left door.old) serving.old.links serving.old.closed →
         Counts left (B.left door.new) serving.new.links serving.new.closed }
     ensures cause { MayEnd (B.faults door.old) (B.faults door.new) (Y.faults ready.old)
-        (Y.faults ready.new) serving.new.links serving.new.closed result }
+        (Y.faults ready.new) serving.new.links (length serving.new.open.links) serving.new.closed
+        result }
 {
     match door.try_accept() {
         Ok(Some(link)) => {
@@ -97,7 +98,8 @@ fn accept_all<L: TryLink + Drop, B: TryDoor<L>, Y: Ready<L>>(
         Counts left (B.left door.old) serving.old.links serving.old.closed →
         Counts left (B.left door.new) serving.new.links serving.new.closed }
     ensures cause { MayEnd (B.faults door.old) (B.faults door.new) (Y.faults ready.old)
-        (Y.faults ready.new) serving.new.links serving.new.closed result }
+        (Y.faults ready.new) serving.new.links (length serving.new.open.links) serving.new.closed
+        result }
 {
     'accepting: for _ in 0..LINKS {
         if serving.closed || serving.open.is_full() {
@@ -122,18 +124,18 @@ fn release<L: TryLink + Drop, Y: Ready<L>>(ready: &mut Y, finished: Vec<Finished
 /// Waits for links that may go on, and polls them.
 fn go_on<L: TryLink + Drop, Y: Ready<L>, H: Serve>(
     alloc: Global,
-    open: &mut Loop<L>,
+    held: &mut Loop<L>,
     ready: &mut Y,
     serve: &mut H,
 ) -> Result<(), SingleEnd>
-    ensures added { open.new.added ≡ open.old.added }
-    ensures cause { (door links : ℕ) (closed : Bool) →
-        MayEnd door door (Y.faults ready.old) (Y.faults ready.new) links closed result }
+    ensures added { held.new.added ≡ held.old.added }
+    ensures cause { (door links count : ℕ) (closed : Bool) →
+        MayEnd door door (Y.faults ready.old) (Y.faults ready.new) links count closed result }
 {
-    if let Err(Failed) = ready.wait(open.woken()) {
+    if let Err(Failed) = ready.wait(held.woken()) {
         return Err(SingleEnd::ReadyFailed);
     }
-    match open.turn(alloc, ready.numbers(), serve) {
+    match held.turn(alloc, ready.numbers(), serve) {
         Ok(finished) => {
             release(ready, finished);
             Ok(())
@@ -142,7 +144,8 @@ fn go_on<L: TryLink + Drop, Y: Ready<L>, H: Serve>(
     }
 }
 
-/// Takes the links that come now, and polls those that may go on.
+/// Takes the links that come now, and polls those that may go on. It says that serving is closed, or that all
+/// numbers are given, only where no link is open.
 fn serve_once<L: TryLink + Drop, B: TryDoor<L>, Y: Ready<L>, H: Serve>(
     alloc: Global,
     serving: &mut Serving<L>,
@@ -156,7 +159,8 @@ fn serve_once<L: TryLink + Drop, B: TryDoor<L>, Y: Ready<L>, H: Serve>(
         Counts left (B.left door.old) serving.old.links serving.old.closed →
         Counts left (B.left door.new) serving.new.links serving.new.closed }
     ensures cause { MayEnd (B.faults door.old) (B.faults door.new) (Y.faults ready.old)
-        (Y.faults ready.new) serving.new.links serving.new.closed result }
+        (Y.faults ready.new) serving.new.links (length serving.new.open.links) serving.new.closed
+        result }
 {
     accept_all(alloc, serving, door, ready)?;
     if serving.open.links() == 0 {
@@ -184,7 +188,8 @@ pub fn serve_door<L: TryLink + Drop, B: TryDoor<L>, Y: Ready<L>, H: Serve>(
     serve: &mut H,
 ) -> Single
     ensures links { HaveCome (B.left door.old) (B.left door.new) result.links }
-    ensures closed { result.«end» ≡ SingleEnd.Closed → IsClosed (B.left door.old) (B.left door.new) }
+    ensures closed { result.«end» ≡ SingleEnd.Closed →
+        IsClosed (B.left door.old) (B.left door.new) }
     ensures spent { result.«end» ≡ SingleEnd.Spent → result.links ≡ 4294967295 }
     ensures ready { result.«end» ≡ SingleEnd.ReadyFailed →
         HasRisen (Y.faults ready.old) (Y.faults ready.new) }

@@ -78,6 +78,7 @@ fn options_give_their_values_in_any_order(rt: HostRuntime) -> Result<(), Fail> {
 fn other_words_are_refused(rt: HostRuntime) -> Result<(), Fail> {
     let alloc = rt.alloc();
     for line in [
+        "",
         "--seats 4",
         "--addr",
         "--addr -x",
@@ -90,8 +91,18 @@ fn other_words_are_refused(rt: HostRuntime) -> Result<(), Fail> {
         "--addr h:1 --seats=4",
         "--addr h:1 --idle 0",
         "--addr h:1 --idle 3601",
+        "--addr h:1 --idle 030",
+        "--addr h:1 --idle 30s",
+        "--addr h:1 --idle 30 --idle 30",
+        "--addr h:1 --seats 4 --seats 4",
+        "--addr h:1 --seats",
+        "--addr h:1 --idle",
         "--addr h:1 --single --single",
         "--addr h:1 --single --seats 4",
+        "--seats 4 --addr h:1 --single",
+        "--addr h:1 --single 1",
+        "--addr --single",
+        "-addr h:1",
         "--addr h:1 --help",
         "--addr h:1 --",
     ] {

@@ -18,7 +18,7 @@ use std::test::Fail;
 use std::thread::Threads;
 use topic_store::{make_store, open_store};
 
-type MemEngine<R> = DiskEngine<MemDisk, RegexPatterns, R>;
+pub type MemEngine<R> = DiskEngine<MemDisk, RegexPatterns, R>;
 
 /// A disk in memory with a new store.
 pub fn new_disk(alloc: Global) -> Result<MemDisk, NoMemory> {
@@ -86,7 +86,7 @@ fn a_seat_reads_what_another_wrote_to_a_disk(rt: HostRuntime) -> Result<(), Fail
 }
 
 /// A point without a time.
-const POINT: &[u8] =
+pub const POINT: &[u8] =
     b"POST /kapacitor/v1/write?db=d&rp=r HTTP/1.1\r\nContent-Length: 6\r\n\r\nm x=1i";
 
 /// Whether each of these points is of the moment 5.
@@ -100,7 +100,7 @@ fn are_of_five(points: &[Point]) -> bool {
 }
 
 /// Whether the store behind the service has two points, of the moment 5.
-fn has_two<R: Threads + Sync>(alloc: Global, closed: Closed<MemEngine<R>>) -> bool {
+pub fn has_two<R: Threads + Sync>(alloc: Global, closed: Closed<MemEngine<R>>) -> bool {
     let (mut disk, _) = closed.engine.into_parts();
     let Ok(store) = open_store(alloc, &mut disk) else {
         return false;

@@ -15,6 +15,8 @@ mod held_disk;
 #[cfg(test)]
 mod holds;
 #[cfg(test)]
+mod one_post;
+#[cfg(test)]
 mod rows;
 #[cfg(test)]
 mod single;

@@ -1,10 +1,12 @@
 //! Links in memory, by turns on one thread.
 
-use crate::pings::{PING, Pings};
-use conn_loop::{AddFault, Finished, Loop, MemReady, MemTryDoor, Single, SingleEnd, serve_door};
+use crate::pings::{PING, pings, pings_of};
+use conn_loop::{
+    AddFault, Finished, Loop, MemReady, MemTryDoor, Ready, Single, SingleEnd, TryDoor, serve_door,
+};
 use http_dialog::LinkEnd;
 use kap_base::ItemList;
-use kap_io::MemPollLink;
+use kap_io::{Failed, MemPollLink, TryLink};
 use std::alloc::{AllocError, Global};
 use std::sync::Wait;
 use std::test::Fail;
@@ -42,7 +44,7 @@ fn added(alloc: Global, links: &mut Loop<MemPollLink>, link: MemPollLink) -> Opt
 fn each_turn_polls_a_link_once(rt: HostRuntime) -> Result<(), Fail> {
     let alloc = rt.alloc();
     let mut links = Loop::new(alloc, 2);
-    let mut serve = Pings { served: 0 };
+    let mut serve = pings();
     assert!(rt; added(alloc, &mut links, link_of(alloc, WRITE, 7, &[2, 4])?) == Some(0));
     assert!(rt; added(alloc, &mut links, link_of(alloc, WRITE, 7, &[2, 4])?) == Some(1));
     let turns: [&[u32]; 4] = [&[0], &[1, 1, 9], &[1], &[0, 0]];
@@ -61,7 +63,7 @@ fn each_turn_polls_a_link_once(rt: HostRuntime) -> Result<(), Fail> {
 fn a_full_loop_gives_the_link_back(rt: HostRuntime) -> Result<(), Fail> {
     let alloc = rt.alloc();
     let mut links = Loop::new(alloc, 1);
-    let mut serve = Pings { served: 0 };
+    let mut serve = pings();
     assert!(rt; added(alloc, &mut links, link_of(alloc, WRITE, 7, &[])?) == Some(0));
     let Err(AddFault::Full(back)) = links.add(alloc, link_of(alloc, PING, 7, &[])?) else {
         panic!(rt; "not full");
@@ -75,12 +77,9 @@ fn a_full_loop_gives_the_link_back(rt: HostRuntime) -> Result<(), Fail> {
 #[test]
 fn a_link_of_many_requests_is_woken(rt: HostRuntime) -> Result<(), Fail> {
     let alloc = rt.alloc();
-    let mut bytes = Vec::new(alloc);
-    for _ in 0..100 {
-        bytes.extend_from_slice(PING)?;
-    }
+    let bytes = pings_of(alloc, 100)?;
     let mut links = Loop::new(alloc, 2);
-    let mut serve = Pings { served: 0 };
+    let mut serve = pings();
     assert!(rt; added(alloc, &mut links, link_of(alloc, &bytes, 10_000, &[])?) == Some(0));
     assert!(rt; !links.woken());
     assert!(rt; links.turn(alloc, &[0], &mut serve)?.is_empty());
@@ -123,7 +122,7 @@ fn serve_three(
         fails.to_vec(alloc)?,
     );
     let mut ready = ready_of(alloc, times)?;
-    let mut serve = Pings { served: 0 };
+    let mut serve = pings();
     let single = serve_door(rt, alloc, &mut door, &mut ready, &mut serve);
     Ok((single, serve.served))
 }
@@ -147,5 +146,113 @@ fn a_door_is_served_until_it_closes_or_fails(rt: HostRuntime) -> Result<(), Fail
         end: SingleEnd::ReadyFailed,
     };
     assert!(rt; serve_three(&rt, alloc, &[], &[], 1)? == (unready, 1));
+    Ok(())
+}
+
+/// What tells these lists of numbers, one a wait.
+fn telling(alloc: Global, lists: &[&[u32]]) -> Result<MemReady, AllocError> {
+    let mut all = Vec::new(alloc);
+    for list in lists {
+        all.push(ItemList::from_items(list.to_vec(alloc)?))?;
+    }
+    Ok(MemReady::new(alloc, all, Vec::new(alloc)))
+}
+
+/// Serves 1,025 links of one ping each that are there at once, of which these lists are told; what came of it,
+/// how many requests were served, and whether a link is still at the door.
+fn serve_1025(
+    rt: &impl Wait,
+    alloc: Global,
+    lists: &[&[u32]],
+) -> Result<(Single, u32, bool), AllocError> {
+    let mut links = Vec::new(alloc);
+    for _ in 0..1_025 {
+        links.push(link_of(alloc, PING, 100, &[])?)?;
+    }
+    let mut door = MemTryDoor::new(links, Vec::new(alloc), Vec::new(alloc));
+    let mut ready = telling(alloc, lists)?;
+    let mut serve = pings();
+    let single = serve_door(rt, alloc, &mut door, &mut ready, &mut serve);
+    let more = matches!(door.try_accept(), Ok(Some(_)));
+    Ok((single, serve.served, more))
+}
+
+#[test]
+fn a_link_more_than_1024_waits_at_the_door(rt: HostRuntime) -> Result<(), Fail> {
+    let alloc = rt.alloc();
+    let full = Single {
+        links: 1_024,
+        end: SingleEnd::ReadyFailed,
+    };
+    assert!(rt; serve_1025(&rt, alloc, &[])? == (full, 0, true));
+    let beyond: [&[u32]; 2] = [&[], &[1_024]];
+    assert!(rt; serve_1025(&rt, alloc, &beyond)? == (full, 0, true));
+    let all = Single {
+        links: 1_025,
+        end: SingleEnd::ReadyFailed,
+    };
+    let behind: [&[u32]; 3] = [&[], &[7], &[1_024]];
+    assert!(rt; serve_1025(&rt, alloc, &behind)? == (all, 2, false));
+    Ok(())
+}
+
+/// Tells numbers as another one does, and notes what it is asked.
+#[derive(Drop)]
+struct Noted<Y> {
+    ready: Y,
+    /// The numbers of the links that were watched, and of those that were released.
+    watched: Vec<u32>,
+    released: Vec<u32>,
+    /// Of each wait whether it was at once.
+    at_once: Vec<bool>,
+}
+
+impl<L: TryLink, Y: Ready<L>> Ready<L> for Noted<Y> {
+    ghost faults = { λ n. Y.faults n.ready };
+
+    fn watch(&mut self, link: &mut L, number: u32) -> Result<(), Failed> {
+        let _ = self.watched.push(number);
+        self.ready.watch(link, number)
+    }
+
+    fn release(&mut self, number: u32, link: L) {
+        let _ = self.released.push(number);
+        self.ready.release(number, link);
+    }
+
+    fn wait(&mut self, at_once: bool) -> Result<(), Failed> {
+        let _ = self.at_once.push(at_once);
+        self.ready.wait(at_once)
+    }
+
+    fn numbers(&self) -> &[u32] {
+        self.ready.numbers()
+    }
+}
+
+#[test]
+fn each_link_is_watched_and_released(rt: HostRuntime) -> Result<(), Fail> {
+    let alloc = rt.alloc();
+    let mut links = Vec::new(alloc);
+    links.push(link_of(alloc, &pings_of(alloc, 100)?, 10_000, &[])?)?;
+    links.push(link_of(alloc, PING, 100, &[])?)?;
+    let mut door = MemTryDoor::new(links, Vec::new(alloc), Vec::new(alloc));
+    let lists: [&[u32]; 3] = [&[1], &[0], &[]];
+    let mut ready = Noted {
+        ready: telling(alloc, &lists)?,
+        watched: Vec::new(alloc),
+        released: Vec::new(alloc),
+        at_once: Vec::new(alloc),
+    };
+    let mut serve = pings();
+    let single = serve_door(&rt, alloc, &mut door, &mut ready, &mut serve);
+    let closed = Single {
+        links: 2,
+        end: SingleEnd::Closed,
+    };
+    assert!(rt; single == closed && serve.served == 101);
+    assert!(rt; ready.watched.as_slice() == [0, 1].as_slice());
+    assert!(rt; ready.released.as_slice() == [1, 0].as_slice());
+    assert!(rt; ready.at_once.as_slice() == [false, false, true].as_slice());
     Ok(())
 }

@@ -3,7 +3,7 @@
 ghost use Rattle.std.specs.Prelude.{None};
 
 use crate::pings::{Pings, pings_of};
-use crate::sockets::{Client, ask, patience_of};
+use crate::sockets::{Client, ask, patience_of, pieces_for, too_large};
 use conn_loop::{LINKS, MioDoor, MioReady, Single, SingleEnd, TryDoor, serve_door};
 use kap_io::{Stop, TryLink};
 use std::io;
@@ -49,17 +49,19 @@ fn door_of(
     Ok((door, addr))
 }
 
-/// Serves so many links; what came of it, and how many requests were served.
+/// Serves so many links, with so many times 4 KiB in each reply; what came of it, and how many requests were
+/// served.
 fn serve_few(
     rt: &HostRuntime,
     waiting: &impl Wait,
     door: MioDoor<&HostRuntime>,
     links: u32,
+    pieces: u32,
 ) -> io::Result<(Single, u32)> {
     let mut door = door;
     let mut ready = MioReady::new(rt.alloc(), rt, &mut door, rt, LINKS)?;
     let mut few = Few { door, left: links };
-    let mut serve = Pings { served: 0 };
+    let mut serve = Pings { served: 0, pieces };
     let single = serve_door(waiting, rt.alloc(), &mut few, &mut ready, &mut serve);
     Ok((single, serve.served))
 }
@@ -76,7 +78,7 @@ fn serve_beside<R: Threads + Wait + Sync>(
     let (door, addr) = door_of(rt, patience)?;
     let (how, came) = join(
         threads,
-        || serve_few(rt, threads, door, links),
+        || serve_few(rt, threads, door, links, pieces_for(client)),
         || ask(rt, addr, client),
     );
     let (single, served) = how?;
@@ -105,11 +107,28 @@ fn a_pipeline_of_1500_gets_1000_replies_by_turns(rt: HostRuntime) -> Result<(), 
 }
 
 #[test]
+fn a_413_arrives_behind_an_unread_body_by_turns(rt: HostRuntime) -> Result<(), Fail> {
+    let text = too_large(rt.alloc())?;
+    let (served, came) = serve_beside(&rt, &rt, (5_000, 5_000), 2, Client::Behind(&text))?;
+    assert!(rt; served == Some(1) && came.len() == 172);
+    assert!(rt; came.starts_with(b"HTTP/1.1 413 Payload Too Large\r\n"));
+    Ok(())
+}
+
+#[test]
 fn slow_and_idle_connections_end_by_turns(rt: HostRuntime) -> Result<(), Fail> {
     let (served, came) = serve_beside(&rt, &rt, (5_000, 500), 5, Client::BehindSlow)?;
     assert!(rt; served == Some(1) && came.len() == 46);
     let (served, came) = serve_beside(&rt, &rt, (300, 5_000), 2, Client::BesideIdle)?;
     assert!(rt; served == Some(1) && came.len() == 46);
+    Ok(())
+}
+
+#[test]
+fn a_client_that_reads_nothing_is_cut_off_by_turns(rt: HostRuntime) -> Result<(), Fail> {
+    let (served, came) = serve_beside(&rt, &rt, (300, 5_000), 1, Client::Deaf)?;
+    assert!(rt; served == Some(1));
+    assert!(rt; came.starts_with(b"HTTP/1.1 200 OK\r\n") && came.len() < 33_554_432);
     Ok(())
 }
 

@@ -4,7 +4,7 @@ use crate::pings::{PING, Pings, pings_of};
 use http_dialog::LinkEnd;
 use kap_io::{Door, Failed, Link, Patience, SocketDoor};
 use link_serve::serve_link;
-use std::alloc::Global;
+use std::alloc::{AllocError, Global};
 use std::io::{self, Read, Write};
 use std::net::{SocketAddr, TcpListener, TcpStream};
 use std::test::Fail;
@@ -50,9 +50,14 @@ fn serve_one<L: Link>(alloc: Global, link: &mut L, serve: &mut Pings) -> LinkEnd
     serve_link(alloc, link, serve)
 }
 
-/// Serves so many links, one after the other.
-fn serve_links<B: Door<L>, L: Link + Drop>(alloc: Global, door: &mut B, links: u32) -> Ended {
-    let mut serve = Pings { served: 0 };
+/// Serves so many links, one after the other, with so many times 4 KiB in each reply.
+fn serve_links<B: Door<L>, L: Link + Drop>(
+    alloc: Global,
+    door: &mut B,
+    links: u32,
+    pieces: u32,
+) -> Ended {
+    let mut serve = Pings { served: 0, pieces };
     let mut cut_off = 0u32;
     let mut last = None;
     for _ in 0..links {
@@ -156,6 +161,24 @@ fn ask_over_many(rt: &HostRuntime, addr: SocketAddr, count: u32) -> io::Result<V
     Ok(came)
 }
 
+/// Writes a text, and reads to the end; and asks over another connection then.
+fn ask_behind(rt: &HostRuntime, addr: SocketAddr, text: &[u8]) -> io::Result<Vec<u8>> {
+    let mut came = exchange(rt, addr, text)?;
+    let more = exchange(rt, addr, b"GET / HTTP/1.1\r\nConnection: close\r\n\r\n")?;
+    came.extend_from_slice(&more)?;
+    Ok(came)
+}
+
+/// Asks, reads nothing for three seconds, and then to the end.
+fn ask_deaf(rt: &HostRuntime, addr: SocketAddr) -> io::Result<Vec<u8>> {
+    let mut stream = TcpStream::connect(rt, addr)?;
+    stream.write_all(b"GET / HTTP/1.1\r\nConnection: close\r\n\r\n")?;
+    thread::sleep(rt, Duration::from_millis(3_000));
+    let mut came = Vec::new(rt.alloc());
+    stream.read_to_end(&mut came)?;
+    Ok(came)
+}
+
 /// What asks at a door.
 #[derive(Clone, Copy)]
 pub(crate) enum Client<'a> {
@@ -169,6 +192,18 @@ pub(crate) enum Client<'a> {
     Pieces,
     /// One with so many connections at once.
     Many(u32),
+    /// One that writes a text, and another one behind it.
+    Behind(&'a [u8]),
+    /// One that doesn't read what is answered.
+    Deaf,
+}
+
+/// How many times 4 KiB the replies to a client have: more than sockets hold, where it doesn't read them.
+pub(crate) fn pieces_for(client: Client<'_>) -> u32 {
+    match client {
+        Client::Deaf => 8_192,
+        _ => 0,
+    }
 }
 
 /// Asks, and reads to the end.
@@ -179,6 +214,8 @@ pub(crate) fn ask(rt: &HostRuntime, addr: SocketAddr, client: Client<'_>) -> io:
         Client::BesideIdle => ask_beside_idle(rt, addr),
         Client::Pieces => send_pieces(rt, addr),
         Client::Many(count) => ask_over_many(rt, addr, count),
+        Client::Behind(text) => ask_behind(rt, addr, text),
+        Client::Deaf => ask_deaf(rt, addr),
     }
 }
 
@@ -194,7 +231,7 @@ fn serve_beside(
     let (mut door, addr) = door_of(rt, patience_of(patience.0, patience.1))?;
     let (ended, came) = join(
         threads,
-        || serve_links(rt.alloc(), &mut door, links),
+        || serve_links(rt.alloc(), &mut door, links, pieces_for(client)),
         || ask(rt, addr, client),
     );
     Ok((ended, came?))
@@ -218,12 +255,18 @@ fn a_pipeline_of_1500_gets_1000_replies(rt: HostRuntime) -> Result<(), Fail> {
     Ok(())
 }
 
-#[test]
-fn a_413_arrives_behind_an_unread_body(rt: HostRuntime) -> Result<(), Fail> {
+/// A request with 2,000,000 bytes of a body that is too large.
+pub(crate) fn too_large(alloc: Global) -> Result<Vec<u8>, AllocError> {
     let head = b"POST /write?db=d HTTP/1.1\r\nContent-Length: 20000000\r\n\r\n";
-    let mut text = Vec::new(rt.alloc());
+    let mut text = Vec::new(alloc);
     text.extend_from_slice(head)?;
     text.resize(head.len() + 2_000_000, b'm')?;
+    Ok(text)
+}
+
+#[test]
+fn a_413_arrives_behind_an_unread_body(rt: HostRuntime) -> Result<(), Fail> {
+    let text = too_large(rt.alloc())?;
     let (how, came) = serve_beside(&rt, &rt, (5_000, 5_000), 1, Client::Text(&text))?;
     assert!(rt; how == ending(0, LinkEnd::Refused, 0));
     assert!(rt; came.starts_with(b"HTTP/1.1 413 Payload Too Large\r\n"));
@@ -243,6 +286,14 @@ fn an_idle_client_is_cut_off(rt: HostRuntime) -> Result<(), Fail> {
     let (how, came) = serve_beside(&rt, &rt, (300, 5_000), 2, Client::BesideIdle)?;
     assert!(rt; how == ending(1, LinkEnd::Closed, 1));
     assert!(rt; came.len() == 46);
+    Ok(())
+}
+
+#[test]
+fn a_client_that_reads_nothing_is_cut_off(rt: HostRuntime) -> Result<(), Fail> {
+    let (how, came) = serve_beside(&rt, &rt, (300, 5_000), 1, Client::Deaf)?;
+    assert!(rt; how == ending(0, LinkEnd::WriteFault, 1));
+    assert!(rt; came.starts_with(b"HTTP/1.1 200 OK\r\n") && came.len() < 33_554_432);
     Ok(())
 }
 
