@@ -75,7 +75,7 @@ returns-clause-shown g c = λ owned is.
     let read = c.show-lacks.ensures.read in
     let engine = c.show-lacks.new.engine in
     let posts = c.show-lacks.new.poster in
-    let both = both_true c.hear-heard-2.result c.has_told_all-all.result is in
+    let both = both_true c.hear-heard-2.result c.has_told_all-all.result (sym c.is_shown-shown.ensures ∙ is) in
     let after : ℕ = (g.E.Engine.value c.judged-judged.new.engine).changes in
     if_ok
     (λ (d : Decisions). (IsFailed d.reply.status → ⊥) → after ≡ d.changes + change_of c.args.ask.now d.reply.status)
