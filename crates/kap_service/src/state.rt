@@ -1,6 +1,6 @@
 //! What lies under the lock.
 
-ghost use Rattle.std.specs.Prelude.{◌≡◌, ◌≢◌, ◌+◌, ◌-◌, ◌^◌, ◌≤◌, false, length, min, true, IfErr, IfOk, IsTrue};
+ghost use Rattle.std.specs.Prelude.{◌≡◌, ◌≢◌, ◌&&◌, ◌+◌, ◌-◌, ◌^◌, ◌≤◌, false, length, min, true, IfErr, IfOk, IsTrue};
 ghost use mathlib.Core.List.{IsPrefix};
 ghost use Rattle.kap_base.specs.Points.{is_time};
 ghost use Rattle.reply_bodies.specs.Asks.{IsFailed, change_of};
@@ -74,6 +74,13 @@ fn has_told_all<E: Engine, J: Naming>(engine: &E, told: &Front<J>) -> bool
         return false;
     }
     told.len() == engine.count()
+}
+
+/// Whether what was told is kept, and is all.
+fn is_shown(heard: bool, all: bool) -> bool
+    ensures { result ≡ (heard && all) }
+{
+    heard && all
 }
 
 /// What lies under the lock: the engine, what posts to the board, and the two books, with what they say as
@@ -211,7 +218,8 @@ impl<E: Engine, J: Naming, O: Drop, T: Shown<J, O>, R: Wait + Drop, L1: Ledger, 
         let told = self.poster.tell();
         let all = has_told_all(&self.engine, &told);
         let heard = hear(&mut seat.told, told);
-        seat.shown = heard && all;
+        let shown = is_shown(heard, all);
+        seat.shown = shown;
         judged
     }
 }

@@ -75,12 +75,12 @@ returns-clause-shown g c = λ owned is.
     let read = c.show-lacks.ensures.read in
     let engine = c.show-lacks.new.engine in
     let posts = c.show-lacks.new.poster in
-    let both = both_true c.hear-heard.result c.has_told_all-all.result is in
+    let both = both_true c.hear-heard-2.result c.has_told_all-all.result (sym c.is_shown-shown.ensures ∙ is) in
     let after : ℕ = (g.E.Engine.value c.judged-judged.new.engine).changes in
     if_ok
     (λ (d : Decisions). (IsFailed d.reply.status → ⊥) → after ≡ d.changes + change_of c.args.ask.now d.reply.status)
     (λ (d : Decisions). (IsFailed d.reply.status → ⊥) → AreAllOf g.E.Engine.value g.E.Engine.right g.E.Engine.leaves
-    (d.changes + change_of c.args.ask.now d.reply.status) c.hear-heard.new.kept)
+    (d.changes + change_of c.args.ask.now d.reply.status) c.hear-heard-2.new.kept)
     c.judged-judged.result
     (λ d exact fine. record {
       engine = engine;
@@ -92,7 +92,7 @@ returns-clause-shown g c = λ owned is.
           let j = c.judged-judged.ensures.stores k.right_is store here in
           let pre = prefix_trans (posted c.self.inside.poster) j.origin.stored store.stored
           (k.stores j.origin j.was).begun j.how.changed.stored in
-          c.hear-heard.ensures.heard both.0
+          c.hear-heard-2.ensures.heard both.0
           ∙ told_all posts store.stored c.tell-told.result (c.show-lacks.ensures.begun right store here pre)
           c.tell-told.ensures (c.has_told_all-all.ensures.all both.1 (read.stays_right right) store left);
     })
