@@ -1,6 +1,6 @@
 //! Connections that an executor polls.
 
-use crate::pings::{PING, pings, pings_of};
+use crate::pings::{PING, bare_pings, pings_of};
 use conn_future::{Conn, Talk};
 use futures::executor::block_on;
 use futures::task::Poll;
@@ -27,7 +27,7 @@ fn conn_of(
 fn an_executor_brings_it_to_its_end(rt: HostRuntime) -> Result<(), Fail> {
     let alloc = rt.alloc();
     let mut conn = conn_of(alloc, 1, 1, &[1, 3, 5, 40])?;
-    let mut serve = pings();
+    let mut serve = bare_pings();
     let end = block_on(
         &rt,
         Talk {
@@ -46,7 +46,7 @@ fn an_executor_brings_it_to_its_end(rt: HostRuntime) -> Result<(), Fail> {
 fn a_poll_serves_64_and_wakes_the_task(rt: HostRuntime) -> Result<(), Fail> {
     let alloc = rt.alloc();
     let mut conn = conn_of(alloc, 100, PING.len() * 100, &[])?;
-    let mut serve = pings();
+    let mut serve = bare_pings();
     let task = MockTask::new(&rt)?;
     let first = task.enter(|cx| conn.poll(alloc, cx, &mut serve));
     assert!(rt; first == Poll::Pending && task.is_woken());

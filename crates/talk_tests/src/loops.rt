@@ -1,6 +1,6 @@
 //! Links in memory, by turns on one thread.
 
-use crate::pings::{PING, pings, pings_of};
+use crate::pings::{PING, bare_pings, pings_of};
 use conn_loop::{
     AddFault, Finished, Loop, MemReady, MemTryDoor, Ready, Single, SingleEnd, TryDoor, serve_door,
 };
@@ -44,7 +44,7 @@ fn added(alloc: Global, links: &mut Loop<MemPollLink>, link: MemPollLink) -> Opt
 fn each_turn_polls_a_link_once(rt: HostRuntime) -> Result<(), Fail> {
     let alloc = rt.alloc();
     let mut links = Loop::new(alloc, 2);
-    let mut serve = pings();
+    let mut serve = bare_pings();
     assert!(rt; added(alloc, &mut links, link_of(alloc, WRITE, 7, &[2, 4])?) == Some(0));
     assert!(rt; added(alloc, &mut links, link_of(alloc, WRITE, 7, &[2, 4])?) == Some(1));
     let turns: [&[u32]; 4] = [&[0], &[1, 1, 9], &[1], &[0, 0]];
@@ -63,7 +63,7 @@ fn each_turn_polls_a_link_once(rt: HostRuntime) -> Result<(), Fail> {
 fn a_full_loop_gives_the_link_back(rt: HostRuntime) -> Result<(), Fail> {
     let alloc = rt.alloc();
     let mut links = Loop::new(alloc, 1);
-    let mut serve = pings();
+    let mut serve = bare_pings();
     assert!(rt; added(alloc, &mut links, link_of(alloc, WRITE, 7, &[])?) == Some(0));
     let Err(AddFault::Full(back)) = links.add(alloc, link_of(alloc, PING, 7, &[])?) else {
         panic!(rt; "not full");
@@ -79,7 +79,7 @@ fn a_link_of_many_requests_is_woken(rt: HostRuntime) -> Result<(), Fail> {
     let alloc = rt.alloc();
     let bytes = pings_of(alloc, 100)?;
     let mut links = Loop::new(alloc, 2);
-    let mut serve = pings();
+    let mut serve = bare_pings();
     assert!(rt; added(alloc, &mut links, link_of(alloc, &bytes, 10_000, &[])?) == Some(0));
     assert!(rt; !links.woken());
     assert!(rt; links.turn(alloc, &[0], &mut serve)?.is_empty());
@@ -122,7 +122,7 @@ fn serve_three(
         fails.to_vec(alloc)?,
     );
     let mut ready = ready_of(alloc, times)?;
-    let mut serve = pings();
+    let mut serve = bare_pings();
     let single = serve_door(rt, alloc, &mut door, &mut ready, &mut serve);
     Ok((single, serve.served))
 }
@@ -171,7 +171,7 @@ fn serve_1025(
     }
     let mut door = MemTryDoor::new(links, Vec::new(alloc), Vec::new(alloc));
     let mut ready = telling(alloc, lists)?;
-    let mut serve = pings();
+    let mut serve = bare_pings();
     let single = serve_door(rt, alloc, &mut door, &mut ready, &mut serve);
     let more = matches!(door.try_accept(), Ok(Some(_)));
     Ok((single, serve.served, more))
@@ -244,7 +244,7 @@ fn each_link_is_watched_and_released(rt: HostRuntime) -> Result<(), Fail> {
         released: Vec::new(alloc),
         at_once: Vec::new(alloc),
     };
-    let mut serve = pings();
+    let mut serve = bare_pings();
     let single = serve_door(&rt, alloc, &mut door, &mut ready, &mut serve);
     let closed = Single {
         links: 2,

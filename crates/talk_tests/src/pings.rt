@@ -15,7 +15,7 @@ pub(crate) struct Pings {
 }
 
 /// What answers by a 204.
-pub(crate) fn pings() -> Pings {
+pub(crate) fn bare_pings() -> Pings {
     Pings {
         served: 0,
         pieces: 0,

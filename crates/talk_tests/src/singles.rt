@@ -128,7 +128,7 @@ fn slow_and_idle_connections_end_by_turns(rt: HostRuntime) -> Result<(), Fail> {
 fn a_client_that_reads_nothing_is_cut_off_by_turns(rt: HostRuntime) -> Result<(), Fail> {
     let (served, came) = serve_beside(&rt, &rt, (300, 5_000), 1, Client::Deaf)?;
     assert!(rt; served == Some(1));
-    assert!(rt; came.starts_with(b"HTTP/1.1 200 OK\r\n") && came.len() < 33_554_432);
+    assert!(rt; came.starts_with(b"HTTP/1.1 200 OK\r\n") && came.len() < 16_777_216);
     Ok(())
 }
 
