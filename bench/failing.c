@@ -8,6 +8,9 @@
 // fails as FAILING_HOW says: EIO, ENOSPC or EINTR, with nothing done; HALF, where only the first half of the bytes is
 // read or written and that is what it answers; or FULL, HALF of this call and ENOSPC of each later one. Each call that
 // counts is told in the file FAILING_LOG, a line each: the call, `-` or how it failed, and the file.
+//
+// Where FAILING_CALL is malloc the allocation with that number finds no memory, the first behind the loading of the
+// libraries being number 1, and with FULL each later one too; of allocations only that one is told.
 #define _GNU_SOURCE
 #include <errno.h>
 #include <fcntl.h>
@@ -37,6 +40,27 @@ static void note(const char *call, const char *how, const char *file) {
         syscall(SYS_write, log, line, length);
         syscall(SYS_close, log);
     }
+}
+
+static long scarce; // the number of the allocation that fails, or 0
+static int scarce_for_good;
+static atomic_long asked;
+
+__attribute__((constructor)) static void begin(void) {
+    scarce_for_good = strcmp(told("FAILING_HOW"), "FULL") == 0;
+    scarce = strcmp(told("FAILING_CALL"), "malloc") == 0 ? atol(told("FAILING_AT")) : 0;
+}
+
+static int is_wanting(void) {
+    if (scarce == 0)
+        return 0;
+    long number = ++asked;
+    if (number == scarce)
+        note("malloc", told("FAILING_HOW"), "-");
+    int fails = number == scarce || (number > scarce && scarce_for_good);
+    if (fails)
+        errno = ENOMEM;
+    return fails;
 }
 
 static int turn_at(const char *call, const char *file) {
@@ -69,6 +93,19 @@ static int turn(const char *call, int fd) {
 #define ASKS(call, number, ...) { UNLESS_FAILING(turn(call, fd)) return syscall(number, fd, ##__VA_ARGS__); }
 #define OPENS(at) { va_list rest; va_start(rest, flags); int mode = va_arg(rest, int); va_end(rest); \
     UNLESS_FAILING(turn_at("open", path)) return syscall(SYS_openat, at, path, flags, mode); }
+
+void *__libc_malloc(size_t n), *__libc_calloc(size_t n, size_t size), *__libc_realloc(void *old, size_t n);
+void *__libc_memalign(size_t align, size_t n);
+
+void *malloc(size_t n) { return is_wanting() ? NULL : __libc_malloc(n); }
+void *calloc(size_t n, size_t size) { return is_wanting() ? NULL : __libc_calloc(n, size); }
+void *realloc(void *old, size_t n) { return is_wanting() ? NULL : __libc_realloc(old, n); }
+void *aligned_alloc(size_t align, size_t n) { return is_wanting() ? NULL : __libc_memalign(align, n); }
+void *memalign(size_t align, size_t n) { return is_wanting() ? NULL : __libc_memalign(align, n); }
+
+int posix_memalign(void **into, size_t align, size_t n) {
+    return is_wanting() || (*into = __libc_memalign(align, n)) == NULL ? ENOMEM : 0;
+}
 
 ssize_t pwrite(int fd, const void *bytes, size_t n, off_t at) MOVES("pwrite", SYS_pwrite64, bytes, n, at)
 ssize_t pwrite64(int fd, const void *bytes, size_t n, off_t at) MOVES("pwrite", SYS_pwrite64, bytes, n, at)
