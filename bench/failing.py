@@ -24,7 +24,8 @@ the lists are those of all that was answered 200 or 204, with what was answered 
 With the WORD `memory` each allocation finds no memory in turn, once alone and once with all behind it, in other runs:
 those of MEMORY and services. More than some thousand allocations are tried only in part: the first ones, and then each
 so many. The status is 70 (or 73, where a file's opening found none), or 0 with the whole output; of a request 503, or the
-link ends, or the reply is the one that is due; what is stored is as above, and a service serves on.
+link ends, or the reply is the one that is due; what is stored is as above, and a service serves on, where not all
+allocations fail. It doesn't come to serve, or ends, with 70, 73 or 74 (a socket that found none).
 
 And of the runs in which nothing fails: what was written is synced before the file is written again, and before the end, and
 a file's first sync is followed by one of the folder. So a sync that does nothing is refused here. It ends with status 1 if
@@ -533,11 +534,12 @@ def wrongs_of_want_in_service(store, how, folder, came, wants):
     """The same of a service."""
     (status, said, replies, _), (dues, before) = came, wants
     if not replies:
-        wrongs = [] if status in (70, 73) else [f"it ended with {status}: {said}"]
+        wrongs = [] if status in (70, 73, 74) else [f"it ended with {status}: {said}"]
         if looked(folder, wrongs) != before:
             wrongs.append("a service that didn't come to serve has changed the store")
         return wrongs
-    wrongs = wrongs_of_service(store, folder, (status, said, replies[:-1], []), dues, [503, None])
+    ended = None if status == 74 and how == "FULL" else status
+    wrongs = wrongs_of_service(store, folder, (ended, said, replies[:-1], []), dues, [503, None])
     if how != "FULL" and replies[-1] != dues[-1]:
         wrongs.append(f"the last request is answered {replies[-1]}")
     return wrongs
