@@ -7,7 +7,7 @@ use crate::fault::CaseFault;
 use http_dialog::LinkEnd;
 use kap_base::Bytes;
 use kap_io::{FixedClock, MemDisk, MemLink};
-use kap_service::{Desk, Engine, Since, make_shared};
+use kap_service::{Closed, Desk, Engine, Since, make_shared};
 use lambda_types::RegexPatterns;
 use link_serve::serve_link;
 use service_engine::DiskEngine;
@@ -35,7 +35,8 @@ fn end_text(end: LinkEnd) -> &'static str {
     }
 }
 
-/// Shares an engine with one seat, serves a link by it at the moment 0, and ends the service.
+/// Shares an engine with one seat, serves a link by it at the moment 0, and ends the service: what is left
+/// of it, and how the link ended.
 fn serve_by<E: Engine, J: Naming, L1: Ledger, L2: Since, R: Wait>(
     rt: &R,
     alloc: Global,
@@ -44,7 +45,7 @@ fn serve_by<E: Engine, J: Naming, L1: Ledger, L2: Since, R: Wait>(
     first: Blank,
     second: Blank,
     link: &mut MemLink,
-) -> Result<(E, LinkEnd), CaseFault>
+) -> Result<(Closed<E>, LinkEnd), CaseFault>
     requires book { opened ≡ J.book }
     requires unspent { (E.value engine).spent ≡ false }
     requires names { (first.name ≡ L1.name) × (second.name ≡ L2.name) }
@@ -67,8 +68,7 @@ fn serve_by<E: Engine, J: Naming, L1: Ledger, L2: Since, R: Wait>(
         clock: &FixedClock(0),
     };
     let end = serve_link(alloc, link, &mut desk);
-    let closed = shared.close(seats);
-    Ok((closed.engine, end))
+    Ok((shared.close(seats), end))
 }
 
 /// The same on a board and with ledgers of its own.
@@ -77,7 +77,7 @@ fn serve_alone<E: Engine, R: Wait>(
     alloc: Global,
     engine: E,
     link: &mut MemLink,
-) -> Result<(E, LinkEnd), CaseFault>
+) -> Result<(Closed<E>, LinkEnd), CaseFault>
     requires unspent { (E.value engine).spent ≡ false }
 {
     let (first, second) = (Blank::new(2), Blank::new(2));
@@ -85,7 +85,7 @@ fn serve_alone<E: Engine, R: Wait>(
 }
 
 /// Serves a connection over which these bytes come, on the store of this disk: the disk behind it, and what
-/// was replied, with how the connection ended.
+/// was replied, with how the connection ended, and how often with 500.
 pub fn connect<R: Threads + Wait + Sync>(
     rt: &R,
     alloc: Global,
@@ -100,11 +100,15 @@ pub fn connect<R: Threads + Wait + Sync>(
         return Err(CaseFault::NoStore);
     };
     let mut link = MemLink::new(alloc, bytes, 65_536, Vec::new(alloc));
-    let (engine, end) = serve_alone(rt, alloc, engine, &mut link)?;
-    let (disk, _) = engine.into_parts();
+    let (closed, end) = serve_alone(rt, alloc, engine, &mut link)?;
+    let faults = closed.faults;
+    let (disk, _) = closed.engine.into_parts();
     let mut text = Bytes::new(alloc);
     text.append(link.bytes())?;
     end_line(&mut text)?;
     text.append(end_text(end).as_bytes())?;
+    if faults > 0 {
+        text.append(format!(in alloc; "> faults {faults}\n")?.as_bytes())?;
+    }
     Ok((disk, text))
 }
