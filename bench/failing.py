@@ -455,6 +455,13 @@ def fail_each_of_service(store, options):
         print(f"    {how}: {ended[how]}", flush=True)
 
 
+def tell_wrongs(begun=[0]):
+    """Tells what is wrong as soon as a part has ended."""
+    for wrong in WRONG[begun[0]:]:
+        print(f"failing.py: {wrong}", file=sys.stderr, flush=True)
+    begun[0] = len(WRONG)
+
+
 def looked_at(store):
     """The lists of a store, looked at on a copy."""
     fresh(store, f"{WORK}/looked")
@@ -607,16 +614,18 @@ def main():
         for store, words, given in MEMORY:
             if WORD[7:] in f"{store} {words[0] if words else 'serve'}":
                 want_each(store, words, given)
+                tell_wrongs()
     else:
         for store, words, given in COMMANDS:
             if WORD in f"{store} {words[0]}":
                 fail_each(store, words, given)
+                tell_wrongs()
         for options in ([], ["--single"]):
             if WORD in "stored serve":
                 fail_each_of_service("stored", options)
+                tell_wrongs()
     print(f"{sum(RUNS.values())} runs with a call that failed, by status: {dict(RUNS)}")
-    for wrong in WRONG[:40]:
-        print(f"failing.py: {wrong}", file=sys.stderr)
+    tell_wrongs()
     if WRONG:
         sys.exit(f"failing.py: {len(WRONG)} things are wrong; {WORK} is left")
     shutil.rmtree(WORK)
