@@ -5,7 +5,7 @@ use Rattle.topic_core.specs.declared.transition.Transition.{Transition}
 use Rattle.service_tests.proofs.fake.FakeEngine.last_ones.Goals as goal
 
 pub returns-clause-last : goal.returns-clause-last
-returns-clause-last g c =
+returns-clause-last c =
     let n = c.self.inside.own_from in
     let xs = c.self.inside.stored.items in
     let same : xs ≡ c.args.self.now.stored = ap (λ (f : FakeValue). f.stored) c.self.view_is in
