@@ -3,4 +3,5 @@ pub mod NetLaws
 pub mod CarryLaws
 pub mod RiseLaws
 pub mod PassLaws
+pub mod AsideLaws
 pub mod StandLaws

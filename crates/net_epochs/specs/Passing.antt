@@ -1,10 +1,14 @@
 -- Points that pass a life by: its streams hand them on, and what takes from a stream stays as it is.
 use Rattle.std.specs.Prelude.{◌≡◌, ◌⊎◌, ◌||◌, ℕ, ⊤, Bool, true, false, List, [], ◌∷◌, ◌++◌, slice_index_or}
+use Rattle.std.specs.List.{AllByRecursion as Each}
 use Rattle.kap_base.specs.Points.{PointValue}
 use Rattle.kap_base.specs.declared.items.Item.{Item}
 use Rattle.node_core.specs.Meaning.{Input, Move, stay}
+use Rattle.node_core.specs.declared.node.Node.{Ghosts}
 use Rattle.task_run.specs.Active.{Active}
 use Rattle.task_run.specs.PointLaws.{stamped_point}
+use Rattle.flow_core.specs.LifeLoads.{acts_of}
+use Rattle.flow_core.specs.Nets.{NumberedLife}
 
 -- a step that hands on what came, and leaves the state
 abbrev pub hand_on : {S : Type 0} → S → Item → Move S
@@ -45,3 +49,8 @@ module _ {P S : Type 0} (step : P → S → Input → Move S) where
   -- the point passes all nodes of a life by
   abbrev pub PassesBy : List (Active P S) → PointValue → Type 0
   PassesBy acts p = PassesBehind p [] acts
+
+module _ {N P S : Type 0} (g : Ghosts N P S) where
+  -- each of these points passes a life of a net by
+  abbrev pub AllPassBy : List PointValue → NumberedLife N → Type 0
+  AllPassBy points l = Each (PassesBy g.step (acts_of g l.life.cells)) points

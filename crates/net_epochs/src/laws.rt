@@ -1,6 +1,6 @@
 //! Laws of nets whose lives are where their points have brought them.
 
-ghost use Rattle.std.specs.Prelude.{◌≡◌, ℕ, ◌+◌, ◌<◌, [], ◌∷◌, ◌++◌, false, IsPermutation, List, Some, length, map, slice_get};
+ghost use Rattle.std.specs.Prelude.{◌≡◌, ℕ, ◌+◌, ◌<◌, [], ◌∷◌, ◌++◌, false, Bool, IsPermutation, List, Some, length, map, slice_get};
 ghost use Rattle.std.specs.List.{AllByRecursion as Each, AllZip, remove};
 ghost use Rattle.kap_base.specs.Points.{PointValue};
 ghost use Rattle.kap_base.specs.declared.items.Effect.{Effect};
@@ -9,17 +9,17 @@ ghost use Rattle.task_run.specs.Courses.{Course, begun, course_gives, end_of, fr
 ghost use Rattle.task_run.specs.Graphs.{Placed};
 ghost use Rattle.task_run.specs.Lives.{dropped_of, node_effects_with};
 ghost use Rattle.task_run.specs.Plans.{AreFirstNodes, AreFirstStates, IsPlan, PlanValue, graph_of};
+ghost use Rattle.flow_core.specs.Aside.{picked, rejoined, unpicked};
 ghost use Rattle.flow_core.specs.Carried.{LifeHasCarried};
 ghost use Rattle.flow_core.specs.Done.{effects_in};
 ghost use Rattle.flow_core.specs.Drops.{drops_in};
 ghost use Rattle.flow_core.specs.Gathering.{LivesRise, NumbersEffects};
-ghost use Rattle.flow_core.specs.LifeLoads.{acts_of};
 ghost use Rattle.flow_core.specs.Making.{AreLivesOf, Begins, Ends};
 ghost use Rattle.flow_core.specs.Messages.{AreMarksOf, load_messages};
 ghost use Rattle.flow_core.specs.Nets.{IsLifeIn, IsResting, NetValue, NumberedLife, numbers_of, plans_from, plans_in, specs_in};
 ghost use Rattle.flow_core.specs.Sorting.{AreRising, AreSorted};
 ghost use Rattle.net_epochs.specs.Epochs.{IsOnCourse, NumbersRise, StandsAt, nodes_in};
-ghost use Rattle.net_epochs.specs.Passing.{PassesBy};
+ghost use Rattle.net_epochs.specs.Passing.{AllPassBy};
 
 use node_core::Node;
 
@@ -112,13 +112,27 @@ pub fn nets_stand<N: Node>()
 {}
 
 /// Points that pass a life by, in the states in which its nodes are: they bring it to just where it is, and
-/// its nodes do nothing with their stamps. So what such points make of a life is known without a load.
+/// its nodes do nothing with their stamps. So where lives that the points pass by are set aside, and the
+/// points bring the others on, then all are where the points bring them, and what the others do is all.
 pub fn points_pass_by<N: Node>()
     ensures stands { (new : List PointValue) (c : Course N.Spec) (life : NumberedLife N)
-        → Each (PassesBy N.step (acts_of N.Node life.life.cells)) new
+        → AllPassBy N.Node new life
         → IsOnCourse N.Node c life → IsOnCourse N.Node (grown new c) life }
     ensures none { (new : List PointValue) (c : Course N.Spec) (life : NumberedLife N)
-        → Each (PassesBy N.step (acts_of N.Node life.life.cells)) new
-        → IsOnCourse N.Node c life → (stamp : ℕ) → end_of c < stamp
+        → AllPassBy N.Node new life → IsOnCourse N.Node c life → (stamp : ℕ) → end_of c < stamp
         → node_effects_with stamp (course_gives N.answer (grown new c)) ≡ [] }
+    ensures apart { (new : List PointValue) (aside : List Bool) (courses : List (Course N.Spec))
+        (lives others : List (NumberedLife N)) → length aside ≡ length lives
+        → AllZip (IsOnCourse N.Node) courses lives
+        → Each (AllPassBy N.Node new) (picked aside lives)
+        → AllZip (IsOnCourse N.Node) (map (grown new) (unpicked aside courses)) others
+        → AllZip (IsOnCourse N.Node) (map (grown new) courses)
+        (rejoined aside (picked aside lives) others) }
+    ensures effects { (n k : ℕ) (new : List PointValue) (aside : List Bool)
+        (courses : List (Course N.Spec)) (lives : List (NumberedLife N))
+        → length aside ≡ length lives → Each (λ c. end_of c ≡ n) courses
+        → AllZip (IsOnCourse N.Node) courses lives
+        → Each (AllPassBy N.Node new) (picked aside lives)
+        → later_effects N.answer n k (map (grown new) (unpicked aside courses))
+        ≡ later_effects N.answer n k (map (grown new) courses) }
 {}

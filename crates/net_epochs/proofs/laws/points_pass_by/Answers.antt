@@ -1,11 +1,14 @@
-use Rattle.flow_core.specs.LifeLoads.{acts_of}
-use Rattle.net_epochs.proofs.PassLaws.{none_by, went_by}
+use Rattle.net_epochs.proofs.AsideLaws.{effects_apart, silent_by, stands_apart, stands_by}
 use Rattle.net_epochs.proofs.laws.points_pass_by.Goals as goal
 
 pub returns-clause-stands : goal.returns-clause-stands
-returns-clause-stands g c = λ new course life by is.
-    (went_by g.N.Node.answer g.N.Node.life g.N.Node.number g.met.N.Node.stamped g.N.Node.first g.N.Node.step g.met.N.Node.folds new course (acts_of g.N.Node life.life.cells) by is).where_is
+returns-clause-stands g c = stands_by g.N.Node g.met.N.Node.stamped g.met.N.Node.folds
 
 pub returns-clause-none : goal.returns-clause-none
-returns-clause-none g c = λ new course life by is.
-    none_by g.N.Node.answer g.N.Node.life g.N.Node.number g.met.N.Node.stamped g.N.Node.first g.N.Node.step g.met.N.Node.folds new course (acts_of g.N.Node life.life.cells) by is
+returns-clause-none g c = silent_by g.N.Node g.met.N.Node.stamped g.met.N.Node.folds
+
+pub returns-clause-apart : goal.returns-clause-apart
+returns-clause-apart g c = stands_apart g.N.Node g.met.N.Node.stamped g.met.N.Node.folds
+
+pub returns-clause-effects : goal.returns-clause-effects
+returns-clause-effects g c = effects_apart g.N.Node g.met.N.Node.stamped g.met.N.Node.folds
