@@ -1,1 +1,2 @@
 pub mod EpochLaws
+pub mod ConcernedLaws

@@ -6,6 +6,7 @@ ghost use Rattle.std.specs.Prelude.{◌≡◌, ◌^◌};
 ghost use Rattle.net_run.specs.declared.moving.TheConstants.{FEW_POINTS};
 ghost use Rattle.net_run.specs.declared.pace.TheConstants.{EFFECT_LIMIT, TEXT_LIMIT};
 
+mod concerned;
 mod epochs;
 mod laws;
 mod moving;
@@ -14,6 +15,7 @@ mod pace;
 mod runs;
 mod trail;
 
+pub use concerned::run_concerned;
 pub use epochs::run_epoch;
 pub use laws::scripts_let_points_pass;
 pub use moving::{FEW_POINTS, Way, Workers, few_points};
