@@ -2,6 +2,7 @@
 use Rattle.std.proofs.Common.{◌≡◌, ℕ, zero, suc, ◌+◌, Bool, true, false, List, [], ◌∷◌, ◌++◌, map, length, drop, refl, sym, ap, ◌∙◌, arith}
 use Rattle.std.specs.List.{AllByRecursion as Each}
 use Rattle.flow_core.specs.Aside.{picked, rejoined, unpicked}
+use Rattle.flow_core.proofs.PortLaws.{head_same}
 
 module _ {A : Type 0} where
   -- both together are the list
@@ -57,13 +58,6 @@ module _ {A : Type 0} where
 no-more : {A : Type 0} (x : A) (xs : List A) → [] ≡ x ∷ xs → ⊥
 no-more x xs e = absurd cc
 
-head-is : {A : Type 0} (x y : A) (xs ys : List A) → x ∷ xs ≡ y ∷ ys → x ≡ y
-head-is {A} x y xs ys e = ap (λ (l : List A). first-of l) e
-  where
-    first-of : List A → A
-    first-of [] = x
-    first-of (z ∷ zs) = z
-
 -- what is seen of the second list stays, so it stays of both together
 pub rejoined_map : {A B : Type 0} (f : A → B) (bs : List Bool) (xs ys : List A) → length bs ≡ length xs → map f ys ≡ map f (unpicked bs xs) → map f (rejoined bs (picked bs xs) ys) ≡ map f xs
 rejoined_map f [] [] ys e h = refl
@@ -72,5 +66,5 @@ rejoined_map f (b ∷ bs) [] ys e h = absurd (omega (arith, e))
 rejoined_map {B = B} f (true ∷ bs) (x ∷ xs) ys e h = ap (λ (l : List B). f x ∷ l) (rejoined_map f bs xs ys (omega (arith, e)) h)
 rejoined_map f (false ∷ bs) (x ∷ xs) [] e h = absurd (no-more (f x) (map f (unpicked bs xs)) h)
 rejoined_map {B = B} f (false ∷ bs) (x ∷ xs) (y ∷ ys) e h =
-    ap (λ (z : B). z ∷ map f (rejoined bs (picked bs xs) ys)) (head-is (f y) (f x) (map f ys) (map f (unpicked bs xs)) h)
+    ap (λ (z : B). z ∷ map f (rejoined bs (picked bs xs) ys)) (head_same (f y) (f x) (map f ys) (map f (unpicked bs xs)) h)
     ∙ ap (λ (l : List B). f x ∷ l) (rejoined_map f bs xs ys (omega (arith, e)) (ap (λ (l : List B). drop 1 l) h))

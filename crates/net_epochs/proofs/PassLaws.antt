@@ -187,11 +187,11 @@ module _ {P S : Type 0} (answer : P → Answer) (life number : P → ℕ) (stamp
 
   -- points that pass a life by leave its nodes where they are
   pub went_by : (new : List PointValue) (c : Course P) (acts : List (Active P S)) → Each (PassesBy step acts) new → IsWhere answer first step c acts → WentBy c (grown new c) acts
-  went_by [] c acts by is = subst (λ (d : Course P). WentBy c d acts) (sym (ap (λ (points : List PointValue). with_points c points) (append-nil c.points))) (record { where_is = is; did = refl })
+  went_by [] c acts by is = subst (λ (d : Course P). WentBy c d acts) (sym (ap (λ (points : List PointValue). with_points c points) (append-nil c.points))) (record { where_is = record { nodes = is.nodes; at = is.at }; did = refl })
   went_by (p ∷ new) c acts by is =
       let w = went-one c acts p is by.0 in
       let rest = went_by new (grown (p ∷ []) c) acts by.1 w.where_is in
-      subst (λ (d : Course P). WentBy c d acts) (ap (λ (points : List PointValue). with_points c points) (append_assoc c.points (p ∷ []) new)) (record { where_is = rest.where_is; did = rest.did ∙ w.did })
+      subst (λ (d : Course P). WentBy c d acts) (ap (λ (points : List PointValue). with_points c points) (append_assoc c.points (p ∷ []) new)) (record { where_is = record { nodes = rest.where_is.nodes; at = rest.where_is.at }; did = rest.did ∙ w.did })
 
   -- and nothing is done with their stamps
   pub none_by : (new : List PointValue) (c : Course P) (acts : List (Active P S)) → Each (PassesBy step acts) new → IsWhere answer first step c acts → (s : ℕ) → end_of c < s → node_effects_with s (course_gives answer (grown new c)) ≡ []
