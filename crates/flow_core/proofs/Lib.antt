@@ -22,4 +22,3 @@ pub mod AwayLaws
 pub mod CountLaws
 pub mod RunningLaws
 pub mod EndLaws
-pub mod AsideLaws

@@ -28,5 +28,3 @@ pub mod Running
 pub mod Wholes
 -- steps, one after the other
 pub mod Playing
--- lives that are put aside while the others run
-pub mod Aside
