@@ -1,10 +1,16 @@
 -- What is picked of a list and what isn't, and both together.
-use Rattle.std.proofs.Common.{◌≡◌, ℕ, zero, suc, ◌+◌, Bool, true, false, List, [], ◌∷◌, ◌++◌, map, length, drop, refl, sym, ap, ◌∙◌, arith}
+use Rattle.std.proofs.Common.{◌≡◌, ℕ, zero, suc, ◌+◌, Bool, true, false, List, [], ◌∷◌, ◌++◌, map, length, drop, reverse, refl, sym, ap, ◌∙◌, arith}
+use Rattle.std.proofs.lemmas.List.{reverse-append}
 use Rattle.std.specs.List.{AllByRecursion as Each}
 use Rattle.flow_core.specs.Aside.{picked, rejoined, unpicked}
 use Rattle.flow_core.proofs.PortLaws.{head_same}
 
 module _ {A : Type 0} where
+  -- what is seen of a list that is the other way round, of which the last is taken
+  pub from_last : {B : Type 0} (f : List Bool → List A → B) (aside bs : List Bool) (first b : Bool) (rest left : List A) (x : A) → aside ≡ first ∷ bs → first ≡ b → rest ≡ left ++ x ∷ [] → f (b ∷ bs) (x ∷ reverse left) ≡ f aside (reverse rest)
+  from_last f aside bs first b rest left x e t r =
+      sym (ap (λ (l : List Bool). f l (reverse rest)) (e ∙ ap (λ (c : Bool). c ∷ bs) t) ∙ ap (λ (l : List A). f (b ∷ bs) l) (ap reverse r ∙ reverse-append left (x ∷ [])))
+
   -- both together are the list
   pub rejoined_all : (bs : List Bool) (xs : List A) → length bs ≡ length xs → rejoined bs (picked bs xs) (unpicked bs xs) ≡ xs
   rejoined_all [] [] e = refl

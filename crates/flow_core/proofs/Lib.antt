@@ -22,3 +22,4 @@ pub mod AwayLaws
 pub mod CountLaws
 pub mod RunningLaws
 pub mod EndLaws
+pub mod AsideLaws

@@ -28,3 +28,5 @@ pub mod Running
 pub mod Wholes
 -- steps, one after the other
 pub mod Playing
+-- lives that are put aside while the others run
+pub mod Aside

@@ -1,6 +1,7 @@
 //! Nets: lives side by side, each with the cells of one graph.
 #![tactic(auto)]
 
+mod aside;
 mod cells;
 mod counting;
 mod gathering;

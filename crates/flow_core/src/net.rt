@@ -1,5 +1,6 @@
 //! A net, whose type says what its lives keep.
 
+use crate::aside::{deal, join};
 use crate::cells::{Cells, give};
 use crate::counting::counts_of;
 use crate::gathering::sort_effects;
@@ -62,6 +63,7 @@ impl<N: Node> Net<N> {
     ghost use Rattle.flow_life.specs.Steps.{one_if};
     ghost use Rattle.flow_life.specs.declared.steps.Step.{Step};
     ghost use Rattle.task_run.specs.Plans.{graph_of};
+    ghost use Rattle.flow_core.specs.Aside.{picked, rejoined, unpicked};
     ghost use Rattle.flow_core.specs.Away.{AreBack, IsBack, with_lives};
     ghost use Rattle.flow_core.specs.Carried.{HasCarried};
     ghost use Rattle.flow_core.specs.Done.{HasGathered, effects_in};
@@ -366,6 +368,61 @@ impl<N: Node> Net<N> {
         let mut lives = cells.lives;
         give(alloc, &mut lives, &mut self.gathered)?;
         self.lives = lives;
+        self.spent = false;
+        Ok(())
+    }
+
+    /// Takes the lives out at whose place `aside` has true, so that a load is for the others alone. Those that
+    /// stay keep their order, and so do those that are given. After NoMemory the net is spent.
+    pub fn set_aside(
+        &mut self,
+        alloc: Global,
+        aside: &[bool],
+    ) -> Result<Vec<Numbered<Life<N>>>, NoMemory>
+        requires unspent { self.old.spent ≡ false }
+        requires flags { length aside.now ≡ length self.old.lives }
+        ensures away { IfOk result (λ away. away.items ≡ picked aside.now self.old.lives) }
+        ensures sound { IfOk result (λ away. Each IsSound away.items) }
+        ensures kept { IfOk result (λ away. Each (IsLifeIn N.Node) away.items) }
+        ensures lives { OnOk result (self.new.lives ≡ unpicked aside.now self.old.lives) }
+        ensures gathered { OnOk result (self.new.gathered ≡ self.old.gathered) }
+        ensures last { OnOk result (self.new.last ≡ self.old.last) }
+        ensures unspent { OnOk result (self.new.spent ≡ false) }
+        ensures spent { OnErr result (self.new.spent ≡ true) }
+    {
+        keep_lives(&self.lives);
+        self.spent = true;
+        let mut rest = mem::replace(&mut self.lives, Vec::new(alloc));
+        rest.reverse();
+        let mut away = Vec::new(alloc);
+        deal(&mut rest, aside, &mut away, &mut self.lives)?;
+        self.spent = false;
+        Ok(away)
+    }
+
+    /// Puts lives back to their places, which `aside` tells: those that were set aside, on which no call
+    /// failed and whose effects were gathered. After NoMemory the net is spent.
+    pub fn put_back(
+        &mut self,
+        alloc: Global,
+        away: Vec<Numbered<Life<N>>>,
+        aside: &[bool],
+    ) -> Result<(), NoMemory>
+        requires unspent { self.old.spent ≡ false }
+        requires sound { Each IsSound away.items }
+        ensures lives { OnOk result (self.new.lives
+            ≡ rejoined aside.now away.items self.old.lives) }
+        ensures gathered { OnOk result (self.new.gathered ≡ self.old.gathered) }
+        ensures last { OnOk result (self.new.last ≡ self.old.last) }
+        ensures unspent { OnOk result (self.new.spent ≡ false) }
+        ensures spent { OnErr result (self.new.spent ≡ true) }
+    {
+        self.spent = true;
+        let mut here = mem::replace(&mut self.lives, Vec::new(alloc));
+        here.reverse();
+        let mut others = away;
+        others.reverse();
+        join(aside, &mut others, &mut here, &mut self.lives)?;
         self.spent = false;
         Ok(())
     }
