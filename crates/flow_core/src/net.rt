@@ -1,6 +1,6 @@
 //! A net, whose type says what its lives keep.
 
-use crate::aside::{deal, join};
+use crate::aside::{part, rejoin};
 use crate::cells::{Cells, give};
 use crate::counting::counts_of;
 use crate::gathering::sort_effects;
@@ -392,10 +392,9 @@ impl<N: Node> Net<N> {
     {
         keep_lives(&self.lives);
         self.spent = true;
-        let mut rest = mem::replace(&mut self.lives, Vec::new(alloc));
-        rest.reverse();
-        let mut away = Vec::new(alloc);
-        deal(&mut rest, aside, &mut away, &mut self.lives)?;
+        let lives = mem::replace(&mut self.lives, Vec::new(alloc));
+        let (away, here) = part(alloc, lives, aside)?;
+        self.lives = here;
         self.spent = false;
         Ok(away)
     }
@@ -418,11 +417,8 @@ impl<N: Node> Net<N> {
         ensures spent { OnErr result (self.new.spent ≡ true) }
     {
         self.spent = true;
-        let mut here = mem::replace(&mut self.lives, Vec::new(alloc));
-        here.reverse();
-        let mut others = away;
-        others.reverse();
-        join(aside, &mut others, &mut here, &mut self.lives)?;
+        let here = mem::replace(&mut self.lives, Vec::new(alloc));
+        self.lives = rejoin(alloc, away, here, aside)?;
         self.spent = false;
         Ok(())
     }
