@@ -2,4 +2,5 @@ pub mod LifeLaws
 pub mod NetLaws
 pub mod CarryLaws
 pub mod RiseLaws
+pub mod PassLaws
 pub mod StandLaws

@@ -1,2 +1,4 @@
 -- lives of nets on their courses
 pub mod Epochs
+-- points that pass lives by
+pub mod Passing

@@ -5,9 +5,9 @@ ghost use Rattle.std.specs.List.{AllByRecursion as Each, AllZip, remove};
 ghost use Rattle.kap_base.specs.Points.{PointValue};
 ghost use Rattle.kap_base.specs.declared.items.Effect.{Effect};
 ghost use Rattle.kap_base.specs.declared.items.Stamp.{Stamp};
-ghost use Rattle.task_run.specs.Courses.{Course, begun, end_of, from_first, grown, later_effects};
+ghost use Rattle.task_run.specs.Courses.{Course, begun, course_gives, end_of, from_first, grown, later_effects};
 ghost use Rattle.task_run.specs.Graphs.{Placed};
-ghost use Rattle.task_run.specs.Lives.{dropped_of};
+ghost use Rattle.task_run.specs.Lives.{dropped_of, node_effects_with};
 ghost use Rattle.task_run.specs.Plans.{AreFirstNodes, AreFirstStates, IsPlan, PlanValue, graph_of};
 ghost use Rattle.flow_core.specs.Carried.{LifeHasCarried};
 ghost use Rattle.flow_core.specs.Done.{effects_in};
@@ -18,6 +18,7 @@ ghost use Rattle.flow_core.specs.Messages.{AreMarksOf, load_messages};
 ghost use Rattle.flow_core.specs.Nets.{IsLifeIn, IsResting, NetValue, NumberedLife, numbers_of, plans_from, plans_in, specs_in};
 ghost use Rattle.flow_core.specs.Sorting.{AreRising, AreSorted};
 ghost use Rattle.net_epochs.specs.Epochs.{IsOnCourse, NumbersRise, StandsAt, nodes_in};
+ghost use Rattle.net_epochs.specs.Passing.{AllPassBy};
 
 use node_core::Node;
 
@@ -107,4 +108,15 @@ pub fn nets_stand<N: Node>()
         (lives : List (NumberedLife N))
         → AllZip (IsOnCourse N.Node) (from_first points nodes) lives
         → drops_in N.Node lives ≡ dropped_of N.answer nodes points }
+{}
+
+/// Points that pass a life by, in the states in which its nodes are: they bring it to just where it is, and
+/// its nodes do nothing with their stamps. So what such points make of a life is known without a load.
+pub fn points_pass_by<N: Node>()
+    ensures stands { (new : List PointValue) (c : Course N.Spec) (life : NumberedLife N)
+        → AllPassBy N.Node new life
+        → IsOnCourse N.Node c life → IsOnCourse N.Node (grown new c) life }
+    ensures none { (new : List PointValue) (c : Course N.Spec) (life : NumberedLife N)
+        → AllPassBy N.Node new life → IsOnCourse N.Node c life → (stamp : ℕ) → end_of c < stamp
+        → node_effects_with stamp (course_gives N.answer (grown new c)) ≡ [] }
 {}

@@ -4,4 +4,4 @@
 
 mod laws;
 
-pub use laws::{epochs_go_on, nets_stand};
+pub use laws::{epochs_go_on, nets_stand, points_pass_by};

@@ -8,3 +8,5 @@ pub mod Runs
 pub mod Trails
 -- proofs, no definitions
 pub mod Numbering
+-- which points pass the nodes of scripts by
+pub mod Passing

@@ -7,6 +7,7 @@ ghost use Rattle.net_run.specs.declared.moving.TheConstants.{FEW_POINTS};
 ghost use Rattle.net_run.specs.declared.pace.TheConstants.{EFFECT_LIMIT, TEXT_LIMIT};
 
 mod epochs;
+mod laws;
 mod moving;
 mod numbering;
 mod pace;
@@ -14,6 +15,7 @@ mod runs;
 mod trail;
 
 pub use epochs::run_epoch;
+pub use laws::scripts_let_points_pass;
 pub use moving::{FEW_POINTS, Way, Workers, few_points};
 pub use numbering::NumberingNode;
 pub use pace::{EFFECT_LIMIT, Pace, TEXT_LIMIT};
