@@ -35,6 +35,11 @@ pub record NextCause {T : Type 0} (before now : ℕ) (result : Result T LogFault
   pub failed : IsErrOf result DiskFault → HasRisen before now
   pub not_header : IsErrOf result Header → ⊥
 
+-- a record that isn't there is told at its gate
+abbrev pub IsTornAt : ℕ → LogFault → Type 0
+IsTornAt gate (Torn offset) = offset ≡ gate
+IsTornAt gate _ = Unit {0}
+
 -- what a call that reads a head answers: a fault of the disk only where its count rose, or that there is none
 abbrev pub HeadCause : {T : Type 0} → ℕ → ℕ → Result T LogFault → Type 0
 HeadCause before now (Ok _) = before ≤ now

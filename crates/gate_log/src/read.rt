@@ -1,9 +1,9 @@
 //! Reading from a file, and what stands at a gate.
 
-ghost use Rattle.std.specs.Prelude.{◌≡◌, ◌<◌, ◌≤◌, ◌+◌, ◌^◌, length, IfOk, IfSome, IsTrue};
+ghost use Rattle.std.specs.Prelude.{◌≡◌, ◌<◌, ◌≤◌, ◌+◌, ◌^◌, length, IfErr, IfOk, IfSome, IsTrue};
 ghost use Rattle.kap_io.specs.Causes.{HasCause};
 ghost use Rattle.kap_io.specs.Moments.{Quiet};
-ghost use Rattle.gate_log.specs.Causes.{BodyCause};
+ghost use Rattle.gate_log.specs.Causes.{BodyCause, IsTornAt};
 ghost use Rattle.gate_log.specs.Reading.{Fills, ReadsOn, StandsAt};
 
 use crate::fault::LogFault;
@@ -66,6 +66,7 @@ pub(crate) fn next_gate<D: Disk>(
     requires { gate < size }
     ensures rises { IfOk result (λ next. IfSome next
         (λ next. (gate + 5 ≤ next) × (next < size))) }
+    ensures torn { IfErr result (IsTornAt gate) }
     ensures found { IsTrue D.tells → size ≡ length (D.seen disk.old part)
         → StandsAt gate (D.seen disk.old part) result }
     ensures quiet { IsTrue D.tells

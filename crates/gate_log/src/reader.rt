@@ -1,9 +1,9 @@
 //! Reading a log from its first record on, each record once.
 
-ghost use Rattle.std.specs.Prelude.{◌≡◌, ◌≤◌, List, ℕ, length, IfOk, IfSome, IsTrue};
+ghost use Rattle.std.specs.Prelude.{◌≡◌, ◌≤◌, List, ℕ, length, IfErr, IfOk, IfSome, IsTrue};
 ghost use Rattle.kap_io.specs.Moments.{Quiet};
 ghost use Rattle.gate_log.specs.Bodies.{IsHeaderless};
-ghost use Rattle.gate_log.specs.Causes.{LogCause, NextCause};
+ghost use Rattle.gate_log.specs.Causes.{IsTornAt, LogCause, NextCause};
 ghost use Rattle.gate_log.specs.Logs.{Refuses};
 ghost use Rattle.gate_log.specs.Readers.{Begins, GoesOn, HasRead, ReadsNext, log_at};
 ghost use Rattle.gate_log.specs.declared.fault.LogFault.TheVariants.{Header};
@@ -97,6 +97,7 @@ impl LogReader {
             → ReadsNext bodies (D.seen disk.new) (D.may_leave disk.new) self.old self.new result }
         ensures goes_on { GoesOn self.old self.new result }
         ensures short { IfOk result (λ found. IfSome found (λ found. length found.1 ≤ BODY_LIMIT)) }
+        ensures torn { IfErr result (IsTornAt self.old.gate) }
         ensures quiet { IsTrue D.tells
             → Quiet D.seen D.moment D.may_leave D.left_since disk.old disk.new }
         ensures cause { NextCause (D.faults disk.old) (D.faults disk.new) result }

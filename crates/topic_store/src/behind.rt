@@ -1,10 +1,11 @@
 //! The topics behind some of a store's transitions.
 
-ghost use Rattle.std.specs.Prelude.{◌≡◌, ◌<◌, ◌≤◌, List, false, length, IfOk, IsTrue};
+ghost use Rattle.std.specs.Prelude.{◌≡◌, ◌<◌, ◌≤◌, List, false, length, IfErr, IfOk, IsTrue};
 ghost use Rattle.kap_io.specs.Moments.{Quiet};
 ghost use Rattle.store_records.specs.Histories.{held};
 ghost use Rattle.store_records.specs.declared.rec.Rec.{Rec};
 ghost use Rattle.topic_store.specs.Behind.{AreBehind, TakesMoreOrNot, TopicsOrNot};
+ghost use Rattle.topic_store.specs.Faults.{IsPlacedIn};
 ghost use Rattle.topic_store.specs.Opening.{StoreCause};
 ghost use Rattle.topic_store.specs.Stores.{IsOn};
 
@@ -34,6 +35,7 @@ fn take_piece<D: Disk>(
         → AreBehind (held rs).transitions topics.old taken
         → TakesMoreOrNot (held rs).transitions topics.new result }
     ensures rises { IfOk result (λ now. (taken < now) × (now ≤ wanted)) }
+    ensures place { IfErr result (IsPlacedIn store.now.log.part) }
     ensures quiet { IsTrue D.tells
         → Quiet D.seen D.moment D.may_leave D.left_since disk.old disk.new }
     ensures cause { StoreCause (D.faults disk.old) (D.faults disk.new) result }
@@ -64,6 +66,7 @@ pub(crate) fn topics_of_first<D: Disk>(
         → IsOn rs (D.seen disk.old) (D.may_leave disk.old) store.now
         → wanted ≤ length (held rs).transitions
         → TopicsOrNot (held rs).transitions wanted result }
+    ensures place { IfErr result (IsPlacedIn store.now.log.part) }
     ensures quiet { IsTrue D.tells
         → Quiet D.seen D.moment D.may_leave D.left_since disk.old disk.new }
     ensures cause { StoreCause (D.faults disk.old) (D.faults disk.new) result }

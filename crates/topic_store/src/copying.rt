@@ -1,6 +1,6 @@
 //! Copying the records that stay from one log into another, each read once.
 
-ghost use Rattle.std.specs.Prelude.{◌≡◌, ◌<◌, ◌≤◌, ◌++◌, ◌∷◌, [], List, false, length, map, IfOk, IfSome, IsTrue, OnOk};
+ghost use Rattle.std.specs.Prelude.{◌≡◌, ◌<◌, ◌≤◌, ◌++◌, ◌∷◌, [], List, false, length, map, IfErr, IfOk, IfSome, IsTrue, OnOk};
 ghost use Rattle.kap_io.specs.Disk.{Elsewhere, On};
 ghost use Rattle.kap_io.specs.Moments.{Moments, Quiet};
 ghost use Rattle.gate_log.specs.Logs.{Rests};
@@ -9,6 +9,7 @@ ghost use Rattle.store_records.specs.Orders.{DefinesValid};
 ghost use Rattle.store_records.specs.Records.{IsBodyOf, spell_record};
 ghost use Rattle.store_records.specs.declared.rec.Rec.{Rec};
 ghost use Rattle.store_kept.specs.Keeping.{AreValid, kept_of};
+ghost use Rattle.topic_store.specs.Faults.{IsPlacedAt, IsPlacedFrom};
 ghost use Rattle.topic_store.specs.Opening.{StoreCause};
 ghost use Rattle.store_compact.specs.Staying.{staying};
 ghost use Rattle.topic_store.specs.Rewriting.{CopiesOrNot, HasPut, IsCopying, IsSource, PutCause, RewritesOrNot, StoredOrNot};
@@ -76,6 +77,7 @@ fn next_stored<D: Disk>(
     ensures short { IfOk result (λ found. IfSome found (λ found. length found.0 ≤ BODY_LIMIT)) }
     ensures valid { IfOk result (λ found. IfSome found (λ found. DefinesValid found.1)) }
     ensures rises { IfOk result (λ found. IfSome found (λ found. gate < found.2)) }
+    ensures place { IfErr result (IsPlacedAt old.now.part gate) }
     ensures quiet { IsTrue D.tells
         → Quiet D.seen D.moment D.may_leave D.left_since disk.old disk.new }
     ensures cause { StoreCause (D.faults disk.old) (D.faults disk.new) result }
@@ -151,6 +153,7 @@ fn copy_record<D: Disk>(
     ensures part { log.new.part ≡ log.old.part }
     ensures usable { IfOk result (λ _. log.new.spent ≡ false) }
     ensures rises { IfOk result (λ next. IfSome next (λ next. gate < next)) }
+    ensures place { IfErr result (IsPlacedAt old.now.part gate) }
     ensures valid { AreValid (kept_of kept.old) → AreValid (kept_of kept.new) }
     ensures cause { StoreCause (D.faults disk.old) (D.faults disk.new) result }
 {
@@ -187,6 +190,7 @@ pub(crate) fn copy_records<D: Disk>(
         (On begun.part (λ _ _. Unit {0})) }
     ensures elsewhere { IsTrue D.tells → Elsewhere begun.part (D.seen disk.old) (D.seen disk.new) }
     ensures log { IfOk result (λ done. (done.0.part ≡ begun.part) × (done.0.spent ≡ false)) }
+    ensures place { IfErr result (IsPlacedFrom old.now.part 8) }
     ensures valid { IfOk result (λ done. AreValid (kept_of done.1)) }
     ensures cause { StoreCause (D.faults disk.old) (D.faults disk.new) result }
 {

@@ -1,6 +1,6 @@
 //! Points and transitions read back, a piece at a time.
 
-ghost use Rattle.std.specs.Prelude.{◌≡◌, ◌-◌, ◌≤◌, ◌++◌, List, IfOk, OnOk, drop, false, length, map, min, take, IsTrue};
+ghost use Rattle.std.specs.Prelude.{◌≡◌, ◌-◌, ◌≤◌, ◌++◌, List, IfErr, IfOk, OnOk, drop, false, length, map, min, take, IsTrue};
 ghost use Rattle.std.specs.List.{flat_map};
 ghost use Rattle.kap_io.specs.Moments.{Quiet};
 ghost use Rattle.gate_log.specs.Logs.{Rests};
@@ -9,6 +9,7 @@ ghost use Rattle.store_records.specs.Histories.{Follow, end_of};
 ghost use Rattle.store_records.specs.Records.{spell_record};
 ghost use Rattle.store_records.specs.declared.rec.Rec.{Rec};
 ghost use Rattle.store_kept.specs.Keeping.{AreMarks, IsMark};
+ghost use Rattle.topic_store.specs.Faults.{IsPlacedIn};
 ghost use Rattle.topic_store.specs.Opening.{StoreCause};
 ghost use Rattle.topic_store.specs.Pieces.{IsFrom, LeadsTo, PieceOrNot};
 
@@ -161,6 +162,7 @@ pub(crate) fn piece_from<T: Numbered, D: Disk>(
         → wanted ≤ length (drop start.skip (flat_map T.stored behind))
         → PieceOrNot (take wanted (drop start.skip (flat_map T.stored behind))) result }
     ensures few { IfOk result (λ piece. length piece ≤ wanted) }
+    ensures place { IfErr result (IsPlacedIn log.now.part) }
     ensures quiet { IsTrue D.tells
         → Quiet D.seen D.moment D.may_leave D.left_since disk.old disk.new }
     ensures cause { StoreCause (D.faults disk.old) (D.faults disk.new) result }

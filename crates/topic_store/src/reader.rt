@@ -1,12 +1,13 @@
 //! Reading a store's points, each record once.
 
-ghost use Rattle.std.specs.Prelude.{◌≡◌, ◌<◌, ◌≤◌, ◌++◌, [], List, IfOk, IsTrue, OnOk, false, length, map};
+ghost use Rattle.std.specs.Prelude.{◌≡◌, ◌<◌, ◌≤◌, ◌++◌, [], List, IfErr, IfOk, IsTrue, OnOk, false, length, map};
 ghost use Rattle.kap_base.specs.Points.{PointValue};
 ghost use Rattle.kap_io.specs.Moments.{Quiet};
 ghost use Rattle.gate_log.specs.Logs.{Rests};
 ghost use Rattle.store_records.specs.Histories.{Follow};
 ghost use Rattle.store_records.specs.Records.{spell_record};
 ghost use Rattle.store_records.specs.declared.rec.Rec.{Rec};
+ghost use Rattle.topic_store.specs.Faults.{IsPlacedAt, IsPlacedFrom};
 ghost use Rattle.topic_store.specs.Opening.{StoreCause};
 ghost use Rattle.topic_store.specs.Points.{GivesOrNot, IsBefore, IsBeforeOrNot, state_of};
 ghost use Rattle.topic_store.specs.Stores.{IsOn};
@@ -80,6 +81,7 @@ fn read_more<D: Disk>(
         → Rests (map spell_record rs) (D.seen disk.old) (D.may_leave disk.old) log.now
         → IsBefore rs points (state_of from) → IsBeforeOrNot rs points result }
     ensures rises { IfOk result (λ ahead. from.gate < ahead.gate) }
+    ensures place { IfErr result (IsPlacedAt log.now.part from.gate) }
     ensures quiet { IsTrue D.tells
         → Quiet D.seen D.moment D.may_leave D.left_since disk.old disk.new }
     ensures cause { StoreCause (D.faults disk.old) (D.faults disk.new) result }
@@ -109,6 +111,7 @@ fn fill<D: Disk>(alloc: Global, log: &Log, disk: &mut D, from: Ahead) -> Result<
         → Rests (map spell_record rs) (D.seen disk.old) (D.may_leave disk.old) log.now
         → IsBefore rs points (state_of from) → IsBeforeOrNot rs points result }
     ensures full { IfOk result (λ ahead. 0 < ahead.left → 4096 ≤ length ahead.points.items) }
+    ensures place { IfErr result (IsPlacedFrom log.now.part from.gate) }
     ensures quiet { IsTrue D.tells
         → Quiet D.seen D.moment D.may_leave D.left_since disk.old disk.new }
     ensures cause { StoreCause (D.faults disk.old) (D.faults disk.new) result }
@@ -142,7 +145,8 @@ impl PointsReader {
     /// The next 4,096 points, or all where there are no more, and the reader of those behind them; no points
     /// exactly where there are none. The store is the one of which it was made. `DiskFault` comes only where
     /// the disk's count of faults rose in this call, and `NoMemory` where memory ran out. `NotStore` comes
-    /// only on a disk that doesn't tell what a read gives, at a record that is none.
+    /// only on a disk that doesn't tell what a read gives, at a record that is none: at the gate that comes
+    /// next, or behind it.
     pub fn next<D: Disk>(
         self,
         store: &Store,
@@ -153,6 +157,7 @@ impl PointsReader {
             → IsOn rs (D.seen disk.old) (D.may_leave disk.old) store.now
             → IsBefore rs points self → GivesOrNot rs points result }
         ensures few { IfOk result (λ given. length given.0.items ≤ 4096) }
+        ensures place { IfErr result (IsPlacedFrom store.now.log.part self.gate) }
         ensures quiet { IsTrue D.tells
             → Quiet D.seen D.moment D.may_leave D.left_since disk.old disk.new }
         ensures cause { StoreCause (D.faults disk.old) (D.faults disk.new) result }

@@ -1,12 +1,13 @@
 //! Rewriting a store into its other log.
 
-ghost use Rattle.std.specs.Prelude.{◌≡◌, ◌+◌, ◌%◌, ◌==◌, ℕ, List, false, IfOk, IsTrue};
+ghost use Rattle.std.specs.Prelude.{◌≡◌, ◌+◌, ◌%◌, ◌==◌, ℕ, List, false, IfErr, IfOk, IsTrue};
 ghost use Rattle.kap_io.specs.Disk.{Elsewhere, On};
 ghost use Rattle.kap_io.specs.Moments.{Moments, Quiet};
 ghost use Rattle.gate_log.specs.Head.{IsHead};
 ghost use Rattle.store_records.specs.declared.rec.Rec.{Rec};
 ghost use Rattle.store_kept.specs.Keeping.{AreValid, kept_of};
 ghost use Rattle.store_compact.specs.Staying.{staying};
+ghost use Rattle.topic_store.specs.Faults.{IsPlacedAt, IsPlacedFrom, IsPlacedInHeadOr};
 ghost use Rattle.topic_store.specs.Opening.{StoreCause};
 ghost use Rattle.topic_store.specs.Rewriting.{IsWritten, RewritesOrNot, RunOrNot, other_log, stands_old_or_new};
 ghost use Rattle.topic_store.specs.Stores.{IsOn, current, store_of};
@@ -51,6 +52,7 @@ fn read_run<D: Disk>(disk: &mut D, part: Part) -> Result<u64, StoreFault>
     ensures found { IsTrue D.tells → (run : ℕ) → IsHead run (D.seen disk.old Part.Head)
         → part ≡ current run → RunOrNot run result }
     ensures named { IfOk result (λ run. part ≡ current run) }
+    ensures place { IfErr result (IsPlacedAt Part.Head 0) }
     ensures quiet { IsTrue D.tells
         → Quiet D.seen D.moment D.may_leave D.left_since disk.old disk.new }
     ensures cause { StoreCause (D.faults disk.old) (D.faults disk.new) result }
@@ -88,6 +90,7 @@ fn write_other<D: Disk>(
         → Elsewhere (other_log old.now.part) (D.seen disk.old) (D.seen disk.new) }
     ensures log { IfOk result (λ done.
         (done.0.part ≡ other_log old.now.part) × (done.0.spent ≡ false)) }
+    ensures place { IfErr result (IsPlacedFrom old.now.part 8) }
     ensures valid { IfOk result (λ done. AreValid (kept_of done.1)) }
     ensures cause { StoreCause (D.faults disk.old) (D.faults disk.new) result }
 {
@@ -119,6 +122,7 @@ pub(crate) fn rewrite_store<D: Disk>(
         → Moments D.moment D.may_leave D.left_since disk.old disk.new (stands_old_or_new rs) }
     ensures log { IfOk result (λ done.
         (done.0.part ≡ other_log old.now.part) × (done.0.spent ≡ false)) }
+    ensures place { IfErr result (IsPlacedInHeadOr old.now.part) }
     ensures valid { IfOk result (λ done. AreValid (kept_of done.1)) }
     ensures cause { StoreCause (D.faults disk.old) (D.faults disk.new) result }
 {

@@ -1,6 +1,6 @@
 //! A store, and its opening.
 
-ghost use Rattle.std.specs.Prelude.{◌≡◌, ◌≤◌, ◌+◌, ◌++◌, ◌∷◌, [], ℕ, false, length, List, IfOk, IsTrue, OnOk, drop, option_map};
+ghost use Rattle.std.specs.Prelude.{◌≡◌, ◌≤◌, ◌+◌, ◌++◌, ◌∷◌, [], ℕ, false, length, List, IfErr, IfOk, IfSome, IsTrue, OnOk, drop, option_map};
 ghost use Rattle.std.specs.List.{list_all};
 ghost use Rattle.kap_base.specs.Words.{HasRisen};
 ghost use Rattle.gate_log.specs.Head.{IsHead};
@@ -15,6 +15,7 @@ ghost use Rattle.store_compact.specs.Staying.{staying};
 ghost use Rattle.topic_store.specs.Adding.{AddFault, IsLongOrNot, stands_before_or_after};
 ghost use Rattle.store_kept.specs.Keeping.{AreValid, KeepsRecords, kept_of};
 ghost use Rattle.topic_store.specs.Behind.{TopicsOrNot};
+ghost use Rattle.topic_store.specs.Faults.{IsPlacedAt, IsPlacedIn, IsPlacedInHeadOr};
 ghost use Rattle.topic_store.specs.Opening.{Finds, IsOnWith, Opens, Refuses, StoreCause};
 ghost use Rattle.topic_store.specs.Pieces.{PieceOrNot, piece_behind};
 ghost use Rattle.topic_store.specs.Points.{IsBefore};
@@ -295,6 +296,7 @@ impl Store {
             → IsOn rs (D.seen disk.old) (D.may_leave disk.old) self.old
             → Moments D.moment D.may_leave D.left_since disk.old disk.new (stands_old_or_new rs) }
         ensures part { OnOk result (self.new.log.part ≡ other_log self.old.log.part) }
+        ensures place { IfErr result (IsPlacedInHeadOr self.old.log.part) }
         ensures usable { OnOk result (self.new.log.spent ≡ false) }
         ensures valid { AreValid self.old.kept → AreValid self.new.kept }
         ensures later { D.faults disk.old ≤ D.faults disk.new }
@@ -371,6 +373,8 @@ impl Store {
         ensures snap { IsTrue D.tells → (rs : List Rec)
             → IsOn rs (D.seen disk.old) (D.may_leave disk.old) self.now → SnapOrNot rs result }
         ensures none { self.now.kept.snap ≡ None → result ≡ Ok None }
+        ensures place { IfErr result (λ fault. IfSome self.now.kept.snap
+            (λ snap. IsPlacedAt self.now.log.part snap.at fault)) }
         ensures quiet { IsTrue D.tells
             → Quiet D.seen D.moment D.may_leave D.left_since disk.old disk.new }
         ensures cause { StoreCause (D.faults disk.old) (D.faults disk.new) result }
@@ -393,6 +397,7 @@ impl Store {
             → IsOn rs (D.seen disk.old) (D.may_leave disk.old) self.now
             → PieceOrNot (piece_behind after (held rs).points) result }
         ensures few { IfOk result (λ piece. length piece ≤ 4096) }
+        ensures place { IfErr result (IsPlacedIn self.now.log.part) }
         ensures quiet { IsTrue D.tells
             → Quiet D.seen D.moment D.may_leave D.left_since disk.old disk.new }
         ensures cause { StoreCause (D.faults disk.old) (D.faults disk.new) result }
@@ -419,6 +424,7 @@ impl Store {
             → IsOn rs (D.seen disk.old) (D.may_leave disk.old) self.now
             → PieceOrNot (piece_behind after (held rs).transitions) result }
         ensures few { IfOk result (λ piece. length piece ≤ 4096) }
+        ensures place { IfErr result (IsPlacedIn self.now.log.part) }
         ensures quiet { IsTrue D.tells
             → Quiet D.seen D.moment D.may_leave D.left_since disk.old disk.new }
         ensures cause { StoreCause (D.faults disk.old) (D.faults disk.new) result }
@@ -435,6 +441,7 @@ impl Store {
         ensures topics { IsTrue D.tells → (rs : List Rec)
             → IsOn rs (D.seen disk.old) (D.may_leave disk.old) self.now
             → TopicsOrNot (held rs).transitions number result }
+        ensures place { IfErr result (IsPlacedIn self.now.log.part) }
         ensures quiet { IsTrue D.tells
             → Quiet D.seen D.moment D.may_leave D.left_since disk.old disk.new }
         ensures cause { StoreCause (D.faults disk.old) (D.faults disk.new) result }

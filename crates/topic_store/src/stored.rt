@@ -1,12 +1,13 @@
 //! Records read back.
 
-ghost use Rattle.std.specs.Prelude.{◌≡◌, ◌<◌, ◌++◌, List, ℕ, false, length, map, IfOk, IfSome, IsTrue};
+ghost use Rattle.std.specs.Prelude.{◌≡◌, ◌<◌, ◌++◌, List, ℕ, false, length, map, IfErr, IfOk, IfSome, IsTrue};
 ghost use Rattle.kap_io.specs.Moments.{Quiet};
 ghost use Rattle.gate_log.specs.Bodies.{bytes_of};
 ghost use Rattle.gate_log.specs.Logs.{Rests};
 ghost use Rattle.store_records.specs.Histories.{Follow, end_of};
 ghost use Rattle.store_records.specs.Records.{spell_record};
 ghost use Rattle.store_records.specs.declared.rec.Rec.{Rec};
+ghost use Rattle.topic_store.specs.Faults.{IsPlacedAt};
 ghost use Rattle.topic_store.specs.Opening.{StoreCause};
 ghost use Rattle.topic_store.specs.Snapshots.{LastSnap, StatesOrNot, states_in};
 ghost use Rattle.topic_store.specs.Stored.{BodyOrNot, RecordOrNot};
@@ -39,6 +40,7 @@ pub(crate) fn body_at<D: Disk>(
         → Rests (before ++ after) (D.seen disk.old) (D.may_leave disk.old) log.now
         → gate ≡ length (bytes_of before) → BodyOrNot result after gate }
     ensures rises { IfOk result (λ found. IfSome found (λ found. gate < found.1)) }
+    ensures place { IfErr result (IsPlacedAt log.now.part gate) }
     ensures quiet { IsTrue D.tells
         → Quiet D.seen D.moment D.may_leave D.left_since disk.old disk.new }
     ensures cause { StoreCause (D.faults disk.old) (D.faults disk.new) result }
@@ -62,6 +64,7 @@ pub(crate) fn record_at<D: Disk>(
         → Rests (map spell_record rs) (D.seen disk.old) (D.may_leave disk.old) log.now
         → rs ≡ before ++ after → gate ≡ end_of before → RecordOrNot result before after }
     ensures rises { IfOk result (λ found. IfSome found (λ found. gate < found.1)) }
+    ensures place { IfErr result (IsPlacedAt log.now.part gate) }
     ensures quiet { IsTrue D.tells
         → Quiet D.seen D.moment D.may_leave D.left_since disk.old disk.new }
     ensures cause { StoreCause (D.faults disk.old) (D.faults disk.new) result }
@@ -96,6 +99,7 @@ pub(crate) fn states_at<D: Disk>(
     ensures found { IsTrue D.tells → (rs : List Rec) (snap : LastSnap rs) → Follow rs
         → Rests (map spell_record rs) (D.seen disk.old) (D.may_leave disk.old) log.now
         → gate ≡ end_of snap.before → StatesOrNot snap.states result }
+    ensures place { IfErr result (IsPlacedAt log.now.part gate) }
     ensures quiet { IsTrue D.tells
         → Quiet D.seen D.moment D.may_leave D.left_since disk.old disk.new }
     ensures cause { StoreCause (D.faults disk.old) (D.faults disk.new) result }

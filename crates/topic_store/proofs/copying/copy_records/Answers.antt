@@ -24,6 +24,7 @@ copying-preserved g c = record {
   part = c.copy_record.ensures.part ∙ c.copying.invariant.part;
   usable = c.in_ok-next.ensures.usable;
   valid = c.copy_record.ensures.valid c.copying.invariant.valid;
+  first = omega (arith, c.copying.invariant.first, rw c.in-Some.is at c.in_ok-next.ensures.rises);
   faults = omega (arith, c.copying.invariant.faults, c.copy_record.ensures.cause.later);
 }
 

@@ -19,6 +19,7 @@ invariant-copying g l = record {
   part : l.log.part ≡ l.fn.begun.part;
   usable : l.log.spent ≡ false;
   valid : AreValid (kept_of l.kept);
+  first : 8 ≤ l.gate;
   faults : g.D.Disk.faults l.fn.disk ≤ g.D.Disk.faults l.disk;
 }
 

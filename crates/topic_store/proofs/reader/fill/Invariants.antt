@@ -14,6 +14,7 @@ invariant-filling g l = record {
       → Rests (map spell_record rs) (g.D.Disk.seen l.fn.disk) (g.D.Disk.may_leave l.fn.disk) l.fn.log
       → IsBefore rs points (state_of l.fn.from) → IsBefore rs points (state_of l.ahead);
   quiet : IsTrue g.D.Disk.tells → Quiet g.D.Disk.seen g.D.Disk.moment g.D.Disk.may_leave g.D.Disk.left_since l.fn.disk l.disk;
+  first : l.fn.from.gate ≤ l.ahead.gate;
   faults : g.D.Disk.faults l.fn.disk ≤ g.D.Disk.faults l.disk;
 }
 
