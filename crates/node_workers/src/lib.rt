@@ -17,8 +17,8 @@ pub const WORKER_LIMIT: u32 = 64;
 pub const TURN_LIMIT: u64 = 1_000_000;
 
 /// After so many turns in a row that moved nothing a worker ends that has a part of a life. One that has a
-/// whole life ends after one. Each such turn yields, which on a busy machine costs a slice of time, and the
-/// caller makes the moves that are left.
+/// whole life ends after one, and after one that left nothing to do. Each turn that moved nothing yields,
+/// which on a busy machine costs a slice of time, and the caller makes the moves that are left.
 pub const IDLE_LIMIT: u32 = 4;
 
 /// How often a cell puts and takes in one turn at most.

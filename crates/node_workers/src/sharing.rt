@@ -4,7 +4,6 @@ ghost use Rattle.std.specs.Prelude.{◌<◌};
 ghost use Rattle.std.specs.List.{AllZip};
 ghost use Rattle.node_workers.specs.Workers.{HasStood, HasStoodLife};
 
-use crate::IDLE_LIMIT;
 use crate::turns::{Worker, short, work};
 use flow_cells::Cell;
 use flow_core::Numbered;
@@ -54,7 +53,7 @@ fn deal_lives<N: Node + Send, G: Gate + Sync, R: Threads + Sync>(
             let mut worker = Worker {
                 number: short(start / size),
                 turn: 0,
-                patience: 1,
+                whole: true,
             };
             work_lives(alloc, own, &mut worker, gate);
         },
@@ -84,7 +83,7 @@ fn deal_cells<N: Node + Send, G: Gate + Sync, R: Threads + Sync>(
             let mut worker = Worker {
                 number: short(first.saturating_add(start / size)),
                 turn: 0,
-                patience: IDLE_LIMIT,
+                whole: false,
             };
             work(alloc, own, &mut worker, gate);
         },

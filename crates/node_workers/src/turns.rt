@@ -5,7 +5,7 @@ ghost use Rattle.std.specs.List.{AllZip};
 ghost use Rattle.flow_cells.specs.Moved.{HasMoved};
 ghost use Rattle.node_workers.specs.Workers.{HasStood};
 
-use crate::{MOVE_LIMIT, TURN_LIMIT};
+use crate::{IDLE_LIMIT, MOVE_LIMIT, TURN_LIMIT};
 use flow_cells::Cell;
 use kap_base::NoMemory;
 use kap_io::Gate;
@@ -20,8 +20,38 @@ pub(crate) struct Worker {
     pub(crate) number: u32,
     // The number of its next turn, from 0 on.
     pub(crate) turn: u64,
-    // After how many turns in a row that moved nothing it ends.
-    pub(crate) patience: u32,
+    // Whether its cells are those of a whole life, to which nobody else sends.
+    pub(crate) whole: bool,
+}
+
+/// What came of a turn, or of a part of it.
+#[derive(Clone, Copy, Debug, PartialEq, Eq)]
+struct Had {
+    // Whether something was put or taken.
+    moved: bool,
+    // Whether some cell may have more to put or to take, as it knows.
+    left: bool,
+}
+
+impl Had {
+    /// Both together.
+    fn with(self, other: Had) -> Had {
+        Had {
+            moved: self.moved || other.moved,
+            left: self.left || other.left,
+        }
+    }
+}
+
+impl Worker {
+    /// Whether it ends behind a turn, which is the last of so many in a row that moved nothing. With a whole
+    /// life it goes on only where its own moves may have made others possible.
+    fn ends(&self, had: Had, idle: u32) -> bool {
+        if self.whole {
+            return !(had.moved && had.left);
+        }
+        idle >= IDLE_LIMIT
+    }
 }
 
 /// A number of 32 bits, or the greatest one.
@@ -59,42 +89,48 @@ fn take_each<N: Node>(alloc: Global, cell: &mut Cell<N>) -> Result<bool, NoMemor
     Ok(moved)
 }
 
-/// A cell's part of a turn: it puts and takes as long as it can, and says whether it did. After NoMemory it
-/// is spent, and then it has no part.
-fn move_cell<N: Node>(alloc: Global, cell: &mut Cell<N>) -> Result<bool, NoMemory>
+/// A cell's part of a turn: it takes and puts as long as it can. It looks at its inputs once more than
+/// messages come, and then it knows whether it has more to do. After NoMemory it is spent, and then it has no
+/// part.
+fn move_cell<N: Node>(alloc: Global, cell: &mut Cell<N>) -> Result<Had, NoMemory>
     ensures { HasStood cell.old cell.new }
 {
-    if cell.is_spent() {
-        return Ok(false);
-    }
     let mut moved = false;
+    if cell.is_spent() {
+        return Ok(Had { moved, left: false });
+    }
     'moving: for _ in 0..MOVE_LIMIT {
-        let put = put_each(cell);
         let took = take_each(alloc, cell)?;
-        if !put {
-            if !took {
-                return Ok(moved);
+        if !took {
+            if cell.is_quiet() {
+                return Ok(Had { moved, left: false });
+            }
+        }
+        let put = put_each(cell);
+        if !took {
+            if !put {
+                return Ok(Had { moved, left: true });
             }
         }
         moved = true;
     }
-    Ok(moved)
+    Ok(Had { moved, left: true })
 }
 
-/// One turn: each cell has its part once. It says whether one moved.
-fn turn<N: Node>(alloc: Global, cells: &mut [Cell<N>]) -> Result<bool, NoMemory>
+/// One turn: each cell has its part once, in the order of their numbers, so that parents come first. Said is
+/// what came of it, with what came of those before.
+fn turn<N: Node>(alloc: Global, cells: &mut [Cell<N>], before: Had) -> Result<Had, NoMemory>
     ensures { AllZip HasStood cells.old cells.new }
 {
     let Some((first, others)) = cells.split_first_mut() else {
-        return Ok(false);
+        return Ok(before);
     };
-    let moved = move_cell(alloc, first)?;
-    let more = turn(alloc, others)?;
-    Ok(moved || more)
+    let had = move_cell(alloc, first)?;
+    turn(alloc, others, before.with(had))
 }
 
-/// The turns of a worker on cells. It passes the gate before each. It ends after so many turns, or when some
-/// in a row moved nothing, or where memory is wanted.
+/// The turns of a worker on cells. It passes the gate before each. It ends after so many turns, or where one
+/// leaves nothing to do, or when some in a row moved nothing, or where memory is wanted.
 pub(crate) fn work<N: Node, G: Gate>(
     alloc: Global,
     cells: &mut [Cell<N>],
@@ -107,14 +143,21 @@ pub(crate) fn work<N: Node, G: Gate>(
     'turning: for _ in 0..TURN_LIMIT {
         gate.pass(worker.number, worker.turn);
         worker.turn = worker.turn.saturating_add(1);
-        let Ok(moved) = turn(alloc, cells) else {
+        let Ok(had) = turn(
+            alloc,
+            cells,
+            Had {
+                moved: false,
+                left: false,
+            },
+        ) else {
             return;
         };
-        idle = if moved { 0 } else { idle.saturating_add(1) };
-        if idle >= worker.patience {
+        idle = if had.moved { 0 } else { idle.saturating_add(1) };
+        if worker.ends(had, idle) {
             return;
         }
-        if !moved {
+        if !had.moved {
             thread::yield_now();
         }
     }

@@ -7,8 +7,8 @@ turning-init g c = stood_none c.args.cells.now
 pub returns-in_default : goal.returns-in_default
 returns-in_default g c = stood_more c.args.cells.now c.turning.cells c.turn.new.cells c.turning.invariant c.turn.ensures
 
-pub returns-then-idle-worker : goal.returns-then-idle-worker
-returns-then-idle-worker g c = stood_more c.args.cells.now c.turning.cells c.turn.new.cells c.turning.invariant c.turn.ensures
+pub returns-then-ends : goal.returns-then-ends
+returns-then-ends g c = stood_more c.args.cells.now c.turning.cells c.turn.new.cells c.turning.invariant c.turn.ensures
 
 pub turning-preserved : goal.turning-preserved
 turning-preserved g c = stood_more c.args.cells.now c.turning.cells c.turn.new.cells c.turning.invariant c.turn.ensures
