@@ -44,7 +44,7 @@ fn push_effects(to: &mut Effects, effects: Effects) -> Result<(), NoMemory>
 }
 
 /// Puts the effects of a cell behind others.
-pub(crate) fn gather<N: Node>(
+fn gather_all<N: Node>(
     alloc: Global,
     cell: &mut CellParts<N>,
     to: &mut Effects,
@@ -58,4 +58,21 @@ pub(crate) fn gather<N: Node>(
     let effects = take_all(alloc, &mut cell.core.effects);
     push_effects(to, effects)?;
     Ok(())
+}
+
+/// Puts the effects of a cell behind others. One that has none stays.
+pub(crate) fn gather<N: Node>(
+    alloc: Global,
+    cell: &mut CellParts<N>,
+    to: &mut Effects,
+) -> Result<(), NoMemory>
+    requires { Keeps N.Node cell.old }
+    ensures keeps { OnOk result (Keeps N.Node cell.new) }
+    ensures gathers { OnOk result (Gathers cell.old cell.new) }
+    ensures given { OnOk result (to.new ≡ to.old ++ cell.old.core.effects) }
+{
+    if cell.core.effects.is_empty() {
+        return Ok(());
+    }
+    gather_all(alloc, cell, to)
 }

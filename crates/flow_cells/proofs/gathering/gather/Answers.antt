@@ -1,29 +1,30 @@
-use Rattle.std.proofs.Common.{◌∙◌, ◌++◌, List, refl, ap, append-nil}
+use Rattle.std.proofs.Common.{◌≡◌, ◌∙◌, ◌++◌, List, [], refl, ap, sym, append-nil}
 use Rattle.kap_base.specs.declared.items.Effect.{Effect}
-use Rattle.flow_cells.specs.Kept.{gathered, received_of}
-use Rattle.flow_cells.proofs.SettleLaws.{kept-gathered}
+use Rattle.flow_cells.specs.Kept.{gathered}
 use Rattle.flow_cells.proofs.gathering.gather.Goals as goal
 
-pub returns-clause-keeps : goal.returns-clause-keeps
-returns-clause-keeps g c =
+pub returns-then-is_empty-clause-gathers : goal.returns-then-is_empty-clause-gathers
+returns-then-is_empty-clause-gathers g c =
     let cell = c.args.cell.now in
-    let all = gathered c.note.new.before in
-    kept-gathered g.N.Node cell.base.value (received_of cell.ins.items cell.source.value.items) cell.buffer cell.core _ c.requires refl refl refl refl refl refl
-    (ap (λ (l : List Effect). all ++ l) c.take_all-effects.ensures.none ∙ append-nil all ∙ c.note.ensures)
+    let none : cell.core.effects ≡ [] = c.is_empty.ensures.0 c.if-is_empty.true in
+    record {
+      effects = none;
+      gathered = sym (append-nil (gathered cell.core.gathered)) ∙ ap (λ (l : List Effect). gathered cell.core.gathered ++ l) (sym none);
+      node = refl;
+      outs = refl;
+      saved = refl;
+      passed = refl;
+      clean = refl;
+      keeps = refl;
+      buffer = refl;
+      ins = refl;
+      base = refl;
+      source = refl;
+      spent = refl;
+    }
 
-pub returns-clause-gathers : goal.returns-clause-gathers
-returns-clause-gathers g c = record {
-  effects = c.take_all-effects.ensures.none;
-  gathered = c.note.ensures;
-  node = refl;
-  outs = refl;
-  saved = refl;
-  passed = refl;
-  clean = refl;
-  keeps = refl;
-  buffer = refl;
-  ins = refl;
-  base = refl;
-  source = refl;
-  spent = refl;
-}
+pub returns-then-is_empty-clause-given : goal.returns-then-is_empty-clause-given
+returns-then-is_empty-clause-given g c =
+    let cell = c.args.cell.now in
+    let none : cell.core.effects ≡ [] = c.is_empty.ensures.0 c.if-is_empty.true in
+    sym (append-nil c.args.to.now) ∙ ap (λ (l : List Effect). c.args.to.now ++ l) (sym none)
