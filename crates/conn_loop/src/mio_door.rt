@@ -4,7 +4,7 @@ ghost use Rattle.std.specs.Prelude.{None};
 
 use crate::mio_link::MioLink;
 use crate::try_door::TryDoor;
-use kap_io::{Patience, Stop};
+use kap_io::{Patience, Stop, is_shortage};
 use mio::net::{TcpListener, TcpStream};
 use std::io::{self, Error, ErrorKind};
 use std::net;
@@ -25,18 +25,12 @@ pub struct MioDoor<C: Clock + Copy> {
 /// How many clients that are gone again are passed over in a call.
 const GONE_LIMIT: u32 = 1_000;
 
-/// No memory, and too many sockets of the system, of the process, and in its buffers, as Linux numbers them.
-const SHORTAGES: [i32; 4] = [12, 23, 24, 105];
-
 /// Whether a later call may give a link.
 fn may_wait(error: &Error) -> bool {
     if error.kind() == ErrorKind::WouldBlock {
         return true;
     }
-    match error.raw_os_error() {
-        Some(code) => SHORTAGES.contains(&code),
-        None => false,
-    }
+    is_shortage(error)
 }
 
 /// The link over a socket that came.

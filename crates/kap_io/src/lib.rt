@@ -55,7 +55,7 @@ pub use patience::Patience;
 pub use pick::Pick;
 pub use poll_link::PollLink;
 pub use sink::{Sink, write_all};
-pub use socket_door::SocketDoor;
+pub use socket_door::{SocketDoor, is_shortage};
 pub use socket_link::SocketLink;
 pub use source::Source;
 pub use try_link::{Stop, TryLink};

@@ -6,12 +6,15 @@ use crate::door::Door;
 use crate::failed::Failed;
 use crate::patience::Patience;
 use crate::socket_link::SocketLink;
-use std::io::{ErrorKind, Read, Write};
+use std::io::{Error, ErrorKind, Read, Write};
 use std::net::{OpenListener, OpenStream};
-use std::time::Clock;
+use std::thread;
+use std::time::{Clock, Duration};
 
 /// A door at a socket that listens, of which each thread has a handle of its own, as `try_clone` gives it.
-/// It tells no number, never answers `None`, and counts each `Err` but that of a client which is gone again.
+/// It tells no number, never answers `None`, and counts each `Err` but that of a client which is gone again, and
+/// those of a shortage: it waits a quarter of a second behind each of these, and fails where some four minutes
+/// pass so.
 #[derive(Drop)]
 pub struct SocketDoor<K: OpenListener + Drop, C: Clock + Copy> {
     listener: K,
@@ -32,8 +35,22 @@ impl<K: OpenListener + Drop, C: Clock + Copy> SocketDoor<K, C> {
     }
 }
 
-/// How many clients that are gone again are passed over in a call.
-const GONE_LIMIT: u32 = 1_000;
+/// How often a call tries: behind clients that are gone again, and behind shortages.
+const TRY_LIMIT: u32 = 1_000;
+
+/// How many milliseconds a call waits behind a shortage.
+const PAUSE_MILLIS: u64 = 250;
+
+/// No memory, and too many sockets of the system, of the process, and in its buffers, as Linux numbers them.
+const SHORTAGES: [i32; 4] = [12, 23, 24, 105];
+
+/// Whether the system or the process had no more sockets to give, so that a later call may get one.
+pub fn is_shortage(error: &Error) -> bool {
+    match error.raw_os_error() {
+        Some(code) => SHORTAGES.contains(&code),
+        None => false,
+    }
+}
 
 /// The link over a socket that came, where it can be told how long its writes wait.
 fn link_over<S: Read + Write + OpenStream + Drop, C: Clock + Copy>(
@@ -58,13 +75,16 @@ impl<K: OpenListener<Stream: Read + Write + OpenStream + Drop> + Drop, C: Clock 
     ghost faults = { λ d. d.faults };
 
     fn accept(&mut self) -> Result<Option<SocketLink<K::Stream, C>>, Failed> {
-        for _ in 0..GONE_LIMIT {
+        for _ in 0..TRY_LIMIT {
             match self.listener.accept() {
                 Ok((stream, _)) => match link_over(stream, self.clock, self.patience) {
                     Some(link) => return Ok(Some(link)),
                     None => {}
                 },
                 Err(e) if e.kind() == ErrorKind::ConnectionAborted => {}
+                Err(e) if is_shortage(&e) => {
+                    thread::sleep(&self.clock, Duration::from_millis(PAUSE_MILLIS));
+                }
                 Err(_) => break,
             }
         }

@@ -9,6 +9,8 @@ mod loops;
 #[cfg(test)]
 mod pings;
 #[cfg(test)]
+mod shortages;
+#[cfg(test)]
 mod singles;
 #[cfg(test)]
 mod sockets;
