@@ -4,11 +4,10 @@ ghost use Rattle.std.specs.Prelude.{◌≡◌, false, IfOk};
 ghost use Rattle.service_engine.specs.Engines.{is_spent};
 
 use crate::asks::ask_of;
-use crate::doors::{day, door, tells};
 use crate::rows::{CRITICAL, Wanted, row};
 use kap_base::{NoMemory, Point};
 use kap_io::{Disk, MemDisk};
-use kap_service::{Closed, Engine, Served};
+use kap_service::{Closed, Engine};
 use lambda_types::RegexPatterns;
 use service_engine::DiskEngine;
 use std::alloc::Global;
@@ -109,23 +108,4 @@ pub fn has_two<R: Threads + Sync>(alloc: Global, closed: Closed<MemEngine<R>>) -
         Ok(points) => points.len() == 2 && are_of_five(points.as_slice()),
         Err(_) => false,
     }
-}
-
-/// Whether two links with the point at one of two doors are served, and their points are stored.
-fn serves<R: Threads + Wait + Send + Sync>(rt: &R, alloc: Global) -> Result<bool, NoMemory> {
-    let engine = engine_on(rt, alloc, new_disk(alloc)?)?;
-    let doors = (door(alloc, 2, POINT)?, door(alloc, 0, POINT)?);
-    let did = day(rt, alloc, engine, doors)?;
-    let fine = tells(&did, 2);
-    let (_, closed) = did;
-    match closed {
-        Some(closed) => Ok(fine && has_two(alloc, closed)),
-        None => Ok(false),
-    }
-}
-
-#[test]
-fn links_write_to_a_disk(rt: HostRuntime) -> Result<(), Fail> {
-    assert!(rt; serves(&rt, rt.alloc())?);
-    Ok(())
 }
