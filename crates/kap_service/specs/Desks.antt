@@ -1,5 +1,5 @@
 -- What a desk answers.
-use Rattle.std.specs.Prelude.{◌≡◌, ◌⊎◌, ◌+◌, ◌-◌, ◌^◌, min, Bool, true, false, Result, Ok, Err}
+use Rattle.std.specs.Prelude.{◌≡◌, ◌⊎◌, ℕ, ◌+◌, ◌-◌, ◌^◌, min, Bool, true, false, Result, Ok, Err}
 use mathlib.Core.List.{IsPrefix}
 use Rattle.kap_base.specs.Words.{HasRisen}
 use Rattle.kap_http.specs.ReplyValues.{ReplyValue}
@@ -22,21 +22,22 @@ pub record WasSeen (ask : Ask) (old new : Seats) (reply : ReplyValue) : Type 0 w
   pub own : IsPrefix old.told new.known
   pub reply_is : IsTopicReply ask (topics_after new.known) reply
 
--- The seat went to the lock: its answers rose, or stand at the end of their type, the reply has its status, and its
--- shares rose by what the status says. What it was told goes on from what it was told before.
-pub record WasDecided (ask : Ask) (old new : Seats) (reply : ReplyValue) : Type 0 where
+-- The seat went to the lock, where its ask got this status: its answers rose, or stand at the end of their type, and it
+-- keeps the status. Its share of changes rose by one exactly where a changing ask got 200 or 204, that of faults exactly
+-- at 500. What it was told goes on from what it was told before.
+pub record WasDecided (ask : Ask) (status : ℕ) (old new : Seats) : Type 0 where
   pub answers : new.answers ≡ min (old.answers + 1) (2 ^ 64 - 1)
-  pub status : reply.status ≡ new.status
-  pub changes : new.changes ≡ old.changes + change_of ask reply.status
-  pub faults : new.faults ≡ old.faults + fault_of reply.status
+  pub status_is : new.status ≡ status
+  pub changes : new.changes ≡ old.changes + change_of ask status
+  pub faults : new.faults ≡ old.faults + fault_of status
   pub later : IsPrefix old.told new.told
 
 -- An ask about topics is answered by the seat, or goes to the lock where its look was refused; each other one goes to
 -- the lock.
 abbrev pub IsServedSo : Bool → Ask → Seats → Seats → ReplyValue → Type 0
 IsServedSo true ask old new reply =
-    WasSeen ask old new reply ⊎ (HasRisen old.aways new.aways × WasDecided ask old new reply)
-IsServedSo false ask old new reply = WasDecided ask old new reply
+    WasSeen ask old new reply ⊎ (HasRisen old.aways new.aways × WasDecided ask reply.status old new)
+IsServedSo false ask old new reply = WasDecided ask reply.status old new
 
 -- What is routed so is answered so: where the route refuses, that refusal is the reply, and the seat isn't asked.
 abbrev pub IsServed : Result Ask ReplyValue → Seats → Seats → ReplyValue → Type 0

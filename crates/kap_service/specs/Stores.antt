@@ -70,6 +70,12 @@ pub record AreAllOf {E : Type 0} (value : E → Engines) (right : E → Type 0) 
   pub changes_are : (value engine).changes ≡ changes
   pub all : (store : Stores) → leaves engine store → told ≡ store.stored
 
+-- Behind a decision on this ask that didn't fail these transitions are all, those of its own change among them.
+abbrev pub AreAllBehind : {E : Type 0} → (E → Engines) → (E → Type 0) → (E → Stores → Type 0) → Ask → List Transition
+    → Decisions → Type 0
+AreAllBehind value right leaves ask told d =
+    (IsFailed d.reply.status → ⊥) → AreAllOf value right leaves (d.changes + change_of ask d.reply.status) told
+
 -- ---- decisions
 
 -- the reply is the one that is due, or says that the store failed or that memory ran out

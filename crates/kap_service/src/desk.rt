@@ -41,7 +41,7 @@ fn locked_reply<
     now: i64,
 ) -> Reply
     requires time { IsTrue (is_time now) }
-    ensures decided { WasDecided ask.now seat.old seat.new result }
+    ensures decided { WasDecided ask.now result.status seat.old seat.new }
     ensures look { (seat.new.known ≡ seat.old.known) × (seat.new.aways ≡ seat.old.aways) }
 {
     match lock.answer(rt, alloc, seat, ask, now) {

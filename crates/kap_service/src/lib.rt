@@ -13,7 +13,6 @@ mod seat;
 mod shared;
 mod showing;
 mod single;
-mod start;
 mod state;
 
 pub use decided::{Decided, decide};
@@ -22,7 +21,6 @@ pub use engine::Engine;
 pub use fault::ShareFault;
 pub use posts::{Post, Served, serve};
 pub use seat::Seat;
-pub use shared::{Closed, Lock, Shared, Unshared};
+pub use shared::{Closed, Lock, Service, Shared, Unshared, make_shared};
 pub use single::serve_single;
-pub use start::{Service, make_shared};
 pub use state::Since;

@@ -1,16 +1,16 @@
-//! The engine that many share, and its end.
+//! The engine that many share, from its beginning to its end.
 
-ghost use Rattle.std.specs.Prelude.{◌≡◌, ◌+◌, ◌-◌, ◌^◌, ◌<◌, ◌≤◌, ℕ, [], false, min, true, vec_len, IfErr, IfOk, IsErrOf, IsTrue};
-ghost use mathlib.Core.List.{IsPrefix};
+ghost use Rattle.std.specs.Prelude.{◌≡◌, ◌+◌, ◌<◌, ◌≤◌, ℕ, [], false, true, vec_len, IfErr, IfOk, IsErrOf, IsTrue};
 ghost use Rattle.std.specs.List.{All, sum_by};
 ghost use Rattle.kap_base.specs.Points.{is_time};
 ghost use Rattle.kap_base.specs.Words.{HasRisen};
 ghost use Rattle.kap_io.specs.declared.disk.Part.{Part};
-ghost use Rattle.reply_bodies.specs.Asks.{IsFailed, change_of};
-ghost use Rattle.kap_service.specs.Asks.{fault_of, status_of};
+ghost use Rattle.reply_bodies.specs.Asks.{IsFailed};
+ghost use Rattle.kap_service.specs.Asks.{status_of};
 ghost use Rattle.kap_service.specs.Causes.{AreCaused};
+ghost use Rattle.kap_service.specs.Desks.{WasDecided};
 ghost use Rattle.kap_service.specs.Kept.{IsNewSeat, posted};
-ghost use Rattle.kap_service.specs.Stores.{AreAllOf, HasRead};
+ghost use Rattle.kap_service.specs.Stores.{AreAllBehind, HasRead};
 ghost use Rattle.kap_service.specs.Values.{Stores};
 ghost use Rattle.kap_service.specs.declared.fault.ShareFault.TheVariants.{DiskFault, NotStore};
 
@@ -20,12 +20,13 @@ use crate::fault::ShareFault;
 use crate::seat::Seat;
 use crate::showing::post_missing;
 use crate::state::{Since, State};
+use kap_base::NoMemory;
 use kap_http::{Ask, Reply};
 use std::alloc::{AllocError, Global};
 use std::marker::Model;
 use std::sync::ledger::{Blank, Book, Ledger, Share};
 use std::sync::{Mutex, Wait};
-use topic_board::{Front, Look, Naming, Poster, Shown};
+use topic_board::{Front, Look, Naming, Opened, Posted, Poster, Published, Shown, board};
 
 /// What threads share: the engine, the board and the books, under one lock.
 #[derive(Drop)]
@@ -68,15 +69,10 @@ impl<E: Engine, J: Naming, O: Drop, T: Shown<J, O>, R: Wait + Drop, L1: Ledger, 
         ensures own { IfOk result (λ d. (d.ask ≡ ask.now) × (d.moment ≡ now)) }
         ensures refusal { IfErr result (λ reply. IsFailed reply.status) }
         ensures behind { IsTrue L2.owned → IfOk result (λ d. seat.old.changes ≤ d.changes) }
-        ensures first { seat.new.changes ≡ seat.old.changes + change_of ask.now (status_of result) }
-        ensures second { seat.new.faults ≡ seat.old.faults + fault_of (status_of result) }
-        ensures status { seat.new.status ≡ status_of result }
-        ensures later { IsPrefix seat.old.told seat.new.told }
-        ensures shown { IsTrue L2.owned → seat.new.shown ≡ true → IfOk result (λ d.
-            (IsFailed d.reply.status → ⊥) → AreAllOf E.value E.right E.leaves
-            (d.changes + change_of ask.now d.reply.status) seat.new.told) }
+        ensures seat { WasDecided ask.now (status_of result) seat.old seat.new }
         ensures look { (seat.new.known ≡ seat.old.known) × (seat.new.aways ≡ seat.old.aways) }
-        ensures answers { seat.new.answers ≡ min (seat.old.answers + 1) (2 ^ 64 - 1) }
+        ensures shown { IsTrue L2.owned → seat.new.shown ≡ true
+            → IfOk result (AreAllBehind E.value E.right E.leaves ask.now seat.new.told) }
     {
         let mut state = self.state.lock(rt);
         state.answer(alloc, seat, ask, now)
@@ -172,73 +168,6 @@ impl<E: Engine, J: Naming, O: Drop, T: Shown<J, O>, R: Wait + Drop, L1: Ledger, 
     L1,
     L2,
 > {
-    /// Shares an engine by the empty board of this poster, with a seat for each of its looks, 1 to 64. All
-    /// transitions that are stored are on the board then. The ledgers are new; each has more parts than there
-    /// are seats. A refusal gives the engine back, whose store is unchanged: `DiskFault` comes only where the
-    /// disk's count of faults rose in this call, and `NotStore` only where the disk doesn't tell its bytes.
-    pub fn make(
-        alloc: Global,
-        engine: E,
-        poster: Poster<J, O, T, R>,
-        looks: Vec<Look<J, O, T>>,
-        first: Blank,
-        second: Blank,
-    ) -> Result<(Shared<E, J, O, T, R, L1, L2>, Vec<Seat<J, O, T, L1, L2>>), Unshared<E>>
-        requires unspent { (E.value engine).spent ≡ false }
-        requires empty { (poster.published ≡ []) × (poster.pending ≡ []) }
-        requires places { (0 < vec_len looks) × (vec_len looks ≤ 64) }
-        requires names { (first.name ≡ L1.name) × (second.name ≡ L2.name) }
-        requires parts { (first.parts ≡ L1.parts) × (second.parts ≡ L2.parts) }
-        requires more { (vec_len looks < first.parts) × (vec_len looks < second.parts) }
-        requires before { L2.before ≡ (E.value engine).faults }
-        requires owned { IsTrue L2.owned → E.right engine }
-        ensures began { IfOk result (λ r. r.0.began ≡ (E.value engine).changes) }
-        ensures seats { IfOk result (λ r. vec_len r.1 ≡ vec_len looks) }
-        ensures whole { IfOk result (λ r. (r.0.first_parts + vec_len r.1 ≡ L1.parts)
-            × (r.0.second_parts + vec_len r.1 ≡ L2.parts)) }
-        ensures new { IfOk result (λ r. All IsNewSeat r.1.items) }
-        ensures none { IfOk result (λ r. (sum_by (λ s. s.changes) r.1.items ≡ 0)
-            × (sum_by (λ s. s.faults) r.1.items ≡ 0)) }
-        ensures told { E.right engine → (store : Stores) → E.leaves engine store
-            → IfOk result (λ r. All (λ s. s.told ≡ store.stored) r.1.items) }
-        ensures same { IfErr result (λ left.
-            HasRead E.value E.right E.leaves engine left.engine) }
-        ensures disk { IfErr result (λ left. left.fault ≡ DiskFault
-            → HasRisen (E.value engine).faults.disk (E.value left.engine).faults.disk) }
-        ensures store { E.right engine → IfErr result (λ left. (part : Part) (offset : ℕ)
-            → left.fault ≡ NotStore part offset → ⊥) }
-    {
-        let mut engine = engine;
-        let mut poster = poster;
-        let told = match show_stored(alloc, &mut engine, &mut poster) {
-            Ok(told) => told,
-            Err(fault) => return Err(Unshared { fault, engine }),
-        };
-        let began = engine.changes();
-        let (mut book, mut first) = first.open::<L1>();
-        let (second_book, mut second) = second.open::<L2>();
-        book.add(&mut first, began);
-        let seats = match seats_of(alloc, &mut first, &mut second, &told, looks) {
-            Ok(seats) => seats,
-            Err(AllocError) => {
-                return Err(Unshared {
-                    fault: ShareFault::NoMemory,
-                    engine,
-                });
-            }
-        };
-        let state = State::new(engine, poster, book, second_book, began);
-        let shared = Shared {
-            lock: Lock {
-                state: Mutex::new(state),
-            },
-            first,
-            second,
-            began,
-        };
-        Ok((shared, seats))
-    }
-
     /// What threads share.
     pub fn lock(&self) -> &Lock<E, J, O, T, R, L1, L2> {
         &self.lock
@@ -271,6 +200,88 @@ impl<E: Engine, J: Naming, O: Drop, T: Shown<J, O>, R: Wait + Drop, L1: Ledger, 
         gather(&mut first, &mut second, seats);
         ended(state.into_inner(), first, second, began)
     }
+}
+
+/// A shared engine with the board that there is, and its seats.
+pub type Service<E, J, R, L1, L2> = (
+    Shared<E, J, Posted<J>, Published<J>, R, L1, L2>,
+    Vec<Seat<J, Posted<J>, Published<J>, L1, L2>>,
+);
+
+/// Shares an engine by a new board, with so many seats, 1 to 64. All transitions that are stored are on the
+/// board then. The ledgers are new; each has more parts than there are seats. A refusal gives the engine back,
+/// whose store is unchanged: `DiskFault` comes only where the disk's count of faults rose in this call, and
+/// `NotStore` only where the disk doesn't tell its bytes.
+pub fn make_shared<E: Engine, J: Naming, R: Wait + Drop, L1: Ledger, L2: Since>(
+    rt: R,
+    alloc: Global,
+    opened: Opened,
+    engine: E,
+    first: Blank,
+    second: Blank,
+    seats: u32,
+) -> Result<Service<E, J, R, L1, L2>, Unshared<E>>
+    requires book { opened ≡ J.book }
+    requires unspent { (E.value engine).spent ≡ false }
+    requires places { (0 < seats) × (seats ≤ 64) }
+    requires names { (first.name ≡ L1.name) × (second.name ≡ L2.name) }
+    requires parts { (first.parts ≡ L1.parts) × (second.parts ≡ L2.parts) }
+    requires more { (seats < first.parts) × (seats < second.parts) }
+    requires before { L2.before ≡ (E.value engine).faults }
+    requires owned { IsTrue L2.owned → E.right engine }
+    ensures began { IfOk result (λ r. r.0.began ≡ (E.value engine).changes) }
+    ensures seats { IfOk result (λ r. vec_len r.1 ≡ seats) }
+    ensures whole { IfOk result (λ r. (r.0.first_parts + vec_len r.1 ≡ L1.parts)
+        × (r.0.second_parts + vec_len r.1 ≡ L2.parts)) }
+    ensures new { IfOk result (λ r. All IsNewSeat r.1.items) }
+    ensures none { IfOk result (λ r. (sum_by (λ s. s.changes) r.1.items ≡ 0)
+        × (sum_by (λ s. s.faults) r.1.items ≡ 0)) }
+    ensures told { E.right engine → (store : Stores) → E.leaves engine store
+        → IfOk result (λ r. All (λ s. s.told ≡ store.stored) r.1.items) }
+    ensures same { IfErr result (λ left.
+        HasRead E.value E.right E.leaves engine left.engine) }
+    ensures disk { IfErr result (λ left. left.fault ≡ DiskFault
+        → HasRisen (E.value engine).faults.disk (E.value left.engine).faults.disk) }
+    ensures store { E.right engine → IfErr result (λ left. (part : Part) (offset : ℕ)
+        → left.fault ≡ NotStore part offset → ⊥) }
+{
+    let mut engine = engine;
+    let (mut poster, looks) = match board::<J, R>(rt, alloc, opened, seats) {
+        Ok(made) => made,
+        Err(NoMemory) => {
+            return Err(Unshared {
+                fault: ShareFault::NoMemory,
+                engine,
+            });
+        }
+    };
+    let told = match show_stored(alloc, &mut engine, &mut poster) {
+        Ok(told) => told,
+        Err(fault) => return Err(Unshared { fault, engine }),
+    };
+    let began = engine.changes();
+    let (mut book, mut first) = first.open::<L1>();
+    let (second_book, mut second) = second.open::<L2>();
+    book.add(&mut first, began);
+    let seats = match seats_of(alloc, &mut first, &mut second, &told, looks) {
+        Ok(seats) => seats,
+        Err(AllocError) => {
+            return Err(Unshared {
+                fault: ShareFault::NoMemory,
+                engine,
+            });
+        }
+    };
+    let state = State::new(engine, poster, book, second_book, began);
+    let shared = Shared {
+        lock: Lock {
+            state: Mutex::new(state),
+        },
+        first,
+        second,
+        began,
+    };
+    Ok((shared, seats))
 }
 
 /// What the state says once all shares are here.

@@ -1,13 +1,14 @@
 //! What lies under the lock.
 
-ghost use Rattle.std.specs.Prelude.{◌≡◌, ◌≢◌, ◌&&◌, ◌+◌, ◌-◌, ◌^◌, ◌≤◌, false, length, min, true, IfErr, IfOk, IsTrue};
+ghost use Rattle.std.specs.Prelude.{◌≡◌, ◌≢◌, ◌&&◌, ◌≤◌, false, length, true, IfErr, IfOk, IsTrue};
 ghost use mathlib.Core.List.{IsPrefix};
 ghost use Rattle.kap_base.specs.Points.{is_time};
-ghost use Rattle.reply_bodies.specs.Asks.{IsFailed, change_of};
-ghost use Rattle.kap_service.specs.Asks.{fault_of, status_of};
+ghost use Rattle.reply_bodies.specs.Asks.{IsFailed};
+ghost use Rattle.kap_service.specs.Asks.{status_of};
 ghost use Rattle.kap_service.specs.Causes.{AreLater};
+ghost use Rattle.kap_service.specs.Desks.{WasDecided};
 ghost use Rattle.kap_service.specs.Kept.{posted};
-ghost use Rattle.kap_service.specs.Stores.{AreAllOf};
+ghost use Rattle.kap_service.specs.Stores.{AreAllBehind};
 ghost use Rattle.kap_service.specs.Values.{Stores};
 
 use crate::asks::changes;
@@ -177,16 +178,11 @@ impl<E: Engine, J: Naming, O: Drop, T: Shown<J, O>, R: Wait + Drop, L1: Ledger, 
         ensures own { IfOk result (λ d. (d.ask ≡ ask.now) × (d.moment ≡ now)) }
         ensures refusal { IfErr result (λ reply. IsFailed reply.status) }
         ensures behind { IsTrue L2.owned → IfOk result (λ d. seat.old.changes ≤ d.changes) }
-        ensures first { seat.new.changes ≡ seat.old.changes + change_of ask.now (status_of result) }
-        ensures second { seat.new.faults ≡ seat.old.faults + fault_of (status_of result) }
-        ensures status { seat.new.status ≡ status_of result }
-        ensures told { seat.new.shown ≡ true → seat.new.told ≡ self.new.posts.published }
-        ensures later { IsPrefix seat.old.told seat.new.told }
-        ensures shown { IsTrue L2.owned → seat.new.shown ≡ true → IfOk result (λ d.
-            (IsFailed d.reply.status → ⊥) → AreAllOf E.value E.right E.leaves
-            (d.changes + change_of ask.now d.reply.status) seat.new.told) }
+        ensures seat { WasDecided ask.now (status_of result) seat.old seat.new }
         ensures look { (seat.new.known ≡ seat.old.known) × (seat.new.aways ≡ seat.old.aways) }
-        ensures answers { seat.new.answers ≡ min (seat.old.answers + 1) (2 ^ 64 - 1) }
+        ensures shown { IsTrue L2.owned → seat.new.shown ≡ true
+            → IfOk result (AreAllBehind E.value E.right E.leaves ask.now seat.new.told) }
+        ensures told { seat.new.shown ≡ true → seat.new.told ≡ self.new.posts.published }
     {
         self.first.audit(&mut seat.first);
         seat.answers = seat.answers.saturating_add(1);

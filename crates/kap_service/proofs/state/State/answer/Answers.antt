@@ -1,11 +1,10 @@
 use Rattle.std.proofs.Common.{◌≡◌, ℕ, ◌+◌, ◌==◌, Bool, if◌then◌else◌, sym, subst, ◌∙◌, arith}
-use Rattle.std.specs.Prelude.{false}
 use Rattle.std.proofs.lemmas.Bool.{eqb-true}
 use Rattle.reply_bodies.specs.Asks.{IsFailed, change_of}
 use Rattle.kap_service.specs.Asks.{fault_of, status_of}
 use Rattle.kap_service.specs.Causes.{AreCaused}
 use Rattle.kap_service.specs.Kept.{IsTold, posted}
-use Rattle.kap_service.specs.Stores.{AreAllOf}
+use Rattle.kap_service.specs.Stores.{AreAllBehind}
 use Rattle.kap_service.specs.Values.{Decisions}
 use Rattle.kap_service.proofs.KeptLaws.{both_true, caused_on, if_ok, not_failed, told_all, told_on}
 use Rattle.kap_service.proofs.StoreLaws.{prefix_trans}
@@ -79,8 +78,7 @@ returns-clause-shown g c = λ owned is.
     let after : ℕ = (g.E.Engine.value c.judged-judged.new.engine).changes in
     if_ok
     (λ (d : Decisions). (IsFailed d.reply.status → ⊥) → after ≡ d.changes + change_of c.args.ask.now d.reply.status)
-    (λ (d : Decisions). (IsFailed d.reply.status → ⊥) → AreAllOf g.E.Engine.value g.E.Engine.right g.E.Engine.leaves
-    (d.changes + change_of c.args.ask.now d.reply.status) c.hear-heard-2.new.kept)
+    (AreAllBehind g.E.Engine.value g.E.Engine.right g.E.Engine.leaves c.args.ask.now c.hear-heard-2.new.kept)
     c.judged-judged.result
     (λ d exact fine. record {
       engine = engine;
