@@ -1,6 +1,7 @@
 -- Serving at a door on one thread.
-use Rattle.std.specs.Prelude.{◌≡◌, ℕ, ◌+◌, ◌≤◌, ⊤, Bool, true, Option, Some, None, Result, Ok, Err}
+use Rattle.std.specs.Prelude.{◌≡◌, ℕ, ◌+◌, ◌≤◌, ⊤, Bool, true, length, Option, Some, None, Result, Ok, Err, OnOk}
 use Rattle.kap_base.specs.Words.{HasRisen}
+use Rattle.conn_loop.specs.declared.serving.Serving.{Serving}
 use Rattle.conn_loop.specs.declared.single.SingleEnd.{SingleEnd}
 use Rattle.conn_loop.specs.declared.single.SingleEnd.TheVariants as ends
 
@@ -36,3 +37,16 @@ pub record MayEnd {T : Type 0} (door now_door ready now_ready links count : ℕ)
   pub later : door ≤ now_door
   pub ready_later : ready ≤ now_ready
   pub cause : EndsBy door now_door ready now_ready links count closed result
+
+-- Whatever came and is open, serving may end so: what tells which links may go on has failed, or memory ran out.
+abbrev pub MayFail : {T : Type 0} → ℕ → ℕ → Result T SingleEnd → Type 0
+MayFail ready now_ready result =
+    (door links count : ℕ) (closed : Bool) → MayEnd door door ready now_ready links count closed result
+
+-- A step of serving: each link that came was added, unless serving ends. The links that came are counted, by what the
+-- door has less, and where the door was found closed it has none left. Where serving ends, it may end so.
+pub record ServesOn {L T : Type 0} (left now_left : Option ℕ) (door now_door ready now_ready : ℕ) (old new : Serving L)
+    (result : Result T SingleEnd) : Type 0 where
+  pub added : OnOk result (new.links ≡ new.open.added)
+  pub counts : (first : Option ℕ) → Counts first left old.links old.closed → Counts first now_left new.links new.closed
+  pub cause : MayEnd door now_door ready now_ready new.links (length new.open.links) new.closed result

@@ -1,9 +1,9 @@
 //! Serving at a door, all links on one thread.
 
-ghost use Rattle.std.specs.Prelude.{◌≡◌, ◌+◌, ◌≤◌, ℕ, Bool, false, length, Option, OnOk};
+ghost use Rattle.std.specs.Prelude.{◌≡◌, ◌+◌, ◌≤◌, false, OnOk};
 ghost use Rattle.kap_base.specs.Words.{HasRisen};
 ghost use Rattle.conn_loop.specs.Loops.{IsFull};
-ghost use Rattle.conn_loop.specs.Serving.{Counts, HaveCome, IsClosed, MayEnd};
+ghost use Rattle.conn_loop.specs.Serving.{HaveCome, IsClosed, MayFail, ServesOn};
 
 use crate::finished::{AddFault, Finished};
 use crate::link_loop::{LINKS, Loop};
@@ -36,8 +36,7 @@ fn admit<L: TryLink + Drop, Y: Ready<L>>(
 ) -> Result<(), SingleEnd>
     requires room { IsFull held.old → ⊥ }
     ensures added { OnOk result (held.new.added ≡ held.old.added + 1) }
-    ensures cause { (door links count : ℕ) (closed : Bool) →
-        MayEnd door door (Y.faults ready.old) (Y.faults ready.new) links count closed result }
+    ensures cause { MayFail (Y.faults ready.old) (Y.faults ready.new) result }
 {
     let mut link = link;
     if let Err(Failed) = ready.watch(&mut link, held.added()) {
@@ -60,13 +59,8 @@ fn accept<L: TryLink + Drop, B: TryDoor<L>, Y: Ready<L>>(
     requires room { IsFull serving.old.open → ⊥ }
     requires counted { serving.old.links ≡ serving.old.open.added }
     requires opened { serving.old.closed ≡ false }
-    ensures counted { OnOk result (serving.new.links ≡ serving.new.open.added) }
-    ensures counts { (left : Option ℕ) →
-        Counts left (B.left door.old) serving.old.links serving.old.closed →
-        Counts left (B.left door.new) serving.new.links serving.new.closed }
-    ensures cause { MayEnd (B.faults door.old) (B.faults door.new) (Y.faults ready.old)
-        (Y.faults ready.new) serving.new.links (length serving.new.open.links) serving.new.closed
-        result }
+    ensures { ServesOn (B.left door.old) (B.left door.new) (B.faults door.old) (B.faults door.new)
+        (Y.faults ready.old) (Y.faults ready.new) serving.old serving.new result }
 {
     match door.try_accept() {
         Ok(Some(link)) => {
@@ -93,13 +87,8 @@ fn accept_all<L: TryLink + Drop, B: TryDoor<L>, Y: Ready<L>>(
     ready: &mut Y,
 ) -> Result<(), SingleEnd>
     requires counted { serving.old.links ≡ serving.old.open.added }
-    ensures counted { OnOk result (serving.new.links ≡ serving.new.open.added) }
-    ensures counts { (left : Option ℕ) →
-        Counts left (B.left door.old) serving.old.links serving.old.closed →
-        Counts left (B.left door.new) serving.new.links serving.new.closed }
-    ensures cause { MayEnd (B.faults door.old) (B.faults door.new) (Y.faults ready.old)
-        (Y.faults ready.new) serving.new.links (length serving.new.open.links) serving.new.closed
-        result }
+    ensures { ServesOn (B.left door.old) (B.left door.new) (B.faults door.old) (B.faults door.new)
+        (Y.faults ready.old) (Y.faults ready.new) serving.old serving.new result }
 {
     'accepting: for _ in 0..LINKS {
         if serving.closed || serving.open.is_full() {
@@ -129,8 +118,7 @@ fn go_on<L: TryLink + Drop, Y: Ready<L>, H: Serve>(
     serve: &mut H,
 ) -> Result<(), SingleEnd>
     ensures added { held.new.added ≡ held.old.added }
-    ensures cause { (door links count : ℕ) (closed : Bool) →
-        MayEnd door door (Y.faults ready.old) (Y.faults ready.new) links count closed result }
+    ensures cause { MayFail (Y.faults ready.old) (Y.faults ready.new) result }
 {
     if let Err(Failed) = ready.wait(held.woken()) {
         return Err(SingleEnd::ReadyFailed);
@@ -154,13 +142,8 @@ fn serve_once<L: TryLink + Drop, B: TryDoor<L>, Y: Ready<L>, H: Serve>(
     serve: &mut H,
 ) -> Result<(), SingleEnd>
     requires counted { serving.old.links ≡ serving.old.open.added }
-    ensures counted { OnOk result (serving.new.links ≡ serving.new.open.added) }
-    ensures counts { (left : Option ℕ) →
-        Counts left (B.left door.old) serving.old.links serving.old.closed →
-        Counts left (B.left door.new) serving.new.links serving.new.closed }
-    ensures cause { MayEnd (B.faults door.old) (B.faults door.new) (Y.faults ready.old)
-        (Y.faults ready.new) serving.new.links (length serving.new.open.links) serving.new.closed
-        result }
+    ensures { ServesOn (B.left door.old) (B.left door.new) (B.faults door.old) (B.faults door.new)
+        (Y.faults ready.old) (Y.faults ready.new) serving.old serving.new result }
 {
     accept_all(alloc, serving, door, ready)?;
     if serving.open.links() == 0 {

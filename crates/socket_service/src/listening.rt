@@ -1,5 +1,8 @@
 //! Where a service listens, and how long its links wait.
 
+ghost use Rattle.std.specs.Prelude.{IfErr};
+ghost use Rattle.socket_service.specs.Ends.{EndsSeats};
+
 use crate::sockets::Sockets;
 use kap_io::Patience;
 use serve_words::{ServeFault, ServeOptions};
@@ -18,7 +21,9 @@ pub(crate) fn patience_of(options: ServeOptions<'_>) -> Patience {
 }
 
 /// Listens at the address, and says so on standard error, with the port that was bound.
-pub(crate) fn listen<R: Sockets + Eprint>(rt: &R, addr: &str) -> Result<TcpListener, ServeFault> {
+pub(crate) fn listen<R: Sockets + Eprint>(rt: &R, addr: &str) -> Result<TcpListener, ServeFault>
+    ensures { IfErr result EndsSeats }
+{
     let Ok(listener) = rt.listener_at(addr) else {
         return Err(ServeFault::DoorFault);
     };

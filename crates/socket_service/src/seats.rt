@@ -1,7 +1,8 @@
 //! Seats in threads, each of which serves one link at a time.
 
-ghost use Rattle.std.specs.Prelude.{◌≡◌, ◌<◌, false, vec_len, IfOk, IsTrue};
+ghost use Rattle.std.specs.Prelude.{◌≡◌, ◌<◌, false, vec_len, IfErr, IfOk, IsTrue};
 ghost use Rattle.serve_words.specs.Options.{AreWithinLimits};
+ghost use Rattle.socket_service.specs.Ends.{EndsSeats, EndsSo};
 
 use crate::listening::{listen, patience_of};
 use crate::sockets::Sockets;
@@ -25,7 +26,8 @@ fn posts_of<'a, J: Naming, O: Drop, T: Shown<J, O>, L1: Ledger, L2: Ledger, R: C
     listener: &TcpListener,
     patience: Patience,
 ) -> Result<Vec<Post<SocketDoor<TcpListener, &'a R>, J, O, T, L1, L2>>, ServeFault>
-    ensures { IfOk result (λ posts. vec_len posts ≡ vec_len seats) }
+    ensures posts { IfOk result (λ posts. vec_len posts ≡ vec_len seats) }
+    ensures fault { IfErr result EndsSeats }
 {
     let mut posts = Vec::new(alloc);
     'posts: for seat in seats {
@@ -65,6 +67,7 @@ fn serve_from<
     options: ServeOptions<'_>,
 ) -> Result<(), ServeFault>
     requires some { 0 < vec_len seats }
+    ensures { IfErr result EndsSeats }
 {
     let listener = listen(rt, options.addr)?;
     let mut posts = posts_of(rt, alloc, seats, &listener, patience_of(options))?;
@@ -113,6 +116,8 @@ pub(crate) fn serve_from_seats<
     requires more { (options.seats < first.parts) × (options.seats < second.parts) }
     requires before { L2.before ≡ (E.value engine).faults }
     requires owned { IsTrue L2.owned → E.right engine }
+    ensures { IfErr result (λ left.
+        EndsSo E.value E.right E.leaves EndsSeats engine left.fault left.engine) }
 {
     let (shared, seats) = match make_shared::<E, J, &'a R, L1, L2>(
         rt,

@@ -1,7 +1,8 @@
 //! An engine is served at an address.
 
-ghost use Rattle.std.specs.Prelude.{◌≡◌, false};
+ghost use Rattle.std.specs.Prelude.{◌≡◌, false, IfErr};
 ghost use Rattle.serve_words.specs.Options.{AreWithinLimits};
+ghost use Rattle.socket_service.specs.Ends.{EndsSeats, EndsSo, EndsThread};
 
 use crate::seats::serve_from_seats;
 use crate::single::serve_from_one;
@@ -19,7 +20,9 @@ use topic_board::Opened;
 
 /// Shares an engine, listens at the address that the options give, and serves the links that come there until
 /// no more can be taken: from so many seats as the options say, each in a thread. The engine comes back where
-/// it can't be shared.
+/// it can't be shared, with nothing changed that it keeps: then `DiskFault` comes only where its count of disk
+/// faults rose in this call, and `NotStore` never of an engine that was right. Else the service ended by
+/// `DoorFault` or `NoMemory`, if by a fault.
 pub fn serve_seats<E: Engine + Send, R: Sockets + Threads + Wait + Clock + Eprint + Sync>(
     rt: &R,
     alloc: Global,
@@ -28,6 +31,8 @@ pub fn serve_seats<E: Engine + Send, R: Sockets + Threads + Wait + Clock + Eprin
 ) -> Result<(), Unserved<E>>
     requires unspent { (E.value engine).spent ≡ false }
     requires limits { AreWithinLimits options }
+    ensures { IfErr result (λ left.
+        EndsSo E.value E.right E.leaves EndsSeats engine left.fault left.engine) }
 {
     let parts = u64::from(options.seats) + 1;
     serve_from_seats::<E, Brand, Brand, Brand, R>(
@@ -42,7 +47,8 @@ pub fn serve_seats<E: Engine + Send, R: Sockets + Threads + Wait + Clock + Eprin
 }
 
 /// Shares an engine, listens at the address that the options give, and serves all links that come there in this
-/// thread, until no more can be taken or watched. The engine comes back where it can't be shared.
+/// thread, until no more can be taken or watched. The faults are those of `serve_seats`, and `ReadyFault` where
+/// links can't be watched; the engine comes back as there.
 pub fn serve_alone<E: Engine, R: Sockets + Wait + Clock + Eprint>(
     rt: &R,
     alloc: Global,
@@ -50,6 +56,8 @@ pub fn serve_alone<E: Engine, R: Sockets + Wait + Clock + Eprint>(
     options: ServeOptions<'_>,
 ) -> Result<(), Unserved<E>>
     requires unspent { (E.value engine).spent ≡ false }
+    ensures { IfErr result (λ left.
+        EndsSo E.value E.right E.leaves EndsThread engine left.fault left.engine) }
 {
     serve_from_one::<E, Brand, Brand, Brand, R>(
         rt,

@@ -1,6 +1,7 @@
 //! One thread, which serves all links.
 
-ghost use Rattle.std.specs.Prelude.{◌≡◌, ◌<◌, false, vec_len, IsTrue};
+ghost use Rattle.std.specs.Prelude.{◌≡◌, ◌<◌, false, vec_len, IfErr, IfSome, IsTrue};
+ghost use Rattle.socket_service.specs.Ends.{EndsSo, EndsThread, fault_at};
 
 use crate::listening::{listen, patience_of};
 use crate::sockets::Sockets;
@@ -17,21 +18,26 @@ use std::time::Clock;
 use topic_board::{Naming, Opened, Shown};
 
 /// What a service says where its sockets can't be watched.
-fn unwatched(fault: io::Error) -> ServeFault {
+fn unwatched(fault: io::Error) -> ServeFault
+    ensures { EndsThread result }
+{
     if fault.kind() == ErrorKind::OutOfMemory {
         return ServeFault::NoMemory;
     }
     ServeFault::ReadyFault
 }
 
-/// What a service says of an end.
-fn told(end: SingleEnd) -> Result<(), ServeFault> {
-    match end {
-        SingleEnd::Closed => Ok(()),
-        SingleEnd::Spent => Ok(()),
-        SingleEnd::ReadyFailed => Err(ServeFault::ReadyFault),
-        SingleEnd::DoorFailed => Err(ServeFault::DoorFault),
-        SingleEnd::NoMemory => Err(ServeFault::NoMemory),
+/// What a service says of an end; nothing where no more links come.
+fn fault_at(ending: SingleEnd) -> Option<ServeFault>
+    ensures fault { result ≡ fault_at ending }
+    ensures ends { IfSome result EndsThread }
+{
+    match ending {
+        SingleEnd::Closed => None,
+        SingleEnd::Spent => None,
+        SingleEnd::ReadyFailed => Some(ServeFault::ReadyFault),
+        SingleEnd::DoorFailed => Some(ServeFault::DoorFault),
+        SingleEnd::NoMemory => Some(ServeFault::NoMemory),
     }
 }
 
@@ -51,12 +57,17 @@ fn serve_from<
     lock: &Lock<E, J, O, T, W, L1, L2>,
     seat: &mut Seat<J, O, T, L1, L2>,
     options: ServeOptions<'_>,
-) -> Result<(), ServeFault> {
+) -> Result<(), ServeFault>
+    ensures { IfErr result EndsThread }
+{
     let listener = listen(rt, options.addr)?;
     let Ok(mut door) = MioDoor::new(listener, rt, patience_of(options)) else {
         return Err(ServeFault::DoorFault);
     };
-    let mut ready = rt.watch(alloc, &mut door, rt).map_err(unwatched)?;
+    let mut ready = match rt.watch(alloc, &mut door, rt) {
+        Ok(ready) => ready,
+        Err(fault) => return Err(unwatched(fault)),
+    };
     let single = serve_single(
         rt,
         alloc,
@@ -66,7 +77,10 @@ fn serve_from<
         &mut ready,
         &RealClock::new(rt),
     );
-    told(single.end)
+    match fault_at(single.end) {
+        None => Ok(()),
+        Some(fault) => Err(fault),
+    }
 }
 
 /// Shares an engine by this board and these ledgers, and serves all links from one seat, in this thread.
@@ -93,6 +107,8 @@ pub(crate) fn serve_from_one<
     requires more { (1 < first.parts) × (1 < second.parts) }
     requires before { L2.before ≡ (E.value engine).faults }
     requires owned { IsTrue L2.owned → E.right engine }
+    ensures { IfErr result (λ left.
+        EndsSo E.value E.right E.leaves EndsThread engine left.fault left.engine) }
 {
     let (shared, seats) = match make_shared::<E, J, &'a R, L1, L2>(
         rt, alloc, opened, engine, first, second, 1,

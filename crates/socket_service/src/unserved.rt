@@ -1,5 +1,8 @@
 //! Why a service ended.
 
+ghost use Rattle.std.specs.Prelude.{◌≡◌, None, Some};
+ghost use Rattle.socket_service.specs.Ends.{fault_of};
+
 use kap_service::{Engine, ShareFault, Unshared};
 use serve_words::ServeFault;
 
@@ -13,7 +16,10 @@ pub struct Unserved<E: Engine> {
 }
 
 /// It ended by this fault, and not by its engine.
-pub(crate) fn ended_by<E: Engine>(fault: ServeFault) -> Unserved<E> {
+pub(crate) fn ended_by<E: Engine>(fault: ServeFault) -> Unserved<E>
+    ensures fault { result.fault ≡ fault }
+    ensures engine { result.engine ≡ None }
+{
     Unserved {
         fault,
         engine: None,
@@ -21,7 +27,9 @@ pub(crate) fn ended_by<E: Engine>(fault: ServeFault) -> Unserved<E> {
 }
 
 /// What a service says of an engine that can't be shared.
-fn fault_of(fault: ShareFault) -> ServeFault {
+fn fault_of(fault: ShareFault) -> ServeFault
+    ensures { result ≡ fault_of fault }
+{
     match fault {
         ShareFault::NotStore { part, offset } => ServeFault::NotStore { part, offset },
         ShareFault::DiskFault => ServeFault::DiskFault,
@@ -30,7 +38,10 @@ fn fault_of(fault: ShareFault) -> ServeFault {
 }
 
 /// The engine couldn't be shared.
-pub(crate) fn unshared_by<E: Engine>(left: Unshared<E>) -> Unserved<E> {
+pub(crate) fn unshared_by<E: Engine>(left: Unshared<E>) -> Unserved<E>
+    ensures fault { result.fault ≡ fault_of left.fault }
+    ensures engine { result.engine ≡ Some left.engine }
+{
     let Unshared { fault, engine } = left;
     Unserved {
         fault: fault_of(fault),

@@ -1,19 +1,28 @@
-use Rattle.std.proofs.Common.{◌+◌, Bool, length}
-use Rattle.conn_loop.proofs.ServingLaws.{handed_on}
+use Rattle.std.proofs.Common.{ℕ, ◌+◌, Bool, length, Option, subst}
+use Rattle.conn_loop.specs.Serving.{Counts}
+use Rattle.conn_loop.proofs.ServingLaws.{handed_on, one_came}
 use Rattle.conn_loop.proofs.serving.accept.Goals as goal
 
-pub returns-in-Ok-clause-cause : goal.returns-in-Ok-clause-cause
-returns-in-Ok-clause-cause g c = record {
-  later = c.in-Ok-Some.ensures.cause.later;
-  ready_later = (c.admit.ensures.cause 0 0 0 c.args.serving.now.closed).ready_later;
-  cause = tt;
+pub returns-in-Ok : goal.returns-in-Ok
+returns-in-Ok g c = record {
+  added = search rules;
+  counts = λ first. search rules;
+  cause = record {
+    later = c.in-Ok-Some.ensures.cause.later;
+    ready_later = (c.admit.ensures.cause 0 0 0 c.args.serving.now.closed).ready_later;
+    cause = tt;
+  };
 }
 
-pub returns-in-Err-clause-cause : goal.returns-in-Err-clause-cause
-returns-in-Err-clause-cause g c =
+pub returns-in-Err : goal.returns-in-Err
+returns-in-Err g c =
     let d = g.B.TryDoor.faults c.try_accept.new.self in
     let many = length c.admit.new.held.links in
-    handed_on {U = Bool} (g.B.TryDoor.faults c.args.door.now) d (g.Y.Ready.faults c.args.ready.now)
-    (g.Y.Ready.faults c.admit.new.ready) (c.from.result + 1) many c.args.serving.now.closed c.in-Err.«end»
-    c.in-Ok-Some.ensures.cause.later
-    (c.in-Err.ensures.cause d (c.from.result + 1) many c.args.serving.now.closed)
+    record {
+      added = tt;
+      counts = λ first. search rules;
+      cause = handed_on {U = Bool} (g.B.TryDoor.faults c.args.door.now) d (g.Y.Ready.faults c.args.ready.now)
+          (g.Y.Ready.faults c.admit.new.ready) (c.from.result + 1) many c.args.serving.now.closed c.in-Err.«end»
+          c.in-Ok-Some.ensures.cause.later
+          (c.in-Err.ensures.cause d (c.from.result + 1) many c.args.serving.now.closed);
+    }
