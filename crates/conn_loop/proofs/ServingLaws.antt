@@ -2,6 +2,7 @@
 use Rattle.std.proofs.Common.{◌≡◌, ℕ, ◌+◌, ◌≤◌, Bool, true, false, arith, Option, Some, None, Result, Ok, Err, refl, sym, subst, ◌∙◌}
 use Rattle.kap_base.specs.Words.{HasRisen}
 use Rattle.kap_io.specs.Doors.{Admits}
+use Rattle.kap_io.specs.declared.try_link.Stop.{Stop}
 use Rattle.conn_loop.specs.declared.single.SingleEnd.{SingleEnd}
 use Rattle.conn_loop.specs.declared.single.SingleEnd.TheVariants as ends
 use Rattle.conn_loop.specs.Serving.{Counts, EndsBy, HaveCome, MayEnd}
@@ -32,16 +33,16 @@ pub none_came : (left : Option ℕ) → HaveCome left left 0
 none_came None = tt
 none_came (Some n) = omega arith
 
-came_one : {L E : Type 0} (first left now : Option ℕ) (link : L) (links : ℕ)
-    → Admits {L = L} {E = E} left now (Ok (Some link)) → HaveCome first left links → HaveCome first now (links + 1)
+came_one : {L : Type 0} (first left now : Option ℕ) (link : L) (links : ℕ)
+    → Admits {L = L} {E = Stop} left now (Ok (Some link)) → HaveCome first left links → HaveCome first now (links + 1)
 came_one None left now link links admits came = tt
 came_one (Some n) None now link links admits came = absurd came
 came_one (Some n) (Some k) now link links (m, is, one) came =
     subst (λ (o : Option ℕ). HaveCome (Some n) o (links + 1)) (sym is) (omega arith)
 
 -- a link that came at a door that wasn't found closed
-pub one_came : {L E : Type 0} (first left now : Option ℕ) (link : L) (links : ℕ) (closed : Bool)
-    → Admits {L = L} {E = E} left now (Ok (Some link)) → closed ≡ false → Counts first left links closed
+pub one_came : {L : Type 0} (first left now : Option ℕ) (link : L) (links : ℕ) (closed : Bool)
+    → Admits {L = L} {E = Stop} left now (Ok (Some link)) → closed ≡ false → Counts first left links closed
     → Counts first now (links + 1) closed
 one_came first left now link links closed admits is counts = record {
   came = came_one first left now link links admits counts.came;

@@ -21,9 +21,11 @@ has_none (x ∷ xs) = false
 abbrev pub fails_wait : ReadyState → Bool
 fails_wait ready = is_call_listed ready.fails ready.calls || has_none ready.lists
 
--- a wait: it is counted, and so is its failure, which takes no list; the numbers of the calls that fail stay
+-- a wait: it is counted, and so is its failure, which takes no list and leaves the numbers; those of the calls that fail
+-- stay
 pub record WaitCounts (old new : ReadyState) : Type 0 where
   pub failed : fails_wait old ≡ true → new.lists ≡ old.lists
+  pub left : fails_wait old ≡ true → new.numbers ≡ old.numbers
   pub next : fails_wait old ≡ false → old.lists ≡ new.numbers ∷ new.lists
   pub fails : new.fails ≡ old.fails
   pub calls : new.calls ≡ next_count old.calls

@@ -1,4 +1,4 @@
-use Rattle.std.proofs.Common.{length}
+use Rattle.std.proofs.Common.{length, rules}
 use Rattle.conn_loop.proofs.ServingLaws.{may_behind}
 use Rattle.conn_loop.proofs.serving.serve_once.Goals as goal
 
