@@ -1,5 +1,5 @@
 -- Why serving ends.
-use Rattle.std.proofs.Common.{◌≡◌, ℕ, ◌+◌, ◌≤◌, Bool, true, false, arith, Option, Some, None, Result, Ok, Err, refl, sym, subst, ◌∙◌}
+use Rattle.std.proofs.Common.{◌≡◌, ℕ, ◌+◌, ◌≤◌, Bool, false, arith, Option, Some, None, Result, Ok, Err, sym, subst, ◌∙◌}
 use Rattle.kap_base.specs.Words.{HasRisen}
 use Rattle.kap_io.specs.Doors.{Admits}
 use Rattle.kap_io.specs.declared.try_link.Stop.{Stop}

@@ -1,5 +1,5 @@
 -- Why a service ends.
-use Rattle.std.specs.Prelude.{◌≡◌, ◌×◌, ◌⊎◌, ℕ, Option, Some, None}
+use Rattle.std.specs.Prelude.{◌≡◌, ◌⊎◌, ℕ, Option, Some, None}
 use Rattle.kap_base.specs.Words.{HasRisen}
 use Rattle.kap_io.specs.declared.disk.Part.{Part}
 use Rattle.conn_loop.specs.declared.single.SingleEnd.{SingleEnd}
