@@ -10,8 +10,8 @@ returns-in-Err g c =
     told.fault told.engine c.unshared_by.ensures.fault c.unshared_by.ensures.engine c.in-Err.ensures.same
     c.in-Err.ensures.disk c.in-Err.ensures.store
 
-pub returns-in-Err-serve_from : goal.returns-in-Err-serve_from
-returns-in-Err-serve_from g c =
+pub returns : goal.returns
+returns g c =
     let told = c.ended_by.result in
     ends_by g.E.Engine.value g.E.Engine.right g.E.Engine.leaves EndsThread c.args.engine c.in-Err-serve_from.fault
     told.fault told.engine c.ended_by.ensures.fault c.ended_by.ensures.engine c.in-Err-serve_from.ensures
