@@ -45,13 +45,9 @@ fn facts_of(alloc: Global, alert: &Alert, level: Level, point: Point) -> Result<
     let group = group_of(alloc, &point)?;
     let id = Text::from_str(alloc, "")?;
     let task = alert.task.copy(alloc)?;
-    let Point {
-        name,
-        tags,
-        fields,
-        time,
-        ..
-    } = point;
+    let name = point.name().copy(alloc)?;
+    let tags = point.tags().copy(alloc)?;
+    let Point { fields, time, .. } = point;
     Ok(Facts {
         id,
         name,

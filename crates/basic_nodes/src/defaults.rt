@@ -41,13 +41,15 @@ fn set_field(
 }
 
 /// Puts a tag at a point.
-fn put_tag(point: &mut Point, name: Text, value: Text) -> Result<(), NoMemory>
+fn put_tag(alloc: Global, point: &mut Point, name: Text, value: Text) -> Result<(), NoMemory>
     requires name { IsTrue (is_name name) }
     requires value { IsTrue (is_name value) }
     ensures { OnOk result
         (point.new ≡ record point.old { tags = map.insert point.old.tags name value }) }
 {
-    point.tags.insert(name, value)?;
+    let mut tags = point.tags().copy(alloc)?;
+    tags.insert(name, value)?;
+    point.series = point.series.value().with_tags(alloc, tags)?;
     Ok(())
 }
 
@@ -56,12 +58,12 @@ fn set_tag(alloc: Global, name: &Name, value: &Name, point: &mut Point) -> Resul
     ensures { OnOk result
         (point.new ≡ with_default (DefaultSetting.Tag name.now value.now) point.old) }
 {
-    if point.tags.contains_key(name.text()) {
+    if point.tags().contains_key(name.text()) {
         return Ok(());
     }
     let name = name.text().copy(alloc)?;
     let value = value.text().copy(alloc)?;
-    put_tag(point, name, value)
+    put_tag(alloc, point, name, value)
 }
 
 fn set(alloc: Global, setting: &DefaultSetting, point: &mut Point) -> Result<(), NoMemory>

@@ -5,7 +5,10 @@ ghost use Rattle.std.specs.List.{list_all, list_any};
 ghost use Rattle.std.specs.FinMap.{retain_keys};
 ghost use Rattle.basic_nodes.specs.Deletions.{delete_says, is_left};
 
-use kap_base::{Duplicate, KeyMap, Names, NoMemory, Point, PointDims, SharedText, Text, copies};
+use kap_base::{
+    Duplicate, KeyMap, Names, NoMemory, Point, PointDims, Series, Shared, SharedText, Tags, Text,
+    copies,
+};
 use node_core::{Said, pass_new};
 use std::alloc::Global;
 use task_graph::SharedNames;
@@ -57,6 +60,24 @@ fn all_left<V>(taken: &[SharedText], entries: &[(Text, V)]) -> bool
     entries.iter().all(|entry| is_left(taken, &entry.0))
 }
 
+/// The series without the tags of these keys. One that has none of them stays.
+fn series_left(
+    alloc: Global,
+    taken: &SharedNames,
+    series: Shared<Series>,
+) -> Result<Shared<Series>, NoMemory>
+    ensures { IfOk result (λ left. left
+        ≡ record series { tags = retain_keys series.tags (is_left taken.now) }) }
+{
+    let taken = taken.as_slice();
+    let held = series.value();
+    if all_left(taken, held.tags.entries()) {
+        return Ok(series);
+    }
+    let left = entries_left(alloc, taken, held.tags.entries())?;
+    held.with_tags(alloc, Tags::from_entries(alloc, left)?)
+}
+
 /// The map without these keys. One that has none of them stays.
 fn left<V: Duplicate + Drop>(
     alloc: Global,
@@ -99,10 +120,7 @@ pub(crate) fn feed_delete(
     ensures { IfOk result (λ said. said ≡ delete_says deletion.now point) }
 {
     let Point {
-        db,
-        rp,
-        name,
-        tags,
+        series,
         fields,
         dims,
         by_name,
@@ -112,13 +130,10 @@ pub(crate) fn feed_delete(
     if fields.is_empty() {
         return Ok(Said::dropped(alloc));
     }
-    let tags = left(alloc, &deletion.tags, tags)?;
+    let series = series_left(alloc, &deletion.tags, series)?;
     let dims = names_left(alloc, &deletion.tags, &dims)?;
     let point = Point {
-        db,
-        rp,
-        name,
-        tags,
+        series,
         fields,
         dims,
         by_name,

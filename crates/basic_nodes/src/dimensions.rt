@@ -119,7 +119,7 @@ fn dims_of(alloc: Global, grouping: &Grouping, point: &Point) -> Result<PointDim
 {
     match grouping {
         Grouping::By(dims) => dims.names(alloc),
-        Grouping::ByAll => key_names(alloc, &point.tags),
+        Grouping::ByAll => key_names(alloc, point.tags()),
     }
 }
 

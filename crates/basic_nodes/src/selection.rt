@@ -83,13 +83,13 @@ impl Selection {
     fn agrees(&self, point: &Point) -> bool
         ensures { result ≡ agrees self.now point.now }
     {
-        if !is_asked(&self.database, &point.db) {
+        if !is_asked(&self.database, point.db()) {
             return false;
         }
-        if !is_asked(&self.policy, &point.rp) {
+        if !is_asked(&self.policy, point.rp()) {
             return false;
         }
-        is_asked(&self.measurement, &point.name)
+        is_asked(&self.measurement, point.name())
     }
 }
 

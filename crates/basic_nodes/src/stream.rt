@@ -11,7 +11,7 @@ use std::alloc::Global;
 fn is_of(point: &Point, dbrp: &Dbrp) -> bool
     ensures { result ≡ is_of point.now dbrp.now }
 {
-    dbrp.db == point.db && dbrp.rp == point.rp
+    dbrp.db == *point.db() && dbrp.rp == *point.rp()
 }
 
 fn is_of_one(point: &Point, dbrps: &[Dbrp]) -> bool

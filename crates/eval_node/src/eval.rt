@@ -45,10 +45,7 @@ fn say_kept(
         ≡ unless_empty (with_kept (record { results = results.now; keep = keep.now }) point)) }
 {
     let Point {
-        db,
-        rp,
-        name,
-        tags,
+        series,
         fields,
         dims,
         by_name,
@@ -59,10 +56,7 @@ fn say_kept(
         return Ok(Said::dropped(alloc));
     }
     let kept = Point {
-        db,
-        rp,
-        name,
-        tags,
+        series,
         fields,
         dims,
         by_name,

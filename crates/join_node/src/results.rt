@@ -9,7 +9,7 @@ ghost use Rattle.kap_base.specs.Texts.{is_line, is_measurement};
 ghost use Rattle.join_node.specs.Results.{are_entries, delimiter_of, field_name, first_in, joined, name_or, named_fields, parent_fields, result_of, set_fields, value_or};
 
 use crate::queues::Set;
-use kap_base::{Body, Duplicate, Fields, NoMemory, Point, Shared, Text, Value};
+use kap_base::{Body, Duplicate, Fields, NoMemory, Point, Series, Shared, Text, Value};
 use node_core::Few;
 use std::alloc::Global;
 use task_graph::{Fill, JoinSpec, Line, Measurement, Name};
@@ -254,19 +254,16 @@ fn joined(
       time = time;
     }) }
 {
-    let Point {
-        name,
-        tags,
-        dims,
-        by_name,
-        ..
-    } = first;
-    let name = name_or(alloc, &join.stream_name, name)?;
-    Ok(Point {
+    let name = name_or(alloc, &join.stream_name, first.name().copy(alloc)?)?;
+    let series = Series {
         db: no_text(alloc),
         rp: no_text(alloc),
         name,
-        tags,
+        tags: first.tags().copy(alloc)?,
+    };
+    let Point { dims, by_name, .. } = first;
+    Ok(Point {
+        series: Shared::new(alloc, series)?,
         fields,
         dims,
         by_name,

@@ -21,12 +21,12 @@ pub struct Union {
 }
 
 /// The point with another measurement.
-fn with_name(mut point: Point, name: Text) -> Point
+fn with_name(alloc: Global, mut point: Point, name: Text) -> Result<Point, NoMemory>
     requires { IsTrue (is_measurement name) }
-    ensures { result ≡ with_name name point }
+    ensures { IfOk result (λ p. p ≡ with_name name point) }
 {
-    point.name = name;
-    point
+    point.series = point.series.value().with_name(alloc, name)?;
+    Ok(point)
 }
 
 /// The point, with another measurement where one is given.
@@ -40,7 +40,7 @@ fn renamed(
     match rename {
         Some(name) => {
             let name = name.text().copy(alloc)?;
-            let point = with_name(point.into_value(alloc)?, name);
+            let point = with_name(alloc, point.into_value(alloc)?, name)?;
             Shared::new(alloc, point)
         }
         None => Ok(point),

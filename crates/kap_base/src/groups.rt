@@ -103,7 +103,7 @@ fn group_name(alloc: Global, point: &Point) -> Result<Option<Text>, NoMemory>
     if !point.by_name {
         return Ok(None);
     }
-    Ok(Some(point.name.copy(alloc)?))
+    Ok(Some(point.name().copy(alloc)?))
 }
 
 /// The group of a point: its measurement, where it is grouped by it, and the value of each of its dimensions,
@@ -114,7 +114,7 @@ pub fn group_of(alloc: Global, point: &Point) -> Result<Group, NoMemory>
     Ok(Group {
         name: group_name(alloc, point)?,
         dims: Names::from_items(copies(alloc, point.dims.as_slice())?),
-        values: tag_values(alloc, &point.tags, point.dims.as_slice())?,
+        values: tag_values(alloc, point.tags(), point.dims.as_slice())?,
     })
 }
 

@@ -36,7 +36,7 @@ pub use items::{Body, Effect, Event, Item, Level, Msg, Stamp, What};
 pub use key_map::KeyMap;
 pub use limits::{ID_LIMIT, SCRIPT_LIMIT, TASK_LIMIT, TIME_LIMIT, limits_are_numbers};
 pub use memory::NoMemory;
-pub use point::Point;
+pub use point::{Point, Series};
 pub use point_dims::PointDims;
 pub use rules::{are_dimensions, is_task_id};
 pub use sends::hand_on;

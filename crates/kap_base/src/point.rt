@@ -1,4 +1,4 @@
-ghost use Rattle.std.specs.Prelude.{◌≡◌, nat_lt, IsTrue, OnErr, OnOk};
+ghost use Rattle.std.specs.Prelude.{◌≡◌, nat_lt, IfOk, IsTrue, OnErr, OnOk};
 ghost use Rattle.std.specs.FinMap as map;
 ghost use Rattle.kap_base.specs.Points.{are_dimensions, are_fields, is_value};
 ghost use Rattle.kap_base.specs.Texts.{is_name};
@@ -6,24 +6,54 @@ ghost use Rattle.kap_base.specs.Texts.{is_name};
 use crate::duplicate::Duplicate;
 use crate::memory::NoMemory;
 use crate::point_dims::PointDims;
+use crate::shared::Shared;
 use crate::text::Text;
 use crate::value::Value;
 use crate::{Fields, Tags};
 use std::alloc::Global;
 use std::marker::Model;
 
-/// A point (InfluxDB 1.8: line protocol reference; Kapacitor 1.6: the dimensions and the name by which a task
-/// groups it).
+/// What the points of a series have in common (InfluxDB 1.8: glossary, series).
 #[derive(Debug, PartialEq, Eq, Drop)]
-pub struct Point {
+pub struct Series {
     /// The database.
     pub db: Text,
     /// The retention policy.
     pub rp: Text,
     /// The measurement.
     pub name: Text,
-    /// Its tags.
+    /// The tags.
     pub tags: Tags,
+}
+
+impl Series {
+    /// The same with another measurement. `NoMemory` comes where an allocation fails.
+    pub fn with_name(&self, alloc: Global, name: Text) -> Result<Shared<Series>, NoMemory>
+        ensures { IfOk result (λ series. series ≡ record self.now { name = name }) }
+    {
+        let db = self.db.copy(alloc)?;
+        let rp = self.rp.copy(alloc)?;
+        let tags = self.tags.copy(alloc)?;
+        Shared::new(alloc, Series { db, rp, name, tags })
+    }
+
+    /// The same with these tags in the place of its own. `NoMemory` comes where an allocation fails.
+    pub fn with_tags(&self, alloc: Global, tags: Tags) -> Result<Shared<Series>, NoMemory>
+        ensures { IfOk result (λ series. series ≡ record self.now { tags = tags }) }
+    {
+        let db = self.db.copy(alloc)?;
+        let rp = self.rp.copy(alloc)?;
+        let name = self.name.copy(alloc)?;
+        Shared::new(alloc, Series { db, rp, name, tags })
+    }
+}
+
+/// A point (InfluxDB 1.8: line protocol reference; Kapacitor 1.6: the dimensions and the name by which a task
+/// groups it). Contracts see the parts of its series as its own.
+#[derive(Debug, PartialEq, Eq, Drop)]
+pub struct Point {
+    /// Its database, retention policy, measurement and tags, which many points share.
+    pub series: Shared<Series>,
     /// Its fields, one at least.
     pub fields: Fields,
     /// The names of the tags by which it is grouped, in byte order, each once.
@@ -44,10 +74,10 @@ impl Model for Point {
     ghost coded = { Prim.hlevel (codes, key_map_code) };
 
     ghost view = { λ p. record {
-      db = p.db;
-      rp = p.rp;
-      name = p.name;
-      tags = p.tags;
+      db = p.series.db;
+      rp = p.series.rp;
+      name = p.series.name;
+      tags = p.series.tags;
       fields = p.fields;
       dims = p.dims;
       by_name = p.by_name;
@@ -55,10 +85,7 @@ impl Model for Point {
     } };
 
     ghost inverse = { λ s. record {
-      db = s.db;
-      rp = s.rp;
-      name = s.name;
-      tags = s.tags;
+      series = record { db = s.db; rp = s.rp; name = s.name; tags = s.tags };
       fields = s.fields;
       dims = s.dims;
       by_name = s.by_name;
@@ -66,10 +93,10 @@ impl Model for Point {
     } };
 
     ghost invariant = { λ p. IsPoint (record {
-      db = p.db;
-      rp = p.rp;
-      name = p.name;
-      tags = p.tags;
+      db = p.series.db;
+      rp = p.series.rp;
+      name = p.series.name;
+      tags = p.series.tags;
       fields = p.fields;
       dims = p.dims;
       by_name = p.by_name;
@@ -78,6 +105,34 @@ impl Model for Point {
 }
 
 impl Point {
+    /// Its database.
+    pub fn db(&self) -> &Text
+        ensures { result.now ≡ self.now.db }
+    {
+        &self.series.value().db
+    }
+
+    /// Its retention policy.
+    pub fn rp(&self) -> &Text
+        ensures { result.now ≡ self.now.rp }
+    {
+        &self.series.value().rp
+    }
+
+    /// Its measurement.
+    pub fn name(&self) -> &Text
+        ensures { result.now ≡ self.now.name }
+    {
+        &self.series.value().name
+    }
+
+    /// Its tags.
+    pub fn tags(&self) -> &Tags
+        ensures { result.now ≡ self.now.tags }
+    {
+        &self.series.value().tags
+    }
+
     /// Puts a field at the point, in the place of the one that has the name. An `Err` changes nothing.
     pub fn put_field(&mut self, name: Text, value: Value) -> Result<(), NoMemory>
         requires name { IsTrue (is_name name) }
@@ -113,10 +168,7 @@ impl Point {
 impl Duplicate for Point {
     fn copy(&self, alloc: Global) -> Result<Point, NoMemory> {
         Ok(Point {
-            db: self.db.copy(alloc)?,
-            rp: self.rp.copy(alloc)?,
-            name: self.name.copy(alloc)?,
-            tags: self.tags.copy(alloc)?,
+            series: self.series.copy(alloc)?,
             fields: self.fields.copy(alloc)?,
             dims: self.dims.copy(alloc)?,
             by_name: self.by_name,

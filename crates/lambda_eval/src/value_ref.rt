@@ -99,7 +99,7 @@ fn tag_of<'a>(point: &'a Point, name: &Text) -> Option<ValueRef<'a>>
         ≡ option_map (λ t. Str t) (get point.now.tags name.now) }
     ensures field { IfSome result (λ seen. IsTrue (is_value (the_value seen))) }
 {
-    match point.tags.get(name) {
+    match point.tags().get(name) {
         Some(tag) => Some(ValueRef::Str(TextRef::Borrowed(tag))),
         None => None,
     }

@@ -13,6 +13,7 @@ pub mod FieldLaws
 pub mod SpaceLaws
 pub mod TimeLaws
 pub mod WholeLaws
+pub mod SeriesLaws
 pub mod CleanLaws
 pub mod FactLaws
 pub mod PrintedLaws

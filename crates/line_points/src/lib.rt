@@ -8,6 +8,7 @@ mod fault;
 mod fault_text;
 mod law;
 mod line;
+mod memo;
 mod mode;
 mod number;
 mod part;

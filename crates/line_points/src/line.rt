@@ -2,22 +2,24 @@ ghost use Rattle.std.specs.Prelude.{◌≡◌, ◌≢◌, Ok, Err, Some, not, Is
 ghost use Rattle.kap_base.specs.Words.{Answers};
 ghost use Rattle.kap_base.specs.Texts.{has_line_feed};
 ghost use Rattle.line_points.specs.Parts.{without_spaces};
-ghost use Rattle.line_points.specs.Line.{IsReadable, has_time, point_of, line_of, stored_of};
+ghost use Rattle.line_points.specs.Line.{IsReadable, has_time, line_of, stored_of};
+ghost use Rattle.line_points.specs.Reading.{point_from};
 ghost use Rattle.line_points.specs.Answered.{LineMeans, StoredMeans};
 
 use crate::bytes::{is_blank, text};
 use crate::fault::LineFault;
 use crate::mode::Mode;
-use crate::reading::{fields, last_time, measurement, tags};
+use crate::reading::{fields, last_time, series};
 use crate::room::{Pool, Room};
 use crate::scanner::Scanner;
-use kap_base::{Duplicate, Point, PointDims, Shared, Text};
+use kap_base::{Point, PointDims, Shared, Text};
 use std::alloc::Global;
 
 /// How many bytes a line may have.
 pub const LINE_LIMIT: usize = 65_536;
 
-#[tactic(auto, unfolding(crate::specs::Line::point_of))]
+/// The point of a line, its series first.
+#[tactic(auto, unfolding(crate::specs::Reading::point_from))]
 fn point(
     alloc: Global,
     line: &str,
@@ -28,21 +30,15 @@ fn point(
 ) -> Result<Point, LineFault>
     requires { IsReadable db.now rp.now mode.now line.now }
     ensures { Answers LineFault.NoMemory result (
-        point_of db.now rp.now mode.now (without_spaces line.now)) }
+        point_from db.now rp.now mode.now (without_spaces line.now)) }
 {
     let mut scanner = Scanner::new(line);
     scanner.skip_spaces();
-    let name = measurement(alloc, &mut scanner)?;
-    let tags = tags(alloc, &mut scanner, room)?;
+    let series = series(alloc, &mut scanner, db, rp, room.memo())?;
     let fields = fields(alloc, &mut scanner, room)?;
     let time = last_time(mode, &mut scanner)?;
-    let db = db.copy(alloc)?;
-    let rp = rp.copy(alloc)?;
     Ok(Point {
-        db,
-        rp,
-        name,
-        tags,
+        series,
         fields,
         dims: PointDims::none(),
         by_name: false,

@@ -127,8 +127,8 @@ fn put_parts(point: &Point, out: &mut Bytes) -> Result<(), NoMemory>
     ensures point { OnOk result (IsPoint point.now) }
     ensures before { take (length out.old) out.new ≡ out.old }
 {
-    put_part(Part::Measurement, &point.name, out)?;
-    put_tags(point.tags.entries(), out)?;
+    put_part(Part::Measurement, point.name(), out)?;
+    put_tags(point.tags().entries(), out)?;
     out.push(b' ')?;
     put_fields(point.fields.entries(), out)?;
     out.push(b' ')?;

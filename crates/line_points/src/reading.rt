@@ -1,23 +1,25 @@
-ghost use Rattle.std.specs.Prelude.{◌≡◌, ◌≤◌, [], Ok, Err, length, if◌then◌else◌};
+ghost use Rattle.std.specs.Prelude.{◌≡◌, ◌≤◌, [], Ok, Err, length, if◌then◌else◌, IfNone, IfOk, IfSome, IsUtf8};
 ghost use Rattle.std.specs.FinMap as map;
 ghost use Rattle.kap_base.specs.Words.{Answers};
 ghost use Rattle.kap_base.specs.Maps.{with_entries};
 ghost use Rattle.line_points.specs.Parts.{without_spaces};
 ghost use Rattle.line_points.specs.Line.{differ, measurement_at, tag_at, tags_from, tags_at, quoted_at, word_at, value_at, field_at, fields_from, fields_at, time_of};
-ghost use Rattle.line_points.specs.Reading.{Gives};
+ghost use Rattle.line_points.specs.Reading.{Gives, series_at};
 
+use crate::bytes::{begins_with, comma_count};
 use crate::fault::LineFault;
+use crate::memo::{Front, Memo};
 use crate::mode::Mode;
 use crate::part::Part;
 use crate::room::Room;
 use crate::scanner::Scanner;
 use crate::time::time;
 use crate::word::word_value;
-use kap_base::{Fields, ItemList, Tags, Text, Value};
+use kap_base::{Duplicate, Fields, ItemList, Series, Shared, Tags, Text, Value};
 use std::alloc::Global;
 
 #[tactic(auto, unfolding(crate::specs::Line::measurement_at))]
-pub fn measurement(alloc: Global, scanner: &mut Scanner) -> Result<Text, LineFault>
+fn measurement(alloc: Global, scanner: &mut Scanner) -> Result<Text, LineFault>
     ensures { Gives result scanner.new.rest.now (measurement_at scanner.old.rest.now) }
 {
     if scanner.begins_with(b'#') {
@@ -78,12 +80,86 @@ fn tag_map(alloc: Global, tags: ItemList<(Text, Text)>) -> Result<Tags, LineFaul
 }
 
 #[tactic(auto, unfolding(crate::specs::Line::tags_at))]
-pub fn tags(alloc: Global, scanner: &mut Scanner, room: &mut Room) -> Result<Tags, LineFault>
+fn tags(alloc: Global, scanner: &mut Scanner) -> Result<Tags, LineFault>
     ensures { Gives result scanner.new.rest.now (tags_at scanner.old.rest.now) }
 {
-    let room = room.take_tags(alloc, scanner.rest())?;
+    let room = Vec::with_capacity(alloc, comma_count(scanner.rest()))?;
     let tags = all_tags(alloc, scanner, room)?;
     tag_map(alloc, tags)
+}
+
+/// The series that comes next, read.
+#[tactic(auto, unfolding(crate::specs::Reading::series_at))]
+fn new_series(
+    alloc: Global,
+    scanner: &mut Scanner,
+    db: &Text,
+    rp: &Text,
+) -> Result<Shared<Series>, LineFault>
+    ensures value { Gives result scanner.new.rest.now
+        (series_at db.now rp.now scanner.old.rest.now) }
+    ensures db_utf8 { IfOk result (λ series. IsUtf8 series.db) }
+    ensures rp_utf8 { IfOk result (λ series. IsUtf8 series.rp) }
+{
+    let name = measurement(alloc, scanner)?;
+    let tags = tags(alloc, scanner)?;
+    let db = db.copy(alloc)?;
+    let rp = rp.copy(alloc)?;
+    let series = Shared::new(alloc, Series { db, rp, name, tags })?;
+    Ok(series)
+}
+
+/// The series that comes next, where the memo knows it by this front.
+fn known_series(
+    alloc: Global,
+    scanner: &mut Scanner,
+    front: Front,
+    db: &Text,
+    rp: &Text,
+    memo: &Memo,
+) -> Option<Shared<Series>>
+    ensures known { IfSome result (λ series.
+        series_at db.now rp.now scanner.old.rest.now ≡ Ok (series, scanner.new.rest.now)) }
+    ensures unknown { IfNone result (scanner.new.rest.now ≡ scanner.old.rest.now) }
+    ensures db_utf8 { IfSome result (λ series. IsUtf8 series.db) }
+    ensures rp_utf8 { IfSome result (λ series. IsUtf8 series.rp) }
+{
+    let line = scanner.rest();
+    if front.len > line.len() {
+        return None;
+    }
+    let (first, behind) = line.split_at(front.len);
+    if !begins_with(behind, b' ') {
+        return None;
+    }
+    let Some(series) = memo.find(alloc, first, front.place, db, rp) else {
+        return None;
+    };
+    scanner.skip(front.len);
+    Some(series)
+}
+
+/// The series that comes next: the one that the memo knows, or else a new one, which it is given.
+pub fn series(
+    alloc: Global,
+    scanner: &mut Scanner,
+    db: &Text,
+    rp: &Text,
+    memo: &mut Memo,
+) -> Result<Shared<Series>, LineFault>
+    ensures value { Gives result scanner.new.rest.now
+        (series_at db.now rp.now scanner.old.rest.now) }
+    ensures db_utf8 { IfOk result (λ series. IsUtf8 series.db) }
+    ensures rp_utf8 { IfOk result (λ series. IsUtf8 series.rp) }
+{
+    let line = scanner.rest();
+    let front = Front::of(line);
+    if let Some(series) = known_series(alloc, scanner, front, db, rp, memo) {
+        return Ok(series);
+    }
+    let series = new_series(alloc, scanner, db, rp)?;
+    memo.keep(alloc, line, scanner.rest(), front.place, &series);
+    Ok(series)
 }
 
 #[tactic(auto, unfolding(crate::specs::Line::quoted_at))]

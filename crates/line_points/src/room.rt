@@ -1,9 +1,10 @@
-//! Memory of points that nobody needs any more, in which next ones are read.
+//! Memory of points that nobody needs any more, in which next ones are read, and the series of those before.
 
 ghost use Rattle.std.specs.Prelude.{◌≡◌, ◌≤◌, [], IfOk, length};
 ghost use Rattle.line_points.specs.declared.room.TheConstants.{SPARE_LIMIT};
 
 use crate::bytes::comma_count;
+use crate::memo::Memo;
 use kap_base::{NoMemory, Point, Shared, Text, Value};
 use std::alloc::Global;
 use std::mem;
@@ -11,59 +12,55 @@ use std::mem;
 /// How many points are kept at most, in whose memory next ones are read: as many as a replay reads at once.
 pub const SPARE_LIMIT: usize = 1_280;
 
-/// Room for the tags and the fields of a point that is to be read. What it held counts for nothing.
+/// Room for the fields of a point that is to be read, and the series that were read. What the room held counts
+/// for nothing.
 #[derive(Drop)]
 pub(crate) struct Room {
-    tags: Vec<(Text, Text)>,
     fields: Vec<(Text, Value)>,
+    memo: Memo,
 }
 
-/// The list without its items; where it has no room, with some for as many as the bytes have commas, and
-/// `more`.
+/// The list without its items; where it has no room, with some for one more than the bytes have commas.
 fn emptied<T: Drop>(
     alloc: Global,
     mut list: Vec<T>,
     bytes: &[u8],
-    more: usize,
 ) -> Result<Vec<T>, NoMemory>
-    requires { more ≤ 1 }
     ensures { IfOk result (λ list. list.items ≡ []) }
 {
     if list.capacity() == 0 {
-        return Ok(Vec::with_capacity(alloc, comma_count(bytes) + more)?);
+        return Ok(Vec::with_capacity(alloc, comma_count(bytes) + 1)?);
     }
     list.clear();
     Ok(list)
 }
 
 impl Room {
-    /// No room yet.
+    /// No room yet, and a memo that keeps nothing.
     pub(crate) fn new(alloc: Global) -> Room {
         Room {
-            tags: Vec::new(alloc),
             fields: Vec::new(alloc),
+            memo: Memo::none(alloc),
         }
     }
 
-    /// The room that a point took.
-    fn of_point(point: Point) -> Room {
-        let Point { tags, fields, .. } = point;
+    /// No room yet, and a memo in which nothing stands.
+    fn with_memo(alloc: Global) -> Room {
         Room {
-            tags: tags.into_entries(),
-            fields: fields.into_entries(),
+            fields: Vec::new(alloc),
+            memo: Memo::new(alloc),
         }
     }
 
-    /// Room for the tags at the front of these bytes.
-    pub(crate) fn take_tags(
-        &mut self,
-        alloc: Global,
-        bytes: &[u8],
-    ) -> Result<Vec<(Text, Text)>, NoMemory>
-        ensures { IfOk result (λ list. list.items ≡ []) }
-    {
-        let list = mem::replace(&mut self.tags, Vec::new(alloc));
-        emptied(alloc, list, bytes, 0)
+    /// The series that were read.
+    pub(crate) fn memo(&mut self) -> &mut Memo {
+        &mut self.memo
+    }
+
+    /// Takes the room that a point took.
+    fn take_of(&mut self, point: Point) {
+        let Point { fields, .. } = point;
+        self.fields = fields.into_entries();
     }
 
     /// Room for the fields at the front of these bytes.
@@ -75,7 +72,7 @@ impl Room {
         ensures { IfOk result (λ list. list.items ≡ []) }
     {
         let list = mem::replace(&mut self.fields, Vec::new(alloc));
-        emptied(alloc, list, bytes, 1)
+        emptied(alloc, list, bytes)
     }
 }
 
@@ -105,7 +102,8 @@ fn add_spares(spares: &mut Vec<Shared<Point>>, points: Vec<Shared<Point>>)
 }
 
 /// Points that their owner doesn't need any more, in whose memory next ones are read, as far as nobody else
-/// has them then. It keeps at most `SPARE_LIMIT` of them, however many it is given.
+/// has them then. It keeps at most `SPARE_LIMIT` of them, however many it is given, and the series that it read
+/// last.
 #[derive(Drop)]
 pub struct Pool {
     spares: Vec<Shared<Point>>,
@@ -118,7 +116,7 @@ impl Pool {
     pub fn new(alloc: Global) -> Pool {
         Pool {
             spares: Vec::new(alloc),
-            room: Room::new(alloc),
+            room: Room::with_memo(alloc),
         }
     }
 
@@ -127,7 +125,7 @@ impl Pool {
         add_spares(&mut self.spares, points);
     }
 
-    /// The room of the point that was placed last.
+    /// The room of the point that was placed last, and the series that were read.
     pub(crate) fn room(&mut self) -> &mut Room {
         &mut self.room
     }
@@ -141,7 +139,7 @@ impl Pool {
         };
         let (point, old) = spare.replace(alloc, point)?;
         if let Some(old) = old {
-            self.room = Room::of_point(old);
+            self.room.take_of(old);
         }
         Ok(point)
     }

@@ -51,7 +51,8 @@ impl<'a> Scanner<'a> {
         }
     }
 
-    fn skip(&mut self, count: usize)
+    /// Passes so many bytes.
+    pub fn skip(&mut self, count: usize)
         requires { IsCharBoundary self.old.rest.now count }
         ensures { self.new.rest.now ≡ drop count self.old.rest.now }
     {

@@ -61,12 +61,12 @@ fn add_key(to: &mut Bytes, point: &Point) -> Result<(), NoMemory>
     ensures { OnOk result (to.new ≡ to.old ++ group_key point.now) }
 {
     if point.by_name {
-        add_ended(to, point.name.bytes())?;
+        add_ended(to, point.name().bytes())?;
     } else {
         to.push(MARK)?;
     }
     'adding: for dim in point.dims.as_slice() {
-        add_dim(to, &point.tags, dim)?;
+        add_dim(to, point.tags(), dim)?;
     }
     Ok(())
 }

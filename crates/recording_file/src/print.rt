@@ -11,9 +11,9 @@ pub fn print_record(alloc: Global, point: &Point) -> Result<Bytes, NoMemory>
     ensures { IfOk result (λ text. text ≡ record_text point.now) }
 {
     let mut text = Bytes::new(alloc);
-    text.append(point.db.bytes())?;
+    text.append(point.db().bytes())?;
     text.push(b'\n')?;
-    text.append(point.rp.bytes())?;
+    text.append(point.rp().bytes())?;
     text.push(b'\n')?;
     put_line(point, &mut text)?;
     text.push(b'\n')?;

@@ -4,7 +4,7 @@ ghost use Rattle.std.specs.Prelude.{◌≡◌, ◌<◌, ◌≤◌, ◌++◌, IfO
 ghost use Rattle.std.specs.Fmt.{decimal};
 ghost use Rattle.sample_points.specs.Samples.{fields_of, sample_of, tags_of};
 
-use kap_base::{Fields, NoMemory, Point, PointDims, Tags, Text, Value};
+use kap_base::{Fields, NoMemory, Point, PointDims, Series, Shared, Tags, Text, Value};
 use std::alloc::Global;
 
 /// The most points of a sample recording.
@@ -45,11 +45,14 @@ pub fn sample_point(alloc: Global, number: u64) -> Result<Point, NoMemory>
     requires { number ≤ SAMPLE_LIMIT }
     ensures { IfOk result (λ p. p ≡ sample_of number) }
 {
-    Ok(Point {
+    let series = Series {
         db: Text::from_str(alloc, "telegraf")?,
         rp: Text::from_str(alloc, "autogen")?,
         name: Text::from_str(alloc, "cpu")?,
         tags: tags(alloc, number % 8)?,
+    };
+    Ok(Point {
+        series: Shared::new(alloc, series)?,
         fields: fields(alloc, (37 * number % 101) as i64)?,
         dims: PointDims::none(),
         by_name: false,

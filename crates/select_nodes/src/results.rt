@@ -14,8 +14,8 @@ ghost use Rattle.select_nodes.specs.Steps.{choice_items};
 use crate::choices::{Choice, choose};
 use crate::picks::Pick;
 use kap_base::{
-    Batch, Body, Duplicate, Fields, Group, Names, NoMemory, Point, PointDims, Shared, Tags, Text,
-    Value,
+    Batch, Body, Duplicate, Fields, Group, Names, NoMemory, Point, PointDims, Series, Shared, Tags,
+    Text, Value,
 };
 use node_core::{Few, Said, pass_new};
 use std::alloc::Global;
@@ -113,11 +113,14 @@ fn result_point(
     let tags = group_tags(alloc, names.as_slice(), values)?;
     let Pick { value, time } = pick;
     let dims = PointDims::new(alloc, names)?;
-    Ok(Point {
+    let series = Series {
         db: Text::from_str(alloc, "")?,
         rp: Text::from_str(alloc, "")?,
         name,
         tags,
+    };
+    Ok(Point {
+        series: Shared::new(alloc, series)?,
         fields: one_field(alloc, field, value)?,
         dims,
         by_name: by_name.is_some(),

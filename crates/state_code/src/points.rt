@@ -11,8 +11,8 @@ use crate::fields::{put_i64, put_text};
 use crate::lists::put_items;
 use crate::spelled::Spelled;
 use kap_base::{
-    Bytes, Fields, Names, NoMemory, Point, PointDims, Shared, Tags, Text, Value, are_dimensions,
-    is_time,
+    Bytes, Fields, Names, NoMemory, Point, PointDims, Series, Shared, Tags, Text, Value,
+    are_dimensions, is_time,
 };
 use std::alloc::Global;
 
@@ -83,9 +83,9 @@ fn append_named(point: &Point, to: &mut Bytes) -> Result<(), NoMemory>
     ensures fits { OnOk result (FitsNamed (point_parts point.now).0) }
     ensures before { take (length to.old) to.new ≡ to.old }
 {
-    put_text(to, &point.db)?;
-    put_text(to, &point.rp)?;
-    put_text(to, &point.name)
+    put_text(to, point.db())?;
+    put_text(to, point.rp())?;
+    put_text(to, point.name())
 }
 
 fn append_maps(point: &Point, to: &mut Bytes) -> Result<(), NoMemory>
@@ -93,7 +93,7 @@ fn append_maps(point: &Point, to: &mut Bytes) -> Result<(), NoMemory>
     ensures fits { OnOk result (FitsMaps (point_parts point.now).1.0) }
     ensures before { take (length to.old) to.new ≡ to.old }
 {
-    point.tags.append_spelling(to)?;
+    point.tags().append_spelling(to)?;
     point.fields.append_spelling(to)
 }
 
@@ -140,12 +140,10 @@ impl Spelled for Point {
         if !are_held(&tags, &fields, &names, time) {
             return Err(CodeFault::At(from.offset()));
         }
+        let series = Shared::new(alloc, Series { db, rp, name, tags })?;
         let dims = PointDims::new(alloc, names)?;
         Ok(Point {
-            db,
-            rp,
-            name,
-            tags,
+            series,
             fields,
             dims,
             by_name,

@@ -23,10 +23,10 @@ fn is_bytes(bytes: &[u8], other: &[u8]) -> bool
 fn is_of(db: &Text, rp: &Text, point: &Point) -> bool
     ensures { result ≡ is_of db.now rp.now point.now }
 {
-    if !point.db.is_same(db) {
+    if !point.db().is_same(db) {
         return false;
     }
-    if !point.rp.is_same(rp) {
+    if !point.rp().is_same(rp) {
         return false;
     }
     if !point.dims.as_slice().is_empty() {

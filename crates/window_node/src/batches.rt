@@ -18,7 +18,7 @@ pub(crate) fn frame_of(alloc: Global, point: &Point) -> Result<(Text, Group), No
     ensures group { IfOk result (λ frame. frame.1 ≡ group_of point.now) }
     ensures measurement { IsTrue (is_measurement point.now.name) }
 {
-    let name = point.name.copy(alloc)?;
+    let name = point.name().copy(alloc)?;
     let group = group_of(alloc, point)?;
     Ok((name, group))
 }

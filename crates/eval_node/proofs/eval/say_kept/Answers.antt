@@ -9,4 +9,4 @@ invariant_of-kept c =
     let fits : SFits w64 c.point.inside.time = search rules in
     let p = c.point.inside in
     rw (to_z-of_z fits)
-    (kept_fits (record { db = p.db; rp = p.rp; name = p.name; tags = p.tags; fields = p.fields; dims = p.dims; by_name = p.by_name; time = p.time }) _ _ c.in_ok-fields.ensures (sym c.if-is_empty.ensures) c.point.invariant)
+    (kept_fits (record { db = p.series.db; rp = p.series.rp; name = p.series.name; tags = p.series.tags; fields = p.fields; dims = p.dims; by_name = p.by_name; time = p.time }) _ _ c.in_ok-fields.ensures (sym c.if-is_empty.ensures) c.point.invariant)
