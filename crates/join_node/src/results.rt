@@ -254,16 +254,14 @@ fn joined(
       time = time;
     }) }
 {
+    let db = no_text(alloc);
+    let rp = no_text(alloc);
     let name = name_or(alloc, &join.stream_name, first.name().copy(alloc)?)?;
-    let series = Series {
-        db: no_text(alloc),
-        rp: no_text(alloc),
-        name,
-        tags: first.tags().copy(alloc)?,
-    };
+    let tags = first.tags().copy(alloc)?;
+    let series = Shared::new(alloc, Series { db, rp, name, tags })?;
     let Point { dims, by_name, .. } = first;
     Ok(Point {
-        series: Shared::new(alloc, series)?,
+        series,
         fields,
         dims,
         by_name,

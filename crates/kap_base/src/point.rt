@@ -1,7 +1,8 @@
-ghost use Rattle.std.specs.Prelude.{◌≡◌, nat_lt, IfOk, IsTrue, OnErr, OnOk};
+ghost use Rattle.std.specs.Prelude.{◌≡◌, ◌&&◌, nat_lt, IfOk, IsTrue, OnErr, OnOk};
 ghost use Rattle.std.specs.FinMap as map;
+ghost use Rattle.std.specs.List.{list_all};
 ghost use Rattle.kap_base.specs.Points.{are_dimensions, are_fields, is_value};
-ghost use Rattle.kap_base.specs.Texts.{is_name};
+ghost use Rattle.kap_base.specs.Texts.{is_line, is_measurement, is_name};
 
 use crate::duplicate::Duplicate;
 use crate::memory::NoMemory;
@@ -107,28 +108,32 @@ impl Model for Point {
 impl Point {
     /// Its database.
     pub fn db(&self) -> &Text
-        ensures { result.now ≡ self.now.db }
+        ensures db { result.now ≡ self.now.db }
+        ensures line { IsTrue (is_line result.now) }
     {
         &self.series.value().db
     }
 
     /// Its retention policy.
     pub fn rp(&self) -> &Text
-        ensures { result.now ≡ self.now.rp }
+        ensures rp { result.now ≡ self.now.rp }
+        ensures line { IsTrue (is_line result.now) }
     {
         &self.series.value().rp
     }
 
     /// Its measurement.
     pub fn name(&self) -> &Text
-        ensures { result.now ≡ self.now.name }
+        ensures name { result.now ≡ self.now.name }
+        ensures measurement { IsTrue (is_measurement result.now) }
     {
         &self.series.value().name
     }
 
     /// Its tags.
     pub fn tags(&self) -> &Tags
-        ensures { result.now ≡ self.now.tags }
+        ensures tags { result.now ≡ self.now.tags }
+        ensures names { IsTrue (list_all (λ e. is_name e.0 && is_name e.1) (map.entries result.now)) }
     {
         &self.series.value().tags
     }

@@ -46,7 +46,7 @@ fn point(
     })
 }
 
-#[tactic(auto, unfolding(crate::specs::Line::stored_of))]
+#[tactic(auto, unfolding(crate::specs::Line::stored_of), using(crate::proofs::SeriesLaws::same_point))]
 fn stored_point(
     alloc: Global,
     line: &[u8],

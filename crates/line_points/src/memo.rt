@@ -79,7 +79,11 @@ fn is_of(series: &Series, db: &Text, rp: &Text) -> bool
 }
 
 /// A series under its front.
-fn known(alloc: Global, front: &[u8], series: &Shared<Series>) -> Result<Known, NoMemory>
+fn under_front(
+    alloc: Global,
+    front: &[u8],
+    series: &Shared<Series>,
+) -> Result<Known, NoMemory>
     requires { GivesSeries series.now.db series.now.rp front.now series.now }
 {
     let mut bytes = Bytes::new(alloc);
@@ -174,7 +178,7 @@ impl Memo {
             self.places = places;
         }
         let (front, _) = line.split_at(line.len() - rest.len());
-        if let Ok(known) = known(alloc, front, series) {
+        if let Ok(known) = under_front(alloc, front, series) {
             put(&mut self.places, place, known);
         }
     }

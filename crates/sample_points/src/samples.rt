@@ -45,14 +45,13 @@ pub fn sample_point(alloc: Global, number: u64) -> Result<Point, NoMemory>
     requires { number ≤ SAMPLE_LIMIT }
     ensures { IfOk result (λ p. p ≡ sample_of number) }
 {
-    let series = Series {
-        db: Text::from_str(alloc, "telegraf")?,
-        rp: Text::from_str(alloc, "autogen")?,
-        name: Text::from_str(alloc, "cpu")?,
-        tags: tags(alloc, number % 8)?,
-    };
+    let db = Text::from_str(alloc, "telegraf")?;
+    let rp = Text::from_str(alloc, "autogen")?;
+    let name = Text::from_str(alloc, "cpu")?;
+    let tags = tags(alloc, number % 8)?;
+    let series = Shared::new(alloc, Series { db, rp, name, tags })?;
     Ok(Point {
-        series: Shared::new(alloc, series)?,
+        series,
         fields: fields(alloc, (37 * number % 101) as i64)?,
         dims: PointDims::none(),
         by_name: false,

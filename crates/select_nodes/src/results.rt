@@ -113,14 +113,11 @@ fn result_point(
     let tags = group_tags(alloc, names.as_slice(), values)?;
     let Pick { value, time } = pick;
     let dims = PointDims::new(alloc, names)?;
-    let series = Series {
-        db: Text::from_str(alloc, "")?,
-        rp: Text::from_str(alloc, "")?,
-        name,
-        tags,
-    };
+    let db = Text::from_str(alloc, "")?;
+    let rp = Text::from_str(alloc, "")?;
+    let series = Shared::new(alloc, Series { db, rp, name, tags })?;
     Ok(Point {
-        series: Shared::new(alloc, series)?,
+        series,
         fields: one_field(alloc, field, value)?,
         dims,
         by_name: by_name.is_some(),
