@@ -161,3 +161,7 @@ space_at (suc n) (b ∷ bs) found =
 -- a text may be cut before a space
 pub space_boundary : (n : ℕ) (bytes : List ℕ) → begins_with space (drop n bytes) ≡ true → IsCharBoundary bytes n
 space_boundary n bytes found = let s = space_at n bytes found in IsCharBoundary-before_ascii bytes n s.within s.low
+
+-- a series is of its own database and policy
+pub own_series : (db rp bytes : List ℕ) (series : Series) (rest : List ℕ) → series_at db rp bytes ≡ Ok (series, rest) → series_at series.db series.rp bytes ≡ Ok (series, rest)
+own_series db rp bytes series rest e = let p = series_parts db rp bytes series rest e in rw (p.db_is, p.rp_is) e

@@ -7,16 +7,34 @@ ghost use Rattle.line_points.specs.Reading.{GivesSeries, series_at};
 use crate::bytes::begins_with;
 use kap_base::{Bytes, Duplicate, NoMemory, Series, Shared, Text, are_same};
 use std::alloc::Global;
+use std::marker::Model;
 
 /// How many series a memo keeps at most.
 pub const MEMO_LIMIT: usize = 1_024;
+
+/// How many bytes the front of a line has at most whose series is kept.
+pub const FRONT_LIMIT: usize = 1_024;
 
 /// The front of a line, up to the space behind its tags, and the series that it gives.
 #[derive(Drop)]
 struct Known {
     front: Bytes,
     series: Shared<Series>,
-    ghost reads: { GivesSeries series.db series.rp front series },
+}
+
+impl Model for Known {
+    ghost use Rattle.std.specs.Prelude.{List, ℕ};
+    ghost use Rattle.std.specs.Coded.{codes};
+    ghost use Rattle.kap_base.specs.Maps.{key_map_code};
+    ghost use Rattle.line_points.specs.Reading.{GivesSeries};
+
+    ghost Value = { List ℕ × Series };
+
+    ghost coded = { Prim.hlevel (codes, key_map_code) };
+
+    ghost view = { λ k. (k.front, k.series) };
+
+    ghost invariant = { λ k. GivesSeries k.series.db k.series.rp k.front k.series };
 }
 
 /// How far the front of a line goes, as far as that is seen without reading it, and where its series stands in
@@ -42,10 +60,9 @@ impl Front {
             sum = (sum ^ u64::from(*byte)).wrapping_mul(1_099_511_628_211);
             len = len.saturating_add(1);
         }
-        let folded = (sum ^ (sum >> 32)) % 1_024;
         Front {
             len,
-            place: folded as usize,
+            place: (sum ^ (sum >> 32)) as usize % MEMO_LIMIT,
         }
     }
 }
@@ -157,7 +174,8 @@ impl Memo {
     }
 
     /// Keeps a series that was read from these bytes, up to the rest of them, under its front and at this
-    /// place. It keeps none where the rest doesn't begin with a space, or memory is short.
+    /// place. It keeps none where the rest doesn't begin with a space, the front is longer than `FRONT_LIMIT`, or
+    /// memory is short.
     pub fn keep(
         &mut self,
         alloc: Global,
@@ -178,6 +196,9 @@ impl Memo {
             self.places = places;
         }
         let (front, _) = line.split_at(line.len() - rest.len());
+        if front.len() > FRONT_LIMIT {
+            return;
+        }
         if let Ok(known) = under_front(alloc, front, series) {
             put(&mut self.places, place, known);
         }
