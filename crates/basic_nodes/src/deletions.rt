@@ -75,7 +75,8 @@ fn series_left(
         return Ok(series);
     }
     let left = entries_left(alloc, taken, held.tags.entries())?;
-    held.with_tags(alloc, Tags::from_entries(alloc, left)?)
+    let tags = Tags::from_entries(alloc, left)?;
+    held.with_tags(alloc, tags)
 }
 
 /// The map without these keys. One that has none of them stays.
