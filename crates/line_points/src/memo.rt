@@ -26,6 +26,7 @@ impl Model for Known {
     ghost use Rattle.std.specs.Prelude.{List, ℕ};
     ghost use Rattle.std.specs.Coded.{codes};
     ghost use Rattle.kap_base.specs.Maps.{key_map_code};
+    ghost use Rattle.kap_base.specs.declared.point.Series.{Series};
     ghost use Rattle.line_points.specs.Reading.{GivesSeries};
 
     ghost Value = { List ℕ × Series };
