@@ -133,7 +133,8 @@ impl Point {
     /// Its tags.
     pub fn tags(&self) -> &Tags
         ensures tags { result.now ≡ self.now.tags }
-        ensures names { IsTrue (list_all (λ e. is_name e.0 && is_name e.1) (map.entries result.now)) }
+        ensures names { IsTrue (list_all (λ e. is_name e.0 && is_name e.1)
+            (map.entries result.now)) }
     {
         &self.series.value().tags
     }

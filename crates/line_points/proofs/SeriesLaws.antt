@@ -123,7 +123,7 @@ front_gives bytes series rest e found =
     let longer : length bytes ≡ length f.front + length rest = ap length f.is ∙ length-append f.front rest in
     let place : length f.front ≡ length bytes - length rest = omega (arith, longer) in
     let front_is : take (length bytes - length rest) bytes ≡ f.front =
-        ap (λ (n : ℕ). take n bytes) (sym place) ∙ ap (take (length f.front)) f.is ∙ take-append_seam f.front rest in
+    ap (λ (n : ℕ). take n bytes) (sym place) ∙ ap (take (length f.front)) f.is ∙ take-append_seam f.front rest in
     record {
       within = omega (arith, longer);
       gives = subst (λ (x : List ℕ). GivesSeries series.db series.rp x series) (sym front_is) (record { reads = λ more. parts_at series.db series.rp (f.front ++ space ∷ more) series (space ∷ more) (f.again more) });
@@ -140,7 +140,7 @@ pub known_front : (db rp line : List ℕ) (n : ℕ) (series : Series) → GivesS
 known_front db rp line n series given found =
     let behind_is : drop n line ≡ space ∷ drop 1 (drop n line) = behind_first space (drop n line) found in
     let cut : line ≡ take n line ++ space ∷ drop 1 (drop n line) =
-        sym (take-append-drop n line) ∙ ap (λ (x : List ℕ). take n line ++ x) behind_is in
+    sym (take-append-drop n line) ∙ ap (λ (x : List ℕ). take n line ++ x) behind_is in
     ap (series_at db rp) cut
     ∙ given.reads (drop 1 (drop n line))
     ∙ ap (λ (x : List ℕ). let y : Result (Series × List ℕ) LineFault = Ok (series, x) in y) (sym behind_is)

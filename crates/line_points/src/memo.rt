@@ -97,11 +97,7 @@ fn is_of(series: &Series, db: &Text, rp: &Text) -> bool
 }
 
 /// A series under its front.
-fn under_front(
-    alloc: Global,
-    front: &[u8],
-    series: &Shared<Series>,
-) -> Result<Known, NoMemory>
+fn under_front(alloc: Global, front: &[u8], series: &Shared<Series>) -> Result<Known, NoMemory>
     requires { GivesSeries series.now.db series.now.rp front.now series.now }
 {
     let mut bytes = Bytes::new(alloc);

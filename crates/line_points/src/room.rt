@@ -21,11 +21,7 @@ pub(crate) struct Room {
 }
 
 /// The list without its items; where it has no room, with some for one more than the bytes have commas.
-fn emptied<T: Drop>(
-    alloc: Global,
-    mut list: Vec<T>,
-    bytes: &[u8],
-) -> Result<Vec<T>, NoMemory>
+fn emptied<T: Drop>(alloc: Global, mut list: Vec<T>, bytes: &[u8]) -> Result<Vec<T>, NoMemory>
     ensures { IfOk result (λ list. list.items ≡ []) }
 {
     if list.capacity() == 0 {
