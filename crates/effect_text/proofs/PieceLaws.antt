@@ -9,13 +9,19 @@ use Rattle.kap_base.specs.declared.items.Effect.{Effect}
 use Rattle.kap_base.specs.declared.items.What.{What}
 use Rattle.kap_base.specs.declared.items.What.TheVariants as what
 use Rattle.kap_base.specs.Events.{EventValue}
+use Rattle.topic_core.specs.Print.{transition_line}
 use Rattle.topic_core.specs.Topics.{StandsFor, TopicsValue}
 use Rattle.effect_text.specs.declared.names.TaskNames.{TaskNames}
 use Rattle.effect_text.specs.declared.printing.Piece.{Piece}
-use Rattle.effect_text.specs.Lines.{effect_lines, event_in, events_of, id_of, node_of, text_behind, what_lines}
+use Rattle.effect_text.specs.Lines.{effect_lines, event_in, events_of, id_of, new_transitions, node_of, text_behind, what_lines}
 use Rattle.effect_text.specs.Pieces.{AreCut, HaveTheirStamps, PieceValue, Tells, behind_with, by_stamp, event_lines, events_told, front_with, merged, piece_of, pieces_in, pieces_text, point_line, side_by_side, sizes, told_event}
 
 -- ---- lines that are kept as one text
+
+-- as many as are kept
+pub as_many : (lines : List ℕ) (pieces : List Piece) → length pieces ≡ length (pieces_in lines pieces)
+as_many lines [] = refl
+as_many lines (p ∷ pieces) = ap suc (as_many (drop p.size lines) pieces)
 
 -- of one piece more
 pub sizes_more : (pieces : List Piece) (p : Piece) → sizes (pieces ++ p ∷ []) ≡ sizes pieces + p.size
@@ -105,6 +111,25 @@ tells_one before after old new p lines takes = record {
   takes = λ events stands. subst (λ (es : List EventValue). StandsFor (events ++ es) after) (sym (append-nil _)) (takes events stands);
 }
 
+-- a line is told, and an event behind it
+pub tells_event : (before after : TopicsValue) (old text line new : List ℕ) (stamp : ℕ) (o : Option EventValue) (e f : EventValue) → o ≡ Some e → f ≡ e → text ≡ old ++ line
+    → ((events : List EventValue) → StandsFor events before → new ≡ text ++ flat_map transition_line (new_transitions events f))
+    → ((events : List EventValue) → StandsFor events before → StandsFor (events ++ f ∷ []) after)
+    → Tells before old after new (record { stamp = stamp; line = line; event = o } ∷ [])
+tells_event before after old text line new stamp o e f is same added lines takes =
+    subst (λ (x : Option EventValue). Tells before old after new (record { stamp = stamp; line = line; event = x } ∷ [])) (sym (is ∙ ap (λ (x : EventValue). Some x) (sym same)))
+    (tells_one before after old new (record { stamp = stamp; line = line; event = Some f })
+    (λ events stands. lines events stands ∙ ap (λ (l : List ℕ). l ++ flat_map transition_line (new_transitions events f)) added ∙ append_assoc old line _) takes)
+
+-- and none behind it
+pub tells_line : (topics : TopicsValue) (old text line : List ℕ) (stamp : ℕ) (o : Option EventValue) → o ≡ None → text ≡ old ++ line
+    → Tells topics old topics text (record { stamp = stamp; line = line; event = o } ∷ [])
+tells_line topics old text line stamp o is added =
+    subst (λ (x : Option EventValue). Tells topics old topics text (record { stamp = stamp; line = line; event = x } ∷ [])) (sym is)
+    (tells_one topics topics old text (record { stamp = stamp; line = line; event = None })
+    (λ events stands. added ∙ ap (λ (l : List ℕ). old ++ l) (sym (append-nil line)))
+    (λ events stands. subst (λ (es : List EventValue). StandsFor es topics) (sym (append-nil events)) stands))
+
 -- some are told, and then others
 pub tells_then : (t u v : TopicsValue) (x y z : List ℕ) (ps qs : List PieceValue) → Tells t x u y ps → Tells u y v z qs → Tells t x v z (ps ++ qs)
 tells_then t u v x y z ps qs first second = record {
@@ -140,6 +165,84 @@ told_on t u v x y z due now front left so is more = record {
 pub told_whole : (t u : TopicsValue) (x y : List ℕ) (due left : List PieceValue) → ToldTo (λ ps. Tells t x u y ps) due left → left ≡ [] → Tells t x u y due
 told_whole t u x y due left so none =
     subst (λ (ps : List PieceValue). Tells t x u y ps) (sym (so.parts ∙ ap (λ (l : List PieceValue). so.done ++ l) none ∙ append-nil so.done)) so.told
+
+-- nothing is told yet
+pub told_nothing : (t : TopicsValue) (x : List ℕ) (due : List PieceValue) → ToldTo (λ ps. Tells t x t x ps) due due
+told_nothing t x due = record { done = []; told = tells_none t x; parts = refl }
+
+-- ---- the pieces at the front, one after the other
+
+abbrev at_front : ℕ → List PieceValue → List PieceValue
+at_front s ps = front_with (λ (p : PieceValue). p.stamp) s ps
+
+abbrev not_there : ℕ → List PieceValue → List PieceValue
+not_there s ps = behind_with (λ (p : PieceValue). p.stamp) s ps
+
+-- one more that has the stamp is told
+pub front_on : (t u v : TopicsValue) (x y z : List ℕ) (s : ℕ) (due : List PieceValue) (lines line left : List ℕ) (pieces behind : List Piece) (p : Piece) → pieces ≡ p ∷ behind → (p.stamp == s) ≡ true
+    → line ≡ take p.size lines → left ≡ drop p.size lines → Tells u y v z (record { stamp = p.stamp; line = line; event = p.event } ∷ [])
+    → ToldTo (λ ps. Tells t x u y ps) due (at_front s (pieces_in lines pieces)) → ToldTo (λ ps. Tells t x v z ps) due (at_front s (pieces_in left behind))
+unfolding front_with
+front_on t u v x y z s due lines line left pieces behind p are same line-is left-is more so =
+    told_on t u v x y z due (at_front s (pieces_in lines pieces)) (record { stamp = p.stamp; line = line; event = p.event } ∷ []) (at_front s (pieces_in left behind)) so
+    (rw (are, line-is, left-is, same) refl) more
+
+pub behind_on : (s : ℕ) (lines left : List ℕ) (pieces behind : List Piece) (p : Piece) → pieces ≡ p ∷ behind → (p.stamp == s) ≡ true → left ≡ drop p.size lines
+    → not_there s (pieces_in lines pieces) ≡ not_there s (pieces_in left behind)
+unfolding behind_with
+behind_on s lines left pieces behind p are same left-is = rw (are, left-is, same) refl
+
+-- the next one has another stamp
+pub front_ends : (s : ℕ) (lines : List ℕ) (pieces behind : List Piece) (p : Piece) → pieces ≡ p ∷ behind → (p.stamp == s) ≡ false → at_front s (pieces_in lines pieces) ≡ []
+unfolding front_with
+front_ends s lines pieces behind p are other = rw (are, other) refl
+
+pub behind_ends : (s : ℕ) (lines : List ℕ) (pieces behind : List Piece) (p : Piece) → pieces ≡ p ∷ behind → (p.stamp == s) ≡ false → not_there s (pieces_in lines pieces) ≡ pieces_in lines pieces
+unfolding behind_with
+behind_ends s lines pieces behind p are other = rw (are, other) refl
+
+-- there is no next one
+pub front_none : (s : ℕ) (lines : List ℕ) (pieces : List Piece) → pieces ≡ [] → at_front s (pieces_in lines pieces) ≡ []
+unfolding front_with
+front_none s lines pieces none = rw none refl
+
+pub behind_none : (s : ℕ) (lines : List ℕ) (pieces : List Piece) → pieces ≡ [] → not_there s (pieces_in lines pieces) ≡ pieces_in lines pieces
+unfolding behind_with
+behind_none s lines pieces none = rw none refl
+
+-- ---- stamp by stamp
+
+abbrev all_merged : ℕ → ℕ → List (List PieceValue) → List PieceValue
+all_merged n k lists = merged (λ (p : PieceValue). p.stamp) n k lists
+
+merged-none : (n k : ℕ) (lists : List (List PieceValue)) → k ≡ 0 → all_merged n k lists ≡ []
+unfolding merged
+merged-none n k lists none = rw none refl
+
+merged-next : (n next k m : ℕ) (lists others : List (List PieceValue)) → k ≡ suc m → next ≡ suc n → others ≡ map (not_there next) lists
+    → all_merged n k lists ≡ flat_map (at_front next) lists ++ all_merged next m others
+unfolding merged
+merged-next n next k m lists others long is are = rw (long, are, is) refl
+
+pub merging_begins : (t : TopicsValue) (x : List ℕ) (n k i : ℕ) (lists : List (List PieceValue)) → i ≡ 0 → ToldTo (λ ps. Tells t x t x ps) (all_merged n k lists) (all_merged n (k - i) lists)
+merging_begins t x n k i lists start =
+    let all : k - i ≡ k = omega (arith, start) in
+    subst (λ (j : ℕ). ToldTo (λ ps. Tells t x t x ps) (all_merged n k lists) (all_merged n j lists)) (sym all) (told_nothing t x (all_merged n k lists))
+
+pub merging_on : (t u v : TopicsValue) (x y z : List ℕ) (n next k i : ℕ) (due : List PieceValue) (lists others : List (List PieceValue)) → i < k → next ≡ n + 1 → others ≡ map (not_there next) lists
+    → Tells u y v z (flat_map (at_front next) lists)
+    → ToldTo (λ ps. Tells t x u y ps) due (all_merged n (k - i) lists) → ToldTo (λ ps. Tells t x v z ps) due (all_merged next (k - (i + 1)) others)
+merging_on t u v x y z n next k i due lists others lt is are more so =
+    let long : k - i ≡ suc (k - (i + 1)) = omega (arith, lt) in
+    let one : next ≡ suc n = omega (arith, is) in
+    told_on t u v x y z due (all_merged n (k - i) lists) (flat_map (at_front next) lists) (all_merged next (k - (i + 1)) others) so
+    (merged-next n next (k - i) (k - (i + 1)) lists others long one are) more
+
+pub merging_ends : (t u : TopicsValue) (x y : List ℕ) (n k i : ℕ) (due : List PieceValue) (lists : List (List PieceValue)) → k ≤ i
+    → ToldTo (λ ps. Tells t x u y ps) due (all_merged n (k - i) lists) → Tells t x u y due
+merging_ends t u x y n k i due lists le so =
+    let none : k - i ≡ 0 = omega (arith, le) in
+    told_whole t u x y due (all_merged n (k - i) lists) so (merged-none n (k - i) lists none)
 
 -- ---- lists by stamp
 

@@ -1,6 +1,6 @@
 //! Lines of effects, made before it is known what others do.
 
-ghost use Rattle.std.specs.Prelude.{◌≡◌, ◌++◌, ◌∷◌, [], IfOk, None, OnOk, Some, map};
+ghost use Rattle.std.specs.Prelude.{◌≡◌, ◌++◌, ◌∷◌, [], IfOk, None, OnOk, Some, length, map};
 ghost use Rattle.effect_text.specs.Lines.{out_line};
 ghost use Rattle.effect_text.specs.Pieces.{AreCut, piece_of, pieces_in};
 
@@ -51,10 +51,17 @@ impl Printed {
             pieces: Vec::new(alloc),
         }
     }
+
+    /// How many effects are told.
+    #[tactic(auto, using(crate::proofs::PieceLaws::as_many))]
+    pub fn len(&self) -> usize
+        ensures { result ≡ length self.now }
+    {
+        self.pieces.len()
+    }
 }
 
 /// Adds the line of a logged point.
-#[tactic(auto, using(crate::proofs::PieceLaws::cut_more, crate::proofs::PieceLaws::pieces_more))]
 fn add_line(
     stamp: u64,
     id: &[u8],

@@ -54,6 +54,14 @@ impl<'a, R, G> Workers<'a, R, G> {
         }
     }
 
+    /// How many there are.
+    pub fn count(&self) -> u32
+        ensures some { 0 < result }
+        ensures limit { result ≤ WORKER_LIMIT }
+    {
+        self.count
+    }
+
     /// What makes their threads.
     pub fn runtime(&self) -> &'a R {
         self.rt
