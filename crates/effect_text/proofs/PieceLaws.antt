@@ -1,7 +1,7 @@
 -- Pieces, one behind the other and merged by stamp.
 use Rattle.std.proofs.Common.{◌≡◌, ℕ, zero, suc, ◌+◌, ◌-◌, ◌<◌, ◌≤◌, ◌==◌, Bool, true, false, List, [], ◌∷◌, ◌++◌, Option, None, Some, drop, length, map, take, refl, sym, ap, subst, ◌∙◌, append-nil, append_assoc, arith, length-append}
 use Rattle.std.proofs.lemmas.Bool.Decides.{nat_tests}
-use Rattle.std.proofs.lemmas.List.{drop-append-le, length-drop, map-append, take_all, take-append-le}
+use Rattle.std.proofs.lemmas.List.{drop-append-le, length-drop, map-append, nil_from_length, take_all, take-append-le}
 use Rattle.std.proofs.lemmas.List.Concat.{flat_map-append}
 use Rattle.std.specs.List.{AllByRecursion as Each, flat_map}
 use Rattle.std.specs.Option.{option_to_list}
@@ -178,6 +178,10 @@ at_front s ps = front_with (λ (p : PieceValue). p.stamp) s ps
 abbrev not_there : ℕ → List PieceValue → List PieceValue
 not_there s ps = behind_with (λ (p : PieceValue). p.stamp) s ps
 
+-- none is told yet of those that are seen so
+pub fronts_begin : (t : TopicsValue) (x : List ℕ) (s : ℕ) (rest seen : List PieceValue) → seen ≡ rest → ToldTo (λ ps. Tells t x t x ps) (at_front s rest) (at_front s seen)
+fronts_begin t x s rest seen is = subst (λ (ps : List PieceValue). ToldTo (λ qs. Tells t x t x qs) (at_front s rest) (at_front s ps)) (sym is) (told_nothing t x (at_front s rest))
+
 -- one more that has the stamp is told
 pub front_on : (t u v : TopicsValue) (x y z : List ℕ) (s : ℕ) (due : List PieceValue) (lines line left : List ℕ) (pieces behind : List Piece) (p : Piece) → pieces ≡ p ∷ behind → (p.stamp == s) ≡ true
     → line ≡ take p.size lines → left ≡ drop p.size lines → Tells u y v z (record { stamp = p.stamp; line = line; event = p.event } ∷ [])
@@ -209,6 +213,19 @@ front_none s lines pieces none = rw none refl
 pub behind_none : (s : ℕ) (lines : List ℕ) (pieces : List Piece) → pieces ≡ [] → not_there s (pieces_in lines pieces) ≡ pieces_in lines pieces
 unfolding behind_with
 behind_none s lines pieces none = rw none refl
+
+-- those of the first list, and then those of the others
+pub fronts_then : (t u v : TopicsValue) (x y z : List ℕ) (s : ℕ) (lists : List (List PieceValue)) (first : List PieceValue) (others : List (List PieceValue)) → lists ≡ first ∷ others
+    → Tells t x u y (at_front s first) → Tells u y v z (flat_map (at_front s) others) → Tells t x v z (flat_map (at_front s) lists)
+fronts_then t u v x y z s lists first others are one more =
+    subst (λ (ls : List (List PieceValue)). Tells t x v z (flat_map (at_front s) ls)) (sym are) (tells_then t u v x y z (at_front s first) (flat_map (at_front s) others) one more)
+
+pub fronts_none : (t : TopicsValue) (x : List ℕ) (s : ℕ) (lists : List (List PieceValue)) → length lists ≡ 0 → Tells t x t x (flat_map (at_front s) lists)
+fronts_none t x s lists none = subst (λ (ls : List (List PieceValue)). Tells t x t x (flat_map (at_front s) ls)) (sym (nil_from_length lists none)) (tells_none t x)
+
+pub behinds_then : (s : ℕ) (lists : List (List PieceValue)) (first left : List PieceValue) (others all : List (List PieceValue)) → lists ≡ first ∷ others
+    → left ≡ not_there s first → all ≡ map (not_there s) others → left ∷ all ≡ map (not_there s) lists
+behinds_then s lists first left others all are one more = rw (are, one, more) refl
 
 -- ---- stamp by stamp
 

@@ -95,12 +95,12 @@ module _ {P : Type 0} (answer : P → Answer) where
 module _ {P : Type 0} (life number : P → ℕ) where
   rise-lower : (low high : ℕ) (xs : List (List (Placed P))) → low ≤ high → LivesRise life number high xs → LivesRise life number low xs
   rise-lower low high [] le rise = tt
-  rise-lower low high (x ∷ xs) le rise = let above = rise.1 in (rise.0, (omega (arith, le, above), (rise.2, rise.3)))
+  rise-lower low high (x ∷ xs) le rise = let above = rise.1 in (rise.0, omega (arith, le, above), rise.2, rise.3)
 
   -- where those of some lives and others rise, those of each do
   pub rise_first : (low : ℕ) (xs ys : List (List (Placed P))) → LivesRise life number low (xs ++ ys) → LivesRise life number low xs
   rise_first low [] ys rise = tt
-  rise_first low (x ∷ xs) ys rise = (rise.0, (rise.1, (rise.2, rise_first (rise.0 + 1) xs ys rise.3)))
+  rise_first low (x ∷ xs) ys rise = (rise.0, rise.1, rise.2, rise_first (rise.0 + 1) xs ys rise.3)
 
   pub rise_behind : (low : ℕ) (xs ys : List (List (Placed P))) → LivesRise life number low (xs ++ ys) → LivesRise life number low ys
   rise_behind low [] ys rise = rise
