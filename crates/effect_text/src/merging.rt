@@ -106,11 +106,11 @@ fn put_fronts(
         (flat_map (front_with (λ p. p.stamp) stamp) rests.old)) }
     ensures rests { OnOk result (rests.new ≡ map (behind_with (λ p. p.stamp) stamp) rests.old) }
 {
-    let Some((first, others)) = rests.split_first_mut() else {
-        return Ok(());
-    };
-    put_front(alloc, topics, stamp, first, text)?;
-    put_fronts(alloc, topics, stamp, others, text)
+    if let Some((first, others)) = rests.split_first_mut() {
+        put_front(alloc, topics, stamp, first, text)?;
+        put_fronts(alloc, topics, stamp, others, text)?;
+    }
+    Ok(())
 }
 
 /// Adds the lines of pieces, merged by so many stamps behind one.
