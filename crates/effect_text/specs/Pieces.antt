@@ -32,9 +32,9 @@ told_event (what.Event e) = Some e
 -- an effect as it is told, with the names of its task and its node
 abbrev pub piece_of : List TaskNames → Effect → PieceValue
 piece_of tasks e = record {
-    stamp = e.stamp.0;
-    line = point_line (id_of tasks e.life) (node_of tasks e.life e.node) e.what;
-    event = told_event e.what;
+  stamp = e.stamp.0;
+  line = point_line (id_of tasks e.life) (node_of tasks e.life e.node) e.what;
+  event = told_event e.what;
 }
 
 -- the pieces that are kept as one text of all lines, with the size of each

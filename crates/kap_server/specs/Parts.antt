@@ -29,10 +29,10 @@ capacity_of_runs (r ∷ runs) = r.capacity
 -- runs side by side are seen as one
 abbrev pub one_run : {P : Type 0} → List (NetRunValue P) → NetRunValue P
 one_run runs = record {
-    lives = lives_of_runs runs;
-    points = points_of_runs runs;
-    capacity = capacity_of_runs runs;
-    spent = list_any (λ r. r.spent) runs;
+  lives = lives_of_runs runs;
+  points = points_of_runs runs;
+  capacity = capacity_of_runs runs;
+  spent = list_any (λ r. r.spent) runs;
 }
 
 -- each has had these points, has this room, and can go on

@@ -13,9 +13,8 @@ use net_run::{NetRun, NumberingNode, Way, Workers, join_nets};
 use node_core::{Effects, Node};
 use std::alloc::Global;
 use std::marker::Model;
-use std::mem;
-use std::thread;
 use std::thread::Threads;
+use std::{mem, thread};
 use task_run::{Counts, LifePlan};
 
 /// Some of the lives of a replay, in a net of their own.

@@ -165,7 +165,8 @@ impl<N: NumberingNode + Send> NetRun<N> {
             (from_first (self.old.points ++ points.now.items) self.old.lives)) }
     {
         self.spent = true;
-        let Some(upto) = self.given.checked_add(points.len() as u64) else {
+        let count = points.len() as u64;
+        let Some(upto) = self.given.checked_add(count) else {
             return Err(NoMemory);
         };
         let trail = Trail::More(Snapshot::of(&self.trail), Snapshot::of(points));
