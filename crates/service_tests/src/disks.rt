@@ -1,7 +1,7 @@
 //! The same over an engine of tasks on a disk in memory.
 
-ghost use Rattle.std.specs.Prelude.{◌≡◌, false, IfOk};
-ghost use Rattle.service_engine.specs.Engines.{is_spent};
+ghost use Rattle.std.specs.Prelude.{◌≡◌, false, IfOk, IsTrue};
+ghost use Rattle.service_engine.specs.Engines.{AreRight, IsRight, is_spent};
 
 use crate::asks::ask_of;
 use crate::rows::{CRITICAL, Wanted, row};
@@ -9,6 +9,8 @@ use kap_base::{NoMemory, Point};
 use kap_io::{Disk, MemDisk};
 use kap_service::{Closed, Engine};
 use lambda_types::RegexPatterns;
+use node_core::Node;
+use node_set::{AnyNode, ScriptNode};
 use service_engine::DiskEngine;
 use std::alloc::Global;
 use std::process::Abort;
@@ -19,22 +21,29 @@ use topic_store::{make_store, open_store};
 
 pub type MemEngine<R> = DiskEngine<MemDisk, RegexPatterns, R>;
 
-/// A disk in memory with a new store.
-pub fn new_disk(alloc: Global) -> Result<MemDisk, NoMemory> {
+/// A disk in memory with a new store, which is right.
+pub fn new_disk(alloc: Global) -> Result<MemDisk, NoMemory>
+    ensures right { IfOk result (λ disk. AreRight ⟦<AnyNode as Node>⟧
+        ⟦<AnyNode as ScriptNode>⟧.planned (⟦<MemDisk as Disk>⟧.may_leave disk)) }
+{
     let mut disk = MemDisk::new(alloc, Vec::new(alloc));
-    if make_store(alloc, &mut disk).is_err() {
-        return Err(NoMemory);
+    match make_store(alloc, &mut disk) {
+        Ok(()) => Ok(disk),
+        Err(_) => Err(NoMemory),
     }
-    Ok(disk)
 }
 
-/// The engine of the store on a disk, with two workers.
+/// The engine of the store on a disk, with two workers. It is right where its disk is.
 pub fn engine_on<D: Disk + Drop, R: Threads + Sync>(
     rt: &R,
     alloc: Global,
     disk: D,
 ) -> Result<DiskEngine<D, RegexPatterns, R>, NoMemory>
-    ensures { IfOk result (λ e. is_spent e.engine ≡ false) }
+    ensures unspent { IfOk result (λ e. is_spent e.engine ≡ false) }
+    ensures right { IsTrue D.tells → AreRight ⟦<AnyNode as Node>⟧
+        ⟦<AnyNode as ScriptNode>⟧.planned (D.may_leave disk)
+        → IfOk result (λ e. IsRight ⟦<AnyNode as Node>⟧ ⟦<AnyNode as ScriptNode>⟧.planned
+        D.tells (D.seen e.disk) (D.may_leave e.disk) e.engine) }
 {
     let pats = RegexPatterns::new(alloc, Vec::new(alloc));
     match DiskEngine::open(rt, alloc, disk, pats, 2, 64) {
@@ -53,6 +62,7 @@ pub const WRITE: &[u8] = b"POST /write?db=d&rp=r HTTP/1.1\r\nContent-Length: 8\r
 /// The status of an engine's reply at the moment 0.
 fn reply_status<E: Engine>(alloc: Global, engine: &mut E, request: &[u8]) -> u16
     requires { (E.value engine.old).spent ≡ false }
+    ensures right { E.right engine.old → E.right engine.new }
 {
     match ask_of(alloc, request) {
         Some(ask) => engine.reply(alloc, &ask, 0).status,

@@ -1,6 +1,6 @@
 //! A seat writes, and another one reads the topics.
 
-ghost use Rattle.std.specs.Prelude.{◌≡◌, ◌<◌, false};
+ghost use Rattle.std.specs.Prelude.{◌≡◌, ◌<◌, false, IsTrue};
 
 use crate::asks::{answered, reads, write_ask};
 use crate::fake::FakeEngine;
@@ -63,7 +63,7 @@ fn row_by<E: Engine, J: Naming, L1: Ledger, L2: Since, R: Wait>(
     requires parts { (first.parts ≡ L1.parts) × (second.parts ≡ L2.parts) }
     requires more { (2 < first.parts) × (2 < second.parts) }
     requires before { L2.before ≡ (E.value engine).faults }
-    requires unowned { L2.owned ≡ false }
+    requires owned { IsTrue L2.owned → E.right engine }
 {
     let made = make_shared::<E, J, &R, L1, L2>(rt, alloc, opened, engine, first, second, 2);
     let Ok((shared, mut seats)) = made else {
@@ -76,7 +76,7 @@ fn row_by<E: Engine, J: Naming, L1: Ledger, L2: Since, R: Wait>(
     Ok(fine && counted && !closed.short)
 }
 
-/// The same on a board and with ledgers of its own.
+/// The same on a board and with ledgers of its own. The engine is right, and so the service knows it.
 pub fn row<E: Engine, R: Wait>(
     rt: &R,
     alloc: Global,
@@ -85,6 +85,7 @@ pub fn row<E: Engine, R: Wait>(
     wanted: Wanted,
 ) -> Result<bool, NoMemory>
     requires unspent { (E.value engine).spent ≡ false }
+    requires right { E.right engine }
 {
     let (first, second) = (Blank::new(3), Blank::new(3));
     row_by::<E, Brand, Brand, Brand, R>(

@@ -1,4 +1,4 @@
-use Rattle.std.proofs.Common.{false}
+use Rattle.std.proofs.Common.{true}
 use Rattle.service_tests.proofs.rows.row.Given as goal
 
 abbrev pub ghosts-row_by-J-Naming : goal.ghosts-row_by-J-Naming
@@ -11,4 +11,4 @@ abbrev pub ghosts-row_by-L2-Ledger : goal.ghosts-row_by-L2-Ledger
 ghosts-row_by-L2-Ledger g a = record { name = a.second.name; parts = a.second.parts }
 
 abbrev pub ghosts-row_by-L2-Since : goal.ghosts-row_by-L2-Since
-ghosts-row_by-L2-Since g a = record { before = (g.E.Engine.value a.engine).faults; owned = false }
+ghosts-row_by-L2-Since g a = record { before = (g.E.Engine.value a.engine).faults; owned = true }
