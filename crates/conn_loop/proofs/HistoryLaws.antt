@@ -1,5 +1,5 @@
 -- What came of links since they were added.
-use Rattle.std.proofs.Common.{◌≡◌, ℕ, List, [], ◌∷◌, refl, sym, ap, subst, inl, inr, Option, All}
+use Rattle.std.proofs.Common.{◌≡◌, ℕ, List, [], ◌∷◌, refl, sym, subst, inl, inr, All}
 use Rattle.std.proofs.lemmas.List.Elements.{All-cons, All-head, All-nil, All-tail}
 use Rattle.http_dialog.specs.Dialogs.{fresh}
 use Rattle.http_dialog.specs.Links.{Connected, Goes}

@@ -1,5 +1,5 @@
 -- What a turn makes of the open links.
-use Rattle.std.proofs.Common.{◌≡◌, ◌≢◌, ◌⊎◌, ℕ, ◌-◌, ◌<◌, ◌==◌, Bool, true, ◌||◌, List, [], ◌∷◌, ◌++◌, length, refl, sym, ap, subst, ◌∙◌, arith, inl, inr, Option, Some, None, All, MatchBool, append_assoc, append-nil}
+use Rattle.std.proofs.Common.{◌≡◌, ◌≢◌, ℕ, ◌-◌, ◌<◌, ◌==◌, Bool, true, ◌||◌, List, [], ◌∷◌, ◌++◌, length, refl, sym, ap, subst, ◌∙◌, arith, inl, inr, Some, None, All, MatchBool, append_assoc, append-nil}
 use Rattle.std.proofs.lemmas.List.Elements.{All-append, All-cons, All-head, All-nil, All-tail, All-weaker}
 use Rattle.std.specs.List.{list_any}
 use Rattle.kap_base.specs.Words.{HasRisen}
@@ -7,10 +7,10 @@ use Rattle.kap_http.specs.Calls.{Call, AddsCalls}
 use Rattle.http_dialog.specs.declared.ending.LinkEnd.{LinkEnd}
 use Rattle.http_dialog.specs.Dialogs.{DialogValue, IsOf}
 use Rattle.http_dialog.specs.Driving.{ComesOn, ComesTo}
-use Rattle.http_dialog.specs.Links.{Connected, Goes}
+use Rattle.http_dialog.specs.Links.{Connected}
 use Rattle.http_dialog.specs.Numbers.{AddsOnly}
 use Rattle.http_dialog.proofs.NumberLaws.{Told, adds_others, calls_none}
-use Rattle.http_dialog.proofs.DriveLaws.{Known, comes_more, comes_none, others_on}
+use Rattle.http_dialog.proofs.DriveLaws.{Known, others_on}
 use Rattle.conn_loop.specs.declared.finished.Finished.{Finished}
 use Rattle.conn_loop.specs.declared.slot.Slot.{Slot}
 use Rattle.conn_loop.specs.Links.{Telling}

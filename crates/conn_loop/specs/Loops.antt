@@ -1,7 +1,7 @@
 -- A loop of links: which are open, and how many were added.
 use Rattle.std.specs.Prelude.{◌≡◌, ◌⊎◌, ℕ, ◌+◌, ◌≤◌, ◌<◌, Bool, false, ◌||◌, ◌==◌, ⊤, List, [], ◌∷◌, ◌++◌, length, All, Result, Ok, Err}
 use Rattle.std.specs.List.{list_any}
-use Rattle.http_dialog.specs.Dialogs.{DialogValue, fresh}
+use Rattle.http_dialog.specs.Dialogs.{fresh}
 use Rattle.conn_loop.specs.declared.finished.AddFault.{AddFault}
 use Rattle.conn_loop.specs.declared.finished.AddFault.TheVariants as faults
 use Rattle.conn_loop.specs.declared.slot.Slot.{Slot}

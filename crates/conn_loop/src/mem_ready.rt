@@ -1,4 +1,4 @@
-ghost use Rattle.std.specs.Prelude.{◌≡◌, ◌↔◌, [], IsErr, IsTrue};
+ghost use Rattle.std.specs.Prelude.{◌≡◌, ◌≤◌, ◌↔◌, [], IsErr, IsOk, IsTrue};
 ghost use Rattle.kap_io.specs.Causes.{HasCause};
 ghost use Rattle.kap_io.specs.Fakes.{is_listed};
 ghost use Rattle.conn_loop.specs.Fakes.{WaitCounts, fails_wait};
@@ -11,7 +11,7 @@ use std::collections::VecDeque;
 use std::marker::Model;
 
 /// Tells numbers in the order of a list of lists, one a wait, and fails at the waits that another list names,
-/// and behind the last list. Links are watched and released without a trace.
+/// and behind the last list. It keeps nothing of links: they are watched and released without a trace.
 #[derive(Drop)]
 pub struct MemReady {
     lists: VecDeque<ItemList<u32>>,
@@ -67,11 +67,27 @@ impl MemReady {
 impl<L: TryLink + Drop> Ready<L> for MemReady {
     ghost faults = { λ r. r.faults };
 
-    fn watch(&mut self, _link: &mut L, _number: u32) -> Result<(), Failed> {
+    /// It never fails, and no number is watched behind it as none was before: its lists tell numbers whether or
+    /// not a link has them. Nothing of the link has changed.
+    fn watch(&mut self, _link: &mut L, _number: u32) -> Result<(), Failed>
+        ensures left { L.left _link.new ≡ L.left _link.old }
+        ensures written { L.written _link.new ≡ L.written _link.old }
+        ensures reads { L.read_faults _link.new ≡ L.read_faults _link.old }
+        ensures writes { L.write_faults _link.new ≡ L.write_faults _link.old }
+        ensures waits { L.waits _link.new ≡ L.waits _link.old }
+        ensures cause { HasCause self.old.faults self.new.faults result }
+        ensures ok { IsOk result }
+        ensures same { self.new ≡ self.old }
+        ensures link { _link.new ≡ _link.old }
+    {
         Ok(())
     }
 
-    fn release(&mut self, _number: u32, _link: L) {}
+    /// The link is let go, and nothing else has changed: its number is told as before.
+    fn release(&mut self, _number: u32, _link: L)
+        ensures later { self.old.faults ≤ self.new.faults }
+        ensures same { self.new ≡ self.old }
+    {}
 
     /// It fails exactly where the number of the call is listed, and where no list is left. Else it takes the
     /// next one.

@@ -1,5 +1,5 @@
 -- What the lock keeps.
-use Rattle.std.specs.Prelude.{◌≡◌, ℕ, ◌≤◌, Bool, false, List, ◌++◌}
+use Rattle.std.specs.Prelude.{◌≡◌, ℕ, ◌≤◌, Bool, true, false, List, [], ◌++◌}
 use mathlib.Core.List.{IsPrefix}
 use Rattle.topic_core.specs.declared.transition.Transition.{Transition}
 use Rattle.topic_board.specs.Values.{Posts}
@@ -28,9 +28,12 @@ pub record IsKept (before : Faults) (faults : Faults) (right : Type 0) (leaves :
   pub stores : (store : Stores) → leaves store → IsTold first second short posts store
   pub caused : AreCaused before faults second
 
--- a seat that was never answered
+-- a seat that was never answered: all was shown when it was made, and its look saw nothing yet and was never refused
 pub record IsNewSeat (seat : Seats) : Type 0 where
   pub changes : seat.changes ≡ 0
   pub faults : seat.faults ≡ 0
   pub answers : seat.answers ≡ 0
   pub status : seat.status ≡ 0
+  pub shown : seat.shown ≡ true
+  pub known : seat.known ≡ []
+  pub aways : seat.aways ≡ 0

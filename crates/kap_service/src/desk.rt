@@ -3,6 +3,7 @@
 ghost use Rattle.std.specs.Prelude.{◌≡◌, false, IsTrue, None, Result};
 ghost use Rattle.kap_base.specs.Points.{is_time};
 ghost use Rattle.kap_base.specs.Words.{Answers};
+ghost use Rattle.kap_http.specs.Calls.{AddsCall};
 ghost use Rattle.kap_http.specs.Refusals.{as_reply};
 ghost use Rattle.kap_http.specs.Replies.{out_of_memory};
 ghost use Rattle.kap_http.specs.ReplyValues.{ReplyValue};
@@ -150,7 +151,13 @@ impl<
 > Serve for Desk<'a, E, J, O, T, R, L1, L2, C, W> {
     ghost served = { λ _. None };
 
-    fn serve(&mut self, alloc: Global, _number: u32, request: &Request) -> Reply {
+    /// The reply of `answer`, whatever the number of the connection.
+    fn serve(&mut self, alloc: Global, _number: u32, request: &Request) -> Reply
+        ensures served { AddsCall None None _number request.now result }
+        ensures answer { (routed : Result AskValue ReplyValue)
+            × Answers (out_of_memory false) routed (as_reply (ask_of request.now))
+            × IsServed routed self.old.seat.now self.new.seat.now result }
+    {
         self.answer(alloc, request)
     }
 }

@@ -3,7 +3,7 @@
 ghost use Rattle.std.specs.Prelude.{◌≡◌, ◌-◌, ◌<◌, ◌^◌, ℕ, false, true, length, min, slice_index_or};
 ghost use Rattle.std.specs.List.{sum_by};
 ghost use Rattle.kap_base.specs.Words.{HasRisen};
-ghost use Rattle.kap_service.specs.Posts.{CameAll, IsClosed, links_at};
+ghost use Rattle.kap_service.specs.Posts.{CameAll, CameSince, IsClosed, links_at};
 
 use crate::desk::Desk;
 use crate::engine::Engine;
@@ -93,6 +93,7 @@ fn work<
     ensures closed { post.new.failed ≡ false
         → IsClosed (B.left post.old.door) (B.left post.new.door) }
     ensures links { post.new.failed ≡ false → CameAll (B.left post.old.door) post.new.links }
+    ensures came { CameSince (B.left post.old.door) (B.left post.new.door) post.new.links }
 {
     let Post {
         seat,
@@ -170,6 +171,9 @@ fn serve_each<
         → (slice_index_or posts.new i d).failed ≡ false
         → CameAll (B.left (slice_index_or posts.old i d).door)
         (slice_index_or posts.new i d).links }
+    ensures came { (i : ℕ) (d : _) → i < length posts.old
+        → CameSince (B.left (slice_index_or posts.old i d).door)
+        (B.left (slice_index_or posts.new i d).door) (slice_index_or posts.new i d).links }
 {
     let count = posts.len();
     let at_door = |_: usize, post: &mut Post<B, J, O, T, L1, L2>|
@@ -179,13 +183,16 @@ fn serve_each<
             → IsClosed (B.left post.entry.now.door) (B.left post.exit.now.door) }
         ensures links { post.exit.now.failed ≡ false
             → CameAll (B.left post.entry.now.door) post.exit.now.links }
+        ensures came { CameSince (B.left post.entry.now.door) (B.left post.exit.now.door)
+            post.exit.now.links }
     { work::<L, B, E, J, O, T, R, L1, L2>(rt, alloc, lock, clock, post) };
     thread::for_each_mut(rt, posts, count, &at_door);
 }
 
 /// Serves at the doors of all posts at once, each in a thread, until no more links come at a door or it fails.
 /// Each link is served by a desk of its post's seat. Where no door failed, each door that tells has no link
-/// left, and where all tell, `links` is how many they had.
+/// left, and where all tell, `links` is how many they had. `door_failed` says whether a post's door failed, and
+/// `links` is the sum of what the posts count, those that failed too: each counts how many links its door gave.
 pub fn serve<
     L: Link + Drop + Send,
     B: Door<L> + Drop + Send,
@@ -214,6 +221,22 @@ pub fn serve<
         (B.left (slice_index_or posts.new i d).door) }
     ensures links { result.door_failed ≡ false
         → CameAll (links_at (λ p. B.left p.door) posts.old) result.links }
+    ensures total { result.links ≡ min (sum_by (λ p. p.links) posts.new) (2 ^ 64 - 1) }
+    ensures some_failed { result.door_failed ≡ true → (i : ℕ) × (i < length posts.new)
+        × ((d : _) → (slice_index_or posts.new i d).failed ≡ true) }
+    ensures none_failed { result.door_failed ≡ false → (i : ℕ) (d : _) → i < length posts.new
+        → (slice_index_or posts.new i d).failed ≡ false }
+    ensures each_failed { (i : ℕ) (d : _) → i < length posts.old
+        → (slice_index_or posts.new i d).failed ≡ true
+        → HasRisen (B.faults (slice_index_or posts.old i d).door)
+        (B.faults (slice_index_or posts.new i d).door) }
+    ensures each_closed { (i : ℕ) (d : _) → i < length posts.old
+        → (slice_index_or posts.new i d).failed ≡ false
+        → IsClosed (B.left (slice_index_or posts.old i d).door)
+        (B.left (slice_index_or posts.new i d).door) }
+    ensures each_links { (i : ℕ) (d : _) → i < length posts.old
+        → CameSince (B.left (slice_index_or posts.old i d).door)
+        (B.left (slice_index_or posts.new i d).door) (slice_index_or posts.new i d).links }
 {
     serve_each::<L, B, E, J, O, T, R, L1, L2, C, W>(rt, alloc, lock, posts, clock);
     total(posts)

@@ -1,6 +1,6 @@
 //! A seat: what one thread keeps of its answers, and its look.
 
-ghost use Rattle.std.specs.Prelude.{◌≡◌, ◌⊎◌, IfNone, IfOk, IfSome, IsTrue, OnErr};
+ghost use Rattle.std.specs.Prelude.{◌≡◌, ◌⊎◌, true, IfNone, IfOk, IfSome, IsTrue, OnErr};
 ghost use mathlib.Core.List.{IsPrefix};
 ghost use Rattle.kap_base.specs.Words.{HasRisen};
 ghost use Rattle.kap_service.specs.Asks.{IsTopicReply, is_topic};
@@ -57,6 +57,7 @@ impl<J: Naming, O: Drop, T: Shown<J, O>, L1: Ledger, L2: Ledger> Seat<J, O, T, L
         requires { (first.parts ≡ 1) × (second.parts ≡ 1) }
         ensures shares { (result.changes ≡ first.amount) × (result.faults ≡ second.amount) }
         ensures none { (result.answers ≡ 0) × (result.status ≡ 0) }
+        ensures shown { result.shown ≡ true }
         ensures told { result.told ≡ told }
         ensures look { (result.known ≡ look.known) × (result.aways ≡ look.aways) }
     {
@@ -140,13 +141,17 @@ impl<J: Naming, O: Drop, T: Shown<J, O>, L1: Ledger, L2: Ledger> Seat<J, O, T, L
     }
 
     /// A copy of the topics, without the lock: after all that was published when this seat was last answered,
-    /// all that it learnt and all that it saw before. None only where its look was refused.
+    /// all that it learnt and all that it saw before. None only where its look was refused, which then knows
+    /// nothing more than what was published.
     pub(crate) fn topics(&mut self, alloc: Global) -> Option<Result<Topics, NoMemory>>
         ensures later { IsPrefix self.old.known self.new.known }
         ensures own { IsPrefix self.old.told self.new.known }
         ensures topics { IfSome result (λ r.
             IfOk r (λ topics. topics ≡ topics_after self.new.known)) }
+        ensures some { IfSome result (λ r. self.new.aways ≡ self.old.aways) }
         ensures none { IfNone result (HasRisen self.old.aways self.new.aways) }
+        ensures no_more { IfNone result ((self.new.known ≡ self.old.known)
+            ⊎ (self.new.known ≡ self.old.told)) }
         ensures shares { (self.new.changes ≡ self.old.changes)
             × (self.new.faults ≡ self.old.faults) }
         ensures answers { (self.new.answers ≡ self.old.answers)
@@ -189,14 +194,18 @@ fn reply_of(alloc: Global, topics: Result<Topics, NoMemory>, ask: &Ask) -> Reply
 impl<J: Naming, O: Drop, T: Shown<J, O>, L1: Ledger, L2: Ledger> Seat<J, O, T, L1, L2> {
     /// The reply to an ask about topics, without the lock: of the topics after all that was published when
     /// this seat was last answered under the lock, all that it learnt and all that it saw before, and maybe
-    /// more. It waits for nobody. 503 says that memory ran out. None only where its look was refused.
+    /// more. It waits for nobody. 503 says that memory ran out. None only where its look was refused, which is
+    /// counted then and not else.
     pub fn answer(&mut self, alloc: Global, ask: &Ask) -> Option<Reply>
         requires topic { IsTrue (is_topic ask.now) }
         ensures later { IsPrefix self.old.known self.new.known }
         ensures own { IsPrefix self.old.told self.new.known }
         ensures reply { IfSome result (λ reply.
             IsTopicReply ask.now (topics_after self.new.known) reply) }
+        ensures some { IfSome result (λ r. self.new.aways ≡ self.old.aways) }
         ensures none { IfNone result (HasRisen self.old.aways self.new.aways) }
+        ensures no_more { IfNone result ((self.new.known ≡ self.old.known)
+            ⊎ (self.new.known ≡ self.old.told)) }
         ensures shares { (self.new.changes ≡ self.old.changes)
             × (self.new.faults ≡ self.old.faults) }
         ensures answers { (self.new.answers ≡ self.old.answers)

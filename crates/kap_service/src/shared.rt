@@ -6,6 +6,7 @@ ghost use Rattle.kap_base.specs.Points.{is_time};
 ghost use Rattle.kap_base.specs.Words.{HasRisen};
 ghost use Rattle.kap_io.specs.declared.disk.Part.{Part};
 ghost use Rattle.reply_bodies.specs.Asks.{IsFailed};
+ghost use Rattle.topic_board.specs.Values.{IsNew};
 ghost use Rattle.kap_service.specs.Asks.{status_of};
 ghost use Rattle.kap_service.specs.Causes.{AreCaused};
 ghost use Rattle.kap_service.specs.Desks.{WasDecided};
@@ -147,6 +148,7 @@ fn show_stored<E: Engine, J: Naming, O: Drop, T: Shown<J, O>, R: Wait + Drop>(
     ensures read { HasRead E.value E.right E.leaves engine.old engine.new }
     ensures posted { E.right engine.old → (store : Stores) → E.leaves engine.old store
         → IfOk result (λ told. posted poster.new ≡ store.stored) }
+    ensures none { IfOk result (λ told. poster.new.pending ≡ []) }
     ensures told { E.right engine.old → (store : Stores) → E.leaves engine.old store
         → IfOk result (λ told. told ≡ store.stored) }
     ensures disk { IsErrOf result DiskFault
@@ -354,6 +356,7 @@ fn seats_of<J: Naming, O: Drop, T: Shown<J, O>, L1: Ledger, L2: Ledger>(
 ) -> Result<Vec<Seat<J, O, T, L1, L2>>, AllocError>
     requires parts { (vec_len looks < first.old.parts) × (vec_len looks < second.old.parts) }
     requires amount { second.old.amount ≡ 0 }
+    requires looks { All IsNew looks.items }
     ensures count { IfOk result (λ seats. vec_len seats ≡ vec_len looks) }
     ensures new { IfOk result (λ seats. All IsNewSeat seats.items) }
     ensures told { IfOk result (λ seats. All (λ s. s.told ≡ told.now) seats.items) }

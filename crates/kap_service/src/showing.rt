@@ -133,7 +133,7 @@ fn post_unless_spent<E: Engine, J: Naming, O: Drop, T: Shown<J, O>, R: Wait + Dr
 }
 
 /// Posts what is stored and wasn't posted, but where the engine is spent, and publishes what was posted.
-/// Whether memory was wanted.
+/// Whether memory was wanted; where it wasn't, nothing is pending.
 pub(crate) fn show<E: Engine, J: Naming, O: Drop, T: Shown<J, O>, R: Wait + Drop>(
     alloc: Global,
     engine: &mut E,
@@ -147,6 +147,7 @@ pub(crate) fn show<E: Engine, J: Naming, O: Drop, T: Shown<J, O>, R: Wait + Drop
         → IsPrefix (posted poster.old) store.stored
         → IsAlmostPosted (posted poster.old) (E.value engine.old).own store.stored
         → posted poster.new ≡ store.stored }
+    ensures published { result ≡ false → poster.new.pending ≡ [] }
 {
     let wanted = post_unless_spent(alloc, engine, poster);
     match poster.publish() {

@@ -1,6 +1,6 @@
 //! What lies under the lock.
 
-ghost use Rattle.std.specs.Prelude.{◌≡◌, ◌≢◌, ◌&&◌, ◌≤◌, false, length, true, IfErr, IfOk, IsTrue};
+ghost use Rattle.std.specs.Prelude.{◌≡◌, ◌≢◌, ◌&&◌, ◌≤◌, [], false, length, true, IfErr, IfOk, IsTrue};
 ghost use mathlib.Core.List.{IsPrefix};
 ghost use Rattle.kap_base.specs.Points.{is_time};
 ghost use Rattle.reply_bodies.specs.Asks.{IsFailed};
@@ -107,7 +107,7 @@ pub(crate) struct State<
 
 impl<E: Engine, J: Naming, O: Drop, T: Shown<J, O>, R: Wait + Drop, L1: Ledger, L2: Since> Model
     for State<E, J, O, T, R, L1, L2> {
-    ghost use Rattle.std.specs.Prelude.{◌≡◌, false, IsTrue};
+    ghost use Rattle.std.specs.Prelude.{◌≡◌, [], false, IsTrue};
     ghost use Rattle.kap_service.specs.Kept.{IsKept};
     ghost use Rattle.kap_service.specs.Values.{States};
 
@@ -121,10 +121,12 @@ impl<E: Engine, J: Naming, O: Drop, T: Shown<J, O>, R: Wait + Drop, L1: Ledger, 
       posts = s.poster;
     } };
 
-    // Only a reply that says that the store failed, or that memory ran out, leaves the engine spent.
+    // Only a reply that says that the store failed, or that memory ran out, leaves the engine spent; and while
+    // nothing was short, all that was posted is published.
     ghost invariant = { λ s. (s.firsts ≡ s.first.total)
         × (s.seconds ≡ s.second.total)
         × (s.second.total ≡ 0 → s.short ≡ false → (E.value s.engine).spent ≡ false)
+        × (s.short ≡ false → s.poster.pending ≡ [])
         × (IsTrue L2.owned → IsKept L2.before (E.value s.engine).faults (E.right s.engine)
         (E.leaves s.engine) s.first.total s.second.total s.short s.poster) };
 }
@@ -138,7 +140,7 @@ impl<E: Engine, J: Naming, O: Drop, T: Shown<J, O>, R: Wait + Drop, L1: Ledger, 
     L1,
     L2,
 > {
-    /// Where the engine stands as the service begins, and all is posted.
+    /// Where the engine stands as the service begins, and all is posted and published.
     pub(crate) fn new(
         engine: E,
         poster: Poster<J, O, T, R>,
@@ -153,6 +155,7 @@ impl<E: Engine, J: Naming, O: Drop, T: Shown<J, O>, R: Wait + Drop, L1: Ledger, 
         requires owned { IsTrue L2.owned → E.right engine }
         requires posted { IsTrue L2.owned → (store : Stores) → E.leaves engine store
             → posted poster ≡ store.stored }
+        requires none { poster.pending ≡ [] }
     {
         State {
             engine,

@@ -1,5 +1,5 @@
 -- How services end.
-use Rattle.std.proofs.Common.{◌≡◌, ℕ, sym, subst, refl, Option, Some, None}
+use Rattle.std.proofs.Common.{◌≡◌, ℕ, sym, subst, Option, Some, None}
 use Rattle.kap_base.specs.Words.{HasRisen}
 use Rattle.kap_io.specs.declared.disk.Part.{Part}
 use Rattle.kap_service.specs.Stores.{HasRead}

@@ -1,5 +1,6 @@
 use Rattle.std.proofs.Common.{◌≡◌, ◌+◌, length}
 use Rattle.std.specs.List.{All, sum_by}
+use Rattle.topic_board.specs.Values.{IsNew}
 use Rattle.kap_service.specs.Kept.{IsNewSeat}
 use Rattle.kap_service.specs.Values.{Seats}
 use Rattle.kap_service.proofs.shared.seats_of.Given as goal
@@ -7,6 +8,7 @@ use Rattle.kap_service.proofs.shared.seats_of.Given as goal
 abbrev pub invariant-seats : goal.invariant-seats
 invariant-seats g l = record {
   count : length l.seats.items + length l.look-iterator.rest.items ≡ length l.fn.looks.items;
+  looks : All IsNew l.look-iterator.rest.items;
   first_parts : l.first.parts + length l.seats.items ≡ l.initial.first.parts;
   second_parts : l.second.parts + length l.seats.items ≡ l.initial.second.parts;
   first_amount : l.first.amount ≡ l.initial.first.amount;

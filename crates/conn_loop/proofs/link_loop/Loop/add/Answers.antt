@@ -1,6 +1,6 @@
-use Rattle.std.proofs.Common.{◌+◌, ◌<◌, length, IsTrue, false, inl, refl, sym, subst, ⊎_elim, arith}
+use Rattle.std.proofs.Common.{◌+◌, ◌<◌, length, IsTrue, false, inl, refl, sym, subst, ⊎_elim}
 use Rattle.std.proofs.lemmas.Bool.{cases_lt}
-use Rattle.conn_loop.specs.Loops.{IsFull, IsLoop, new_link}
+use Rattle.conn_loop.specs.Loops.{IsFull, IsLoop}
 use Rattle.conn_loop.proofs.LoopLaws.{one_more}
 use Rattle.conn_loop.proofs.link_loop.Loop.add.Goals as goal
 

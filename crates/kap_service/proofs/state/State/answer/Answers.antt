@@ -34,8 +34,9 @@ invariant_of-self-2 g c =
           read.spent ∙ c.judged-judged.ensures.usable
           (not_failed second status (sym two ∙ zero)
           (λ e. s.1.0 (same ∙ e))),
+      (λ calm. c.show-lacks.ensures.published (shorts calm).1.1),
       λ owned.
-          let k = inv.3 owned in
+          let k = inv.4 owned in
           let right = c.judged-judged.ensures.right k.right_is in
           record {
             right_is = read.stays_right right;
@@ -69,7 +70,7 @@ invariant_of-self-2 g c =
 
 pub returns-clause-shown : goal.returns-clause-shown
 returns-clause-shown g c = λ owned is.
-    let k = c.self.invariant.3 owned in
+    let k = c.self.invariant.4 owned in
     let right = c.judged-judged.ensures.right k.right_is in
     let read = c.show-lacks.ensures.read in
     let engine = c.show-lacks.new.engine in

@@ -9,6 +9,7 @@ invariant_of-result g c = (
   sym c.requires.books.0,
   sym c.requires.books.1,
   (λ zero calm. c.requires.unspent),
+  (λ calm. c.requires.none),
   λ owned.
       let right = c.requires.owned owned in
       let faults = (g.E.Engine.value c.args.engine).faults in
