@@ -1,5 +1,5 @@
 -- How many links came.
-use Rattle.std.proofs.Common.{◌≡◌, ℕ, suc, ◌+◌, ◌-◌, ◌<◌, ◌^◌, min, List, [], ◌∷◌, length, slice_index_or, refl, sym, ap, subst, ◌∙◌, arith, Option, Some, None, Ok, Err}
+use Rattle.std.proofs.Common.{◌≡◌, ℕ, suc, ◌+◌, ◌-◌, ◌<◌, ◌^◌, min, List, [], ◌∷◌, length, slice_index_or, refl, sym, subst, arith, Option, Some, None, Ok}
 use Rattle.std.specs.List.{sum_by}
 use Rattle.std.proofs.lemmas.List.Sums.{sum_by-cons}
 use Rattle.kap_io.specs.Doors.{Admits}
@@ -15,21 +15,6 @@ came_more L E (Some n) (Some x) c link k m s ad e =
       (let one = s.1 in let two = ad.2 in omega arith),
       (let three = s.2 in omega arith),
     )
-
--- a door that fails gives no link
-pub came_failed : (L E : Type 0) (a b c : Option ℕ) (fault : E) (k : ℕ) → CameSince a b k
-    → Admits {L = L} {E = E} b c (Err fault) → CameSince a c k
-came_failed L E None b c fault k s ad = tt
-came_failed L E (Some n) None c fault k s ad = absurd s
-came_failed L E (Some n) (Some x) c fault k s ad = subst (λ (o : Option ℕ). CameSince (Some n) o k) (sym ad) s
-
--- nor does one at which no more come
-pub came_last : (L E : Type 0) (a b c : Option ℕ) (k : ℕ) → CameSince a b k
-    → Admits {L = L} {E = E} b c (Ok None) → CameSince a c k
-came_last L E None b c k s ad = tt
-came_last L E (Some n) None c k s ad = absurd s
-came_last L E (Some n) (Some x) c k s ad =
-    subst (λ (o : Option ℕ). CameSince (Some n) o k) (ap (λ (m : ℕ). Some m) ad.0 ∙ sym ad.1) s
 
 -- ---- all doors
 
