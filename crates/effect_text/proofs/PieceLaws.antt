@@ -1,7 +1,7 @@
 -- Pieces, one behind the other and merged by stamp.
 use Rattle.std.proofs.Common.{◌≡◌, ℕ, zero, suc, ◌+◌, ◌-◌, ◌<◌, ◌≤◌, ◌==◌, Bool, true, false, List, [], ◌∷◌, ◌++◌, Option, None, Some, drop, length, map, take, refl, sym, ap, subst, ◌∙◌, append-nil, append_assoc, arith, length-append}
 use Rattle.std.proofs.lemmas.Bool.Decides.{nat_tests}
-use Rattle.std.proofs.lemmas.List.{drop-append-le, length-drop, map-append, nil_from_length, take_all, take-append-le}
+use Rattle.std.proofs.lemmas.List.{drop-append-le, drop-drop, length-drop, map-append, nil_from_length, take_all, take-append-le}
 use Rattle.std.proofs.lemmas.List.Concat.{flat_map-append}
 use Rattle.std.specs.List.{AllByRecursion as Each, flat_map}
 use Rattle.std.specs.Option.{option_to_list}
@@ -27,6 +27,31 @@ as_many lines (p ∷ pieces) = ap suc (as_many (drop p.size lines) pieces)
 pub sizes_more : (pieces : List Piece) (p : Piece) → sizes (pieces ++ p ∷ []) ≡ sizes pieces + p.size
 sizes_more [] p = omega arith
 sizes_more (q ∷ pieces) p = let more = sizes_more pieces p in omega (arith, more)
+
+-- as many as are kept behind a place
+pub as_many_behind : (lines : List ℕ) (pieces : List Piece) (k : ℕ) → length pieces - k ≡ length (pieces_in lines (drop k pieces))
+as_many_behind lines pieces k = sym (length-drop k pieces) ∙ as_many lines (drop k pieces)
+
+-- what is behind a place is found by how many are there
+behind-again : {A : Type 0} (xs : List A) (k : ℕ) → drop (length xs - length (drop k xs)) xs ≡ drop k xs
+behind-again {A} xs zero = let none : length xs - length xs ≡ 0 = omega arith in ap (λ (n : ℕ). drop n xs) none
+behind-again [] (suc k) = refl
+behind-again {A} (x ∷ xs) (suc k) =
+    let long : length (drop k xs) ≡ length xs - k = length-drop k xs in
+    let same : suc (length xs) - length (drop k xs) ≡ suc (length xs - length (drop k xs)) = omega (arith, long) in
+    ap (λ (n : ℕ). drop n (x ∷ xs)) same ∙ behind-again xs k
+
+-- behind the next one
+pub behind_one : {A : Type 0} (xs ys : List A) (x : A) (k : ℕ) → drop k xs ≡ x ∷ ys → drop (length xs - length ys) xs ≡ ys
+behind_one {A} xs ys x k are =
+    let is : ys ≡ drop (k + 1) xs = ap (drop 1) (sym are) ∙ drop-drop 1 k xs in
+    ap (λ (l : List A). drop (length xs - length l) xs) is ∙ behind-again xs (k + 1) ∙ sym is
+
+-- and behind some of those
+pub behind_some : {A : Type 0} (xs ys : List A) (j k : ℕ) → ys ≡ drop j (drop k xs) → drop (length xs - length ys) xs ≡ ys
+behind_some {A} xs ys j k are =
+    let is : ys ≡ drop (k + j) xs = are ∙ drop-drop j k xs in
+    ap (λ (l : List A). drop (length xs - length l) xs) is ∙ behind-again xs (k + j) ∙ sym is
 
 -- its line comes behind the others
 pub pieces_more : (lines line : List ℕ) (pieces : List Piece) (p : Piece) → AreCut lines pieces → p.size ≡ length line
@@ -177,10 +202,6 @@ at_front s ps = front_with (λ (p : PieceValue). p.stamp) s ps
 
 abbrev not_there : ℕ → List PieceValue → List PieceValue
 not_there s ps = behind_with (λ (p : PieceValue). p.stamp) s ps
-
--- none is told yet of those that are seen so
-pub fronts_begin : (t : TopicsValue) (x : List ℕ) (s : ℕ) (rest seen : List PieceValue) → seen ≡ rest → ToldTo (λ ps. Tells t x t x ps) (at_front s rest) (at_front s seen)
-fronts_begin t x s rest seen is = subst (λ (ps : List PieceValue). ToldTo (λ qs. Tells t x t x qs) (at_front s rest) (at_front s ps)) (sym is) (told_nothing t x (at_front s rest))
 
 -- one more that has the stamp is told
 pub front_on : (t u v : TopicsValue) (x y z : List ℕ) (s : ℕ) (due : List PieceValue) (lines line left : List ℕ) (pieces behind : List Piece) (p : Piece) → pieces ≡ p ∷ behind → (p.stamp == s) ≡ true

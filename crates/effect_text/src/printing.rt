@@ -28,17 +28,20 @@ pub struct Printed {
     // The lines, one behind the other.
     pub(crate) lines: Bytes,
     pub(crate) pieces: Vec<Piece>,
+    // Where what is not put out yet begins: its first byte, and its first piece.
+    pub(crate) start: usize,
+    pub(crate) next: usize,
 }
 
 impl Model for Printed {
     ghost use Rattle.std.specs.Coded.{codes};
-    ghost use Rattle.std.specs.Prelude.{List};
+    ghost use Rattle.std.specs.Prelude.{List, drop};
     ghost use Rattle.kap_base.specs.Maps.{key_map_code};
     ghost use Rattle.effect_text.specs.Pieces.{PieceValue, pieces_in};
 
     ghost Value = { List PieceValue };
 
-    ghost view = { λ p. pieces_in p.lines p.pieces.items };
+    ghost view = { λ p. pieces_in (drop p.start p.lines) (drop p.next p.pieces.items) };
 }
 
 impl Printed {
@@ -49,15 +52,17 @@ impl Printed {
         Printed {
             lines: Bytes::new(alloc),
             pieces: Vec::new(alloc),
+            start: 0,
+            next: 0,
         }
     }
 
     /// How many effects are told.
-    #[tactic(auto, using(crate::proofs::PieceLaws::as_many))]
+    #[tactic(auto, using(crate::proofs::PieceLaws::as_many_behind))]
     pub fn len(&self) -> usize
         ensures { result ≡ length self.now }
     {
-        self.pieces.len()
+        self.pieces.len().saturating_sub(self.next)
     }
 }
 
@@ -152,5 +157,10 @@ pub fn print_lines(
     'printing: for effect in effects {
         add_piece(tasks, effect, &mut lines, &mut pieces)?;
     }
-    Ok(Printed { lines, pieces })
+    Ok(Printed {
+        lines,
+        pieces,
+        start: 0,
+        next: 0,
+    })
 }
