@@ -16,3 +16,4 @@ pub mod WriteLaws
 pub mod CompactLaws
 pub mod ExportLaws
 pub mod CommandLaws
+pub mod PartLaws

@@ -28,9 +28,9 @@ all-go : {P : Type 0} (n : ℕ) (new : List PointValue) (courses : List (Course 
 all-go n new [] ends = tt
 all-go n new (c ∷ courses) ends = (inl (ends.0, refl), all-go n new courses ends.1)
 
-first-nodes : {P : Type 0} (points : List PointValue) (nodes : List (List (Placed P))) → nodes_in (from_first points nodes) ≡ nodes
-first-nodes points [] = refl
-first-nodes {P} points (ns ∷ nodes) = ap (λ (all : List (List (Placed P))). ns ∷ all) (first-nodes points nodes)
+pub first_nodes : {P : Type 0} (points : List PointValue) (nodes : List (List (Placed P))) → nodes_in (from_first points nodes) ≡ nodes
+first_nodes points [] = refl
+first_nodes {P} points (ns ∷ nodes) = ap (λ (all : List (List (Placed P))). ns ∷ all) (first_nodes points nodes)
 
 module _ {N P S : Type 0} (g : Ghosts N P S) (stamped : (p : P) (before : List Input) (x : Input) → IsStamped (g.life p) (g.number p) x.1.stamp.0 (g.answer p before x)) (folds : (p : P) (xs : List Input) → (fold (g.step p) (g.first p) xs).given ≡ given (g.answer p) xs)
     (nodes : List (List (Placed P))) (before new : List PointValue) (upto : Stamp) (net rested : NetValue N) (s : Stands g nodes before net) (last : upto.0 ≡ net.last.0 + length new)
@@ -64,7 +64,7 @@ module _ {N P S : Type 0} (g : Ghosts N P S) (stamped : (p : P) (before : List I
       → effects_of g.answer nodes (before ++ new) ≡ effects_of g.answer nodes before ++ result
   effects_on numbers result all sorted =
       let due = later_effects g.answer (length before) (length new) (map (grown new) (from_first before nodes)) in
-      let rise : LivesRise g.life g.number 1 (nodes_in (map (grown new) (from_first before nodes))) = subst (LivesRise g.life g.number 1) (sym (grown_nodes new (from_first before nodes) ∙ first-nodes before nodes)) s.rise in
+      let rise : LivesRise g.life g.number 1 (nodes_in (map (grown new) (from_first before nodes))) = subst (LivesRise g.life g.number 1) (sym (grown_nodes new (from_first before nodes) ∙ first_nodes before nodes)) s.rise in
       let is : result ≡ due = later_sorted g.answer g.life g.number stamped numbers (length before) (length new) 1 (map (grown new) (from_first before nodes)) (effects_in rested.lives) result rise went.did all sorted in
       sym (effects_from_first g.answer nodes (before ++ new))
       ∙ ap (λ (m : ℕ). course_effects g.answer m (from_first (before ++ new) nodes)) (length-append before new)
