@@ -18,3 +18,4 @@ pub mod ExportLaws
 pub mod CommandLaws
 pub mod PartLaws
 pub mod BesideLaws
+pub mod Crossing
