@@ -8,16 +8,20 @@ use Rattle.kap_base.specs.Points.{PointValue}
 use Rattle.kap_base.specs.declared.items.Effect.{Effect}
 use Rattle.effect_text.specs.declared.names.TaskNames.{TaskNames}
 use Rattle.effect_text.specs.Pieces.{PieceValue, by_stamp, piece_of}
+use Rattle.node_core.specs.declared.node.Node.{Ghosts}
 use Rattle.node_core.specs.Meaning.{Answer}
+use Rattle.flow_core.specs.Carried.{HasCarried}
 use Rattle.flow_core.specs.Gathering.{LivesRise}
 use Rattle.flow_core.specs.Making.{HasFewParents}
+use Rattle.flow_core.specs.Nets.{NetValue}
+use Rattle.flow_core.specs.Rooms.{HasRoomIn}
 use Rattle.net_run.specs.Runs.{NetRunValue}
 use Rattle.task_run.specs.Courses.{from_first, later_effects}
 use Rattle.task_run.specs.Graphs.{Placed, graph_gives}
 use Rattle.task_run.specs.Lives.{dropped_of, effects_of}
 use Rattle.task_run.specs.Plans.{AreFirstStates, PlanValue, graph_of}
 use Rattle.kap_server.proofs.PartLaws.{laters_by_stamp, rise_behind, rise_first}
-use Rattle.kap_server.specs.Parts.{AreBeside, AreOne, HasHad, HasTold, IsToldInParts, capacity_of_runs, does_with, dropped_of_runs, first_run, lives_of_runs, points_of_runs, with_points}
+use Rattle.kap_server.specs.Parts.{AreBeside, AreOne, HasHad, HasJoined, HasTold, IsToldInParts, capacity_of_runs, does_with, dropped_of_runs, first_run, lives_of_runs, points_of_runs, with_points}
 
 each-first : {A : Type 0} (Q : A → Type 0) (xs ys : List A) → Each Q (xs ++ ys) → Each Q xs
 each-first Q [] ys h = tt
@@ -157,6 +161,36 @@ module _ {X P : Type 0} (run : X → NetRunValue P) where
         are = lives_in_parts (map run xs);
         is = told-by_stamp points capacity xs ys z fine had;
       }
+
+-- ---- nets
+
+module _ {N P S X : Type 0} (g : Ghosts N P S) (run : X → NetRunValue P) where
+  -- no lives stand behind a net itself
+  pub joined_none : (net : NetValue N) → HasJoined g [] net net
+  joined_none net = record {
+    carried = λ lives points had none. subst (λ (ls : List (List (Placed P))). HasCarried g ls points net) (sym (append-nil lives)) had;
+    room = λ capacity had none. had;
+  }
+
+  -- and those of one run more
+  pub joined_more : (xs : List X) (x : X) (old mid new net : NetValue N) → HasJoined g (map run xs) old mid → HasCarried g (run x).lives (run x).points net → Each (HasRoomIn (run x).capacity) net.lives
+      → ((points : List PointValue) (as bs : List (List (Placed P))) → HasCarried g as points mid → HasCarried g bs points net → HasCarried g (as ++ bs) points new)
+      → ((capacity : ℕ) → Each (HasRoomIn capacity) mid.lives → Each (HasRoomIn capacity) net.lives → Each (HasRoomIn capacity) new.lives)
+      → HasJoined g (map run (xs ++ x ∷ [])) old new
+  joined_more xs x old mid new net joined carried room both roomy =
+      let runs : List (NetRunValue P) = map run xs in
+      subst (λ (rs : List (NetRunValue P)). HasJoined g rs old new) (sym (map-append run xs (x ∷ []))) (record {
+        carried = λ lives points had each.
+            let own : HasCarried g (run x).lives points net = subst (λ (ps : List PointValue). HasCarried g (run x).lives ps net) (each-behind (λ (r : NetRunValue P). r.points ≡ points) runs (run x ∷ []) each).0 carried in
+            let all : HasCarried g ((lives ++ lives_of_runs runs) ++ (run x).lives) points new = both points (lives ++ lives_of_runs runs) (run x).lives (joined.carried lives points had (each-first (λ (r : NetRunValue P). r.points ≡ points) runs (run x ∷ []) each)) own in
+            subst (λ (ls : List (List (Placed P))). HasCarried g ls points new)
+            (append_assoc lives (lives_of_runs runs) (run x).lives
+            ∙ ap (λ (l : List (List (Placed P))). lives ++ l) (ap (λ (l : List (List (Placed P))). lives_of_runs runs ++ l) (sym (append-nil (run x).lives)) ∙ sym (flat_map-append (λ (r : NetRunValue P). r.lives) runs (run x ∷ []))))
+            all;
+        room = λ capacity had each.
+            let own : Each (HasRoomIn capacity) net.lives = subst (λ (n : ℕ). Each (HasRoomIn n) net.lives) (each-behind (λ (r : NetRunValue P). r.capacity ≡ capacity) runs (run x ∷ []) each).0 room in
+            roomy capacity (joined.room capacity had (each-first (λ (r : NetRunValue P). r.capacity ≡ capacity) runs (run x ∷ []) each)) own;
+      })
 
 -- ---- plans in parts
 

@@ -5,8 +5,12 @@ use Rattle.kap_base.specs.Points.{PointValue}
 use Rattle.kap_base.specs.declared.items.Effect.{Effect}
 use Rattle.effect_text.specs.declared.names.TaskNames.{TaskNames}
 use Rattle.effect_text.specs.Pieces.{PieceValue, by_stamp, piece_of}
-use Rattle.net_run.specs.Runs.{NetRunValue}
+use Rattle.node_core.specs.declared.node.Node.{Ghosts}
 use Rattle.node_core.specs.Meaning.{Answer}
+use Rattle.flow_core.specs.Carried.{HasCarried}
+use Rattle.flow_core.specs.Nets.{NetValue}
+use Rattle.flow_core.specs.Rooms.{HasRoomIn}
+use Rattle.net_run.specs.Runs.{NetRunValue}
 use Rattle.task_run.specs.Courses.{course_effects_with, from_first, later_effects}
 use Rattle.task_run.specs.Graphs.{Placed}
 use Rattle.task_run.specs.Lives.{dropped_of, effects_of}
@@ -62,6 +66,14 @@ module _ {P : Type 0} (answer : P → Answer) where
   -- what the nodes of runs dropped
   abbrev pub dropped_of_runs : List (NetRunValue P) → List (List ℕ)
   dropped_of_runs runs = flat_map (λ r. dropped_of answer r.lives r.points) runs
+
+-- The lives of runs stand behind those of a net: where its edges have carried what they should for some points, and those
+-- of each run for the same ones, so have all; and where each has room for so many messages, so has each of all.
+pub record HasJoined {N P S : Type 0} (g : Ghosts N P S) (runs : List (NetRunValue P)) (old new : NetValue N) : Type 0 where
+  pub carried : (lives : List (List (Placed P))) (points : List PointValue) → HasCarried g lives points old
+      → Each (λ r. r.points ≡ points) runs → HasCarried g (lives ++ lives_of_runs runs) points new
+  pub room : (capacity : ℕ) → Each (HasRoomIn capacity) old.lives → Each (λ r. r.capacity ≡ capacity) runs
+      → Each (HasRoomIn capacity) new.lives
 
 module _ {P : Type 0} (answer : P → Answer) (names : List TaskNames) where
   -- a run has had the new points too, and what its lives do with their stamps is told

@@ -1,18 +1,17 @@
 //! Lives that run in parts side by side, each part a net of its own.
 
-ghost use Rattle.std.specs.Prelude.{◌≡◌, ℕ, ◌<◌, ◌≤◌, ◌++◌, [], List, false, map, IfOk, OnOk, flat_map, length};
+ghost use Rattle.std.specs.Prelude.{◌≡◌, ◌<◌, ◌≤◌, ◌++◌, [], false, map, IfOk, OnOk, length};
 ghost use Rattle.std.specs.List.{AllByRecursion as Each, AllZip};
-ghost use Rattle.kap_base.specs.Points.{PointValue};
 ghost use Rattle.edge_queue.specs.declared.TheConstants.{CAPACITY_LIMIT};
-ghost use Rattle.task_run.specs.Graphs.{Placed};
-ghost use Rattle.task_run.specs.Lives.{dropped_of, effects_of};
+ghost use Rattle.task_run.specs.Lives.{effects_of};
 ghost use Rattle.task_run.specs.Plans.{AreFirstStates, graph_of};
 ghost use Rattle.flow_core.specs.Carried.{HasCarried};
 ghost use Rattle.flow_core.specs.Gathering.{LivesRise};
 ghost use Rattle.flow_core.specs.Making.{HasFewParents};
 ghost use Rattle.flow_core.specs.Rooms.{HasRoomIn};
-ghost use Rattle.kap_server.specs.Parts.{AreBeside, AreOne, HasRun, HasTold, dropped_of_runs};
-ghost use Rattle.kap_server.specs.Parts.{first_run, lives_of_runs, points_of_runs, with_points};
+ghost use Rattle.kap_server.specs.Parts.{AreBeside, AreOne, HasJoined, HasRun, HasTold};
+ghost use Rattle.kap_server.specs.Parts.{dropped_of_runs, first_run, lives_of_runs, points_of_runs};
+ghost use Rattle.kap_server.specs.Parts.{with_points};
 
 use edge_queue::CAPACITY_LIMIT;
 use effect_text::{Printed, TaskNames, print_lines};
@@ -346,14 +345,8 @@ fn join_parts<N: NumberingNode + Send>(
 ) -> Result<(), NoMemory>
     requires net { net.old.spent ≡ false }
     requires parts { Each (λ part. part.run.spent ≡ false) parts.items }
-    ensures carried { OnOk result ((lives : List (List (Placed N.Spec))) (points : List PointValue)
-        → HasCarried N.Node lives points net.old
-        → Each (λ part. part.run.points ≡ points) parts.items
-        → HasCarried N.Node (lives ++ lives_of_runs (map (λ part. part.run) parts.items))
-        points net.new) }
-    ensures room { OnOk result ((capacity : ℕ) → Each (HasRoomIn capacity) net.old.lives
-        → Each (λ part. part.run.capacity ≡ capacity) parts.items
-        → Each (HasRoomIn capacity) net.new.lives) }
+    ensures { OnOk result (HasJoined N.Node (map (λ part. part.run) parts.items)
+        net.old net.new) }
 {
     'joining: for part in parts {
         join_nets(alloc, net, net_of(part))?;
