@@ -17,3 +17,5 @@ pub mod CompactLaws
 pub mod ExportLaws
 pub mod CommandLaws
 pub mod PartLaws
+pub mod BesideLaws
+pub mod Crossing

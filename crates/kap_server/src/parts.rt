@@ -1,8 +1,17 @@
 //! Lives that run in parts side by side, each part a net of its own.
 
-ghost use Rattle.std.specs.Prelude.{◌≡◌, ◌<◌, false, IfOk, OnOk, flat_map, length, map};
+ghost use Rattle.std.specs.Prelude.{◌≡◌, ◌<◌, ◌≤◌, ◌++◌, [], false, map, IfOk, OnOk, length};
 ghost use Rattle.std.specs.List.{AllByRecursion as Each, AllZip};
-ghost use Rattle.kap_server.specs.Parts.{HasTold};
+ghost use Rattle.edge_queue.specs.declared.TheConstants.{CAPACITY_LIMIT};
+ghost use Rattle.task_run.specs.Lives.{effects_of};
+ghost use Rattle.task_run.specs.Plans.{AreFirstStates, graph_of};
+ghost use Rattle.flow_core.specs.Carried.{HasCarried};
+ghost use Rattle.flow_core.specs.Gathering.{LivesRise};
+ghost use Rattle.flow_core.specs.Making.{HasFewParents};
+ghost use Rattle.flow_core.specs.Rooms.{HasRoomIn};
+ghost use Rattle.kap_server.specs.Parts.{AreBeside, AreOne, HasJoined, HasRun, HasTold};
+ghost use Rattle.kap_server.specs.Parts.{dropped_of_runs, first_run, lives_of_runs, points_of_runs};
+ghost use Rattle.kap_server.specs.Parts.{with_points};
 
 use edge_queue::CAPACITY_LIMIT;
 use effect_text::{Printed, TaskNames, print_lines};
@@ -42,46 +51,73 @@ pub(crate) struct Parts<N: Node> {
     parts: Vec<Part<N>>,
     /// How many epochs were run.
     epochs: u64,
+    spent: bool,
 }
 
 impl<N: Node> Model for Parts<N> {
     ghost use Rattle.std.specs.Coded.{codes};
-    ghost use Rattle.std.specs.Prelude.{◌≡◌, ◌×◌, ◌<◌, false, length, map};
+    ghost use Rattle.std.specs.Prelude.{◌≡◌, false, map};
     ghost use Rattle.kap_base.specs.Maps.{key_map_code};
     ghost use Rattle.net_run.specs.Runs.{NetRunValue};
-    ghost use Rattle.kap_server.specs.Parts.{AreBeside, capacity_of_runs, one_run, points_of_runs};
+    ghost use Rattle.kap_server.specs.Parts.{AreOne, one_run};
 
     ghost Value = { NetRunValue N.Spec };
 
     ghost coded = { Prim.hlevel (codes, key_map_code) };
 
-    ghost view = { λ p. one_run (map (λ part. part.run) p.parts.items) };
+    ghost view = { λ p. one_run p.spent (map (λ part. part.run) p.parts.items) };
 
-    ghost invariant = { λ p. (0 < length p.parts.items)
-        × ((one_run (map (λ part. part.run) p.parts.items)).spent ≡ false
-        → AreBeside (points_of_runs (map (λ part. part.run) p.parts.items))
-        (capacity_of_runs (map (λ part. part.run) p.parts.items))
-        (map (λ part. part.run) p.parts.items)) };
+    ghost invariant = { λ p. p.spent ≡ false
+        → AreOne (map (λ part. part.run) p.parts.items) };
 }
 
-/// Plans in parts of so many, one behind the other; the last may have fewer.
-fn split_plans<N: Node>(
+/// A part of these plans, before the first point.
+fn part_of<N: NumberingNode + Send>(
     alloc: Global,
     plans: Vec<LifePlan<N>>,
+    capacity: u32,
+) -> Result<Part<N>, NoMemory>
+    requires first { AreFirstStates N.spec N.state N.first plans.items }
+    requires rise { LivesRise N.life N.number 1 (map (graph_of N.spec) plans.items) }
+    requires few { Each HasFewParents plans.items }
+    requires some { 0 < capacity }
+    requires limit { capacity ≤ CAPACITY_LIMIT }
+    ensures { IfOk result (λ part.
+        part.run ≡ first_run capacity (map (graph_of N.spec) plans.items)) }
+{
+    Ok(Part {
+        run: NetRun::new(alloc, plans, capacity)?,
+        told: Printed::new(alloc),
+        failed: false,
+    })
+}
+
+/// Parts of so many plans, one behind the other; the last may have fewer.
+fn parts_of<N: NumberingNode + Send>(
+    alloc: Global,
+    plans: Vec<LifePlan<N>>,
+    capacity: u32,
     size: usize,
-) -> Result<Vec<Vec<LifePlan<N>>>, NoMemory>
-    requires { 0 < size }
-    ensures whole { IfOk result (λ parts. flat_map (λ part. part.items) parts.items ≡ plans.items) }
-    ensures some { IfOk result (λ parts. 0 < length parts.items) }
+) -> Result<Vec<Part<N>>, NoMemory>
+    requires first { AreFirstStates N.spec N.state N.first plans.items }
+    requires rise { LivesRise N.life N.number 1 (map (graph_of N.spec) plans.items) }
+    requires few { Each HasFewParents plans.items }
+    requires some { 0 < capacity }
+    requires limit { capacity ≤ CAPACITY_LIMIT }
+    requires size { 0 < size }
+    ensures lives { IfOk result (λ parts. lives_of_runs (map (λ part. part.run) parts.items)
+        ≡ map (graph_of N.spec) plans.items) }
+    ensures beside { IfOk result (λ parts.
+        AreBeside [] capacity (map (λ part. part.run) parts.items)) }
 {
     let mut parts = Vec::new(alloc);
     let mut rest = plans;
-    'splitting: while size < rest.len() {
+    'parting: while size < rest.len() {
         let behind = rest.split_off(size)?;
-        parts.push(rest)?;
+        parts.push(part_of(alloc, rest, capacity)?)?;
         rest = behind;
     }
-    parts.push(rest)?;
+    parts.push(part_of(alloc, rest, capacity)?)?;
     Ok(parts)
 }
 
@@ -194,20 +230,128 @@ fn run_epoch<N: NumberingNode + Send, R: Threads + Sync, G: Gate + Sync>(
     }
 }
 
-/// What each part tells, unless one has failed.
-fn take_told<N: Node>(alloc: Global, parts: &mut [Part<N>]) -> Result<Vec<Printed>, NoMemory>
-    ensures told { IfOk result (λ told. told.items ≡ map (λ part. part.told) parts.old) }
+/// Puts what each part tells behind what others tell, unless one has failed.
+fn take_told<N: Node>(
+    alloc: Global,
+    parts: &mut [Part<N>],
+    told: &mut Vec<Printed>,
+) -> Result<(), NoMemory>
+    ensures told { OnOk result
+        (told.new.items ≡ told.old.items ++ map (λ part. part.told) parts.old) }
     ensures fine { OnOk result (Each (λ part. part.failed ≡ false) parts.old) }
-    ensures runs { map (λ part. part.run) parts.new ≡ map (λ part. part.run) parts.old }
+    ensures runs { OnOk result (map (λ part. part.run) parts.new
+        ≡ map (λ part. part.run) parts.old) }
 {
-    let mut all = Vec::new(alloc);
-    'taking: for part in parts.iter_mut() {
-        if part.failed {
-            return Err(NoMemory);
-        }
-        all.push(mem::replace(&mut part.told, Printed::new(alloc)))?;
+    let Some((first, others)) = parts.split_first_mut() else {
+        return Ok(());
+    };
+    if first.failed {
+        return Err(NoMemory);
+    }
+    told.push(mem::replace(&mut first.told, Printed::new(alloc)))?;
+    take_told(alloc, others, told)
+}
+
+/// Runs the one part that there is, and answers its effects, and the points where they are to be held.
+fn run_alone<N: NumberingNode + Send, R: Threads + Sync, G: Gate + Sync>(
+    alloc: Global,
+    points: Vec<Shared<Point>>,
+    hold: bool,
+    way: &Way<'_, R, G>,
+    parts: &mut [Part<N>],
+) -> Result<(Effects, Vec<Shared<Point>>), NoMemory>
+    requires one { length parts.old ≡ 1 }
+    requires unspent { Each (λ part. part.run.spent ≡ false) parts.old }
+    ensures runs { OnOk result (map (λ part. part.run) parts.new
+        ≡ map (with_points points.items) (map (λ part. part.run) parts.old)) }
+    ensures effects { IfOk result (λ ran. Each (λ part.
+        effects_of N.answer part.run.lives (part.run.points ++ points.items)
+        ≡ effects_of N.answer part.run.lives part.run.points ++ ran.0) parts.old) }
+{
+    parts[0].run.run(alloc, points, hold, way)
+}
+
+/// Runs parts on the points of an epoch. One part alone gives its effects, and the points where they are to
+/// be held. Of several parts each tells its own, and the points are held.
+fn run_parts<N: NumberingNode + Send, R: Threads + Sync, G: Gate + Sync>(
+    alloc: Global,
+    names: &[TaskNames],
+    points: Vec<Shared<Point>>,
+    hold: bool,
+    way: &Way<'_, R, G>,
+    epoch: u64,
+    parts: &mut [Part<N>],
+) -> Result<Ran, NoMemory>
+    requires { AreOne (map (λ part. part.run) parts.old) }
+    ensures runs { OnOk result (map (λ part. part.run) parts.new
+        ≡ map (with_points points.items) (map (λ part. part.run) parts.old)) }
+    ensures ran { IfOk result (HasRun N.answer names.now
+        (points_of_runs (map (λ part. part.run) parts.old)) points.items
+        (lives_of_runs (map (λ part. part.run) parts.old))) }
+{
+    if parts.len() == 1 {
+        let (effects, left) = run_alone(alloc, points, hold, way, parts)?;
+        return Ok(Ran::Whole(effects, left));
+    }
+    run_epoch(alloc, names, &points, way, epoch, parts);
+    let mut told = Vec::new(alloc);
+    take_told(alloc, parts, &mut told)?;
+    Ok(Ran::InParts(told, points))
+}
+
+/// Puts counts behind others.
+fn add_counts(all: &mut Counts, more: Counts) -> Result<(), NoMemory>
+    ensures { OnOk result (all.new ≡ all.old ++ more) }
+{
+    'adding: for counts in more.into_items() {
+        all.push(counts)?;
+    }
+    Ok(())
+}
+
+/// How many inputs each node of each life of parts dropped and counted.
+fn dropped_by<N: NumberingNode + Send>(
+    alloc: Global,
+    parts: &[Part<N>],
+) -> Result<Counts, NoMemory>
+    requires { Each (λ part. part.run.spent ≡ false) parts.now }
+    ensures { IfOk result (λ counts.
+        counts ≡ dropped_of_runs N.answer (map (λ part. part.run) parts.now)) }
+{
+    let mut all = Counts::new(alloc);
+    let mut rest = parts;
+    'counting: while let Some((part, others)) = rest.split_first() {
+        add_counts(&mut all, part.run.dropped(alloc)?)?;
+        rest = others;
     }
     Ok(all)
+}
+
+/// The net of a part.
+fn net_of<N: NumberingNode + Send>(part: Part<N>) -> Net<N>
+    requires { part.run.spent ≡ false }
+    ensures carried { HasCarried N.Node part.run.lives part.run.points result }
+    ensures room { Each (HasRoomIn part.run.capacity) result.lives }
+{
+    let Part { run, .. } = part;
+    run.into_net()
+}
+
+/// Puts the lives of parts behind those of a net.
+fn join_parts<N: NumberingNode + Send>(
+    alloc: Global,
+    net: &mut Net<N>,
+    parts: Vec<Part<N>>,
+) -> Result<(), NoMemory>
+    requires net { net.old.spent ≡ false }
+    requires parts { Each (λ part. part.run.spent ≡ false) parts.items }
+    ensures { OnOk result (HasJoined N.Node (map (λ part. part.run) parts.items)
+        net.old net.new) }
+{
+    'joining: for part in parts {
+        join_nets(alloc, net, net_of(part))?;
+    }
+    Ok(())
 }
 
 impl<N: NumberingNode + Send> Parts<N> {
@@ -245,15 +389,11 @@ impl<N: NumberingNode + Send> Parts<N> {
             }) }
     {
         let size = plans.len().div_ceil(count).max(1);
-        let mut parts = Vec::new(alloc);
-        'making: for some in split_plans(alloc, plans, size)? {
-            parts.push(Part {
-                run: NetRun::new(alloc, some, capacity)?,
-                told: Printed::new(alloc),
-                failed: false,
-            })?;
-        }
-        Ok(Parts { parts, epochs: 0 })
+        Ok(Parts {
+            parts: parts_of(alloc, plans, capacity, size)?,
+            epochs: 0,
+            spent: false,
+        })
     }
 
     /// How many points were loaded.
@@ -286,16 +426,12 @@ impl<N: NumberingNode + Send> Parts<N> {
         ensures ran { IfOk result (HasRun N.answer names.now
             self.old.points points.items self.old.lives) }
     {
-        if self.parts.len() == 1 {
-            if let Some(part) = self.parts.first_mut() {
-                let (effects, left) = part.run.run(alloc, points, hold, way)?;
-                return Ok(Ran::Whole(effects, left));
-            }
-        }
-        run_epoch(alloc, names, &points, way, self.epochs, &mut self.parts);
-        self.epochs = self.epochs.saturating_add(1);
-        let told = take_told(alloc, &mut self.parts)?;
-        Ok(Ran::InParts(told, points))
+        self.spent = true;
+        let epoch = self.epochs;
+        let ran = run_parts(alloc, names, points, hold, way, epoch, &mut self.parts)?;
+        self.epochs = epoch.saturating_add(1);
+        self.spent = false;
+        Ok(ran)
     }
 
     /// How many inputs each node of each life dropped and counted, life by life and node by node.
@@ -304,13 +440,7 @@ impl<N: NumberingNode + Send> Parts<N> {
         ensures { IfOk result (λ counts.
             counts ≡ dropped_of N.answer self.now.lives self.now.points) }
     {
-        let mut all = Counts::new(alloc);
-        'counting: for part in self.parts.as_slice() {
-            for counts in part.run.dropped(alloc)?.into_items() {
-                all.push(counts)?;
-            }
-        }
-        Ok(all)
+        dropped_by(alloc, self.parts.as_slice())
     }
 
     /// The net of all lives. It is at rest, and over all epochs each of its edges has carried, barriers
@@ -321,11 +451,8 @@ impl<N: NumberingNode + Send> Parts<N> {
         ensures room { IfOk result (λ net. Each (HasRoomIn self.capacity) net.lives) }
     {
         let Parts { mut parts, .. } = self;
-        let mut net = parts.remove(0).run.into_net();
-        'joining: for part in parts {
-            let Part { run, .. } = part;
-            join_nets(alloc, &mut net, run.into_net())?;
-        }
+        let mut net = net_of(parts.remove(0));
+        join_parts(alloc, &mut net, parts)?;
         Ok(net)
     }
 }
