@@ -1,4 +1,3 @@
-use Rattle.std.proofs.Common.{◌≡◌, ◌∷◌, sym, ◌∙◌, rules}
 use Rattle.effect_text.proofs.PieceLaws.{behinds_then, fronts_none, fronts_then}
 use Rattle.effect_text.proofs.merging.+put_fronts.Goals as goal
 
@@ -12,7 +11,5 @@ returns-in_ok-put_fronts-clause-told t c =
 
 pub returns-in_ok-put_fronts-clause-rests : goal.returns-in_ok-put_fronts-clause-rests
 returns-in_ok-put_fronts-clause-rests t c =
-    let same : c.put_front.new.part ∷ c.put_fronts.new.parts ≡ c.parts-in-Some-1.given.0 = search rules in
-    sym same
-    ∙ behinds_then c.args.stamp c.args.parts.now c.in-Some.first.now c.put_front.new.part c.in-Some.others.now c.put_fronts.new.parts
+    behinds_then c.args.stamp c.args.parts.now c.in-Some.first.now c.put_front.new.part c.in-Some.others.now c.put_fronts.new.parts
     c.in-Some.ensures.cases.0 c.in_ok-put_front.ensures.rest c.in_ok-put_fronts.ensures.rests

@@ -2,7 +2,7 @@ use Rattle.std.proofs.Common.{◌≡◌, ◌==◌, ◌-◌, true, false, List, �
 use Rattle.std.proofs.lemmas.Bool.Decides.{nat_tests}
 use Rattle.std.proofs.lemmas.List.{nil_from_length}
 use Rattle.effect_text.proofs.PieceLaws.{behind_ends, behind_none, behind_on, behind_one, behind_some, front_ends, front_none, front_on, told_nothing, told_whole}
-use Rattle.effect_text.specs.Pieces.{PieceValue, behind_with, front_with, pieces_in}
+use Rattle.effect_text.specs.Pieces.{PieceValue, front_with, pieces_in}
 use Rattle.effect_text.specs.declared.printing.Piece.{Piece}
 use Rattle.effect_text.proofs.merging.put_some.Goals as goal
 
@@ -37,9 +37,9 @@ putting-preserved c =
     let start = length c.args.lines.now - length c.split_lines.result.1.now in
     let next = length c.args.pieces.now - length c.in-Some.others.now in
     let behind : drop c.putting.next c.args.pieces.now ≡ c.in-Some.piece.now ∷ drop next c.args.pieces.now =
-        are ∙ ap (λ (l : List Piece). c.in-Some.piece.now ∷ l) (sym (behind_one c.args.pieces.now c.in-Some.others.now c.in-Some.piece.now c.putting.next are)) in
+    are ∙ ap (λ (l : List Piece). c.in-Some.piece.now ∷ l) (sym (behind_one c.args.pieces.now c.in-Some.others.now c.in-Some.piece.now c.putting.next are)) in
     let rest : drop start c.args.lines.now ≡ drop c.in-Some.piece.now.size (drop c.putting.start c.args.lines.now) =
-        behind_some c.args.lines.now c.split_lines.result.1.now c.in-Some.piece.now.size c.putting.start left ∙ left in
+    behind_some c.args.lines.now c.split_lines.result.1.now c.in-Some.piece.now.size c.putting.start left ∙ left in
     record {
       told = front_on c.args.topics.now c.putting.topics c.put_piece.new.topics c.args.text.now c.putting.text c.put_piece.new.text c.args.stamp _
           (drop c.putting.start c.args.lines.now) c.split_lines.result.0.now (drop start c.args.lines.now) (drop c.putting.next c.args.pieces.now) (drop next c.args.pieces.now) c.in-Some.piece.now behind same

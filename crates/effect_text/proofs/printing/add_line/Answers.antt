@@ -1,4 +1,4 @@
-use Rattle.std.proofs.Common.{◌≡◌, ℕ, ◌+◌, ◌-◌, ◌++◌, ◌∷◌, [], List, None, length, ap, sym, subst, ◌∙◌, arith, length-append}
+use Rattle.std.proofs.Common.{◌≡◌, ℕ, ◌+◌, ◌-◌, ◌++◌, ◌∷◌, [], List, None, length, ap, ◌∙◌, arith, length-append}
 use Rattle.effect_text.proofs.PieceLaws.{cut_more, pieces_more}
 use Rattle.effect_text.specs.Lines.{out_line}
 use Rattle.effect_text.specs.Pieces.{AreCut, pieces_in}
