@@ -1,14 +1,21 @@
 -- The text of what nodes do on further points.
-use Rattle.std.proofs.Common.{◌≡◌, ℕ, suc, List, [], ◌∷◌, ◌++◌, length, refl, sym, ap, ◌∙◌, append_assoc, append-nil}
+use Rattle.std.proofs.Common.{◌≡◌, ℕ, suc, List, [], ◌∷◌, ◌++◌, length, map, refl, sym, ap, ◌∙◌, append_assoc, append-nil}
+use Rattle.std.specs.List.{sum_by}
 use Rattle.std.proofs.lemmas.Grind.{flat_map-append}
 use Rattle.kap_base.specs.Points.{PointValue}
 use Rattle.kap_base.specs.declared.items.Effect.{Effect}
-use Rattle.node_core.specs.Meaning.{Answer}
+use Rattle.node_core.specs.Cut.{IsStamped}
+use Rattle.node_core.specs.Meaning.{Answer, Input}
 use Rattle.effect_text.specs.Lines.{event_in, events_of, text_behind, text_of}
 use Rattle.effect_text.proofs.TextLaws.{text_more}
 use Rattle.effect_text.specs.declared.names.TaskNames.{TaskNames}
+use Rattle.effect_text.specs.Pieces.{PieceValue, by_stamp, piece_of, side_by_side}
+use Rattle.task_run.specs.Courses.{from_first, later_effects}
 use Rattle.task_run.specs.Graphs.{Placed}
 use Rattle.task_run.specs.Lives.{effects_of, life_effects_with}
+use Rattle.net_run.proofs.EpochLaws.{effects_later}
+use Rattle.kap_server.proofs.PartLaws.{parts_later, told_count}
+use Rattle.kap_server.specs.Parts.{IsToldInParts, does_with}
 use Rattle.kap_server.specs.Replaying.{AddsText, Grows}
 use Rattle.kap_server.specs.Runs.{run_text}
 
@@ -57,6 +64,30 @@ module _ {P : Type 0} (answer : P → Answer) (names : List TaskNames) (lives : 
   pub events_next : (points new : List PointValue) (effects : List Effect) → GoBehind points new effects
       → events_of (effects_of answer lives (points ++ new)) ≡ events_of (effects_of answer lives points) ++ events_of effects
   events_next points new effects on = ap events_of on ∙ flat_map-append (λ e. event_in e.what) (effects_of answer lives points) effects
+
+  -- what is told in parts, in the order of all effects
+  abbrev pub effects_in_parts : (points new : List PointValue) (told : List (List PieceValue)) → IsToldInParts answer names points new lives told → List Effect
+  effects_in_parts points new told t = by_stamp (length points) (length new) (side_by_side (map (does_with answer names (points ++ new)) t.parts))
+
+  -- these are told by stamp, from the first new one on
+  pub told_by_stamp : (points new : List PointValue) (told : List (List PieceValue)) (t : IsToldInParts answer names points new lives told) (from count : ℕ) → from ≡ length points → count ≡ length new
+      → told ≡ map (λ f. map (piece_of names) (by_stamp from count f)) (map (does_with answer names (points ++ new)) t.parts)
+  told_by_stamp points new told t from count first many =
+      rw (first, many) t.is
+
+  -- and they go on from the effects of the others
+  pub parts_behind : (life number : P → ℕ) → ((p : P) (before : List Input) (x : Input) → IsStamped (life p) (number p) x.1.stamp.0 (answer p before x))
+      → (points new : List PointValue) (told : List (List PieceValue)) (t : IsToldInParts answer names points new lives told) → GoBehind points new (effects_in_parts points new told t)
+  parts_behind life number stamped points new told t =
+      let later : effects_in_parts points new told t ≡ later_effects answer (length points) (length new) (from_first (points ++ new) lives) =
+      parts_later answer (length points) (length new) (points ++ new) t.parts
+      ∙ ap (λ (ls : List (List (Placed P))). later_effects answer (length points) (length new) (from_first (points ++ new) ls)) (sym t.are) in
+      effects_later answer life number stamped points new lives ∙ ap (λ (es : List Effect). effects_of answer lives points ++ es) (sym later)
+
+  -- as many as all parts tell
+  pub parts_count : (points new : List PointValue) (told : List (List PieceValue)) (t : IsToldInParts answer names points new lives told) → sum_by length told ≡ length (effects_in_parts points new told t)
+  parts_count points new told t =
+      ap (sum_by length) t.is ∙ told_count (piece_of names) (length points) (length new) (map (does_with answer names (points ++ new)) t.parts)
 
   pub grows : GoesOn → Grows (run_text answer names lives)
   grows on points [] = ([], ap (run_text answer names lives) (append-nil points) ∙ sym (append-nil (run_text answer names lives points)))
