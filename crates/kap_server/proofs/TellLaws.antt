@@ -65,30 +65,6 @@ module _ {P : Type 0} (answer : P → Answer) (names : List TaskNames) (lives : 
       → events_of (effects_of answer lives (points ++ new)) ≡ events_of (effects_of answer lives points) ++ events_of effects
   events_next points new effects on = ap events_of on ∙ flat_map-append (λ e. event_in e.what) (effects_of answer lives points) effects
 
-  -- what is told in parts, in the order of all effects
-  abbrev pub effects_in_parts : (points new : List PointValue) (told : List (List PieceValue)) → IsToldInParts answer names points new lives told → List Effect
-  effects_in_parts points new told t = by_stamp (length points) (length new) (side_by_side (map (does_with answer names (points ++ new)) t.parts))
-
-  -- these are told by stamp, from the first new one on
-  pub told_by_stamp : (points new : List PointValue) (told : List (List PieceValue)) (t : IsToldInParts answer names points new lives told) (from count : ℕ) → from ≡ length points → count ≡ length new
-      → told ≡ map (λ f. map (piece_of names) (by_stamp from count f)) (map (does_with answer names (points ++ new)) t.parts)
-  told_by_stamp points new told t from count first many =
-      rw (first, many) t.is
-
-  -- and they go on from the effects of the others
-  pub parts_behind : (life number : P → ℕ) → ((p : P) (before : List Input) (x : Input) → IsStamped (life p) (number p) x.1.stamp.0 (answer p before x))
-      → (points new : List PointValue) (told : List (List PieceValue)) (t : IsToldInParts answer names points new lives told) → GoBehind points new (effects_in_parts points new told t)
-  parts_behind life number stamped points new told t =
-      let later : effects_in_parts points new told t ≡ later_effects answer (length points) (length new) (from_first (points ++ new) lives) =
-      parts_later answer (length points) (length new) (points ++ new) t.parts
-      ∙ ap (λ (ls : List (List (Placed P))). later_effects answer (length points) (length new) (from_first (points ++ new) ls)) (sym t.are) in
-      effects_later answer life number stamped points new lives ∙ ap (λ (es : List Effect). effects_of answer lives points ++ es) (sym later)
-
-  -- as many as all parts tell
-  pub parts_count : (points new : List PointValue) (told : List (List PieceValue)) (t : IsToldInParts answer names points new lives told) → sum_by length told ≡ length (effects_in_parts points new told t)
-  parts_count points new told t =
-      ap (sum_by length) t.is ∙ told_count (piece_of names) (length points) (length new) (map (does_with answer names (points ++ new)) t.parts)
-
   pub grows : GoesOn → Grows (run_text answer names lives)
   grows on points [] = ([], ap (run_text answer names lives) (append-nil points) ∙ sym (append-nil (run_text answer names lives points)))
   grows on points (p ∷ others) =
@@ -97,3 +73,32 @@ module _ {P : Type 0} (answer : P → Answer) (names : List TaskNames) (lives : 
         lines_of points (next points p) ++ g.0,
         ap text (sym (append_assoc points (p ∷ []) others)) ∙ g.1 ∙ ap (λ (l : List ℕ). l ++ g.0) (text_next points (p ∷ []) (next points p) (on points p)) ∙ append_assoc (text points) (lines_of points (next points p)) g.0,
       )
+
+-- ---- lives that are told in parts, by stamp, from the first new one on
+
+module _ {P : Type 0} (answer : P → Answer) (names : List TaskNames) (lives : List (List (Placed P))) (points new : List PointValue) (told : List (List PieceValue)) (t : IsToldInParts answer names points new lives told)
+    (from count : ℕ) where
+  -- what each part does with a stamp
+  abbrev pub done_by_parts : List (ℕ → List Effect)
+  done_by_parts = map (does_with answer names (points ++ new)) t.parts
+
+  -- what all do, in the order of effects
+  abbrev pub effects_in_parts : List Effect
+  effects_in_parts = by_stamp from count (side_by_side done_by_parts)
+
+  pub told_by_stamp : from ≡ length points → count ≡ length new → told ≡ map (λ f. map (piece_of names) (by_stamp from count f)) done_by_parts
+  told_by_stamp first many = rw (first, many) t.is
+
+  -- it goes on from the effects of the other points
+  pub parts_behind : (life number : P → ℕ) → ((p : P) (before : List Input) (x : Input) → IsStamped (life p) (number p) x.1.stamp.0 (answer p before x)) → from ≡ length points → count ≡ length new
+      → GoBehind answer names lives points new effects_in_parts
+  parts_behind life number stamped first many =
+      let later : effects_in_parts ≡ later_effects answer (length points) (length new) (from_first (points ++ new) lives) =
+      rw (first, many) (parts_later answer (length points) (length new) (points ++ new) t.parts)
+      ∙ ap (λ (ls : List (List (Placed P))). later_effects answer (length points) (length new) (from_first (points ++ new) ls)) (sym t.are) in
+      effects_later answer life number stamped points new lives ∙ ap (λ (es : List Effect). effects_of answer lives points ++ es) (sym later)
+
+  -- as many as the parts tell in all
+  pub parts_count : from ≡ length points → count ≡ length new → sum_by length told ≡ length effects_in_parts
+  parts_count first many =
+      ap (sum_by length) (told_by_stamp first many) ∙ told_count (piece_of names) from count done_by_parts
