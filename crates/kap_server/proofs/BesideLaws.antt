@@ -1,5 +1,5 @@
 -- Runs of parts, seen as one run.
-use Rattle.std.proofs.Common.{◌≡◌, ℕ, suc, ◌<◌, Bool, false, List, [], ◌∷◌, ◌++◌, drop, length, map, take, refl, sym, ap, subst, ◌∙◌, append_assoc, append-nil, arith}
+use Rattle.std.proofs.Common.{◌≡◌, ℕ, zero, suc, ◌<◌, Bool, false, List, [], ◌∷◌, ◌++◌, drop, length, map, take, refl, sym, ap, subst, ◌∙◌, append_assoc, append-nil, arith}
 use Rattle.std.specs.List.{AllByRecursion as Each, AllZip, flat_map, remove}
 use Rattle.std.specs.Prelude.{slice_index_or}
 use Rattle.std.proofs.lemmas.List.{map-append, take-append-drop}
@@ -21,7 +21,7 @@ use Rattle.task_run.specs.Graphs.{Placed, graph_gives}
 use Rattle.task_run.specs.Lives.{dropped_of, effects_of}
 use Rattle.task_run.specs.Plans.{AreFirstStates, PlanValue, graph_of}
 use Rattle.kap_server.proofs.PartLaws.{laters_by_stamp, rise_behind, rise_first}
-use Rattle.kap_server.specs.Parts.{AreBeside, AreOne, HasHad, HasJoined, HasTold, IsToldInParts, capacity_of_runs, does_with, dropped_of_runs, first_run, lives_of_runs, points_of_runs, with_points}
+use Rattle.kap_server.specs.Parts.{AreBeside, AreOne, HasHad, HasJoined, HasTold, IsToldInParts, capacity_of_runs, does_with, dropped_of_runs, first_run, lives_of_runs, one_run, points_of_runs, with_points}
 
 each-first : {A : Type 0} (Q : A → Type 0) (xs ys : List A) → Each Q (xs ++ ys) → Each Q xs
 each-first Q [] ys h = tt
@@ -34,6 +34,28 @@ each-behind Q (x ∷ xs) ys h = each-behind Q xs ys h.1
 pub each_both : {A : Type 0} (Q : A → Type 0) (xs ys : List A) → Each Q xs → Each Q ys → Each Q (xs ++ ys)
 each_both Q [] ys a b = b
 each_both Q (x ∷ xs) ys a b = (a.0, each_both Q xs ys a.1 b)
+
+-- what each has the one at a place has
+pub each_at : {X : Type 0} (Q : X → Type 0) (xs : List X) (i : ℕ) (x : X) → i < length xs → x ≡ slice_index_or xs i x → Each Q xs → Q x
+each_at Q [] i x within is all = absurd (omega (arith, within))
+each_at Q (y ∷ xs) zero x within is all = subst Q (sym is) all.0
+each_at Q (y ∷ xs) (suc i) x within is all = each_at Q xs i x (omega (arith, within)) is all.1
+
+-- two lists are related place by place where they are so at each
+pub zip_by : {X : Type 0} (R : X → X → Type 0) (xs ys : List X) → length ys ≡ length xs → ((i : ℕ) (d : X) → i < length xs → R (slice_index_or xs i d) (slice_index_or ys i d)) → AllZip R xs ys
+zip_by R [] [] e h = tt
+zip_by R [] (y ∷ ys) e h = absurd (omega (arith, e))
+zip_by R (x ∷ xs) [] e h = absurd (omega (arith, e))
+zip_by R (x ∷ xs) (y ∷ ys) e h = (h 0 x (omega arith), zip_by R xs ys (omega (arith, e)) (λ i d lt. h (suc i) d (omega (arith, lt))))
+
+pub zip_length : {X : Type 0} (R : X → X → Type 0) (xs ys : List X) → AllZip R xs ys → length ys ≡ length xs
+zip_length R [] [] z = refl
+zip_length R [] (y ∷ ys) z = absurd z
+zip_length R (x ∷ xs) [] z = absurd z
+zip_length R (x ∷ xs) (y ∷ ys) z = ap suc (zip_length R xs ys z.1)
+
+pub carried : {X : Type 0} {x y was ended : X} → was ≡ x → ended ≡ y → (R : X → X → Type 0) → R was ended → R x y
+carried {X} {x} {y} {was} {ended} from to R h = subst (λ (z : X). R x z) to (subst (λ (z : X). R z ended) from h)
 
 -- the first of some, and the others
 pub first_and_rest : {X : Type 0} (xs : List X) (x : X) → 0 < length xs → x ≡ slice_index_or xs 0 x → xs ≡ x ∷ remove xs 0
@@ -56,6 +78,14 @@ module _ {P : Type 0} where
   pub one_is : (points : List PointValue) (capacity : ℕ) (runs : List (NetRunValue P)) → AreBeside points capacity runs → (points_of_runs runs ≡ points) × (capacity_of_runs runs ≡ capacity)
   one_is points capacity [] b = absurd (let some = b.some in omega (arith, some))
   one_is points capacity (r ∷ runs) b = (b.had.0.points_are, b.had.0.capacity_is)
+
+  pub one_run_is : (points : List PointValue) (capacity : ℕ) (lives : List (List (Placed P))) (spent : Bool) (runs : List (NetRunValue P)) → AreBeside points capacity runs → lives_of_runs runs ≡ lives
+      → one_run spent runs ≡ record { lives = lives; points = points; capacity = capacity; spent = spent }
+  one_run_is points capacity lives spent runs b are =
+      let is = one_is points capacity runs b in
+      ap (λ (ls : List (List (Placed P))). record { lives = ls; points = points_of_runs runs; capacity = capacity_of_runs runs; spent = spent }) are
+      ∙ ap (λ (ps : List PointValue). record { lives = lives; points = ps; capacity = capacity_of_runs runs; spent = spent }) is.0
+      ∙ ap (λ (n : ℕ). record { lives = lives; points = points; capacity = n; spent = spent }) is.1
 
   -- new points change no lives
   pub lives_with : (new : List PointValue) (runs : List (NetRunValue P)) → lives_of_runs (map (with_points new) runs) ≡ lives_of_runs runs

@@ -190,8 +190,9 @@ fn run_beside<N: NumberingNode + Send, R: Threads + Sync, G: Gate + Sync>(
         parts,
         threads,
         &|place: usize, part: &mut Part<N>|
-            requires { part.entry.now.run.spent ≡ false }
-            ensures { part.exit.now.failed ≡ false → HasTold N.answer names.now points.now.items
+            requires { part.now.run.spent ≡ false }
+            ensures { part.exit.now.failed ≡ false
+                → HasTold N.answer names.entry.now points.entry.now.items
                 part.entry.now.run part.exit.now.run part.exit.now.told }
         {
             gate.pass(short(place), epoch);

@@ -11,7 +11,7 @@ use Rattle.flow_life.specs.contracts.life.Life as Life
 use Rattle.flow_core.specs.contracts.net.Net as Net
 use Rattle.flow_core.specs.contracts.net.Net.TheInside as NetInside
 use Rattle.node_workers.proofs.Crossing.{Numbered_send}
-use Rattle.net_run.proofs.trail.Trail.TheSendSync as Trail_
+use Rattle.net_run.proofs.trail.Trail.TheLaws.TheKnot as TrailKnot
 use Rattle.net_run.specs.contracts.runs.NetRun as NetRun
 use Rattle.net_run.specs.contracts.runs.NetRun.TheInside as RunInside
 
@@ -28,5 +28,5 @@ NetRun_send N P S g s =
     view_send (RunInside.the_row N P S g) _ _ _ _
     (recorded_send (RunInside.the_field N P S g).row _ _ (RunInside.the_type N P S g).to_one (struct_send (Declared.shape (RunInside.the_type N P S g)) (
       Net_send N P S g s,
-      (search sendable, (search sendable, (search (crosses, sendable) depth 60 fits 20000, (search (crosses, sendable) depth 60 fits 20000, (Trail_.the_send, tt))))),
+      (search sendable, (search sendable, (search (crosses, sendable) depth 60 fits 20000, (search (crosses, sendable) depth 60 fits 20000, (search (crosses, sendable, TrailKnot.crosses) depth 100 fits 100000, tt))))),
     )))

@@ -18,7 +18,7 @@ invariant_of-self-2 g c = λ e.
     let stood = (c.self.invariant fresh).1 in
     let all : points_of c.of.result.value ++ c.of-2.result.value.items ≡ before ++ c.args.points.now.items = rw (c.of.ensures, c.of-2.ensures) refl in (
       ap (λ (t : Stamp). t.0) (sym c.in_ok-effects.ensures.last),
-      subst (λ (ps : List PointValue). Stands node nodes ps c.run_shared.new.net) (sym all) (c.in_ok-effects.ensures.stands nodes before stood),
+      subst (λ (ps : List PointValue). Stands node nodes ps c.run_shared.new.net) (sym all) (rw c.as_slice.ensures.value at (c.in_ok-effects.ensures.stands nodes before stood)),
       same_room c.self.inside.capacity.value _ _ c.in_ok-effects.ensures.rooms (c.self.invariant fresh).2,
     )
 
@@ -29,5 +29,5 @@ returns-clause-effects g c =
     let before = points_of c.self.inside.trail in
     let fresh : c.self.inside.spent ≡ false = ap (λ (r : NetRunValue g.row.N-Spec.Denot). r.spent) c.self.view_is ∙ c.requires in
     let stood = (c.self.invariant fresh).1 in
-    c.in_ok-effects.ensures.effects nodes before stood
+    rw c.as_slice.ensures.value at (c.in_ok-effects.ensures.effects nodes before stood)
     ∙ ap (λ (r : NetRunValue g.row.N-Spec.Denot). later_effects node.answer (length r.points) (length c.args.points.now.items) (from_first (r.points ++ c.args.points.now.items) r.lives)) c.self.view_is
