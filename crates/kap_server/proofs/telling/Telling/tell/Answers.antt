@@ -103,7 +103,7 @@ returns-in_ok-put_printed-in-InParts-clause-pace g c =
     let first : from ≡ length points = c.given-from.ensures in
     let many : count ≡ length new = c.len-count.ensures ∙ c.args.points.ok.0 in
     let as_many : c.in-Some.effects ≡ length (effects_in_parts node.answer names lives points new told t from count) =
-    c.in-Some.ensures ∙ ap (sum_by length) c.as_slice-in-InParts.ensures ∙ parts_count node.answer names lives points new told t from count first many in
+    c.in-Some.ensures ∙ ap (sum_by length) c.as_slice-in-InParts.ensures.value ∙ parts_count node.answer names lives points new told t from count first many in
     paces_on node.answer lives points new (effects_in_parts node.answer names lives points new told t from count) c.args.text.now c.put_printed.new.text c.args.self.now.pace.limit _
     (parts_behind node.answer names lives points new told t from count node.life node.number met.stamped first many)
     (rw (← as_many) (search rules))
