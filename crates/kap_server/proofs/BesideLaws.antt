@@ -169,13 +169,13 @@ module _ {X P : Type 0} (run : X → NetRunValue P) where
 
       told-by_stamp : (points : List PointValue) (capacity : ℕ) (xs ys : List X) → AllZip (λ p q. failed q ≡ false → HasTold answer names new (run p) (run q) (told q)) xs ys → Each (λ q. failed q ≡ false) ys
           → Each (HasHad points capacity) (map run xs)
-          → map told ys ≡ map (λ f. map (piece_of names) (by_stamp (length points) (length new) f)) (map (does_with answer (points ++ new)) (map (λ r. r.lives) (map run xs)))
+          → map told ys ≡ map (λ f. map (piece_of names) (by_stamp (length points) (length new) f)) (map (does_with answer names (points ++ new)) (map (λ r. r.lives) (map run xs)))
       told-by_stamp points capacity [] [] z fine had = refl
       told-by_stamp points capacity [] (y ∷ ys) z fine had = absurd z
       told-by_stamp points capacity (x ∷ xs) [] z fine had = absurd z
       told-by_stamp points capacity (x ∷ xs) (y ∷ ys) z fine had =
           let lives : List (List (Placed P)) = (run x).lives in
-          let does : ℕ → List Effect = does_with answer (points ++ new) lives in
+          let does : ℕ → List Effect = does_with answer names (points ++ new) lives in
           let is : told y ≡ map (piece_of names) (by_stamp (length points) (length new) does) =
               (z.0 fine.0).is
               ∙ ap (λ (ps : List PointValue). map (piece_of names) (later_effects answer (length ps) (length new) (from_first (ps ++ new) lives))) had.0.points_are
@@ -204,7 +204,7 @@ module _ {N P S X : Type 0} (g : Ghosts N P S) (run : X → NetRunValue P) where
 
   -- and those of one run more
   pub joined_more : (xs : List X) (x : X) (old mid new net : NetValue N) → HasJoined g (map run xs) old mid → HasCarried g (run x).lives (run x).points net → Each (HasRoomIn (run x).capacity) net.lives
-      → ((points : List PointValue) (as bs : List (List (Placed P))) → HasCarried g as points mid → HasCarried g bs points net → HasCarried g (as ++ bs) points new)
+      → ((points : List PointValue) (ours theirs : List (List (Placed P))) → HasCarried g ours points mid → HasCarried g theirs points net → HasCarried g (ours ++ theirs) points new)
       → ((capacity : ℕ) → Each (HasRoomIn capacity) mid.lives → Each (HasRoomIn capacity) net.lives → Each (HasRoomIn capacity) new.lives)
       → HasJoined g (map run (xs ++ x ∷ [])) old new
   joined_more xs x old mid new net joined carried room both roomy =

@@ -3,15 +3,12 @@ use denote.Param.{param}
 use denote.Param.Send.{param_send, arg_send}
 use Rattle.std.proofs.Common.{◌≡◌, false}
 use Rattle.kap_server.specs.Parts.{HasTold}
-use Rattle.kap_server.proofs.BesideLaws.{carried, each_at, zip_by}
+use Rattle.kap_server.proofs.BesideLaws.{carried, zip_by}
 use Rattle.kap_server.proofs.Crossing.{Part_send}
 use Rattle.kap_server.proofs.parts.run_beside.Goals as goal
 
 pub for_each_mut-requires-send-T : goal.for_each_mut-requires-send-T
-for_each_mut-requires-send-T g c κs within = param_send 1 _ (arg_send _ no _ (Part_send _ (param 3 g.row.N-Spec) (param 4 g.row.N-State) _ c.type_bounds.send-N))
-
-pub for_each_mut-requires-accepts : goal.for_each_mut-requires-accepts
-for_each_mut-requires-accepts g c = λ i p within is. each_at (λ part. part.run.spent ≡ false) c.args.parts.now i p.now within is c.requires.unspent
+for_each_mut-requires-send-T g c κs within = param_send 1 _ (arg_send _ no _ (Part_send _ (param 3 g.row.N-Spec) (param 4 g.row.N-State) g.N.Node c.type_bounds.send-N))
 
 pub returns : goal.returns
 returns g c =
