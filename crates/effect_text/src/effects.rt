@@ -1,7 +1,8 @@
 //! The lines of effects.
 
-ghost use Rattle.std.specs.Prelude.{◌≡◌, ◌++◌, ◌∷◌, [], true, List, OnOk, option_map};
+ghost use Rattle.std.specs.Prelude.{◌≡◌, ◌++◌, ◌∷◌, [], true, IfOk, List, OnOk, option_map};
 ghost use Rattle.std.specs.List.{flat_map, list_all};
+ghost use Rattle.std.specs.Option.{option_to_list};
 ghost use Rattle.kap_base.specs.Events.{EventValue};
 ghost use Rattle.kap_base.specs.Points.{is_time};
 ghost use Rattle.topic_core.specs.Print.{transition_line};
@@ -26,7 +27,8 @@ fn task_of(tasks: &[TaskNames], life: u32) -> Option<&TaskNames>
     tasks.get(life as usize - 1)
 }
 
-fn id_of(tasks: &[TaskNames], life: u32) -> &[u8]
+/// The id of the task of a life, empty where no task has it.
+pub(crate) fn id_of(tasks: &[TaskNames], life: u32) -> &[u8]
     ensures { result.now ≡ id_of tasks.now life }
 {
     match task_of(tasks, life) {
@@ -35,7 +37,8 @@ fn id_of(tasks: &[TaskNames], life: u32) -> &[u8]
     }
 }
 
-fn node_of(tasks: &[TaskNames], life: u32, node: u32) -> &[u8]
+/// The name of a node of the task of a life, empty where no task has it.
+pub(crate) fn node_of(tasks: &[TaskNames], life: u32, node: u32) -> &[u8]
     ensures { result.now ≡ node_of tasks.now life node }
 {
     match task_of(tasks, life) {
@@ -47,7 +50,13 @@ fn node_of(tasks: &[TaskNames], life: u32, node: u32) -> &[u8]
     }
 }
 
-fn put_out_line(id: &[u8], node: &[u8], point: &Point, text: &mut Bytes) -> Result<(), NoMemory>
+/// Adds the line of a logged point.
+pub(crate) fn put_out_line(
+    id: &[u8],
+    node: &[u8],
+    point: &Point,
+    text: &mut Bytes,
+) -> Result<(), NoMemory>
     ensures { OnOk result (text.new ≡ text.old ++ out_line id.now node.now point.now) }
 {
     text.append(b"out ")?;
@@ -65,6 +74,31 @@ fn event_is_timely(event: &Event)
 {
     // Only a field says what holds of each event.
     let _time = event.time;
+}
+
+/// Lets topics take an event, and adds the line of the transition that it makes, where it makes one, and
+/// answers that.
+pub(crate) fn accept_event(
+    alloc: Global,
+    topics: &mut Topics,
+    event: &Event,
+    text: &mut Bytes,
+) -> Result<Option<Transition>, NoMemory>
+    ensures lines { (events : List EventValue) → StandsFor events topics.old → OnOk result
+        (text.new ≡ text.old ++ flat_map transition_line (new_transitions events event.now)) }
+    ensures topics { (events : List EventValue) → StandsFor events topics.old → OnOk result
+        (StandsFor (events ++ event.now ∷ []) topics.new) }
+    ensures all { (events : List EventValue) → StandsFor events topics.old → IfOk result (λ t.
+        Trans (events ++ event.now ∷ []) ≡ Trans events ++ option_to_list t) }
+{
+    match topics.accept(alloc, event)? {
+        Some(transition) => {
+            let line = print_transition(alloc, &transition)?;
+            text.append(line.as_slice())?;
+            Ok(Some(transition))
+        }
+        None => Ok(None),
+    }
 }
 
 /// Adds the line of the transition that an event makes, where it makes one, and the transition itself.
@@ -85,10 +119,8 @@ fn tell_event(
     ensures times { is_time event.now.time ≡ true }
 {
     event_is_timely(event);
-    match topics.accept(alloc, event)? {
+    match accept_event(alloc, topics, event, text)? {
         Some(transition) => {
-            let line = print_transition(alloc, &transition)?;
-            text.append(line.as_slice())?;
             told.push(transition)?;
             Ok(())
         }

@@ -16,3 +16,6 @@ pub mod WriteLaws
 pub mod CompactLaws
 pub mod ExportLaws
 pub mod CommandLaws
+pub mod PartLaws
+pub mod BesideLaws
+pub mod Crossing

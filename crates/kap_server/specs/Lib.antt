@@ -6,6 +6,7 @@ pub mod Checking
 pub mod Replaying
 pub mod Epochs
 pub mod Paces
+pub mod Parts
 pub mod Pairs
 pub mod Runs
 pub mod Readying

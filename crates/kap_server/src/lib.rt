@@ -11,6 +11,7 @@ mod laws;
 mod listing;
 mod making;
 mod options;
+mod parts;
 mod reading;
 mod readying;
 mod replaying;

@@ -18,6 +18,7 @@ use crate::options::{ReplayOptions, capacity_of};
 use crate::reading::{Epoch, Pause, read_epoch};
 use crate::status::Status;
 use crate::telling::Telling;
+use crate::ways::parts_of;
 use effect_text::TaskNames;
 use flow_core::Net;
 use kap_base::{Bytes, NoMemory};
@@ -74,29 +75,6 @@ fn write_rest<K: Sink>(out: &mut K, text: &Bytes, status: Status) -> Status
 }
 
 /// Writes the rest of the text of a whole recording, and the lines of what was dropped, where they are
-/// wanted.
-fn write_end<K: Sink, N: NumberingNode + Send>(
-    alloc: Global,
-    counts: bool,
-    names: &[TaskNames],
-    telling: &Telling<N>,
-    mut text: Bytes,
-    out: &mut K,
-) -> Status
-    requires { telling.now.run.spent ≡ false }
-    ensures written { EndsWritten result (K.written out.old) (K.written out.new) text
-        (run_rest N.answer counts names.now
-        telling.now.run.lives telling.now.run.points)
-        (K.faults out.old) (K.faults out.new) }
-    ensures later { K.faults out.old ≤ K.faults out.new }
-{
-    match telling.put_counts(alloc, counts, names, &mut text) {
-        Ok(()) => write_rest(out, &text, Status::Ok),
-        Err(NoMemory) => Status::NoMemory,
-    }
-}
-
-/// Writes the rest of the text of a whole recording, and the lines of what was dropped, where they are
 /// wanted. Where all was written it hands out the net.
 fn finish<K: Sink, N: NumberingNode + Send>(
     alloc: Global,
@@ -116,10 +94,17 @@ fn finish<K: Sink, N: NumberingNode + Send>(
         → HoldsNet N.Node telling.run.lives telling.run.points ran.new }
     ensures none { result ≢ Status.Ok → ran.new ≡ ran.old }
 {
-    match write_end(alloc, counts, names, &telling, text, out) {
+    let mut text = text;
+    if telling.put_counts(alloc, counts, names, &mut text).is_err() {
+        return Status::NoMemory;
+    }
+    let Telling { run, .. } = telling;
+    let Ok(net) = run.into_net(alloc) else {
+        return Status::NoMemory;
+    };
+    match write_rest(out, &text, Status::Ok) {
         Status::Ok => {
-            let Telling { run, .. } = telling;
-            *ran = Some(run.into_net());
+            *ran = Some(net);
             Status::Ok
         }
         status => status,
@@ -164,7 +149,8 @@ pub(crate) fn replay<
     ensures write_fault { result ≡ Status.WriteFault
         → HasRisen (K.faults out.old) (K.faults out.new) }
 {
-    let mut telling = match Telling::new(alloc, capacity_of(options), hold, plans) {
+    let parts = parts_of(way);
+    let mut telling = match Telling::new(alloc, capacity_of(options), hold, parts, plans) {
         Ok(telling) => telling,
         Err(NoMemory) => return Status::NoMemory,
     };

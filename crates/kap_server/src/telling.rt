@@ -1,7 +1,7 @@
 //! What a run of nodes does on points, as text.
 
-ghost use Rattle.std.specs.Prelude.{◌≡◌, ◌<◌, ◌≤◌, false, [], ◌++◌, map, max, IfOk, OnOk, length};
-ghost use Rattle.std.specs.List.{AllByRecursion as Each};
+ghost use Rattle.std.specs.Prelude.{◌≡◌, ◌<◌, ◌≤◌, false, [], ◌++◌, map, max, IfOk, IfSome, OnOk, length};
+ghost use Rattle.std.specs.List.{AllByRecursion as Each, sum_by};
 ghost use Rattle.net_run.specs.declared.TheConstants.{EPOCH_LIMIT};
 ghost use Rattle.edge_queue.specs.declared.TheConstants.{CAPACITY_LIMIT};
 ghost use Rattle.effect_text.specs.Lines.{events_of};
@@ -14,11 +14,12 @@ ghost use Rattle.kap_server.specs.Paces.{Paces};
 ghost use Rattle.kap_server.specs.Replaying.{AddsText};
 ghost use Rattle.kap_server.specs.Runs.{run_rest, run_text};
 
+use crate::parts::{Parts, Ran};
 use edge_queue::CAPACITY_LIMIT;
-use effect_text::{TaskNames, put_dropped, put_effects};
+use effect_text::{Printed, TaskNames, put_dropped, put_effects, put_printed};
 use kap_base::{Bytes, NoMemory, Point, Shared, What};
 use kap_io::Gate;
-use net_run::{EPOCH_LIMIT, NetRun, NumberingNode, Pace, Way};
+use net_run::{EPOCH_LIMIT, NumberingNode, Pace, Way};
 use node_core::{Effects, Node};
 use std::alloc::Global;
 use std::thread::Threads;
@@ -28,7 +29,7 @@ use topic_core::Topics;
 /// A run, and the topics of the events in it.
 #[derive(Drop)]
 pub(crate) struct Telling<N: Node> {
-    pub(crate) run: NetRun<N>,
+    pub(crate) run: Parts<N>,
     pub(crate) topics: Topics,
     /// Whether the points of an epoch are held until it is told.
     pub(crate) hold: bool,
@@ -85,13 +86,25 @@ fn spent_points(
     }
 }
 
+/// How many effects parts tell in all, None where that isn't below 2^64.
+fn count_told(told: &[Printed]) -> Option<usize>
+    ensures { IfSome result (λ count. count ≡ sum_by (λ pieces. length pieces) told.now) }
+{
+    let mut count: usize = 0;
+    'counting: for part in told {
+        count = count.checked_add(part.len())?;
+    }
+    Some(count)
+}
+
 impl<N: NumberingNode + Send> Telling<N> {
-    /// Before the first point. Each edge has room for so many messages. Points of an epoch may be held until
-    /// it is told.
+    /// Before the first point. Each edge has room for so many messages, and the lives run in so many parts.
+    /// Points of an epoch may be held until it is told; of several parts they always are.
     pub(crate) fn new(
         alloc: Global,
         capacity: u32,
         hold: bool,
+        parts: usize,
         plans: Vec<LifePlan<N>>,
     ) -> Result<Telling<N>, NoMemory>
         requires first { AreFirstStates N.spec N.state N.first plans.items }
@@ -99,6 +112,7 @@ impl<N: NumberingNode + Send> Telling<N> {
         requires few { Each HasFewParents plans.items }
         requires some { 0 < capacity }
         requires limit { capacity ≤ CAPACITY_LIMIT }
+        requires parts { 0 < parts }
         ensures run { IfOk result (λ t. t.run
             ≡ record {
               lives = map (graph_of N.spec) plans.items;
@@ -109,7 +123,7 @@ impl<N: NumberingNode + Send> Telling<N> {
         ensures topics { IfOk result (λ t. StandsFor [] t.topics) }
     {
         Ok(Telling {
-            run: NetRun::new(alloc, plans, capacity)?,
+            run: Parts::new(alloc, plans, capacity, parts)?,
             topics: Topics::new(alloc),
             hold,
             pace: Pace::new(),
@@ -153,11 +167,25 @@ impl<N: NumberingNode + Send> Telling<N> {
         }
         let count = points.len();
         let due = text.len();
-        let ran = self.run.run(alloc, points, self.hold, way)?;
-        put_effects(alloc, names, &mut self.topics, ran.0.as_slice(), text)?;
-        self.pace
-            .follow(count, ran.0.len(), text.len().saturating_sub(due));
-        Ok(spent_points(alloc, ran.0, ran.1, self.hold))
+        let from = self.run.given();
+        match self.run.run(alloc, names, points, self.hold, way)? {
+            Ran::Whole(effects, left) => {
+                put_effects(alloc, names, &mut self.topics, effects.as_slice(), text)?;
+                self.pace
+                    .follow(count, effects.len(), text.len().saturating_sub(due));
+                Ok(spent_points(alloc, effects, left, self.hold))
+            }
+            Ran::InParts(mut told, left) => {
+                let Some(effects) = count_told(told.as_slice()) else {
+                    return Err(NoMemory);
+                };
+                let parts = told.as_mut_slice();
+                put_printed(alloc, &mut self.topics, parts, from, count, text)?;
+                self.pace
+                    .follow(count, effects, text.len().saturating_sub(due));
+                Ok(left)
+            }
+        }
     }
 
     /// Appends the lines of what the nodes dropped, where they are wanted.

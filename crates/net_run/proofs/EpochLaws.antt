@@ -6,7 +6,7 @@ use Rattle.kap_base.specs.declared.items.Effect.{Effect}
 use Rattle.kap_base.specs.declared.items.Stamp.{Stamp}
 use Rattle.node_core.specs.declared.node.Node.{Ghosts}
 use Rattle.node_core.specs.Cut.{IsStamped}
-use Rattle.node_core.specs.Meaning.{Input, fold, given}
+use Rattle.node_core.specs.Meaning.{Answer, Input, fold, given}
 use Rattle.task_run.proofs.CourseLaws.{effects_from_first, effects_more}
 use Rattle.task_run.specs.Courses.{Course, Goes, course_effects, end_of, from_first, grown, later_effects}
 use Rattle.task_run.specs.Graphs.{Placed}
@@ -28,9 +28,21 @@ all-go : {P : Type 0} (n : ℕ) (new : List PointValue) (courses : List (Course 
 all-go n new [] ends = tt
 all-go n new (c ∷ courses) ends = (inl (ends.0, refl), all-go n new courses ends.1)
 
-first-nodes : {P : Type 0} (points : List PointValue) (nodes : List (List (Placed P))) → nodes_in (from_first points nodes) ≡ nodes
-first-nodes points [] = refl
-first-nodes {P} points (ns ∷ nodes) = ap (λ (all : List (List (Placed P))). ns ∷ all) (first-nodes points nodes)
+pub first_nodes : {P : Type 0} (points : List PointValue) (nodes : List (List (Placed P))) → nodes_in (from_first points nodes) ≡ nodes
+first_nodes points [] = refl
+first_nodes {P} points (ns ∷ nodes) = ap (λ (all : List (List (Placed P))). ns ∷ all) (first_nodes points nodes)
+
+-- what lives do for all points is what they do for those before, and then what they do with the stamps of the new ones
+pub effects_later : {P : Type 0} (answer : P → Answer) (life number : P → ℕ) (stamped : (p : P) (before : List Input) (x : Input) → IsStamped (life p) (number p) x.1.stamp.0 (answer p before x))
+    (before new : List PointValue) (nodes : List (List (Placed P))) → effects_of answer nodes (before ++ new) ≡ effects_of answer nodes before ++ later_effects answer (length before) (length new) (from_first (before ++ new) nodes)
+effects_later {P} answer life number stamped before new nodes =
+    let lives : List (Course P) = from_first before nodes in
+    sym (effects_from_first answer nodes (before ++ new))
+    ∙ ap (λ (m : ℕ). course_effects answer m (from_first (before ++ new) nodes)) (length-append before new)
+    ∙ ap (course_effects answer (length before + length new)) (sym (first_grown before new nodes))
+    ∙ effects_more answer life number stamped (length before) new lives (map (grown new) lives) (all-go (length before) new lives (first_ends before nodes))
+    ∙ ap (λ (es : List Effect). es ++ later_effects answer (length before) (length new) (map (grown new) lives)) (effects_from_first answer nodes before)
+    ∙ ap (λ (cs : List (Course P)). effects_of answer nodes before ++ later_effects answer (length before) (length new) cs) (first_grown before new nodes)
 
 module _ {N P S : Type 0} (g : Ghosts N P S) (stamped : (p : P) (before : List Input) (x : Input) → IsStamped (g.life p) (g.number p) x.1.stamp.0 (g.answer p before x)) (folds : (p : P) (xs : List Input) → (fold (g.step p) (g.first p) xs).given ≡ given (g.answer p) xs)
     (nodes : List (List (Placed P))) (before new : List PointValue) (upto : Stamp) (net rested : NetValue N) (s : Stands g nodes before net) (last : upto.0 ≡ net.last.0 + length new)
@@ -63,12 +75,8 @@ module _ {N P S : Type 0} (g : Ghosts N P S) (stamped : (p : P) (before : List I
   pub effects_on : ((p : P) → NumbersEffects (g.answer p)) → (result : List Effect) → IsPermutation (effects_in rested.lives) result → AreSorted result
       → effects_of g.answer nodes (before ++ new) ≡ effects_of g.answer nodes before ++ result
   effects_on numbers result all sorted =
-      let due = later_effects g.answer (length before) (length new) (map (grown new) (from_first before nodes)) in
-      let rise : LivesRise g.life g.number 1 (nodes_in (map (grown new) (from_first before nodes))) = subst (LivesRise g.life g.number 1) (sym (grown_nodes new (from_first before nodes) ∙ first-nodes before nodes)) s.rise in
-      let is : result ≡ due = later_sorted g.answer g.life g.number stamped numbers (length before) (length new) 1 (map (grown new) (from_first before nodes)) (effects_in rested.lives) result rise went.did all sorted in
-      sym (effects_from_first g.answer nodes (before ++ new))
-      ∙ ap (λ (m : ℕ). course_effects g.answer m (from_first (before ++ new) nodes)) (length-append before new)
-      ∙ ap (course_effects g.answer (length before + length new)) (sym (first_grown before new nodes))
-      ∙ effects_more g.answer g.life g.number stamped (length before) new (from_first before nodes) (map (grown new) (from_first before nodes)) (all-go (length before) new (from_first before nodes) (first_ends before nodes))
-      ∙ ap (λ (es : List Effect). es ++ due) (effects_from_first g.answer nodes before)
-      ∙ ap (λ (es : List Effect). effects_of g.answer nodes before ++ es) (sym is)
+      let rise : LivesRise g.life g.number 1 (nodes_in (map (grown new) (from_first before nodes))) = subst (LivesRise g.life g.number 1) (sym (grown_nodes new (from_first before nodes) ∙ first_nodes before nodes)) s.rise in
+      let due : result ≡ later_effects g.answer (length before) (length new) (map (grown new) (from_first before nodes)) = later_sorted g.answer g.life g.number stamped numbers (length before) (length new) 1 (map (grown new) (from_first before nodes)) (effects_in rested.lives) result rise went.did all sorted in
+      effects_later g.answer g.life g.number stamped before new nodes
+      ∙ ap (λ (cs : List (Course P)). effects_of g.answer nodes before ++ later_effects g.answer (length before) (length new) cs) (sym (first_grown before new nodes))
+      ∙ ap (λ (es : List Effect). effects_of g.answer nodes before ++ es) (sym due)

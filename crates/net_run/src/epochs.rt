@@ -3,7 +3,7 @@
 ghost use Rattle.std.specs.Prelude.{◌≡◌, ℕ, ◌+◌, ◌++◌, ◌≤◌, [], false, true, IfOk, IsFalse, IsTrue, List, OnErr, OnOk, length, map};
 ghost use Rattle.std.specs.List.{AllByRecursion as Each, AllZip};
 ghost use Rattle.kap_base.specs.Points.{PointValue};
-ghost use Rattle.task_run.specs.Courses.{Course, end_of, grown, later_effects};
+ghost use Rattle.task_run.specs.Courses.{Course, end_of, from_first, grown, later_effects};
 ghost use Rattle.task_run.specs.Graphs.{Placed};
 ghost use Rattle.task_run.specs.Lives.{effects_of};
 ghost use Rattle.flow_core.specs.Gathering.{LivesRise};
@@ -80,6 +80,34 @@ pub fn run_epoch<N: NumberingNode + Send, R: Threads + Sync, G: Gate + Sync>(
     net.load(alloc, points, upto, &[])?;
     move_to_rest(alloc, net, points.len(), way)?;
     Ok(net.collect(alloc))
+}
+
+/// Loads an epoch of points into lives that all began at the first one, with stamps that end at `upto`, and
+/// answers just the effects with these stamps. The points stay the caller's. After NoMemory the net can't go
+/// on.
+pub(crate) fn run_shared<N: NumberingNode + Send, R: Threads + Sync, G: Gate + Sync>(
+    alloc: Global,
+    net: &mut Net<N>,
+    points: &[Shared<Point>],
+    upto: Stamp,
+    way: &Way<'_, R, G>,
+) -> Result<Effects, NoMemory>
+    requires unspent { net.old.spent ≡ false }
+    requires rest { Each IsResting net.old.lives }
+    requires none { net.old.gathered ≡ [] }
+    requires upto { upto.0 ≡ net.old.last.0 + length points.now }
+    ensures last { OnOk result (net.new.last ≡ upto) }
+    ensures rooms { OnOk result (rooms_in net.new.lives ≡ rooms_in net.old.lives) }
+    ensures stands { OnOk result ((nodes : List (List (Placed N.Spec)))
+        (before : List PointValue) → Stands N.Node nodes before net.old
+        → Stands N.Node nodes (before ++ points.now) net.new) }
+    ensures effects { IfOk result (λ effects. (nodes : List (List (Placed N.Spec)))
+        (before : List PointValue) → Stands N.Node nodes before net.old
+        → effects ≡ later_effects N.answer (length before) (length points.now)
+        (from_first (before ++ points.now) nodes)) }
+{
+    let effects = run_epoch(alloc, net, points, upto, way)?;
+    Ok(effects)
 }
 
 /// Loads an epoch of points into lives that all began at the first one, with stamps that end at `upto`, and

@@ -7,17 +7,21 @@ ghost use Rattle.net_run.specs.declared.moving.TheConstants.{FEW_POINTS};
 ghost use Rattle.net_run.specs.declared.pace.TheConstants.{EFFECT_LIMIT, TEXT_LIMIT};
 
 mod epochs;
+mod joining;
 mod moving;
 mod numbering;
 mod pace;
 mod runs;
+mod sends;
 mod trail;
 
 pub use epochs::run_epoch;
+pub use joining::join_nets;
 pub use moving::{FEW_POINTS, Way, Workers, few_points};
 pub use numbering::NumberingNode;
 pub use pace::{EFFECT_LIMIT, Pace, TEXT_LIMIT};
 pub use runs::NetRun;
+pub use sends::send_run;
 
 /// How many points an epoch has at most: so few that they stay in a processor's cache from their reading to
 /// their end, and so many that what each epoch costs besides, as the threads that are started for it, is

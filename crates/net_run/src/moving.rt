@@ -54,8 +54,26 @@ impl<'a, R, G> Workers<'a, R, G> {
         }
     }
 
-    /// How many of them move an epoch of so many points.
-    fn count_for(&self, points: usize) -> u32
+    /// How many there are.
+    pub fn count(&self) -> u32
+        ensures some { 0 < result }
+        ensures limit { result ≤ WORKER_LIMIT }
+    {
+        self.count
+    }
+
+    /// What makes their threads.
+    pub fn runtime(&self) -> &'a R {
+        self.rt
+    }
+
+    /// The gate.
+    pub fn gate(&self) -> &'a G {
+        self.gate
+    }
+
+    /// How many of them work on an epoch of so many points.
+    pub fn count_for(&self, points: usize) -> u32
         ensures some { 0 < result }
         ensures limit { result ≤ WORKER_LIMIT }
     {

@@ -1,6 +1,6 @@
 //! Lives that run through a net.
 
-use crate::epochs::run_held;
+use crate::epochs::{run_held, run_shared};
 use crate::moving::Way;
 use crate::numbering::NumberingNode;
 use crate::trail::Trail;
@@ -59,8 +59,9 @@ impl<N: Node> Model for NetRun<N> {
 }
 
 impl<N: NumberingNode + Send> NetRun<N> {
-    ghost use Rattle.std.specs.Prelude.{◌≡◌, ◌++◌, ◌<◌, ◌≤◌, false, [], IfOk, IsFalse, IsTrue, OnOk, is_err, map};
+    ghost use Rattle.std.specs.Prelude.{◌≡◌, ◌++◌, ◌<◌, ◌≤◌, false, [], IfOk, IsFalse, IsTrue, OnOk, is_err, length, map};
     ghost use Rattle.std.specs.List.{AllByRecursion as Each};
+    ghost use Rattle.task_run.specs.Courses.{from_first, later_effects};
     ghost use Rattle.task_run.specs.Lives.{dropped_of, effects_of};
     ghost use Rattle.task_run.specs.Plans.{AreFirstStates, graph_of};
     ghost use Rattle.flow_core.specs.Carried.{HasCarried};
@@ -135,6 +136,45 @@ impl<N: NumberingNode + Send> NetRun<N> {
         self.given = upto;
         self.spent = false;
         Ok(ran)
+    }
+
+    /// How many points were loaded.
+    pub fn given(&self) -> u64
+        requires { self.now.spent ≡ false }
+        ensures { result ≡ length self.now.points }
+    {
+        self.given
+    }
+
+    /// Does the same with points that stay the caller's, so that other runs may have them too, and answers
+    /// just what the nodes do for them: the effects with the new stamps, in the order of all. After NoMemory
+    /// the run is spent.
+    pub fn run_on<R: Threads + Sync, G: Gate + Sync>(
+        &mut self,
+        alloc: Global,
+        points: &Vec<Shared<Point>>,
+        way: &Way<'_, R, G>,
+    ) -> Result<Effects, NoMemory>
+        requires { self.old.spent ≡ false }
+        ensures lives { OnOk result (self.new.lives ≡ self.old.lives) }
+        ensures points { OnOk result (self.new.points ≡ self.old.points ++ points.now.items) }
+        ensures capacity { OnOk result (self.new.capacity ≡ self.old.capacity) }
+        ensures spent { self.new.spent ≡ is_err result }
+        ensures effects { IfOk result (λ effects. effects
+            ≡ later_effects N.answer (length self.old.points) (length points.now.items)
+            (from_first (self.old.points ++ points.now.items) self.old.lives)) }
+    {
+        self.spent = true;
+        let count = points.len() as u64;
+        let Some(upto) = self.given.checked_add(count) else {
+            return Err(NoMemory);
+        };
+        let trail = Trail::More(Snapshot::of(&self.trail), Snapshot::of(points));
+        let effects = run_shared(alloc, &mut self.net, points.as_slice(), Stamp(upto), way)?;
+        self.trail = trail;
+        self.given = upto;
+        self.spent = false;
+        Ok(effects)
     }
 
     /// How many inputs each node of each life dropped and counted, life by life and node by node.

@@ -8,16 +8,13 @@ use mathlib.Core.List.{[], ◌∷◌}
 use Rattle.std.proofs.Crossing.{crosses}
 use Rattle.std.specs.contracts.option.Option as Option
 use Rattle.node_core.specs.declared.node.Node as Node
-use Rattle.flow_life.proofs.Crossing.{Life_send}
-use Rattle.node_workers.proofs.Crossing.{Numbered_send}
+use Rattle.net_run.proofs.Crossing.{Net_send}
 use Rattle.node_set.proofs.Crossing.{AnyNode_send}
-use Rattle.kap_base.proofs.items.Effect.TheSendSync as Effect_
 use Rattle.topic_core.proofs.topics.Topics.TheSendSync as Topics_
 use Rattle.effect_text.proofs.names.TaskNames.TheSendSync as TaskNames_
 use Rattle.topic_store.proofs.store.Store.TheSendSync as Store_
 use Rattle.topic_core.proofs.transition.Transition.TheSendSync as Transition_
 use Rattle.kap_base.proofs.item_list.ItemList.TheSendSync as ItemList_
-use Rattle.flow_life.specs.contracts.life.Life as Life
 use Rattle.kap_base.specs.contracts.item_list.ItemList as ItemList
 use Rattle.kap_base.specs.contracts.value.Value as Value
 use Rattle.node_core.specs.contracts.alone.Alone as Alone
@@ -49,8 +46,6 @@ use Rattle.window_node.specs.contracts.sliding.SlidingCell as SlidingCell
 use Rattle.window_node.specs.contracts.sliding.SlidingWindow as SlidingWindow
 use Rattle.node_set.specs.contracts.kinds.AnyNode as AnyNode
 use Rattle.node_set.specs.contracts.kinds.AnyNodeNode.TheImpl as AnyNodeNode
-use Rattle.flow_core.specs.contracts.net.Net as Net
-use Rattle.flow_core.specs.contracts.net.Net.TheInside as NetInside
 use Rattle.engine_runs.specs.contracts.runs.EngineRun as EngineRun
 use Rattle.engine_runs.specs.contracts.runs.EngineRun.TheInside as RunInside
 use Rattle.kap_engine.specs.contracts.engine.Engine as Engine
@@ -58,14 +53,6 @@ use Rattle.kap_engine.specs.contracts.engine.Engine.TheInside as EngineInside
 use Rattle.service_engine.specs.contracts.disk_engine.DiskEngine as DiskEngine
 
 -- ---- an engine of any nodes
-
-pub Net_send : (N P S : RattleType) (g : Node.Ghosts N.Denot P.Denot S.Denot) → IsSend N → IsSend (Net.the_row N P S g)
-Net_send N P S g s =
-    view_send (NetInside.the_row N P S g) _ _ _ _
-    (recorded_send (NetInside.the_field N P S g).row _ _ (NetInside.the_type N P S g).to_one (struct_send (Declared.shape (NetInside.the_type N P S g)) (
-      search (crosses, sendable, Numbered_send (Life.the_row N P S g) (Life_send N P S g s)) depth 60 fits 20000,
-      (search (crosses, sendable, ItemList_.the_send, Effect_.the_send) depth 60 fits 20000, (search (crosses, sendable) depth 60 fits 20000, (search sendable, tt))),
-    )))
 
 pub EngineRun_send : (N P S : RattleType) (g : Node.Ghosts N.Denot P.Denot S.Denot) → IsSend N
     → IsSend (EngineRun.the_row N P S g)
