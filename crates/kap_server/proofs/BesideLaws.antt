@@ -110,6 +110,14 @@ module _ {P : Type 0} where
   lives_in_parts [] = refl
   lives_in_parts (r ∷ runs) = ap (λ (l : List (List (Placed P))). r.lives ++ l) (lives_in_parts runs)
 
+  had-points : (points : List PointValue) (capacity : ℕ) (runs : List (NetRunValue P)) → Each (HasHad points capacity) runs → Each (λ r. r.points ≡ points) runs
+  had-points points capacity [] h = tt
+  had-points points capacity (r ∷ runs) h = (h.0.points_are, had-points points capacity runs h.1)
+
+  had-capacity : (points : List PointValue) (capacity : ℕ) (runs : List (NetRunValue P)) → Each (HasHad points capacity) runs → Each (λ r. r.capacity ≡ capacity) runs
+  had-capacity points capacity [] h = tt
+  had-capacity points capacity (r ∷ runs) h = (h.0.capacity_is, had-capacity points capacity runs h.1)
+
   module _ (answer : P → Answer) where
     -- what the nodes of all dropped is what those of each dropped
     pub dropped_all : (points : List PointValue) (capacity : ℕ) (runs : List (NetRunValue P)) → Each (HasHad points capacity) runs → dropped_of_runs answer runs ≡ dropped_of answer (lives_of_runs runs) points
@@ -125,14 +133,6 @@ module _ {X P : Type 0} (run : X → NetRunValue P) where
   pub unspent_all : (points : List PointValue) (capacity : ℕ) (xs : List X) → Each (HasHad points capacity) (map run xs) → Each (λ x. (run x).spent ≡ false) xs
   unspent_all points capacity [] h = tt
   unspent_all points capacity (x ∷ xs) h = (h.0.unspent, unspent_all points capacity xs h.1)
-
-  pub points_all : (points : List PointValue) (capacity : ℕ) (xs : List X) → Each (HasHad points capacity) (map run xs) → Each (λ x. (run x).points ≡ points) xs
-  points_all points capacity [] h = tt
-  points_all points capacity (x ∷ xs) h = (h.0.points_are, points_all points capacity xs h.1)
-
-  pub capacity_all : (points : List PointValue) (capacity : ℕ) (xs : List X) → Each (HasHad points capacity) (map run xs) → Each (λ x. (run x).capacity ≡ capacity) xs
-  capacity_all points capacity [] h = tt
-  capacity_all points capacity (x ∷ xs) h = (h.0.capacity_is, capacity_all points capacity xs h.1)
 
   -- one part more
   pub lives_more : (xs : List X) (x : X) → lives_of_runs (map run (xs ++ x ∷ [])) ≡ lives_of_runs (map run xs) ++ (run x).lives
@@ -221,6 +221,15 @@ module _ {N P S X : Type 0} (g : Ghosts N P S) (run : X → NetRunValue P) where
             let own : Each (HasRoomIn capacity) net.lives = subst (λ (n : ℕ). Each (HasRoomIn n) net.lives) (each-behind (λ (r : NetRunValue P). r.capacity ≡ capacity) runs (run x ∷ []) each).0 room in
             roomy capacity (joined.room capacity had (each-first (λ (r : NetRunValue P). r.capacity ≡ capacity) runs (run x ∷ []) each)) own;
       })
+
+  -- so the net of the first of some parts has all lives, where those of the others stand behind its own
+  pub joined_all : (xs rest : List X) (x : X) (net all : NetValue N) → xs ≡ x ∷ rest → AreOne (map run xs) → HasCarried g (run x).lives (run x).points net → Each (HasRoomIn (run x).capacity) net.lives
+      → HasJoined g (map run rest) net all → HasCarried g (lives_of_runs (map run xs)) (points_of_runs (map run xs)) all × Each (HasRoomIn (capacity_of_runs (map run xs))) all.lives
+  joined_all xs rest x net all is one carried room joined =
+      let own : AreOne (map run (x ∷ rest)) = subst (λ (ys : List X). AreOne (map run ys)) is one in
+      subst (λ (ys : List X). HasCarried g (lives_of_runs (map run ys)) (points_of_runs (map run ys)) all × Each (HasRoomIn (capacity_of_runs (map run ys))) all.lives) (sym is)
+      (joined.carried (run x).lives (run x).points carried (had-points (run x).points (run x).capacity (map run rest) own.had.1),
+      joined.room (run x).capacity room (had-capacity (run x).points (run x).capacity (map run rest) own.had.1))
 
 -- ---- plans in parts
 
