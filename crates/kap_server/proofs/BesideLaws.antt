@@ -119,6 +119,15 @@ module _ {P : Type 0} where
         ∙ ap (λ (l : List (List ℕ)). dropped_of answer r.lives points ++ l) (dropped_all points capacity runs h.1)
         ∙ sym (map-append (λ (nodes : List (Placed P)). map (λ g. g.drops) (graph_gives answer points nodes)) r.lives (lives_of_runs runs))
 
+  -- they have these points, and this room
+  points-all : (points : List PointValue) (capacity : ℕ) (runs : List (NetRunValue P)) → Each (HasHad points capacity) runs → Each (λ r. r.points ≡ points) runs
+  points-all points capacity [] h = tt
+  points-all points capacity (r ∷ runs) h = (h.0.points_are, points-all points capacity runs h.1)
+
+  capacity-all : (points : List PointValue) (capacity : ℕ) (runs : List (NetRunValue P)) → Each (HasHad points capacity) runs → Each (λ r. r.capacity ≡ capacity) runs
+  capacity-all points capacity [] h = tt
+  capacity-all points capacity (r ∷ runs) h = (h.0.capacity_is, capacity-all points capacity runs h.1)
+
 -- ---- parts
 
 module _ {X P : Type 0} (run : X → NetRunValue P) where
@@ -126,13 +135,11 @@ module _ {X P : Type 0} (run : X → NetRunValue P) where
   unspent_all points capacity [] h = tt
   unspent_all points capacity (x ∷ xs) h = (h.0.unspent, unspent_all points capacity xs h.1)
 
-  pub points_all : (points : List PointValue) (capacity : ℕ) (xs : List X) → Each (HasHad points capacity) (map run xs) → Each (λ x. (run x).points ≡ points) xs
-  points_all points capacity [] h = tt
-  points_all points capacity (x ∷ xs) h = (h.0.points_are, points_all points capacity xs h.1)
-
-  pub capacity_all : (points : List PointValue) (capacity : ℕ) (xs : List X) → Each (HasHad points capacity) (map run xs) → Each (λ x. (run x).capacity ≡ capacity) xs
-  capacity_all points capacity [] h = tt
-  capacity_all points capacity (x ∷ xs) h = (h.0.capacity_is, capacity_all points capacity xs h.1)
+  -- those behind the first can go on too
+  pub others_unspent : (xs : List X) (x : X) (others : List X) → xs ≡ x ∷ others → AreOne (map run xs) → Each (λ y. (run y).spent ≡ false) others
+  others_unspent xs x others are one =
+      let all : AreOne (map run (x ∷ others)) = subst (λ (ys : List X). AreOne (map run ys)) are one in
+      unspent_all (run x).points (run x).capacity others all.had.1
 
   -- one part more
   pub lives_more : (xs : List X) (x : X) → lives_of_runs (map run (xs ++ x ∷ [])) ≡ lives_of_runs (map run xs) ++ (run x).lives
@@ -221,6 +228,21 @@ module _ {N P S X : Type 0} (g : Ghosts N P S) (run : X → NetRunValue P) where
             let own : Each (HasRoomIn capacity) net.lives = subst (λ (n : ℕ). Each (HasRoomIn n) net.lives) (each-behind (λ (r : NetRunValue P). r.capacity ≡ capacity) runs (run x ∷ []) each).0 room in
             roomy capacity (joined.room capacity had (each-first (λ (r : NetRunValue P). r.capacity ≡ capacity) runs (run x ∷ []) each)) own;
       })
+
+  -- the net of the first, with those of the others behind it, is that of all
+  pub all_carried : (xs : List X) (x : X) (others : List X) (net new : NetValue N) → xs ≡ x ∷ others → AreOne (map run xs) → HasCarried g (run x).lives (run x).points net → HasJoined g (map run others) net new
+      → HasCarried g (lives_of_runs (map run xs)) (points_of_runs (map run xs)) new
+  all_carried xs x others net new are one carried joined =
+      let all : AreOne (map run (x ∷ others)) = subst (λ (ys : List X). AreOne (map run ys)) are one in
+      subst (λ (ys : List X). HasCarried g (lives_of_runs (map run ys)) (points_of_runs (map run ys)) new) (sym are)
+      (joined.carried (run x).lives (run x).points carried (points-all (run x).points (run x).capacity (map run others) all.had.1))
+
+  pub all_room : (xs : List X) (x : X) (others : List X) (net new : NetValue N) → xs ≡ x ∷ others → AreOne (map run xs) → Each (HasRoomIn (run x).capacity) net.lives → HasJoined g (map run others) net new
+      → Each (HasRoomIn (capacity_of_runs (map run xs))) new.lives
+  all_room xs x others net new are one room joined =
+      let all : AreOne (map run (x ∷ others)) = subst (λ (ys : List X). AreOne (map run ys)) are one in
+      subst (λ (ys : List X). Each (HasRoomIn (capacity_of_runs (map run ys))) new.lives) (sym are)
+      (joined.room (run x).capacity room (capacity-all (run x).points (run x).capacity (map run others) all.had.1))
 
 -- ---- plans in parts
 

@@ -1,14 +1,15 @@
-use Rattle.std.proofs.Common.{[], ◌++◌, map, ap, subst, sym, ◌∙◌}
+use Rattle.std.proofs.Common.{◌≡◌, ◌++◌, arith, length, map, ap, subst, sym, ◌∙◌}
 use Rattle.kap_server.specs.Parts.{IsToldInParts, lives_of_runs, points_of_runs}
 use Rattle.kap_server.proofs.BesideLaws.{alone_does, runs_gone, told_in_parts, unspent_all}
 use Rattle.kap_server.proofs.parts.run_parts.Goals as goal
 
 pub run_alone-requires-clause-unspent : goal.run_alone-requires-clause-unspent
-run_alone-requires-clause-unspent g c = unspent_all (λ part. part.run) _ _ c.args.parts.now c.requires.had
+run_alone-requires-clause-unspent g c κs within = unspent_all (λ part. part.run) _ _ c.args.parts.now c.requires.had
 
 pub returns-then-parts-eq1-clause-ran : goal.returns-then-parts-eq1-clause-ran
 returns-then-parts-eq1-clause-ran g c =
-    alone_does (λ part. part.run) g.N.Node.answer c.args.points.items _ c.args.parts.now ? c.in_ok-run_alone.ensures.effects
+    let one : length c.args.parts.now ≡ 1 = omega (arith, c.if-parts-eq1.true) in
+    alone_does (λ part. part.run) g.N.Node.answer c.args.points.items c.in_ok-effects.effects c.args.parts.now one c.in_ok-effects.ensures.effects
 
 pub run_epoch-requires-after_bounds : goal.run_epoch-requires-after_bounds
 run_epoch-requires-after_bounds g c κs within = unspent_all (λ part. part.run) _ _ c.args.parts.now c.requires.had
