@@ -4,7 +4,7 @@ use Rattle.kap_server.proofs.BesideLaws.{alone_does, runs_gone, told_in_parts, u
 use Rattle.kap_server.proofs.parts.run_parts.Goals as goal
 
 pub run_alone-requires-clause-unspent : goal.run_alone-requires-clause-unspent
-run_alone-requires-clause-unspent g c κs = unspent_all (λ part. part.run) _ _ c.args.parts.now c.requires.had
+run_alone-requires-clause-unspent g c κs within = unspent_all (λ part. part.run) _ _ c.args.parts.now c.requires.had
 
 pub returns-then-parts-eq1-clause-ran : goal.returns-then-parts-eq1-clause-ran
 returns-then-parts-eq1-clause-ran g c =

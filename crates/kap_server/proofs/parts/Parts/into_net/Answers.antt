@@ -20,7 +20,7 @@ first g c =
     first_and_rest items c.remove.result any c.remove.ensures.value ∙ ap (λ rest. c.remove.result ∷ rest) (sym c.remove.ensures.items)
 
 pub join_parts-requires-clause-parts : goal.join_parts-requires-clause-parts
-join_parts-requires-clause-parts g c κs =
+join_parts-requires-clause-parts g c κs within =
     let fresh : c.self.inside.spent ≡ false = ap (λ (r : NetRunValue g.row.N-Spec.Denot). r.spent) c.self.view_is ∙ c.requires in
     (subst (Each (λ part. part.run.spent ≡ false)) (first g (goal.at.join_parts-requires-clause-parts g c).After-remove) (unspent_all (λ part. part.run) _ _ c.self.inside.parts.items (c.self.invariant fresh).had)).1
 
