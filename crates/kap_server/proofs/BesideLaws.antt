@@ -177,9 +177,9 @@ module _ {X P : Type 0} (run : X → NetRunValue P) where
           let lives : List (List (Placed P)) = (run x).lives in
           let does : ℕ → List Effect = does_with answer names (points ++ new) lives in
           let is : told y ≡ map (piece_of names) (by_stamp (length points) (length new) does) =
-              (z.0 fine.0).is
-              ∙ ap (λ (ps : List PointValue). map (piece_of names) (later_effects answer (length ps) (length new) (from_first (ps ++ new) lives))) had.0.points_are
-              ∙ ap (map (piece_of names)) (sym (laters_by_stamp (length points) (length new) does)) in
+          (z.0 fine.0).is
+          ∙ ap (λ (ps : List PointValue). map (piece_of names) (later_effects answer (length ps) (length new) (from_first (ps ++ new) lives))) had.0.points_are
+          ∙ ap (map (piece_of names)) (sym (laters_by_stamp (length points) (length new) does)) in
           ap (λ (l : List PieceValue). l ∷ map told ys) is
           ∙ ap (λ (ls : List (List PieceValue)). map (piece_of names) (by_stamp (length points) (length new) does) ∷ ls) (told-by_stamp points capacity xs ys z.1 fine.1 had.1)
 
@@ -227,9 +227,10 @@ module _ {N P S X : Type 0} (g : Ghosts N P S) (run : X → NetRunValue P) where
       → HasJoined g (map run rest) net all → HasCarried g (lives_of_runs (map run xs)) (points_of_runs (map run xs)) all × Each (HasRoomIn (capacity_of_runs (map run xs))) all.lives
   joined_all xs rest x net all is one carried room joined =
       let own : AreOne (map run (x ∷ rest)) = subst (λ (ys : List X). AreOne (map run ys)) is one in
-      subst (λ (ys : List X). HasCarried g (lives_of_runs (map run ys)) (points_of_runs (map run ys)) all × Each (HasRoomIn (capacity_of_runs (map run ys))) all.lives) (sym is)
-      (joined.carried (run x).lives (run x).points carried (had-points (run x).points (run x).capacity (map run rest) own.had.1),
-      joined.room (run x).capacity room (had-capacity (run x).points (run x).capacity (map run rest) own.had.1))
+      subst (λ (ys : List X). HasCarried g (lives_of_runs (map run ys)) (points_of_runs (map run ys)) all × Each (HasRoomIn (capacity_of_runs (map run ys))) all.lives) (sym is) (
+        joined.carried (run x).lives (run x).points carried (had-points (run x).points (run x).capacity (map run rest) own.had.1),
+        joined.room (run x).capacity room (had-capacity (run x).points (run x).capacity (map run rest) own.had.1),
+      )
 
 -- ---- plans in parts
 
