@@ -1,15 +1,12 @@
 -- What lives do in parts side by side is what all do.
-use Rattle.std.proofs.Common.{◌≡◌, ℕ, zero, suc, ◌+◌, ◌≤◌, ◌==◌, Bool, true, false, cond, List, [], ◌∷◌, ◌++◌, length, map, refl, sym, ap, subst, ◌∙◌, append_assoc, append-nil, arith}
-use Rattle.std.specs.List.{AllByRecursion as Each, flat_map}
+use Rattle.std.proofs.Common.{◌≡◌, ℕ, zero, suc, ◌+◌, ◌≤◌, ◌==◌, true, false, cond, List, [], ◌∷◌, ◌++◌, length, map, refl, sym, ap, ◌∙◌, append_assoc, append-nil, arith, length-append}
+use Rattle.std.specs.List.{AllByRecursion as Each, flat_map, sum_by}
 use Rattle.std.proofs.lemmas.Bool.{eqb-true}
-use Rattle.std.proofs.lemmas.List.{map-append}
-use Rattle.std.proofs.lemmas.List.Concat.{flat_map-append}
-use Rattle.kap_base.specs.Events.{EventValue}
+use Rattle.std.proofs.lemmas.List.{length-map}
+use Rattle.std.proofs.lemmas.List.Sums.{sum_by-cons}
 use Rattle.kap_base.specs.Points.{PointValue}
 use Rattle.kap_base.specs.declared.items.Effect.{Effect}
-use Rattle.effect_text.specs.Lines.{events_of, text_behind}
 use Rattle.effect_text.specs.Pieces.{HaveTheirStamps, by_stamp, side_by_side}
-use Rattle.effect_text.specs.declared.names.TaskNames.{TaskNames}
 use Rattle.node_core.specs.Meaning.{Answer, Given}
 use Rattle.flow_core.specs.Gathering.{LivesRise}
 use Rattle.task_run.specs.Courses.{Course, course_effects_with, course_gives, from_first, later_effects, laters}
@@ -38,6 +35,37 @@ unfolding by_stamp
 by_stamp-same n zero f g same = refl
 by_stamp-same {A} n (suc k) f g same =
     ap (λ (l : List A). l ++ by_stamp (suc n) k f) (same (suc n)) ∙ ap (λ (l : List A). g (suc n) ++ l) (by_stamp-same (suc n) k f g same)
+
+-- ---- how many come by stamp
+
+none-by_stamp : {A : Type 0} (n k : ℕ) (f : ℕ → List A) → ((s : ℕ) → f s ≡ []) → length (by_stamp n k f) ≡ 0
+unfolding by_stamp
+none-by_stamp n zero f none = refl
+none-by_stamp {A} n (suc k) f none =
+    ap (λ (l : List A). length (l ++ by_stamp (suc n) k f)) (none (suc n)) ∙ none-by_stamp (suc n) k f none
+
+both-by_stamp : {A : Type 0} (n k : ℕ) (f g h : ℕ → List A) → ((s : ℕ) → h s ≡ f s ++ g s)
+    → length (by_stamp n k h) ≡ length (by_stamp n k f) + length (by_stamp n k g)
+unfolding by_stamp
+both-by_stamp n zero f g h both = refl
+both-by_stamp n (suc k) f g h both =
+    let later = both-by_stamp (suc n) k f g h both in
+    let now = ap length (both (suc n)) ∙ length-append (f (suc n)) (g (suc n)) in
+    let hs = length-append (h (suc n)) (by_stamp (suc n) k h) in
+    let fs = length-append (f (suc n)) (by_stamp (suc n) k f) in
+    let gs = length-append (g (suc n)) (by_stamp (suc n) k g) in
+    omega (arith, later, now, hs, fs, gs)
+
+-- as many as each has in all
+pub told_count : {A B : Type 0} (h : A → B) (n k : ℕ) (fs : List (ℕ → List A))
+    → sum_by length (map (λ f. map h (by_stamp n k f)) fs) ≡ length (by_stamp n k (side_by_side fs))
+told_count h n k [] = sym (none-by_stamp n k (side_by_side []) (λ s. refl))
+told_count h n k (f ∷ fs) =
+    let first = sum_by-cons length (map h (by_stamp n k f)) (map (λ f. map h (by_stamp n k f)) fs) in
+    let long = length-map (by_stamp n k f) h in
+    let others = told_count h n k fs in
+    let both = both-by_stamp n k f (side_by_side fs) (side_by_side (f ∷ fs)) (λ s. refl) in
+    omega (arith, first, long, others, both)
 
 -- ---- what comes with a stamp has it
 

@@ -175,11 +175,12 @@ impl<N: NumberingNode + Send> Telling<N> {
                     .follow(count, effects.len(), text.len().saturating_sub(due));
                 Ok(spent_points(alloc, effects, left, self.hold))
             }
-            Ran::InParts(told, left) => {
-                let Some(effects) = count_told(&told) else {
+            Ran::InParts(mut told, left) => {
+                let Some(effects) = count_told(told.as_slice()) else {
                     return Err(NoMemory);
                 };
-                put_printed(alloc, &mut self.topics, &told, from, count, text)?;
+                let parts = told.as_mut_slice();
+                put_printed(alloc, &mut self.topics, parts, from, count, text)?;
                 self.pace
                     .follow(count, effects, text.len().saturating_sub(due));
                 Ok(left)
