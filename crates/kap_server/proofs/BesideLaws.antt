@@ -1,5 +1,5 @@
 -- Runs of parts, seen as one run.
-use Rattle.std.proofs.Common.{◌≡◌, ℕ, zero, suc, ◌<◌, Bool, false, List, [], ◌∷◌, ◌++◌, drop, length, map, take, refl, sym, ap, subst, ◌∙◌, append_assoc, append-nil, arith}
+use Rattle.std.proofs.Common.{◌≡◌, ℕ, ◌<◌, Bool, false, List, [], ◌∷◌, ◌++◌, drop, length, map, take, refl, sym, ap, subst, ◌∙◌, append_assoc, append-nil, arith}
 use Rattle.std.specs.List.{AllByRecursion as Each, AllZip, flat_map, remove}
 use Rattle.std.specs.Prelude.{slice_index_or}
 use Rattle.std.proofs.lemmas.List.{map-append, take-append-drop}
@@ -10,6 +10,7 @@ use Rattle.effect_text.specs.declared.names.TaskNames.{TaskNames}
 use Rattle.effect_text.specs.Pieces.{PieceValue, by_stamp, piece_of}
 use Rattle.node_core.specs.declared.node.Node.{Ghosts}
 use Rattle.node_core.specs.Meaning.{Answer}
+use Rattle.flow_life.proofs.SplitLaws.{each-append}
 use Rattle.flow_core.specs.Carried.{HasCarried}
 use Rattle.flow_core.specs.Gathering.{LivesRise}
 use Rattle.flow_core.specs.Making.{HasFewParents}
@@ -21,7 +22,7 @@ use Rattle.task_run.specs.Graphs.{Placed, graph_gives}
 use Rattle.task_run.specs.Lives.{dropped_of, effects_of}
 use Rattle.task_run.specs.Plans.{AreFirstStates, PlanValue, graph_of}
 use Rattle.kap_server.proofs.PartLaws.{laters_by_stamp, rise_behind, rise_first}
-use Rattle.kap_server.specs.Parts.{AreBeside, AreOne, HasHad, HasJoined, HasTold, IsToldInParts, capacity_of_runs, does_with, dropped_of_runs, first_run, lives_of_runs, one_run, points_of_runs, with_points}
+use Rattle.kap_server.specs.Parts.{AreBeside, AreOne, HasHad, HasJoined, HasTold, IsToldInParts, capacity_of_runs, does_with, dropped_of_runs, first_run, lives_of_runs, points_of_runs, with_points}
 
 each-first : {A : Type 0} (Q : A → Type 0) (xs ys : List A) → Each Q (xs ++ ys) → Each Q xs
 each-first Q [] ys h = tt
@@ -31,17 +32,7 @@ each-behind : {A : Type 0} (Q : A → Type 0) (xs ys : List A) → Each Q (xs ++
 each-behind Q [] ys h = h
 each-behind Q (x ∷ xs) ys h = each-behind Q xs ys h.1
 
-each-both : {A : Type 0} (Q : A → Type 0) (xs ys : List A) → Each Q xs → Each Q ys → Each Q (xs ++ ys)
-each-both Q [] ys a b = b
-each-both Q (x ∷ xs) ys a b = (a.0, each-both Q xs ys a.1 b)
-
--- two lists are related place by place where they are so at each
-pub zip_by : {X : Type 0} (R : X → X → Type 0) (xs ys : List X) → length ys ≡ length xs → ((i : ℕ) (d : X) → i < length xs → R (slice_index_or xs i d) (slice_index_or ys i d)) → AllZip R xs ys
-zip_by R [] [] e h = tt
-zip_by R [] (y ∷ ys) e h = absurd (omega (arith, e))
-zip_by R (x ∷ xs) [] e h = absurd (omega (arith, e))
-zip_by R (x ∷ xs) (y ∷ ys) e h = (h 0 x (omega arith), zip_by R xs ys (omega (arith, e)) (λ i d lt. h (suc i) d (omega (arith, lt))))
-
+-- what holds of two values holds of those that they are
 pub carried : {X : Type 0} {x y was ended : X} → was ≡ x → ended ≡ y → (R : X → X → Type 0) → R was ended → R x y
 carried {X} {x} {y} {was} {ended} from to R h = subst (λ (z : X). R x z) to (subst (λ (z : X). R z ended) from h)
 
@@ -61,20 +52,6 @@ module _ {P : Type 0} where
     had = subst (λ (ps : List PointValue). Each (HasHad ps r.capacity) (r ∷ runs)) (sym b.had.0.points_are)
         (subst (λ (n : ℕ). Each (HasHad points n) (r ∷ runs)) (sym b.had.0.capacity_is) b.had);
   }
-
-  -- and so each number and list of theirs is that of the first
-  one-is : (points : List PointValue) (capacity : ℕ) (runs : List (NetRunValue P)) → AreBeside points capacity runs → (points_of_runs runs ≡ points) × (capacity_of_runs runs ≡ capacity)
-  one-is points capacity [] b = absurd (let some = b.some in omega (arith, some))
-  one-is points capacity (r ∷ runs) b = (b.had.0.points_are, b.had.0.capacity_is)
-
-  -- runs that have had the same are seen so
-  pub one_run_is : (points : List PointValue) (capacity : ℕ) (lives : List (List (Placed P))) (spent : Bool) (runs : List (NetRunValue P)) → AreBeside points capacity runs → lives_of_runs runs ≡ lives
-      → one_run spent runs ≡ record { lives = lives; points = points; capacity = capacity; spent = spent }
-  one_run_is points capacity lives spent runs b are =
-      let is = one-is points capacity runs b in
-      ap (λ (ls : List (List (Placed P))). record { lives = ls; points = points_of_runs runs; capacity = capacity_of_runs runs; spent = spent }) are
-      ∙ ap (λ (ps : List PointValue). record { lives = lives; points = ps; capacity = capacity_of_runs runs; spent = spent }) is.0
-      ∙ ap (λ (n : ℕ). record { lives = lives; points = points; capacity = n; spent = spent }) is.1
 
   -- new points change no lives
   pub lives_with : (new : List PointValue) (runs : List (NetRunValue P)) → lives_of_runs (map (with_points new) runs) ≡ lives_of_runs runs
@@ -260,5 +237,5 @@ module _ {N P S : Type 0} (spec : N → P) (state : N → S) (first : P → S) (
       → Each (HasHad [] capacity) (map run parts) → Each (HasHad [] capacity) (map run (parts ++ part ∷ []))
   had_parted run capacity parts part lives is had =
       subst (Each (HasHad [] capacity)) (sym (map-append run parts (part ∷ [])))
-      (each-both (HasHad [] capacity) (map run parts) (run part ∷ []) had
+      (each-append (HasHad [] capacity) (map run parts) (run part ∷ []) had
       (record { points_are = ap (λ (r : NetRunValue P). r.points) is; capacity_is = ap (λ (r : NetRunValue P). r.capacity) is; unspent = ap (λ (r : NetRunValue P). r.spent) is }, tt))
