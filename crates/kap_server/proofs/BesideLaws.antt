@@ -1,5 +1,5 @@
 -- Runs of parts, seen as one run.
-use Rattle.std.proofs.Common.{◌≡◌, ℕ, zero, suc, ◌<◌, Bool, false, List, [], ◌∷◌, ◌++◌, drop, length, map, take, refl, sym, ap, subst, ◌∙◌, append_assoc, append-nil, arith}
+use Rattle.std.proofs.Common.{◌≡◌, ℕ, ◌<◌, Bool, false, List, [], ◌∷◌, ◌++◌, drop, length, map, take, refl, sym, ap, subst, ◌∙◌, append_assoc, append-nil, arith}
 use Rattle.std.specs.List.{AllByRecursion as Each, AllZip, flat_map, remove}
 use Rattle.std.specs.Prelude.{slice_index_or}
 use Rattle.std.proofs.lemmas.List.{map-append, take-append-drop}
@@ -10,6 +10,7 @@ use Rattle.effect_text.specs.declared.names.TaskNames.{TaskNames}
 use Rattle.effect_text.specs.Pieces.{PieceValue, by_stamp, piece_of}
 use Rattle.node_core.specs.declared.node.Node.{Ghosts}
 use Rattle.node_core.specs.Meaning.{Answer}
+use Rattle.flow_life.proofs.SplitLaws.{each-append}
 use Rattle.flow_core.specs.Carried.{HasCarried}
 use Rattle.flow_core.specs.Gathering.{LivesRise}
 use Rattle.flow_core.specs.Making.{HasFewParents}
@@ -21,7 +22,7 @@ use Rattle.task_run.specs.Graphs.{Placed, graph_gives}
 use Rattle.task_run.specs.Lives.{dropped_of, effects_of}
 use Rattle.task_run.specs.Plans.{AreFirstStates, PlanValue, graph_of}
 use Rattle.kap_server.proofs.PartLaws.{laters_by_stamp, rise_behind, rise_first}
-use Rattle.kap_server.specs.Parts.{AreBeside, AreOne, HasHad, HasJoined, HasTold, IsToldInParts, capacity_of_runs, does_with, dropped_of_runs, first_run, lives_of_runs, one_run, points_of_runs, with_points}
+use Rattle.kap_server.specs.Parts.{AreBeside, AreOne, HasHad, HasJoined, HasTold, IsToldInParts, capacity_of_runs, does_with, dropped_of_runs, first_run, lives_of_runs, points_of_runs, with_points}
 
 each-first : {A : Type 0} (Q : A → Type 0) (xs ys : List A) → Each Q (xs ++ ys) → Each Q xs
 each-first Q [] ys h = tt
@@ -31,29 +32,7 @@ each-behind : {A : Type 0} (Q : A → Type 0) (xs ys : List A) → Each Q (xs ++
 each-behind Q [] ys h = h
 each-behind Q (x ∷ xs) ys h = each-behind Q xs ys h.1
 
-pub each_both : {A : Type 0} (Q : A → Type 0) (xs ys : List A) → Each Q xs → Each Q ys → Each Q (xs ++ ys)
-each_both Q [] ys a b = b
-each_both Q (x ∷ xs) ys a b = (a.0, each_both Q xs ys a.1 b)
-
--- what each has the one at a place has
-pub each_at : {X : Type 0} (Q : X → Type 0) (xs : List X) (i : ℕ) (x : X) → i < length xs → x ≡ slice_index_or xs i x → Each Q xs → Q x
-each_at Q [] i x within is all = absurd (omega (arith, within))
-each_at Q (y ∷ xs) zero x within is all = subst Q (sym is) all.0
-each_at Q (y ∷ xs) (suc i) x within is all = each_at Q xs i x (omega (arith, within)) is all.1
-
--- two lists are related place by place where they are so at each
-pub zip_by : {X : Type 0} (R : X → X → Type 0) (xs ys : List X) → length ys ≡ length xs → ((i : ℕ) (d : X) → i < length xs → R (slice_index_or xs i d) (slice_index_or ys i d)) → AllZip R xs ys
-zip_by R [] [] e h = tt
-zip_by R [] (y ∷ ys) e h = absurd (omega (arith, e))
-zip_by R (x ∷ xs) [] e h = absurd (omega (arith, e))
-zip_by R (x ∷ xs) (y ∷ ys) e h = (h 0 x (omega arith), zip_by R xs ys (omega (arith, e)) (λ i d lt. h (suc i) d (omega (arith, lt))))
-
-pub zip_length : {X : Type 0} (R : X → X → Type 0) (xs ys : List X) → AllZip R xs ys → length ys ≡ length xs
-zip_length R [] [] z = refl
-zip_length R [] (y ∷ ys) z = absurd z
-zip_length R (x ∷ xs) [] z = absurd z
-zip_length R (x ∷ xs) (y ∷ ys) z = ap suc (zip_length R xs ys z.1)
-
+-- what holds of two values holds of those that they are
 pub carried : {X : Type 0} {x y was ended : X} → was ≡ x → ended ≡ y → (R : X → X → Type 0) → R was ended → R x y
 carried {X} {x} {y} {was} {ended} from to R h = subst (λ (z : X). R x z) to (subst (λ (z : X). R z ended) from h)
 
@@ -74,19 +53,6 @@ module _ {P : Type 0} where
         (subst (λ (n : ℕ). Each (HasHad points n) (r ∷ runs)) (sym b.had.0.capacity_is) b.had);
   }
 
-  -- and so each number and list of theirs is that of the first
-  pub one_is : (points : List PointValue) (capacity : ℕ) (runs : List (NetRunValue P)) → AreBeside points capacity runs → (points_of_runs runs ≡ points) × (capacity_of_runs runs ≡ capacity)
-  one_is points capacity [] b = absurd (let some = b.some in omega (arith, some))
-  one_is points capacity (r ∷ runs) b = (b.had.0.points_are, b.had.0.capacity_is)
-
-  pub one_run_is : (points : List PointValue) (capacity : ℕ) (lives : List (List (Placed P))) (spent : Bool) (runs : List (NetRunValue P)) → AreBeside points capacity runs → lives_of_runs runs ≡ lives
-      → one_run spent runs ≡ record { lives = lives; points = points; capacity = capacity; spent = spent }
-  one_run_is points capacity lives spent runs b are =
-      let is = one_is points capacity runs b in
-      ap (λ (ls : List (List (Placed P))). record { lives = ls; points = points_of_runs runs; capacity = capacity_of_runs runs; spent = spent }) are
-      ∙ ap (λ (ps : List PointValue). record { lives = lives; points = ps; capacity = capacity_of_runs runs; spent = spent }) is.0
-      ∙ ap (λ (n : ℕ). record { lives = lives; points = points; capacity = n; spent = spent }) is.1
-
   -- new points change no lives
   pub lives_with : (new : List PointValue) (runs : List (NetRunValue P)) → lives_of_runs (map (with_points new) runs) ≡ lives_of_runs runs
   lives_with new [] = refl
@@ -106,9 +72,17 @@ module _ {P : Type 0} where
   }
 
   -- the lives of one run are those of its parts
-  pub lives_in_parts : (runs : List (NetRunValue P)) → lives_of_runs runs ≡ flat_map (λ part. part) (map (λ r. r.lives) runs)
-  lives_in_parts [] = refl
-  lives_in_parts (r ∷ runs) = ap (λ (l : List (List (Placed P))). r.lives ++ l) (lives_in_parts runs)
+  lives-in-parts : (runs : List (NetRunValue P)) → lives_of_runs runs ≡ flat_map (λ part. part) (map (λ r. r.lives) runs)
+  lives-in-parts [] = refl
+  lives-in-parts (r ∷ runs) = ap (λ (l : List (List (Placed P))). r.lives ++ l) (lives-in-parts runs)
+
+  had-points : (points : List PointValue) (capacity : ℕ) (runs : List (NetRunValue P)) → Each (HasHad points capacity) runs → Each (λ r. r.points ≡ points) runs
+  had-points points capacity [] h = tt
+  had-points points capacity (r ∷ runs) h = (h.0.points_are, had-points points capacity runs h.1)
+
+  had-capacity : (points : List PointValue) (capacity : ℕ) (runs : List (NetRunValue P)) → Each (HasHad points capacity) runs → Each (λ r. r.capacity ≡ capacity) runs
+  had-capacity points capacity [] h = tt
+  had-capacity points capacity (r ∷ runs) h = (h.0.capacity_is, had-capacity points capacity runs h.1)
 
   module _ (answer : P → Answer) where
     -- what the nodes of all dropped is what those of each dropped
@@ -119,15 +93,6 @@ module _ {P : Type 0} where
         ∙ ap (λ (l : List (List ℕ)). dropped_of answer r.lives points ++ l) (dropped_all points capacity runs h.1)
         ∙ sym (map-append (λ (nodes : List (Placed P)). map (λ g. g.drops) (graph_gives answer points nodes)) r.lives (lives_of_runs runs))
 
-  -- they have these points, and this room
-  points-all : (points : List PointValue) (capacity : ℕ) (runs : List (NetRunValue P)) → Each (HasHad points capacity) runs → Each (λ r. r.points ≡ points) runs
-  points-all points capacity [] h = tt
-  points-all points capacity (r ∷ runs) h = (h.0.points_are, points-all points capacity runs h.1)
-
-  capacity-all : (points : List PointValue) (capacity : ℕ) (runs : List (NetRunValue P)) → Each (HasHad points capacity) runs → Each (λ r. r.capacity ≡ capacity) runs
-  capacity-all points capacity [] h = tt
-  capacity-all points capacity (r ∷ runs) h = (h.0.capacity_is, capacity-all points capacity runs h.1)
-
 -- ---- parts
 
 module _ {X P : Type 0} (run : X → NetRunValue P) where
@@ -135,26 +100,14 @@ module _ {X P : Type 0} (run : X → NetRunValue P) where
   unspent_all points capacity [] h = tt
   unspent_all points capacity (x ∷ xs) h = (h.0.unspent, unspent_all points capacity xs h.1)
 
-  -- those behind the first can go on too
-  pub others_unspent : (xs : List X) (x : X) (others : List X) → xs ≡ x ∷ others → AreOne (map run xs) → Each (λ y. (run y).spent ≡ false) others
-  others_unspent xs x others are one =
-      let all : AreOne (map run (x ∷ others)) = subst (λ (ys : List X). AreOne (map run ys)) are one in
-      unspent_all (run x).points (run x).capacity others all.had.1
-
   -- one part more
-  pub lives_more : (xs : List X) (x : X) → lives_of_runs (map run (xs ++ x ∷ [])) ≡ lives_of_runs (map run xs) ++ (run x).lives
-  lives_more xs x =
+  lives-more : (xs : List X) (x : X) → lives_of_runs (map run (xs ++ x ∷ [])) ≡ lives_of_runs (map run xs) ++ (run x).lives
+  lives-more xs x =
       ap lives_of_runs (map-append run xs (x ∷ []))
       ∙ flat_map-append (λ (r : NetRunValue P). r.lives) (map run xs) (run x ∷ [])
       ∙ ap (λ (l : List (List (Placed P))). lives_of_runs (map run xs) ++ l) (append-nil (run x).lives)
 
   module _ (answer : P → Answer) where
-    pub dropped_more : (xs : List X) (x : X) → dropped_of_runs answer (map run (xs ++ x ∷ [])) ≡ dropped_of_runs answer (map run xs) ++ dropped_of answer (run x).lives (run x).points
-    dropped_more xs x =
-        ap (dropped_of_runs answer) (map-append run xs (x ∷ []))
-        ∙ flat_map-append (λ (r : NetRunValue P). dropped_of answer r.lives r.points) (map run xs) (run x ∷ [])
-        ∙ ap (λ (l : List (List ℕ)). dropped_of_runs answer (map run xs) ++ l) (append-nil (dropped_of answer (run x).lives (run x).points))
-
     -- what the one part does is what all lives do
     pub alone_does : (new : List PointValue) (effects : List Effect) (xs : List X) → length xs ≡ 1
         → Each (λ x. effects_of answer (run x).lives ((run x).points ++ new) ≡ effects_of answer (run x).lives (run x).points ++ effects) xs
@@ -184,9 +137,9 @@ module _ {X P : Type 0} (run : X → NetRunValue P) where
           let lives : List (List (Placed P)) = (run x).lives in
           let does : ℕ → List Effect = does_with answer names (points ++ new) lives in
           let is : told y ≡ map (piece_of names) (by_stamp (length points) (length new) does) =
-              (z.0 fine.0).is
-              ∙ ap (λ (ps : List PointValue). map (piece_of names) (later_effects answer (length ps) (length new) (from_first (ps ++ new) lives))) had.0.points_are
-              ∙ ap (map (piece_of names)) (sym (laters_by_stamp (length points) (length new) does)) in
+          (z.0 fine.0).is
+          ∙ ap (λ (ps : List PointValue). map (piece_of names) (later_effects answer (length ps) (length new) (from_first (ps ++ new) lives))) had.0.points_are
+          ∙ ap (map (piece_of names)) (sym (laters_by_stamp (length points) (length new) does)) in
           ap (λ (l : List PieceValue). l ∷ map told ys) is
           ∙ ap (λ (ls : List (List PieceValue)). map (piece_of names) (by_stamp (length points) (length new) does) ∷ ls) (told-by_stamp points capacity xs ys z.1 fine.1 had.1)
 
@@ -195,21 +148,14 @@ module _ {X P : Type 0} (run : X → NetRunValue P) where
           → Each (HasHad points capacity) (map run xs) → IsToldInParts answer names points new (lives_of_runs (map run xs)) (map told ys)
       told_in_parts points capacity xs ys z fine had = record {
         parts = map (λ r. r.lives) (map run xs);
-        are = lives_in_parts (map run xs);
+        are = lives-in-parts (map run xs);
         is = told-by_stamp points capacity xs ys z fine had;
       }
 
 -- ---- nets
 
 module _ {N P S X : Type 0} (g : Ghosts N P S) (run : X → NetRunValue P) where
-  -- no lives stand behind a net itself
-  pub joined_none : (net : NetValue N) → HasJoined g [] net net
-  joined_none net = record {
-    carried = λ lives points had none. subst (λ (ls : List (List (Placed P))). HasCarried g ls points net) (sym (append-nil lives)) had;
-    room = λ capacity had none. had;
-  }
-
-  -- and those of one run more
+  -- the lives of one run more stand behind a net that has those of others
   pub joined_more : (xs : List X) (x : X) (old mid new net : NetValue N) → HasJoined g (map run xs) old mid → HasCarried g (run x).lives (run x).points net → Each (HasRoomIn (run x).capacity) net.lives
       → ((points : List PointValue) (ours theirs : List (List (Placed P))) → HasCarried g ours points mid → HasCarried g theirs points net → HasCarried g (ours ++ theirs) points new)
       → ((capacity : ℕ) → Each (HasRoomIn capacity) mid.lives → Each (HasRoomIn capacity) net.lives → Each (HasRoomIn capacity) new.lives)
@@ -229,20 +175,15 @@ module _ {N P S X : Type 0} (g : Ghosts N P S) (run : X → NetRunValue P) where
             roomy capacity (joined.room capacity had (each-first (λ (r : NetRunValue P). r.capacity ≡ capacity) runs (run x ∷ []) each)) own;
       })
 
-  -- the net of the first, with those of the others behind it, is that of all
-  pub all_carried : (xs : List X) (x : X) (others : List X) (net new : NetValue N) → xs ≡ x ∷ others → AreOne (map run xs) → HasCarried g (run x).lives (run x).points net → HasJoined g (map run others) net new
-      → HasCarried g (lives_of_runs (map run xs)) (points_of_runs (map run xs)) new
-  all_carried xs x others net new are one carried joined =
-      let all : AreOne (map run (x ∷ others)) = subst (λ (ys : List X). AreOne (map run ys)) are one in
-      subst (λ (ys : List X). HasCarried g (lives_of_runs (map run ys)) (points_of_runs (map run ys)) new) (sym are)
-      (joined.carried (run x).lives (run x).points carried (points-all (run x).points (run x).capacity (map run others) all.had.1))
-
-  pub all_room : (xs : List X) (x : X) (others : List X) (net new : NetValue N) → xs ≡ x ∷ others → AreOne (map run xs) → Each (HasRoomIn (run x).capacity) net.lives → HasJoined g (map run others) net new
-      → Each (HasRoomIn (capacity_of_runs (map run xs))) new.lives
-  all_room xs x others net new are one room joined =
-      let all : AreOne (map run (x ∷ others)) = subst (λ (ys : List X). AreOne (map run ys)) are one in
-      subst (λ (ys : List X). Each (HasRoomIn (capacity_of_runs (map run ys))) new.lives) (sym are)
-      (joined.room (run x).capacity room (capacity-all (run x).points (run x).capacity (map run others) all.had.1))
+  -- so the net of the first of some parts has all lives, where those of the others stand behind its own
+  pub joined_all : (xs rest : List X) (x : X) (net all : NetValue N) → xs ≡ x ∷ rest → AreOne (map run xs) → HasCarried g (run x).lives (run x).points net → Each (HasRoomIn (run x).capacity) net.lives
+      → HasJoined g (map run rest) net all → HasCarried g (lives_of_runs (map run xs)) (points_of_runs (map run xs)) all × Each (HasRoomIn (capacity_of_runs (map run xs))) all.lives
+  joined_all xs rest x net all is one carried room joined =
+      let own : AreOne (map run (x ∷ rest)) = subst (λ (ys : List X). AreOne (map run ys)) is one in
+      subst (λ (ys : List X). HasCarried g (lives_of_runs (map run ys)) (points_of_runs (map run ys)) all × Each (HasRoomIn (capacity_of_runs (map run ys))) all.lives) (sym is) (
+        joined.carried (run x).lives (run x).points carried (had-points (run x).points (run x).capacity (map run rest) own.had.1),
+        joined.room (run x).capacity room (had-capacity (run x).points (run x).capacity (map run rest) own.had.1),
+      )
 
 -- ---- plans in parts
 
@@ -287,7 +228,7 @@ module _ {N P S : Type 0} (spec : N → P) (state : N → S) (first : P → S) (
       → lives_of_runs (map run (parts ++ part ∷ [])) ++ map (graph_of spec) (drop size plans) ≡ lives_of_runs (map run parts) ++ map (graph_of spec) plans
   lives_parted run capacity size parts part plans is =
       let graphs : List (PlanValue N) → List (List (Placed P)) = map (graph_of spec) in
-      ap (λ (l : List (List (Placed P))). l ++ graphs (drop size plans)) (lives_more run parts part)
+      ap (λ (l : List (List (Placed P))). l ++ graphs (drop size plans)) (lives-more run parts part)
       ∙ ap (λ (r : NetRunValue P). (lives_of_runs (map run parts) ++ r.lives) ++ graphs (drop size plans)) is
       ∙ append_assoc (lives_of_runs (map run parts)) (graphs (take size plans)) (graphs (drop size plans))
       ∙ ap (λ (l : List (List (Placed P))). lives_of_runs (map run parts) ++ l) (sym (map-append (graph_of spec) (take size plans) (drop size plans)) ∙ ap graphs (take-append-drop size plans))
@@ -296,5 +237,5 @@ module _ {N P S : Type 0} (spec : N → P) (state : N → S) (first : P → S) (
       → Each (HasHad [] capacity) (map run parts) → Each (HasHad [] capacity) (map run (parts ++ part ∷ []))
   had_parted run capacity parts part lives is had =
       subst (Each (HasHad [] capacity)) (sym (map-append run parts (part ∷ [])))
-      (each_both (HasHad [] capacity) (map run parts) (run part ∷ []) had
+      (each-append (HasHad [] capacity) (map run parts) (run part ∷ []) had
       (record { points_are = ap (λ (r : NetRunValue P). r.points) is; capacity_is = ap (λ (r : NetRunValue P). r.capacity) is; unspent = ap (λ (r : NetRunValue P). r.spent) is }, tt))

@@ -311,10 +311,7 @@ fn add_counts(all: &mut Counts, more: Counts) -> Result<(), NoMemory>
 }
 
 /// How many inputs each node of each life of parts dropped and counted.
-fn dropped_by<N: NumberingNode + Send>(
-    alloc: Global,
-    parts: &[Part<N>],
-) -> Result<Counts, NoMemory>
+fn dropped_by<N: NumberingNode + Send>(alloc: Global, parts: &[Part<N>]) -> Result<Counts, NoMemory>
     requires { Each (λ part. part.run.spent ≡ false) parts.now }
     ensures { IfOk result (λ counts.
         counts ≡ dropped_of_runs N.answer (map (λ part. part.run) parts.now)) }

@@ -1,5 +1,5 @@
 use Rattle.std.proofs.Common.{◌≡◌, ◌∷◌, false, subst, sym}
-use Rattle.std.specs.List.{AllByRecursion as Each, AllZip}
+use Rattle.std.specs.List.{AllZip}
 use Rattle.kap_server.specs.Parts.{HasTold}
 use Rattle.kap_server.proofs.parts.+run_in_turn.Goals as goal
 

@@ -6,12 +6,12 @@ use Rattle.kap_server.proofs.BesideLaws.{CanBegin, can_behind, can_first, had_pa
 use Rattle.kap_server.proofs.parts.parts_of.Goals as goal
 
 pub part_of-requires-clause-first : goal.part_of-requires-clause-first
-part_of-requires-clause-first g c κs =
+part_of-requires-clause-first g c κs within =
     let node = g.N.Node in
     subst (AreFirstStates node.spec node.state node.first) (sym c.in_ok-behind.ensures.items) (can_first node.spec node.state node.first node.life node.number c.args.size c.parting.rest.items c.parting.invariant.can).begin
 
 pub part_of-requires-clause-rise : goal.part_of-requires-clause-rise
-part_of-requires-clause-rise g c κs =
+part_of-requires-clause-rise g c κs within =
     let node = g.N.Node in
     subst (λ plans. LivesRise node.life node.number 1 (map (graph_of node.spec) plans)) (sym c.in_ok-behind.ensures.items) (can_first node.spec node.state node.first node.life node.number c.args.size c.parting.rest.items c.parting.invariant.can).rise
 

@@ -2,8 +2,9 @@ use denote.Exit.{no}
 use denote.Param.{param}
 use denote.Param.Send.{param_send, arg_send}
 use Rattle.std.proofs.Common.{◌≡◌, false}
+use Rattle.node_workers.proofs.WorkerLaws.{zip_by}
 use Rattle.kap_server.specs.Parts.{HasTold}
-use Rattle.kap_server.proofs.BesideLaws.{carried, zip_by}
+use Rattle.kap_server.proofs.BesideLaws.{carried}
 use Rattle.kap_server.proofs.Crossing.{Part_send}
 use Rattle.kap_server.proofs.parts.run_beside.Goals as goal
 

@@ -1,4 +1,4 @@
-use Rattle.std.proofs.Common.{◌≡◌, ◌++◌, arith, length, map, ap, subst, sym, ◌∙◌}
+use Rattle.std.proofs.Common.{◌++◌, map, ap, rules, subst, sym, ◌∙◌}
 use Rattle.kap_server.specs.Parts.{IsToldInParts, lives_of_runs, points_of_runs}
 use Rattle.kap_server.proofs.BesideLaws.{alone_does, runs_gone, told_in_parts, unspent_all}
 use Rattle.kap_server.proofs.parts.run_parts.Goals as goal
@@ -8,8 +8,7 @@ run_alone-requires-clause-unspent g c κs within = unspent_all (λ part. part.ru
 
 pub returns-then-parts-eq1-clause-ran : goal.returns-then-parts-eq1-clause-ran
 returns-then-parts-eq1-clause-ran g c =
-    let one : length c.args.parts.now ≡ 1 = omega (arith, c.if-parts-eq1.true) in
-    alone_does (λ part. part.run) g.N.Node.answer c.args.points.items c.in_ok-effects.effects c.args.parts.now one c.in_ok-effects.ensures.effects
+    alone_does (λ part. part.run) g.N.Node.answer c.args.points.items _ c.args.parts.now (search rules) c.in_ok-effects.ensures.effects
 
 pub run_epoch-requires-after_bounds : goal.run_epoch-requires-after_bounds
 run_epoch-requires-after_bounds g c κs within = unspent_all (λ part. part.run) _ _ c.args.parts.now c.requires.had

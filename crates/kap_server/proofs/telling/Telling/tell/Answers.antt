@@ -84,8 +84,11 @@ returns-in_ok-put_printed-in-InParts-clause-topics g c =
     let first : from ≡ length points = c.given-from.ensures in
     let many : count ≡ length new = c.len-count.ensures ∙ c.args.points.ok.0 in
     let parts = c.as_mut_slice-parts.ensures.value ∙ told_by_stamp node.answer names lives points new told t from count first many in
-    rw (c.in_ok-effects.ensures.lives, c.in_ok-effects.ensures.points,
-      events_next node.answer names lives points new (effects_in_parts node.answer names lives points new told t from count) (parts_behind node.answer names lives points new told t from count node.life node.number met.stamped first many))
+    rw (
+      c.in_ok-effects.ensures.lives,
+      c.in_ok-effects.ensures.points,
+      events_next node.answer names lives points new (effects_in_parts node.answer names lives points new told t from count) (parts_behind node.answer names lives points new told t from count node.life node.number met.stamped first many),
+    )
     (c.in_ok-put_printed-in-InParts.ensures.topics names (events_of (effects_of node.answer lives points)) (done_by_parts node.answer names lives points new told t from count) c.requires.topics (parts_have node.answer (points ++ new) t.parts) parts)
 
 pub returns-in_ok-put_printed-in-InParts-clause-pace : goal.returns-in_ok-put_printed-in-InParts-clause-pace
