@@ -1,4 +1,4 @@
-use Rattle.std.proofs.Common.{◌≡◌, List, ◌+◌, ap, arith, length, refl, subst, sym, ◌∙◌}
+use Rattle.std.proofs.Common.{◌≡◌, List, ◌+◌, ◌++◌, ap, arith, length, refl, subst, sym, ◌∙◌}
 use Rattle.task_run.specs.Courses.{Course, from_first, later_effects}
 use Rattle.flow_core.specs.Gathering.{LivesRise}
 use Rattle.net_epochs.proofs.CarryLaws.{first_ends, first_grown}
