@@ -80,8 +80,8 @@ level that a stop left out.
 Options of replay, in any order before the first ID, each at most once:
 
   --counts     tells behind the output how many points each node dropped
-  --workers W  has the nodes run by W workers in threads (1 to 64; else one a
-               task, and at most 4)
+  --workers W  has the nodes run by W workers in threads (1 to 64, of which a
+               replay has no more than tasks; else one a task, and at most 4)
   --capacity C gives each edge between two nodes room for C messages (1 to
                65536; else 64)
   --schedule N runs the nodes in one thread and no workers, in the order that N
