@@ -1,8 +1,12 @@
 -- Points that a reader gives, one after the other, until an epoch ends.
-use Rattle.std.specs.Prelude.{◌≡◌, ◌<◌, ◌≤◌, ◌++◌, false, ℕ, List, [], Option, IsTrue, length}
+use Rattle.std.specs.Prelude.{◌≡◌, ◌<◌, ◌≤◌, ◌++◌, false, ℕ, List, [], ◌∷◌, Option, None, Some, IsTrue, length}
 use Rattle.kap_base.specs.Points.{PointValue}
+use Rattle.kap_base.specs.Words.{HasRisen}
+use Rattle.net_run.specs.declared.TheConstants.{EPOCH_LIMIT}
+use Rattle.recording_file.specs.declared.fault.RecFault.TheVariants.{ReadFault}
 use Rattle.recording_file.specs.declared.lines.TheConstants.{RECORDING_LIMIT}
 use Rattle.recording_file.specs.Reading.{BeginsWith, Fails, GaveAll, HasRead, ReaderReads, ReaderState}
+use Rattle.kap_server.specs.declared.reading.Epoch.{Epoch}
 use Rattle.kap_server.specs.declared.reading.Pause.{Pause}
 use Rattle.kap_server.specs.declared.reading.Pause.TheVariants.{More, End, Fault}
 
@@ -37,3 +41,19 @@ abbrev pub Pauses : Pause → ReaderState → ReaderState → Option (List ℕ) 
 Pauses More a b t u points = GoesOn a b t u points
 Pauses End a b t u points = StopsBehind a b t u points GaveAll
 Pauses (Fault fault) a b t u points = StopsBehind a b t u points (λ last b. Fails last b fault)
+
+-- an epoch of few points was read, and a read fault ends it only where the source's count of faults rose
+pub record IsEpoch (before now : ReaderState) (t u : Option (List ℕ)) (faults_before faults : ℕ) (e : Epoch) : Type 0 where
+  pub pauses : Pauses e.pause before now t u e.points.items
+  pub few : length e.points.items ≤ EPOCH_LIMIT
+  pub rose : e.pause ≡ Fault ReadFault → HasRisen faults_before faults
+
+-- Between the two the reader has read the next epoch ahead, or nothing. It has asked no source: whatever is left of its
+-- own is left.
+abbrev pub IsAhead : ReaderState → ReaderState → Option Epoch → Type 0
+IsAhead before now None = now ≡ before
+IsAhead before now (Some e) = (t : Option (List ℕ)) (faults : ℕ) → IsEpoch before now t t faults faults e
+
+-- a byte is left of a source
+abbrev pub IsLeft : Option (List ℕ) → Type 0
+IsLeft s = s ≡ Some (0 ∷ [])

@@ -5,6 +5,7 @@ pub mod ReadingIn
 pub mod Checking
 pub mod Replaying
 pub mod Epochs
+pub mod Ahead
 pub mod Paces
 pub mod Parts
 pub mod Pairs

@@ -1,24 +1,27 @@
 //! Lives that run in parts side by side, each part a net of its own.
 
-ghost use Rattle.std.specs.Prelude.{◌≡◌, ◌<◌, ◌≤◌, ◌++◌, [], false, map, IfOk, OnOk, length};
+ghost use Rattle.std.specs.Prelude.{◌≡◌, ◌<◌, ◌≤◌, ◌++◌, [], None, false, map, IfOk, OnOk, length};
 ghost use Rattle.std.specs.List.{AllByRecursion as Each, AllZip};
 ghost use Rattle.edge_queue.specs.declared.TheConstants.{CAPACITY_LIMIT};
+ghost use Rattle.net_run.specs.declared.TheConstants.{EPOCH_LIMIT};
 ghost use Rattle.task_run.specs.Lives.{effects_of};
 ghost use Rattle.task_run.specs.Plans.{AreFirstStates, graph_of};
 ghost use Rattle.flow_core.specs.Carried.{HasCarried};
 ghost use Rattle.flow_core.specs.Gathering.{LivesRise};
 ghost use Rattle.flow_core.specs.Making.{HasFewParents};
 ghost use Rattle.flow_core.specs.Rooms.{HasRoomIn};
+ghost use Rattle.kap_server.specs.Epochs.{IsAhead};
 ghost use Rattle.kap_server.specs.Parts.{AreBeside, AreOne, HasJoined, HasRun, HasTold};
 ghost use Rattle.kap_server.specs.Parts.{dropped_of_runs, first_run, lives_of_runs, points_of_runs};
 ghost use Rattle.kap_server.specs.Parts.{with_points};
 
+use crate::reading::EpochReader;
 use edge_queue::CAPACITY_LIMIT;
 use effect_text::{Printed, TaskNames, print_lines};
 use flow_core::Net;
 use kap_base::{NoMemory, Point, Shared};
 use kap_io::{Gate, NoGate};
-use net_run::{NetRun, NumberingNode, Way, Workers, join_nets};
+use net_run::{EPOCH_LIMIT, NetRun, NumberingNode, Way, Workers, join_nets};
 use node_core::{Effects, Node};
 use std::alloc::Global;
 use std::marker::Model;
@@ -203,32 +206,115 @@ fn run_beside<N: NumberingNode + Send, R: Threads + Sync, G: Gate + Sync>(
     );
 }
 
-/// Runs parts on the points of an epoch, side by side where the way has threads for them.
+/// Runs parts side by side, and gives them back.
+fn run_own<N: NumberingNode + Send, R: Threads + Sync, G: Gate + Sync>(
+    rt: &R,
+    alloc: Global,
+    names: &[TaskNames],
+    points: &Vec<Shared<Point>>,
+    threads: usize,
+    gate: &G,
+    epoch: u64,
+    parts: Vec<Part<N>>,
+) -> Vec<Part<N>>
+    requires threads { 0 < threads }
+    requires unspent { Each (λ part. part.run.spent ≡ false) parts.items }
+    ensures { AllZip (λ p q. q.failed ≡ false
+        → HasTold N.answer names.now points.now.items p.run q.run q.told) parts.items result.items }
+{
+    let mut parts = parts;
+    run_beside(
+        rt,
+        alloc,
+        names,
+        points,
+        threads,
+        gate,
+        epoch,
+        parts.as_mut_slice(),
+    );
+    parts
+}
+
+/// Runs parts side by side, and reads the next epoch ahead meanwhile, in one thread more.
+fn run_and_read<N: NumberingNode + Send, R: Threads + Sync, G: Gate + Sync>(
+    rt: &R,
+    alloc: Global,
+    names: &[TaskNames],
+    points: &Vec<Shared<Point>>,
+    threads: usize,
+    gate: &G,
+    epoch: u64,
+    reading: EpochReader,
+    limit: usize,
+    parts: Vec<Part<N>>,
+) -> Result<(EpochReader, Vec<Part<N>>), NoMemory>
+    requires threads { 0 < threads }
+    requires none { reading.ahead ≡ None }
+    requires some { 0 < limit }
+    requires most { limit ≤ EPOCH_LIMIT }
+    requires unspent { Each (λ part. part.run.spent ≡ false) parts.items }
+    ensures ahead { IfOk result (λ r. IsAhead reading.reader r.0.reader r.0.ahead) }
+    ensures parts { IfOk result (λ r. AllZip (λ p q. q.failed ≡ false
+        → HasTold N.answer names.now points.now.items p.run q.run q.told) parts.items r.1.items) }
+{
+    let (read, parts) = thread::join(
+        rt,
+        move || -> Result<EpochReader, NoMemory>
+            requires { (reading.ahead ≡ None) × (0 < limit) × (limit ≤ EPOCH_LIMIT) }
+            ensures { IfOk result (λ r. IsAhead reading.reader r.reader r.ahead) }
+        { reading.read_ahead(alloc, limit) },
+        move || -> Vec<Part<N>>
+            requires { (0 < threads) × Each (λ part. part.run.spent ≡ false) parts.items }
+            ensures { AllZip (λ p q. q.failed ≡ false → HasTold N.answer names.entry.now
+                points.entry.now.items p.run q.run q.told) parts.items result.items }
+        { run_own(rt, alloc, names, points, threads, gate, epoch, parts) },
+    );
+    Ok((read?, parts))
+}
+
+/// Runs parts on the points of an epoch, side by side where the way has threads for them; then the next epoch
+/// is read ahead.
 fn run_epoch<N: NumberingNode + Send, R: Threads + Sync, G: Gate + Sync>(
     alloc: Global,
     names: &[TaskNames],
     points: &Vec<Shared<Point>>,
     way: &Way<'_, R, G>,
     epoch: u64,
-    parts: &mut [Part<N>],
-)
-    requires { Each (λ part. part.run.spent ≡ false) parts.old }
-    ensures { AllZip (λ p q. q.failed ≡ false
-        → HasTold N.answer names.now points.now.items p.run q.run q.told) parts.old parts.new }
+    reading: &mut EpochReader,
+    limit: usize,
+    parts: &mut Vec<Part<N>>,
+) -> Result<(), NoMemory>
+    requires none { reading.old.ahead ≡ None }
+    requires some { 0 < limit }
+    requires most { limit ≤ EPOCH_LIMIT }
+    requires unspent { Each (λ part. part.run.spent ≡ false) parts.old.items }
+    ensures ahead { OnOk result
+        (IsAhead reading.old.reader reading.new.reader reading.new.ahead) }
+    ensures parts { OnOk result (AllZip (λ p q. q.failed ≡ false
+        → HasTold N.answer names.now points.now.items p.run q.run q.told)
+        parts.old.items parts.new.items) }
 {
     match way {
-        Way::Schedule(_) => run_in_turn(alloc, names, points, way, parts),
-        Way::Workers(workers) => run_beside(
-            workers.runtime(),
-            alloc,
-            names,
-            points,
-            workers.count_for(points.len()) as usize,
-            workers.gate(),
-            epoch,
-            parts,
-        ),
+        Way::Schedule(_) => run_in_turn(alloc, names, points, way, parts.as_mut_slice()),
+        Way::Workers(workers) => {
+            let (read, run) = run_and_read(
+                workers.runtime(),
+                alloc,
+                names,
+                points,
+                workers.count_for(points.len()) as usize,
+                workers.gate(),
+                epoch,
+                mem::replace(reading, EpochReader::new(alloc)),
+                limit,
+                mem::replace(parts, Vec::new(alloc)),
+            )?;
+            *reading = read;
+            *parts = run;
+        }
     }
+    Ok(())
 }
 
 /// Puts what each part tells behind what others tell, unless one has failed.
@@ -273,7 +359,8 @@ fn run_alone<N: NumberingNode + Send, R: Threads + Sync, G: Gate + Sync>(
 }
 
 /// Runs parts on the points of an epoch. One part alone gives its effects, and the points where they are to
-/// be held. Of several parts each tells its own, and the points are held.
+/// be held. Of several parts each tells its own, and the points are held; where they run side by side, the
+/// next epoch is read ahead, of up to `limit` points.
 fn run_parts<N: NumberingNode + Send, R: Threads + Sync, G: Gate + Sync>(
     alloc: Global,
     names: &[TaskNames],
@@ -281,22 +368,29 @@ fn run_parts<N: NumberingNode + Send, R: Threads + Sync, G: Gate + Sync>(
     hold: bool,
     way: &Way<'_, R, G>,
     epoch: u64,
-    parts: &mut [Part<N>],
+    reading: &mut EpochReader,
+    limit: usize,
+    parts: &mut Vec<Part<N>>,
 ) -> Result<Ran, NoMemory>
-    requires { AreOne (map (λ part. part.run) parts.old) }
-    ensures runs { OnOk result (map (λ part. part.run) parts.new
-        ≡ map (with_points points.items) (map (λ part. part.run) parts.old)) }
+    requires one { AreOne (map (λ part. part.run) parts.old.items) }
+    requires none { reading.old.ahead ≡ None }
+    requires some { 0 < limit }
+    requires most { limit ≤ EPOCH_LIMIT }
+    ensures ahead { OnOk result
+        (IsAhead reading.old.reader reading.new.reader reading.new.ahead) }
+    ensures runs { OnOk result (map (λ part. part.run) parts.new.items
+        ≡ map (with_points points.items) (map (λ part. part.run) parts.old.items)) }
     ensures ran { IfOk result (HasRun N.answer names.now
-        (points_of_runs (map (λ part. part.run) parts.old)) points.items
-        (lives_of_runs (map (λ part. part.run) parts.old))) }
+        (points_of_runs (map (λ part. part.run) parts.old.items)) points.items
+        (lives_of_runs (map (λ part. part.run) parts.old.items))) }
 {
     if parts.len() == 1 {
-        let (effects, left) = run_alone(alloc, points, hold, way, parts)?;
+        let (effects, left) = run_alone(alloc, points, hold, way, parts.as_mut_slice())?;
         return Ok(Ran::Whole(effects, left));
     }
-    run_epoch(alloc, names, &points, way, epoch, parts);
+    run_epoch(alloc, names, &points, way, epoch, reading, limit, parts)?;
     let mut told = Vec::new(alloc);
-    take_told(alloc, parts, &mut told)?;
+    take_told(alloc, parts.as_mut_slice(), &mut told)?;
     Ok(Ran::InParts(told, points))
 }
 
@@ -353,15 +447,17 @@ fn join_parts<N: NumberingNode + Send>(
 }
 
 impl<N: NumberingNode + Send> Parts<N> {
-    ghost use Rattle.std.specs.Prelude.{◌≡◌, ◌<◌, ◌≤◌, ◌++◌, false, [], IfOk, OnOk, length, map};
+    ghost use Rattle.std.specs.Prelude.{◌≡◌, ◌<◌, ◌≤◌, ◌++◌, false, [], None, IfOk, OnOk, length, map};
     ghost use Rattle.std.specs.List.{AllByRecursion as Each};
     ghost use Rattle.edge_queue.specs.declared.TheConstants.{CAPACITY_LIMIT};
     ghost use Rattle.flow_core.specs.Carried.{HasCarried};
     ghost use Rattle.flow_core.specs.Gathering.{LivesRise};
     ghost use Rattle.flow_core.specs.Making.{HasFewParents};
     ghost use Rattle.flow_core.specs.Rooms.{HasRoomIn};
+    ghost use Rattle.net_run.specs.declared.TheConstants.{EPOCH_LIMIT};
     ghost use Rattle.task_run.specs.Lives.{dropped_of};
     ghost use Rattle.task_run.specs.Plans.{AreFirstStates, graph_of};
+    ghost use Rattle.kap_server.specs.Epochs.{IsAhead};
     ghost use Rattle.kap_server.specs.Parts.{HasRun};
 
     /// The lives of these plans before the first point, in so many parts, or fewer where there are not as
@@ -407,7 +503,8 @@ impl<N: NumberingNode + Send> Parts<N> {
 
     /// Runs the lives on the next points in this way. One part alone gives its effects, and the points where
     /// they are to be held. Of several parts each tells its own, side by side where the way has threads, and
-    /// the points are held. After NoMemory the run can't go on.
+    /// the points are held; then the next epoch is read ahead, of up to `limit` points. After NoMemory the
+    /// run can't go on.
     pub(crate) fn run<R: Threads + Sync, G: Gate + Sync>(
         &mut self,
         alloc: Global,
@@ -415,8 +512,15 @@ impl<N: NumberingNode + Send> Parts<N> {
         points: Vec<Shared<Point>>,
         hold: bool,
         way: &Way<'_, R, G>,
+        reading: &mut EpochReader,
+        limit: usize,
     ) -> Result<Ran, NoMemory>
-        requires { self.old.spent ≡ false }
+        requires spent { self.old.spent ≡ false }
+        requires none { reading.old.ahead ≡ None }
+        requires some { 0 < limit }
+        requires most { limit ≤ EPOCH_LIMIT }
+        ensures ahead { OnOk result
+            (IsAhead reading.old.reader reading.new.reader reading.new.ahead) }
         ensures lives { OnOk result (self.new.lives ≡ self.old.lives) }
         ensures points { OnOk result (self.new.points ≡ self.old.points ++ points.items) }
         ensures capacity { OnOk result (self.new.capacity ≡ self.old.capacity) }
@@ -426,7 +530,10 @@ impl<N: NumberingNode + Send> Parts<N> {
     {
         self.spent = true;
         let epoch = self.epochs;
-        let ran = run_parts(alloc, names, points, hold, way, epoch, &mut self.parts)?;
+        let parts = &mut self.parts;
+        let ran = run_parts(
+            alloc, names, points, hold, way, epoch, reading, limit, parts,
+        )?;
         self.epochs = epoch.saturating_add(1);
         self.spent = false;
         Ok(ran)

@@ -1,6 +1,6 @@
 //! The replay of tasks that are ready to run.
 
-ghost use Rattle.std.specs.Prelude.{◌≡◌, ◌≢◌, ◌⊎◌, ◌≤◌, [], false, map, OnOk, OnErr};
+ghost use Rattle.std.specs.Prelude.{◌≡◌, ◌≢◌, ◌⊎◌, ◌≤◌, [], None, false, map, OnOk, OnErr};
 ghost use Rattle.std.specs.List.{AllByRecursion as Each};
 ghost use Rattle.kap_base.specs.Words.{HasRisen};
 ghost use Rattle.kap_io.specs.Causes.{HasCause};
@@ -15,7 +15,7 @@ ghost use Rattle.kap_server.specs.Replaying.{IsWritten, WritesSome, Replayed};
 ghost use Rattle.kap_server.specs.Runs.{EndsWritten, run_rest, run_text};
 
 use crate::options::{ReplayOptions, capacity_of};
-use crate::reading::{Epoch, Pause, read_epoch};
+use crate::reading::{Epoch, EpochReader, Pause};
 use crate::status::Status;
 use crate::telling::Telling;
 use crate::ways::parts_of;
@@ -24,7 +24,6 @@ use flow_core::Net;
 use kap_base::{Bytes, NoMemory};
 use kap_io::{Failed, Gate, Sink, Source, write_all};
 use net_run::{NumberingNode, Way};
-use recording_file::Reader;
 use std::alloc::Global;
 use std::thread::Threads;
 use task_run::LifePlan;
@@ -47,16 +46,17 @@ fn write_due<K: Sink>(out: &mut K, text: &mut Bytes) -> Result<(), Failed>
 
 /// Writes the text that is due, where it is a whole piece, or where the reader may have to wait for the next
 /// point.
-fn write_piece<K: Sink>(out: &mut K, text: &mut Bytes, reader: &Reader) -> Result<(), Failed>
-    requires { reader.now.spent ≡ false }
+fn write_piece<K: Sink>(out: &mut K, text: &mut Bytes, reading: &EpochReader) -> Result<(), Failed>
+    requires { reading.now.ahead ≡ None → reading.now.reader.spent ≡ false }
     ensures ok { OnOk result
         (WritesSome text.old text.new (K.written out.old) (K.written out.new)) }
     ensures err { OnErr result (AppendsPrefix (K.written out.old) (K.written out.new) text.old) }
-    ensures due { OnOk result ((text.new ≡ []) ⊎ HoldsGroup reader.now) }
+    ensures due { OnOk result (reading.now.ahead ≡ None
+        → (text.new ≡ []) ⊎ HoldsGroup reading.now.reader) }
     ensures cause { HasCause (K.faults out.old) (K.faults out.new) result }
 {
-    let held = reader.holds_point();
-    if !held || DUE_LIMIT <= text.len() {
+    let ready = reading.is_ready();
+    if !ready || DUE_LIMIT <= text.len() {
         write_due(out, text)?;
     }
     Ok(())
@@ -113,8 +113,8 @@ fn finish<K: Sink, N: NumberingNode + Send>(
 
 /// Replays the recording that the input gives, in this way: the text of what the nodes do, epoch by epoch,
 /// and behind it of what they dropped, where that is wanted. Where points are held, next ones are read in
-/// their memory. What is due is written before each read of the input that may wait. At Ok it hands out the
-/// net.
+/// their memory, and where several parts run on an epoch, the next one is read meanwhile. What is due is
+/// written before each read of the input that may wait. At Ok it hands out the net.
 pub(crate) fn replay<
     S: Source,
     K: Sink,
@@ -154,20 +154,20 @@ pub(crate) fn replay<
         Ok(telling) => telling,
         Err(NoMemory) => return Status::NoMemory,
     };
-    let mut reader = Reader::new(alloc);
+    let mut reading = EpochReader::new(alloc);
     let mut text = Bytes::new(alloc);
     'replaying: loop {
-        match write_piece(out, &mut text, &reader) {
+        match write_piece(out, &mut text, &reading) {
             Ok(()) => {}
             Err(_) => return Status::WriteFault,
         }
         let limit = telling.pace.limit();
-        let Epoch { points, pause } = match read_epoch(alloc, &mut reader, limit, &text, input) {
+        let Epoch { points, pause } = match reading.next(alloc, limit, &text, input) {
             Ok(epoch) => epoch,
             Err(NoMemory) => return Status::NoMemory,
         };
-        match telling.tell(alloc, names, points, way, &mut text) {
-            Ok(points) => reader.reuse(points),
+        match telling.tell(alloc, names, points, way, &mut reading, &mut text) {
+            Ok(points) => reading.reader.reuse(points),
             Err(NoMemory) => return Status::NoMemory,
         }
         match pause {

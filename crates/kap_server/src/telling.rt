@@ -1,6 +1,6 @@
 //! What a run of nodes does on points, as text.
 
-ghost use Rattle.std.specs.Prelude.{◌≡◌, ◌<◌, ◌≤◌, false, [], ◌++◌, map, max, IfOk, IfSome, OnOk, length};
+ghost use Rattle.std.specs.Prelude.{◌≡◌, ◌<◌, ◌≤◌, false, [], ◌++◌, None, map, max, IfOk, IfSome, OnOk, length};
 ghost use Rattle.std.specs.List.{AllByRecursion as Each, sum_by};
 ghost use Rattle.net_run.specs.declared.TheConstants.{EPOCH_LIMIT};
 ghost use Rattle.edge_queue.specs.declared.TheConstants.{CAPACITY_LIMIT};
@@ -10,11 +10,13 @@ ghost use Rattle.flow_core.specs.Making.{HasFewParents};
 ghost use Rattle.task_run.specs.Lives.{effects_of};
 ghost use Rattle.task_run.specs.Plans.{AreFirstStates, graph_of};
 ghost use Rattle.topic_core.specs.Topics.{StandsFor};
+ghost use Rattle.kap_server.specs.Epochs.{IsAhead};
 ghost use Rattle.kap_server.specs.Paces.{Paces};
 ghost use Rattle.kap_server.specs.Replaying.{AddsText};
 ghost use Rattle.kap_server.specs.Runs.{run_rest, run_text};
 
 use crate::parts::{Parts, Ran};
+use crate::reading::EpochReader;
 use edge_queue::CAPACITY_LIMIT;
 use effect_text::{Printed, TaskNames, put_dropped, put_effects, put_printed};
 use kap_base::{Bytes, NoMemory, Point, Shared, What};
@@ -130,22 +132,27 @@ impl<N: NumberingNode + Send> Telling<N> {
         })
     }
 
-    /// Runs the nodes on the next points in this way, and appends the text of what they do. It gives back
-    /// points that nobody needs any more. After NoMemory the run can't go on.
+    /// Runs the nodes on the next points in this way, and appends the text of what they do. Where several
+    /// parts run, the next epoch is read ahead meanwhile. It gives back points that nobody needs any more.
+    /// After NoMemory the run can't go on.
     pub(crate) fn tell<R: Threads + Sync, G: Gate + Sync>(
         &mut self,
         alloc: Global,
         names: &[TaskNames],
         points: Vec<Shared<Point>>,
         way: &Way<'_, R, G>,
+        reading: &mut EpochReader,
         text: &mut Bytes,
     ) -> Result<Vec<Shared<Point>>, NoMemory>
         requires spent { self.old.run.spent ≡ false }
+        requires none { reading.old.ahead ≡ None }
         requires few { length points.items ≤ EPOCH_LIMIT }
         requires topics { StandsFor
             (events_of (effects_of N.answer
             self.old.run.lives self.old.run.points))
             self.old.topics }
+        ensures ahead { OnOk result
+            (IsAhead reading.old.reader reading.new.reader reading.new.ahead) }
         ensures spent { OnOk result (self.new.run.spent ≡ false) }
         ensures lives { OnOk result
             (self.new.run.lives ≡ self.old.run.lives) }
@@ -168,7 +175,11 @@ impl<N: NumberingNode + Send> Telling<N> {
         let count = points.len();
         let due = text.len();
         let from = self.run.given();
-        match self.run.run(alloc, names, points, self.hold, way)? {
+        let limit = self.pace.limit();
+        match self
+            .run
+            .run(alloc, names, points, self.hold, way, reading, limit)?
+        {
             Ran::Whole(effects, left) => {
                 put_effects(alloc, names, &mut self.topics, effects.as_slice(), text)?;
                 self.pace

@@ -10,7 +10,7 @@ use std::alloc::Global;
 use std::marker::Model;
 
 /// How many bytes are asked of a source at once.
-const PIECE: usize = 65_536;
+const PIECE: usize = 262_144;
 
 /// The bytes that were read and not yet given, which contracts see as their list.
 #[derive(Drop)]
